@@ -1,0 +1,4 @@
+pub mod Narrowing
+pub mod Orders
+pub mod Wide
+pub mod Sums
