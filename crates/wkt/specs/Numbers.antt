@@ -1,8 +1,9 @@
 -- The number that a word spells.
-use Rattle.std.specs.Prelude.{ℕ, ℤ, pos, neg_ℤ, nat_abs, nat_lt, ◌==◌, ◌&&◌, Bool, true, false, not, List, [], ◌∷◌, take, drop, Option, Some, None, option_map, Result, Ok, Err, if◌then◌else◌}
+use Rattle.std.specs.Prelude.{ℕ, ℤ, pos, neg_ℤ, ◌==◌, ◌&&◌, Bool, true, false, List, [], ◌∷◌, take, drop, Option, Some, None, option_map, Result, Ok, Err, if◌then◌else◌}
 use Rattle.std.specs.Char.{is_ascii_digit}
 use Rattle.std.specs.List.{list_all, prefix_len}
 use Rattle.std.specs.Str.Parse.{digits_value}
+use Rattle.plane.specs.Coordinates.{is_coordinate}
 use Rattle.wkt.specs.declared.fault.WktFault.{WktFault}
 use Rattle.wkt.specs.declared.fault.WktFault.TheVariants.{Number, OutOfRange}
 
@@ -33,7 +34,7 @@ number_of word = let parts = sign_of word in option_map (signed parts.0) (magnit
 -- the coordinate that a word at `at` spells
 abbrev pub in_limits : ℕ → Option ℤ → Result ℤ WktFault
 in_limits at None = Err (Number at)
-in_limits at (Some n) = if nat_lt 10000000 (nat_abs n) then Err (OutOfRange at) else Ok n
+in_limits at (Some n) = if is_coordinate n then Ok n else Err (OutOfRange at)
 
 unfoldable pub coordinate_of : ℕ → List ℕ → Result ℤ WktFault
 coordinate_of at word = in_limits at (number_of word)

@@ -1,5 +1,5 @@
 -- The shape that a text spells, or the first fault from the left. `end` is the text's length.
-use Rattle.std.specs.Prelude.{◌≡◌, ℕ, ℤ, ◌==◌, Bool, true, false, map, List, [], ◌∷◌, codes, length, Option, Some, None, Result, Ok, Err, ◌||◌, if◌then◌else◌}
+use Rattle.std.specs.Prelude.{◌≡◌, ℕ, ℤ, Bool, false, map, List, [], ◌∷◌, codes, length, Result, Ok, Err, ◌||◌, if◌then◌else◌}
 use Rattle.std.specs.Char.{to_ascii_lowercase}
 use Rattle.std.specs.Str.{bytes_eq}
 use Rattle.plane.specs.declared.point.Point.{Point}

@@ -31,10 +31,7 @@ fn is_left_out_kind(word: &[u8]) -> bool
 fn is_left_out_form(word: &[u8]) -> bool
     ensures { result ≡ left_out_form_test word.now }
 {
-    is_word(b"EMPTY", word)
-        || is_word(b"Z", word)
-        || is_word(b"M", word)
-        || is_word(b"ZM", word)
+    is_word(b"EMPTY", word) || is_word(b"Z", word) || is_word(b"M", word) || is_word(b"ZM", word)
 }
 
 fn is_the_mark(mark: u8, bytes: &[u8]) -> bool

@@ -41,7 +41,10 @@ fn word_len(bytes: &[u8]) -> usize
     ensures value { result ≡ prefix_len word_byte_test bytes.now }
     ensures fits { result ≤ length bytes.now }
 {
-    bytes.iter().take_while(|b| !(is_space(**b) || is_mark(**b))).count()
+    bytes
+        .iter()
+        .take_while(|b| !(is_space(**b) || is_mark(**b)))
+        .count()
 }
 
 /// How many bytes the first token has, where no space stands before it.
@@ -51,13 +54,7 @@ fn token_len(bytes: &[u8]) -> usize
 {
     match bytes {
         [] => 0,
-        [first, ..] => {
-            if is_mark(*first) {
-                1
-            } else {
-                word_len(bytes)
-            }
-        }
+        [first, ..] => { if is_mark(*first) { 1 } else { word_len(bytes) } }
     }
 }
 

@@ -1,4 +1,4 @@
-use Rattle.std.proofs.Common.{arith, ◌∙◌}
+use Rattle.std.proofs.Common.{◌∙◌}
 use Rattle.wkt.proofs.NumbersLemmas.{digit_in_range, capped_more}
 use Rattle.wkt.proofs.number.capped_value.Goals as goal
 
