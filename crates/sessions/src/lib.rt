@@ -1,0 +1,18 @@
+//! Session lines: how they are read, what they are answered, and how a whole script is run.
+#![tactic(auto)]
+
+mod commands;
+mod desks;
+mod faults;
+mod replies;
+mod scripts;
+mod words;
+mod writing;
+mod worlds;
+
+pub use commands::{Command, read_command};
+pub use desks::CHANGE_LIMIT;
+pub use faults::Fault;
+pub use replies::Reply;
+pub use scripts::{LABEL_LIMIT, LINE_LIMIT, READ_LIMIT, ServeFault};
+pub use worlds::{PlainWorld, SEAT_LIMIT};
