@@ -1,12 +1,11 @@
 -- The ends of a commit, as plain states.
-use Rattle.std.proofs.Common.{◌≡◌, ◌≢◌, ℕ, ◌+◌, ◌-◌, ◌^◌, ◌<◌, eqb, ltb, Bool, true, false, List, [], ◌∷◌, length, Option, None, Some, is_some, if◌then◌else◌, refl, inl, inr, sym, ap, ◌∙◌, eq-eqb, subst, arith}
+use Rattle.std.proofs.Common.{◌≡◌, ◌≢◌, ℕ, ◌+◌, ◌-◌, ◌^◌, ◌<◌, ltb, false, List, [], ◌∷◌, length, Option, None, Some, is_some, if◌then◌else◌, refl, inl, inr, sym, ap, ◌∙◌, eq-eqb, subst}
 use Rattle.std.proofs.lemmas.Bool.{ne_eqb, cases_lt}
 use borrow.Author.Tests.{lt-ltb, le-ltb}
-use Rattle.features.specs.declared.actors.Subject.{Subject}
 use Rattle.features.specs.declared.rows.Feature.{Feature}
 use Rattle.features.specs.declared.rows.Change.{Change}
 use Rattle.features.specs.declared.rows.Change.TheVariants.{Add}
-use Rattle.features.specs.Changes.{change_id, after, CanApply}
+use Rattle.features.specs.Changes.{after, CanApply}
 use Rattle.features.specs.Rows.{feature_with}
 use Rattle.sessions.specs.declared.faults.Fault.TheVariants.{Spent, StoreFull}
 use Rattle.sessions.specs.declared.replies.Reply.{Reply}

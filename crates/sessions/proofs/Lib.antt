@@ -3,3 +3,5 @@ pub mod CommitLemmas
 pub mod DeskLemmas
 pub mod WritingLemmas
 pub mod ListingLemmas
+pub mod ScriptLemmas
+pub mod StreamLemmas

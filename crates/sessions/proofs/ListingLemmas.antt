@@ -1,6 +1,5 @@
 -- Listings, as far as a loop has come.
 use Rattle.std.proofs.Common.{◌≡◌, List, [], ◌∷◌, ◌++◌, refl, sym, ap, subst, ◌∙◌, append_assoc, append-nil, inl, inr}
-use Rattle.std.specs.Prelude.{◌⊎◌}
 use Rattle.plane.specs.declared.point.Point.{Point}
 use Rattle.plane.specs.Rows.{Meet}
 use Rattle.features.specs.declared.rows.Feature.{Feature}

@@ -1,5 +1,5 @@
 -- What a session's line does, as plain states.
-use Rattle.std.specs.Prelude.{◌≡◌, ℕ, ◌==◌, Bool, true, false, nat_le, is_some, List, [], ◌∷◌, ◌++◌, length, Option, None, Some, Result, Ok, Err, if◌then◌else◌}
+use Rattle.std.specs.Prelude.{◌≡◌, ℕ, ◌==◌, Bool, nat_le, is_some, List, [], ◌∷◌, ◌++◌, length, Option, None, Some, Result, Ok, Err, if◌then◌else◌}
 use Rattle.std.specs.Bool.{MatchBool}
 use Rattle.std.specs.List.{list_any}
 use Rattle.features.specs.declared.actors.Subject.{Subject}
@@ -11,11 +11,11 @@ use Rattle.sessions.specs.declared.commands.Command.TheVariants.{Hello as HelloC
 use Rattle.sessions.specs.declared.faults.Fault.{Fault}
 use Rattle.sessions.specs.declared.faults.Fault.TheVariants.{BeforeHello, NothingStaged, NamedTwice, TooManyChanges}
 use Rattle.sessions.specs.declared.replies.Reply.{Reply}
-use Rattle.sessions.specs.declared.replies.Reply.TheVariants.{Hello, Staged, Rows, Applied, Exists, Bye, Error}
+use Rattle.sessions.specs.declared.replies.Reply.TheVariants.{Hello, Staged, Rows, Applied, Bye, Error}
 use Rattle.sessions.specs.Commands.{command_of}
 use Rattle.sessions.specs.Replies.{is_memory, ends_list}
 use Rattle.sessions.specs.States.{PlainState, SessionState}
-use Rattle.sessions.specs.Worlds.{committed, seat_of, seated, Commits}
+use Rattle.sessions.specs.Worlds.{committed, seat_of, seated}
 
 -- a label's session before HELLO
 abbrev pub fresh : List ℕ → SessionState

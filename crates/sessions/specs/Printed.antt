@@ -1,5 +1,5 @@
 -- Replies as bytes.
-use Rattle.std.specs.Prelude.{◌≡◌, ℕ, List, [], ◌∷◌, ◌++◌, codes, decimal, length}
+use Rattle.std.specs.Prelude.{◌≡◌, ℕ, List, [], ◌++◌, codes, decimal, length}
 use Rattle.std.specs.List.{flat_map}
 use Rattle.wkt.specs.Printing.{printed}
 use Rattle.features.specs.declared.rows.Feature.{Feature}

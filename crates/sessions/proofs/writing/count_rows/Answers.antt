@@ -1,4 +1,4 @@
-use Rattle.std.proofs.Common.{◌+◌, ◌++◌, [], ◌∷◌, true, false, sym, arith, length-append, drop}
+use Rattle.std.proofs.Common.{◌+◌, ◌++◌, [], ◌∷◌, sym, arith, length-append, drop}
 use Rattle.std.proofs.lemmas.List.{drop_more, drop_all}
 use Rattle.sessions.proofs.ListingLemmas.{lists_yes, lists_no, lists_end}
 use Rattle.sessions.proofs.writing.count_rows.Goals as goal

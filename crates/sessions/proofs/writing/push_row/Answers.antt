@@ -1,4 +1,4 @@
-use Rattle.std.proofs.Common.{◌++◌, codes, decimal, ap, ◌∙◌}
+use Rattle.std.proofs.Common.{codes, decimal}
 use Rattle.wkt.specs.Printing.{printed}
 use Rattle.sessions.proofs.WritingLemmas.{fields_joined}
 use Rattle.sessions.proofs.writing.push_row.Goals as goal

@@ -1,5 +1,5 @@
-use Rattle.std.proofs.Common.{◌+◌, ◌++◌, [], ◌∷◌, true, false, sym, arith, length-append, drop}
-use Rattle.std.proofs.lemmas.List.{drop_more, drop_all, flat_map_more}
+use Rattle.std.proofs.Common.{◌+◌, ◌++◌, [], ◌∷◌, sym, drop}
+use Rattle.std.proofs.lemmas.List.{drop_more, drop_all}
 use Rattle.sessions.specs.Printed.{led, row_text}
 use Rattle.sessions.proofs.ListingLemmas.{lists_yes, lists_no, lists_end}
 use Rattle.sessions.proofs.WritingLemmas.{appends_row}

@@ -1,6 +1,5 @@
-use Rattle.std.proofs.Common.{◌≡◌, ◌+◌, ◌<◌, length, Err, refl, sym, ap, ◌∙◌}
+use Rattle.std.proofs.Common.{◌+◌, length, Err, refl, sym, ap, ◌∙◌}
 use Rattle.features.specs.Changes.{after}
-use Rattle.sessions.specs.Worlds.{first_present}
 use Rattle.sessions.proofs.CommitLemmas.{can_apply, committed_existing, committed_spent, committed_full, committed_whole, committed_is_applied, not_more}
 use Rattle.sessions.proofs.worlds.PlainWorld.commit.Goals as goal
 
