@@ -1,9 +1,8 @@
 -- Lists of changes, one change at a time.
-use Rattle.std.proofs.Common.{◌≡◌, ◌≢◌, ℕ, ◌+◌, List, [], ◌∷◌, length, None, refl, ◌∙◌, ap, arith}
+use Rattle.std.proofs.Common.{◌≡◌, ◌≢◌, ℕ, ◌+◌, List, [], ◌∷◌, length, ◌∙◌, ap, arith}
 use Rattle.features.specs.declared.rows.Feature.{Feature}
 use Rattle.features.specs.declared.rows.Change.{Change}
 use Rattle.features.specs.declared.rows.Change.TheVariants.{Add}
-use Rattle.features.specs.Rows.{feature_with, with_row}
 use Rattle.features.specs.Changes.{change_id, after_change, after, IsUnnamed, CanChange, CanApply}
 use Rattle.features.proofs.RowLemmas.{feature_with-with_row, length-with_row}
 
@@ -29,6 +28,6 @@ pub record IsStep (version : ℕ) (office : List ℕ) (change : Change) (changes
 
 pub stepped : (version : ℕ) (office : List ℕ) (change : Change) (changes : List Change) (rows new : List Feature) → CanApply (change ∷ changes) rows → new ≡ after_change version office change rows → IsStep version office change changes rows new
 stepped version office change changes rows new can made = record {
-    can_apply = rw made (can_apply_rest version office change changes rows can.1 can.2);
-    told = ap (after version office changes) made;
-  }
+  can_apply = rw made (can_apply_rest version office change changes rows can.1 can.2);
+  told = ap (after version office changes) made;
+}

@@ -1,5 +1,5 @@
 -- What a search finds in a list sorted by id, and what an insertion there makes of it.
-use Rattle.std.proofs.Common.{◌≡◌, ◌≢◌, ℕ, zero, suc, ◌+◌, ◌<◌, ◌≤◌, eqb, ltb, List, [], ◌∷◌, length, get_or, Option, Some, None, Result, Ok, Err, if◌then◌else◌, cond, Bool, true, false, refl, sym, ap, arith}
+use Rattle.std.proofs.Common.{◌≡◌, ◌≢◌, ℕ, zero, suc, ◌+◌, ◌<◌, ◌≤◌, eqb, ltb, List, [], ◌∷◌, length, get_or, Some, None, Result, Ok, Err, if◌then◌else◌, Bool, true, false, refl, sym, arith}
 use Rattle.std.specs.List.{insert}
 use Rattle.std.specs.List.Sorted.{IsSearchInRange, IsBinarySearchResult, IsNonDecreasingBy}
 use Rattle.std.specs.Ordering.{nat_cmp, ordering_index}
@@ -49,10 +49,10 @@ found_at id (row ∷ rows) (suc i) d sorted at =
 
 gap_tail : (id : ℕ) (row : Feature) (rows : List Feature) (i : ℕ) → IsGapFor id (row ∷ rows) (suc i) → IsGapFor id rows i
 gap_tail id row rows i gap = record {
-    in_range = omega (arith, gap.in_range);
-    smaller_before = λ j d lt. gap.smaller_before (suc j) d (omega arith);
-    greater_after = λ j d le lt. gap.greater_after (suc j) d (omega arith) (omega arith);
-  }
+  in_range = omega (arith, gap.in_range);
+  smaller_before = λ j d lt. gap.smaller_before (suc j) d (omega arith);
+  greater_after = λ j d le lt. gap.greater_after (suc j) d (omega arith) (omega arith);
+}
 
 -- an id that has a gap is not found
 pub absent_at_gap : (id : ℕ) (rows : List Feature) (i : ℕ) → IsGapFor id rows i → feature_with id rows ≡ None

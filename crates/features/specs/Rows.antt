@@ -1,5 +1,5 @@
 -- The features of a store: a list sorted by id.
-use Rattle.std.specs.Prelude.{◌≡◌, ℕ, ◌<◌, ◌==◌, List, [], ◌∷◌, Option, None, Some, if◌then◌else◌, nat_lt}
+use Rattle.std.specs.Prelude.{ℕ, ◌<◌, ◌==◌, List, [], ◌∷◌, Option, None, Some, if◌then◌else◌, nat_lt}
 use Rattle.features.specs.declared.rows.Feature.{Feature}
 
 -- the feature of an id

@@ -1,5 +1,5 @@
 -- Lists of subjects.
-use Rattle.std.specs.Prelude.{◌≡◌, ℕ, ◌≤◌, ◌==◌, Bool, List, [], ◌∷◌, length, take, Option, None, Some, Result, Ok, Err, if◌then◌else◌, nat_eq, nat_lt, ◌&&◌, true, is_none, IsTrue}
+use Rattle.std.specs.Prelude.{◌≡◌, ℕ, ◌≤◌, Bool, List, [], ◌∷◌, length, take, Option, None, Some, Result, Ok, Err, if◌then◌else◌, nat_eq, nat_lt, ◌&&◌, true, is_none, IsTrue}
 use Rattle.std.specs.Cmp.Lexicographic.{pointwise}
 use Rattle.features.specs.declared.actors.Subject.{Subject}
 use Rattle.features.specs.declared.actors.SubjectsFault.{SubjectsFault}

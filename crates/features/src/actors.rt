@@ -1,10 +1,9 @@
 ghost use Rattle.std.specs.Prelude.{◌≡◌, IsTrue};
 ghost use Rattle.features.specs.Subjects.{subject_named, have_distinct_names, subjects_of};
 
+use crate::names::Name;
 use std::fmt;
 use std::marker::Model;
-
-use crate::names::Name;
 
 /// How many subjects there are at most.
 pub const SUBJECT_LIMIT: usize = 64;

@@ -7,7 +7,7 @@ mod names;
 mod rows;
 mod stores;
 
-pub use actors::{Action, Subject, Subjects, SubjectsFault, SUBJECT_LIMIT};
+pub use actors::{Action, SUBJECT_LIMIT, Subject, Subjects, SubjectsFault};
 pub use meters::Meter;
 pub use names::{NAME_LIMIT, Name};
 pub use rows::{Change, Feature};

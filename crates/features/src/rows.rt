@@ -1,9 +1,8 @@
 ghost use Rattle.std.specs.Prelude.{◌≡◌};
 ghost use Rattle.features.specs.Changes.{change_id};
 
-use plane::Shape;
-
 use crate::names::Name;
+use plane::Shape;
 
 /// A feature of the map, as it stands in the store.
 #[derive(Clone, Copy, Debug, PartialEq, Eq)]

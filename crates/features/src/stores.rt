@@ -5,13 +5,12 @@ ghost use Rattle.features.specs.Rows.{IsSortedById, feature_with, with_row};
 ghost use Rattle.features.specs.Ticks.{ticked_by};
 ghost use Rattle.features.specs.Places.{IsPlaceOf};
 
-use std::alloc::Allocator;
-use std::fmt;
-use std::marker::Model;
-
 use crate::meters::Meter;
 use crate::names::Name;
 use crate::rows::{Change, Feature};
+use std::alloc::Allocator;
+use std::fmt;
+use std::marker::Model;
 
 /// How many features a store holds at most.
 pub const FEATURE_LIMIT: usize = 100_000;
@@ -102,7 +101,11 @@ impl<A: Allocator> Store<A> {
     }
 
     /// A copy of all features, by rising id. Costs one tick for each; after `Memory`, none.
-    pub fn dump<B: Allocator>(&self, alloc: B, meter: &mut Meter) -> Result<Vec<Feature, B>, StoreFault>
+    pub fn dump<B: Allocator>(
+        &self,
+        alloc: B,
+        meter: &mut Meter,
+    ) -> Result<Vec<Feature, B>, StoreFault>
         ensures ok { IfOk result (λ rows. rows.items ≡ self.now) }
         ensures cost { OnOk result (meter.new ≡ ticked_by (length self.now) meter.old) }
         ensures err { OnErr result (meter.new ≡ meter.old) }
@@ -118,7 +121,12 @@ impl<A: Allocator> Store<A> {
     /// Makes a list of changes, all or none of them. `Full` where more than 100,000 features would stand;
     /// `Memory` where room for them is refused. Either leaves the store as it was.
     #[tactic(auto, using(crate::proofs::ChangeLemmas::length_after))]
-    pub fn apply(&mut self, version: u64, office: Name, changes: &[Change]) -> Result<(), StoreFault>
+    pub fn apply(
+        &mut self,
+        version: u64,
+        office: Name,
+        changes: &[Change],
+    ) -> Result<(), StoreFault>
         requires { CanApply changes.now self.old }
         ensures ok { OnOk result (self.new ≡ after version office changes.now self.old) }
         ensures err { OnErr result (self.new ≡ self.old) }
@@ -184,7 +192,12 @@ fn make<A: Allocator>(rows: &mut Vec<Feature, A>, version: u64, office: Name, ch
 }
 
 /// Makes each change of a list, in order.
-fn make_all<A: Allocator>(rows: &mut Vec<Feature, A>, version: u64, office: Name, changes: &[Change])
+fn make_all<A: Allocator>(
+    rows: &mut Vec<Feature, A>,
+    version: u64,
+    office: Name,
+    changes: &[Change],
+)
     requires sorted { IsSortedById rows.old.items }
     requires can_apply { CanApply changes.now rows.old.items }
     requires room { vec_len rows.old + length changes.now ≤ vec_capacity rows.old }

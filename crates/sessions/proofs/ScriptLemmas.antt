@@ -12,7 +12,7 @@ use Rattle.sessions.specs.States.{PlainState, SessionState}
 pub label_told : {E : Type 0} (r : Result (Unit {0}) E) (label text : List ℕ) (old : Script) (world : PlainState) (sessions : List SessionState) (reply : Reply) (a b : Option (List ℕ))
     → place label old.sessions < 64
     → ((session : SessionState) × (sessions ≡ slice_set (with_label label old.sessions) (place label old.sessions) session)
-        × ((d : SessionState) → Answers text (slice_index_or (with_label label old.sessions) (place label old.sessions) d) old.world session world reply))
+    × ((d : SessionState) → Answers text (slice_index_or (with_label label old.sessions) (place label old.sessions) d) old.world session world reply))
     → OnOk r ((said : List ℕ) × Appends a b said × Shows label reply world.features said)
     → OnOk r ((said : List ℕ) × Appends a b said × LabelTells label text old (script world sessions) said)
 label_told (Err e) label text old world sessions reply a b room answered written = tt

@@ -74,7 +74,7 @@ long_pieces old new (b ∷ line) (c ∷ other) [] text long long_too told =
     tells_long old new (b ∷ line) (c ∷ other) [] text (lt-ltb 65536 _ (omega arith)) (lt-ltb 65536 _ (omega arith)) told
 long_pieces old new (b ∷ line) (c ∷ other) (next ∷ others) text long long_too told =
     tells_long old new (strip_last 13 (b ∷ line)) (strip_last 13 (c ∷ other)) (ended (next ∷ others)) text
-        (lt-ltb 65536 _ (omega (arith, strip_length (ends_with_byte 13 (b ∷ line)) (b ∷ line)))) (lt-ltb 65536 _ (omega (arith, strip_length (ends_with_byte 13 (c ∷ other)) (c ∷ other)))) told
+    (lt-ltb 65536 _ (omega (arith, strip_length (ends_with_byte 13 (b ∷ line)) (b ∷ line)))) (lt-ltb 65536 _ (omega (arith, strip_length (ends_with_byte 13 (c ∷ other)) (c ∷ other)))) told
 
 -- a line that is too long already is answered alike with one more byte
 tells_longer : (old new : Script) (line : List ℕ) (byte : ℕ) (rest text : List ℕ) → 65538 ≤ length line → IsLine line → byte ≢ 10 → Tells old (lines_of (line ++ rest)) new text → Tells old (lines_of (line ++ byte ∷ rest)) new text
@@ -90,8 +90,8 @@ progress_none old begun = record { onward = λ rest final more told. told }
 
 pub progress_then : (old mid new : Script) (begun between held xs ys said more : List ℕ) → Progress old begun xs mid between said → Progress mid between ys new held more → Progress old begun (xs ++ ys) new held (said ++ more)
 progress_then old mid new begun between held xs ys said more first second = record {
-    onward = λ rest final last told. rw (append_assoc xs ys rest, append_assoc said more last) (first.onward (ys ++ rest) final (more ++ last) (second.onward rest final last told));
-  }
+  onward = λ rest final last told. rw (append_assoc xs ys rest, append_assoc said more last) (first.onward (ys ++ rest) final (more ++ last) (second.onward rest final last told));
+}
 
 -- one more byte of a line
 pub progress_held : (old : Script) (held : List ℕ) (byte : ℕ) → IsLine held → byte ≢ 10 → Progress old held (byte ∷ []) old (held_with byte held) []
@@ -104,8 +104,8 @@ progress_held old held byte whole no_end = go (ltb (length held) 65538) refl
 -- the end of a line
 pub progress_line : (old new : Script) (held said : List ℕ) → IsLine held → LineTells (strip_last 13 held) old new said → Progress old held (10 ∷ []) new [] said
 progress_line old new held said whole told = record {
-    onward = λ rest final more told_then. rw (lines_of-feed held rest whole) (new, said, more, told, refl, told_then);
-  }
+  onward = λ rest final more told_then. rw (lines_of-feed held rest whole) (new, said, more, told, refl, told_then);
+}
 
 one_line : (line : List ℕ) → 0 < length line → ended (line ∷ []) ≡ line ∷ []
 one_line [] some = absurd (omega arith)
@@ -140,9 +140,13 @@ pub runs_on : (start left next a b c : Option (List ℕ)) (old mid new : Script)
 runs_on None left next a b c old mid new between held bytes so_far taken told = tt
 runs_on (Some input) None next a b c old mid new between held bytes so_far taken told = absurd so_far
 runs_on (Some input) (Some rest) None a b c old mid new between held bytes so_far taken told = absurd taken
-runs_on (Some input) (Some rest) (Some later) a b c old mid new between held bytes so_far taken told =
-    (so_far.0 ++ bytes, so_far.1 ++ told.0, so_far.2 ∙ ap (λ (xs : List ℕ). so_far.0 ++ xs) taken ∙ sym (append_assoc so_far.0 bytes later),
-        appends_then a b c so_far.1 told.0 so_far.3 told.1, progress_then old mid new [] between held so_far.0 bytes so_far.1 told.0 so_far.4 told.2)
+runs_on (Some input) (Some rest) (Some later) a b c old mid new between held bytes so_far taken told = (
+  so_far.0 ++ bytes,
+  so_far.1 ++ told.0,
+  so_far.2 ∙ ap (λ (xs : List ℕ). so_far.0 ++ xs) taken ∙ sym (append_assoc so_far.0 bytes later),
+  appends_then a b c so_far.1 told.0 so_far.3 told.1,
+  progress_then old mid new [] between held so_far.0 bytes so_far.1 told.0 so_far.4 told.2,
+)
 
 pub runs_end : (start left next a b c : Option (List ℕ)) (world : PlainState) (mid : Script) (end : PlainState) (sessions : List SessionState) (held : List ℕ) → Runs start left a b (script world []) mid held → Consumes left next [] → IsAtEnd next
     → ((said : List ℕ) × Appends b c said × Tells mid (lines_of (held ++ [])) (script end sessions) said)
@@ -151,6 +155,8 @@ runs_end None left next a b c world mid end sessions held so_far taken at_end to
 runs_end (Some input) None next a b c world mid end sessions held so_far taken at_end told = absurd so_far
 runs_end (Some input) (Some rest) None a b c world mid end sessions held so_far taken at_end told = absurd taken
 runs_end (Some input) (Some rest) (Some later) a b c world mid end sessions held so_far taken at_end told =
-    let whole : input ≡ so_far.0 ++ [] = so_far.2 ∙ ap (λ (xs : List ℕ). so_far.0 ++ xs) (taken ∙ at_end) in
-    (so_far.1 ++ told.0, appends_then a b c so_far.1 told.0 so_far.3 told.1,
-        record { sessions = sessions; tells = rw whole (so_far.4.onward [] (script end sessions) told.0 told.2) })
+    let whole : input ≡ so_far.0 ++ [] = so_far.2 ∙ ap (λ (xs : List ℕ). so_far.0 ++ xs) (taken ∙ at_end) in (
+      so_far.1 ++ told.0,
+      appends_then a b c so_far.1 told.0 so_far.3 told.1,
+      record { sessions = sessions; tells = rw whole (so_far.4.onward [] (script end sessions) told.0 told.2) },
+    )

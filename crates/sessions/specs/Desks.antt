@@ -48,8 +48,8 @@ IsChange _ = ⊥
 abbrev pub Stages : Change → SessionState → SessionState → Reply → Type 0
 Stages change old new reply =
     MatchBool (is_memory reply)
-        ((new ≡ old) × IsChange (staged_with change old).1)
-        ((new, reply) ≡ staged_with change old)
+    ((new ≡ old) × IsChange (staged_with change old).1)
+    ((new, reply) ≡ staged_with change old)
 
 -- a session after its list was committed with this reply
 abbrev pub without_list : Reply → SessionState → SessionState
@@ -68,8 +68,8 @@ closed (Some subject) session state =
 abbrev pub Closes : SessionState → PlainState → SessionState → PlainState → Reply → Type 0
 Closes session state new_session new_state reply =
     MatchBool (is_memory reply)
-        ((new_session ≡ session) × (new_state ≡ state) × IsChange (closed session.subject session state).2)
-        ((new_session, new_state, reply) ≡ closed session.subject session state)
+    ((new_session ≡ session) × (new_state ≡ state) × IsChange (closed session.subject session state).2)
+    ((new_session, new_state, reply) ≡ closed session.subject session state)
 
 -- HELLO, where the seat is given or not
 abbrev pub seated_as : List ℕ → Result Subject Fault → SessionState → PlainState → SessionState × PlainState × Reply
@@ -90,8 +90,8 @@ obeyed ByeCommand session state = (ended session, state, Bye)
 abbrev pub Obeys : Command → SessionState → PlainState → SessionState → PlainState → Reply → Type 0
 Obeys command session state new_session new_state reply =
     MatchBool (is_memory reply)
-        ((new_session ≡ session) × (new_state ≡ state) × IsChange (obeyed command session state).2)
-        ((new_session, new_state, reply) ≡ obeyed command session state)
+    ((new_session ≡ session) × (new_state ≡ state) × IsChange (obeyed command session state).2)
+    ((new_session, new_state, reply) ≡ obeyed command session state)
 
 abbrev pub obeyed_or_refused : Result Command Fault → SessionState → PlainState → SessionState × PlainState × Reply
 obeyed_or_refused (Ok command) session state = obeyed command session state
@@ -105,5 +105,5 @@ answered text session state = obeyed_or_refused (command_of (is_some session.sub
 abbrev pub Answers : List ℕ → SessionState → PlainState → SessionState → PlainState → Reply → Type 0
 Answers text session state new_session new_state reply =
     MatchBool (is_memory reply)
-        ((new_session ≡ session) × (new_state ≡ state) × IsChange (answered text session state).2)
-        ((new_session, new_state, reply) ≡ answered text session state)
+    ((new_session ≡ session) × (new_state ≡ state) × IsChange (answered text session state).2)
+    ((new_session, new_state, reply) ≡ answered text session state)

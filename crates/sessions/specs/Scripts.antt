@@ -69,8 +69,8 @@ LineTells line old new said =
     MatchBool (is_too_long line) (IsRefused (reply_text (Error LineTooLong)) old new said)
     (MatchBool (is_skipped line) ((new ≡ old) × (said ≡ []))
     (MatchOption (parts_of line) (IsRefused (reply_text (Error NoLabel)) old new said)
-        (λ parts. MatchOption (name_of parts.0) (IsRefused (reply_text (Error NoLabel)) old new said)
-            (λ label. LabelTells label parts.1 old new said))))
+    (λ parts. MatchOption (name_of parts.0) (IsRefused (reply_text (Error NoLabel)) old new said)
+    (λ label. LabelTells label parts.1 old new said))))
 
 -- what lines are answered, one after another
 abbrev pub Tells : Script → List (List ℕ) → Script → List ℕ → Type 0

@@ -63,5 +63,5 @@ IsApplied _ = ⊥
 abbrev pub Commits : List ℕ → List Change → PlainState → PlainState → Reply → Type 0
 Commits office changes old new reply =
     MatchBool (is_memory reply)
-        ((new ≡ old) × IsApplied (committed office changes old).1)
-        ((new, reply) ≡ committed office changes old)
+    ((new ≡ old) × IsApplied (committed office changes old).1)
+    ((new, reply) ≡ committed office changes old)

@@ -3,12 +3,11 @@ ghost use Rattle.features.specs.Names.{name_of};
 ghost use Rattle.sessions.specs.Words.{number_of};
 ghost use Rattle.sessions.specs.Commands.{Gives, verb_of, verb_at, allowed, or_fault, word_at, shape_at, end_at, hello_at, add_at, alone_at, arguments_at, command_of};
 
+use crate::faults::Fault;
+use crate::words::{next_word, read_number};
 use features::Name;
 use plane::Shape;
 use wkt::read_shape;
-
-use crate::faults::Fault;
-use crate::words::{next_word, read_number};
 
 /// What a line asks of its session.
 #[derive(Clone, Copy, Debug, PartialEq, Eq)]

@@ -3,15 +3,13 @@ ghost use Rattle.std.specs.List.{list_any};
 ghost use Rattle.features.specs.Changes.{change_id};
 ghost use Rattle.sessions.specs.Desks.{Answers, Closes, Obeys, Stages, begun, ended, fresh, names};
 
-use std::alloc::Allocator;
-use std::marker::Model;
-
-use features::{Change, Name, Subject};
-
 use crate::commands::{Command, read_command};
 use crate::faults::Fault;
 use crate::replies::Reply;
 use crate::worlds::PlainWorld;
+use features::{Change, Name, Subject};
+use std::alloc::Allocator;
+use std::marker::Model;
 
 /// How many changes a list has at most.
 pub const CHANGE_LIMIT: usize = 16;
@@ -120,7 +118,11 @@ fn is_named(changes: &[Change], id: u64) -> bool
 
 /// Answers what stands behind the label of a session's line.
 #[tactic(auto, unfolding(crate::specs::Desks::answered))]
-pub(crate) fn answer<A: Allocator>(world: &mut PlainWorld<A>, session: &mut Session<A>, text: &[u8]) -> Reply
+pub(crate) fn answer<A: Allocator>(
+    world: &mut PlainWorld<A>,
+    session: &mut Session<A>,
+    text: &[u8],
+) -> Reply
     ensures { Answers text.now session.old world.old session.new world.new result }
 {
     match read_command(session.has_begun(), text) {
@@ -131,7 +133,11 @@ pub(crate) fn answer<A: Allocator>(world: &mut PlainWorld<A>, session: &mut Sess
 
 /// Does what a line asks.
 #[tactic(auto, unfolding(crate::specs::Desks::obeyed))]
-fn obey<A: Allocator>(world: &mut PlainWorld<A>, session: &mut Session<A>, command: Command) -> Reply
+fn obey<A: Allocator>(
+    world: &mut PlainWorld<A>,
+    session: &mut Session<A>,
+    command: Command,
+) -> Reply
     ensures { Obeys command session.old world.old session.new world.new result }
 {
     match command {

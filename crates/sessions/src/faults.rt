@@ -1,7 +1,6 @@
 ghost use Rattle.std.specs.Prelude.{◌≡◌};
 
 use std::fmt;
-
 use wkt::WktFault;
 
 /// Why a line is answered `error`.

@@ -7,8 +7,8 @@ mod faults;
 mod replies;
 mod scripts;
 mod words;
-mod writing;
 mod worlds;
+mod writing;
 
 pub use commands::{Command, read_command};
 pub use desks::CHANGE_LIMIT;

@@ -1,10 +1,9 @@
 ghost use Rattle.std.specs.Prelude.{◌≡◌};
 ghost use Rattle.sessions.specs.Replies.{is_memory as reply_is_memory, ends_list as reply_ends_list};
 
+use crate::faults::Fault;
 use features::Name;
 use plane::Shape;
-
-use crate::faults::Fault;
 
 /// What a line is answered.
 #[derive(Clone, Copy, Debug, PartialEq, Eq)]

@@ -10,18 +10,16 @@ ghost use Rattle.sessions.specs.Streams.{Progress, held_with};
 ghost use Rattle.sessions.specs.States.{SessionState};
 ghost use Rattle.sessions.specs.declared.scripts.TheConstants.{HELD, LABEL_LIMIT};
 
-use std::alloc::Allocator;
-use std::io;
-use std::io::{Read, Write};
-
-use features::Name;
-use thiserror::Error;
-
 use crate::desks::{Session, answer};
 use crate::faults::Fault;
 use crate::replies::Reply;
 use crate::worlds::PlainWorld;
 use crate::writing::{write_line, write_reply};
+use features::Name;
+use std::alloc::Allocator;
+use std::io;
+use std::io::{Read, Write};
+use thiserror::Error;
 
 /// How many bytes a line has at most, without its end.
 pub const LINE_LIMIT: usize = 65_536;

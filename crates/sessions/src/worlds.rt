@@ -2,13 +2,11 @@ ghost use Rattle.std.specs.Prelude.{◌≡◌, ◌+◌, ◌≤◌, [], length, o
 ghost use Rattle.features.specs.Changes.{change_id};
 ghost use Rattle.sessions.specs.Worlds.{AreDistinct, Commits, first_present, opened, seat_of, seated};
 
-use std::alloc::Allocator;
-use std::marker::Model;
-
-use features::{Change, Feature, Meter, Name, Store, StoreFault, Subject, Subjects};
-
 use crate::faults::Fault;
 use crate::replies::Reply;
+use features::{Change, Feature, Meter, Name, Store, StoreFault, Subject, Subjects};
+use std::alloc::Allocator;
+use std::marker::Model;
 
 /// How many seats are given in the life of a world.
 pub const SEAT_LIMIT: u32 = 1024;

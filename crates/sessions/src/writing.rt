@@ -6,17 +6,15 @@ ghost use Rattle.features.specs.declared.rows.Feature.{Feature};
 ghost use Rattle.sessions.specs.Listing.{IsListed};
 ghost use Rattle.sessions.specs.Printed.{Shows, led, reply_text, row_text, rows_head, rows_text};
 
-use std::io;
-use std::io::Write;
-
+use crate::faults::Fault;
+use crate::replies::Reply;
 use arrayvec::ArrayVec;
 use features::Feature;
 use itoa::Buffer;
 use plane::{Shape, meets};
+use std::io;
+use std::io::Write;
 use wkt::shape_text;
-
-use crate::faults::Fault;
-use crate::replies::Reply;
 
 /// The longest line of a reply has 510 bytes: a label, a row's two numbers, its two names and a polygon's text.
 const LINE_ROOM: usize = 512;
@@ -141,7 +139,12 @@ fn finish<W: Write>(mut line: Line, writer: &mut W) -> io::Result<()>
 }
 
 /// Writes a reply, each line led by the session's label. Takes no memory. An error is the writer's.
-pub(crate) fn write_reply<W: Write>(lead: &[u8], reply: Reply, features: &[Feature], writer: &mut W) -> io::Result<()>
+pub(crate) fn write_reply<W: Write>(
+    lead: &[u8],
+    reply: Reply,
+    features: &[Feature],
+    writer: &mut W,
+) -> io::Result<()>
     requires { length lead.now ≤ LEAD_LIMIT }
     ensures { OnOk result ((said : List ℕ) × Appends (W.contents writer.old) (W.contents writer.new) said × Shows lead.now reply features.now said) }
 {
@@ -162,7 +165,12 @@ pub(crate) fn write_line<W: Write>(lead: &[u8], reply: Reply, writer: &mut W) ->
 }
 
 /// Writes the features that meet a window, and before them how many they are.
-fn write_rows<W: Write>(lead: &[u8], window: &Shape, features: &[Feature], writer: &mut W) -> io::Result<()>
+fn write_rows<W: Write>(
+    lead: &[u8],
+    window: &Shape,
+    features: &[Feature],
+    writer: &mut W,
+) -> io::Result<()>
     requires { length lead.now ≤ LEAD_LIMIT }
     ensures { OnOk result ((rows : List Feature) × IsListed window.now features.now rows × Appends (W.contents writer.old) (W.contents writer.new) (rows_text lead.now rows)) }
 {
@@ -186,7 +194,12 @@ fn count_rows(window: &Shape, features: &[Feature]) -> u64
 }
 
 /// Writes a line for each feature that meets a window.
-fn write_each<W: Write>(lead: &[u8], window: &Shape, features: &[Feature], writer: &mut W) -> io::Result<()>
+fn write_each<W: Write>(
+    lead: &[u8],
+    window: &Shape,
+    features: &[Feature],
+    writer: &mut W,
+) -> io::Result<()>
     requires { length lead.now ≤ LEAD_LIMIT }
     ensures { OnOk result ((rows : List Feature) × IsListed window.now features.now rows × Appends (W.contents writer.old) (W.contents writer.new) (flat_map (λ row. led lead.now (row_text row)) rows)) }
 {

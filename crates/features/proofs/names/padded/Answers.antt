@@ -1,4 +1,4 @@
-use Rattle.std.proofs.Common.{ℕ, ◌++◌, length, ap, arith, ◌-◌}
+use Rattle.std.proofs.Common.{ℕ, length}
 use Rattle.std.proofs.lemmas.List.{drop-replicate}
 use Rattle.features.proofs.names.padded.Goals as goal
 

@@ -1,6 +1,5 @@
-use Rattle.std.proofs.Common.{◌+◌, ◌∷◌, arith, sym, ◌∙◌, ap, length, drop, get_or}
-use Rattle.std.proofs.lemmas.List.{drop_more, get_or_read}
-use Rattle.features.specs.Changes.{CanApply, after}
+use Rattle.std.proofs.Common.{arith, sym, ◌∙◌}
+use Rattle.std.proofs.lemmas.List.{drop_more}
 use Rattle.features.proofs.ChangeLemmas.{stepped}
 use Rattle.features.proofs.stores.make_all.Goals as goal
 

@@ -1,4 +1,4 @@
-use Rattle.std.proofs.Common.{sym, ◌∙◌}
+use Rattle.std.proofs.Common.{◌∙◌}
 use Rattle.features.proofs.RowLemmas.{found_at, insert_at_gap, sorted_with_row}
 use Rattle.features.proofs.stores.put.Goals as goal
 

@@ -6,4 +6,4 @@ use Rattle.sessions.proofs.scripts.run_script.Given as goal
 abbrev pub invariant-loop : goal.invariant-loop
 invariant-loop g l =
     Runs (g.R.Read.remaining l.fn.reader) (g.R.Read.remaining l.reader) (g.W.Write.contents l.fn.writer) (g.W.Write.contents l.writer)
-        (script l.fn.world []) (script l.world l.table.sessions.items) l.held.bytes.items
+    (script l.fn.world []) (script l.world l.table.sessions.items) l.held.bytes.items

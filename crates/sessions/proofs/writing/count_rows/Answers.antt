@@ -14,13 +14,13 @@ loop-feature-preserved c =
     let within = c.loop-feature.invariant.within in
     elim c.if-meets.branch [
       | then-meets w ↦ record {
-          within = omega (arith, w.count-is, within);
-          told = (told.0 ++ feature ∷ [], lists_yes c.args.window.now c.args.features.now (drop (i + 1) c.args.features.now) told.0 feature told.1 (c.meets.ensures.0 w.if-meets.true), omega (arith, w.count-is, told.2, length-append told.0 (feature ∷ [])));
-        }
+        within = omega (arith, w.count-is, within);
+        told = (told.0 ++ feature ∷ [], lists_yes c.args.window.now c.args.features.now (drop (i + 1) c.args.features.now) told.0 feature told.1 (c.meets.ensures.0 w.if-meets.true), omega (arith, w.count-is, told.2, length-append told.0 (feature ∷ [])));
+      }
       | else-meets w ↦ record {
-          within = omega (arith, w.count-is, within);
-          told = (told.0, lists_no c.args.window.now c.args.features.now (drop (i + 1) c.args.features.now) told.0 feature told.1 (λ meet. (let met = c.meets.ensures.1 meet in cc (met, w.if-meets.false))), omega (arith, w.count-is, told.2));
-        }
+        within = omega (arith, w.count-is, within);
+        told = (told.0, lists_no c.args.window.now c.args.features.now (drop (i + 1) c.args.features.now) told.0 feature told.1 (λ meet. (let met = c.meets.ensures.1 meet in cc (met, w.if-meets.false))), omega (arith, w.count-is, told.2));
+      }
     ]
 
 pub returns : goal.returns

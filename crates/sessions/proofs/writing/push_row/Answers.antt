@@ -10,4 +10,4 @@ returns-clause-items c =
     let class = rw c.as_bytes-2.ensures.value at c.push_field-2.ensures.items in
     let shape = rw (c.as_bytes-3.ensures.value, c.deref.ensures.0, c.shape_text.ensures.bytes) at c.push_bytes.ensures.items in
     fields_joined _ _ _ _ _ _ (decimal feature.id) (decimal feature.version) feature.office feature.class (printed feature.shape) (codes " ")
-        c.push_number_field.ensures.items c.push_number_field-2.ensures.items office class shape
+    c.push_number_field.ensures.items c.push_number_field-2.ensures.items office class shape

@@ -1,4 +1,4 @@
-use Rattle.std.proofs.Common.{Some, None, sym, ap, ◌∙◌}
+use Rattle.std.proofs.Common.{Some, sym, ap, ◌∙◌}
 use Rattle.features.proofs.RowLemmas.{found_at, absent_at_gap}
 use Rattle.features.proofs.stores.Store.get.Goals as goal
 
