@@ -10,3 +10,4 @@ pub mod Printed
 pub mod Lines
 pub mod Scripts
 pub mod Streams
+pub mod BuiltIn
