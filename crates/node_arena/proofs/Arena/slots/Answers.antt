@@ -1,0 +1,7 @@
+use Rattle.std.proofs.Common.{refl, arith}
+use Rattle.node_arena.proofs.SlotLemmas.{first_given_out}
+use Rattle.node_arena.proofs.Arena.slots.Goals as goal
+
+pub returns-clause-given_out : goal.returns-clause-given_out
+returns-clause-given_out g c =
+    rw (← c.self.view_is) (λ slot below. (omega arith, first_given_out _ _ _ _ _ c.self.invariant slot (omega arith)))
