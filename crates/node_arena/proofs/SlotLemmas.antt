@@ -9,7 +9,7 @@ use Rattle.std.proofs.lemmas.Option.{slice_get_within, slice_get-get_or, slice_g
 use Rattle.node_arena.specs.declared.handle.Handle.{Handle}
 use Rattle.node_arena.specs.declared.slot.Slot.{Slot}
 use Rattle.node_arena.specs.declared.slot.Slot.TheVariants.{Live, Free, WornOut}
-use Rattle.node_arena.specs.Slots.{is_taken, value_at}
+use Rattle.node_arena.specs.Slots.{is_taken, value_at, IsUsed}
 use Rattle.node_arena.specs.Slot.{seen, IsInRange, IsLink, IsChain, IsSound}
 
 module _ {T : Type 0} where
@@ -173,3 +173,11 @@ module _ {T : Type 0} where
           let found = slice_get-get_or slots handle.slot WornOut within in
           by_slot (get_or slots handle.slot WornOut) found (subst (λ (p : ℕ × Option T). IsSome (cond (eqb p.0 (handle.generation + 1)) p.1 None)) (seen_at slots handle.slot _ (first, None) found) present)
       by_place (inr past) = absurd (grind (arith, nat_tests, get_or_past (map seen slots) handle.slot (first, None) (omega (arith, length-map slots seen))))
+
+  -- and it is used
+  pub used_from_value : (first : ℕ) (slots : List (Slot T)) (live free : ℕ) (next : Option ℕ) → IsSound first slots live free next → (handle : Handle) → IsSome (value_at (record { first = first; slots = map seen slots }) handle) → IsUsed (record { first = first; slots = map seen slots }) handle
+  used_from_value first slots live free next sound handle present =
+      let found = live_at first slots handle present in
+      let range = in_range_at first slots handle.slot _ live free next sound found.1 in
+      let last : (get_or (map seen slots) handle.slot (first, None)).0 ≡ handle.generation + 1 = ap (λ slot. slot.0) (seen_at slots handle.slot _ (first, None) found.1) in
+      (range.0, omega arith)

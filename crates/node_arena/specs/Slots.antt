@@ -66,6 +66,11 @@ module _ {T : Type 0} where
   abbrev pub with_value : Slots T → Handle → T → Slots T
   with_value s handle value = with_slot s handle (Some value)
 
+  -- no handle has a value, and none was used
+  pub record IsEmpty (s : Slots T) : Type 0 where
+    pub no_values : (handle : Handle) → value_at s handle ≡ None
+    pub none_used : (handle : Handle) → IsUsed s handle → ⊥
+
   -- a new handle has the value: it was not used and had no value, and nothing else changes
   pub record IsGiven (old new : Slots T) (handle : Handle) (value : T) : Type 0 where
     pub was_unused : IsUsed old handle → ⊥

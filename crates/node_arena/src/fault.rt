@@ -1,4 +1,4 @@
-ghost use Rattle.std.specs.Prelude.{◌≡◌};
+ghost use Rattle.std.specs.Prelude.{◌≡◌, Some};
 ghost use Rattle.node_arena.specs.Fault.{code_of};
 
 use std::error::Error;
@@ -27,6 +27,8 @@ impl ArenaFault {
 
 /// Writes the code.
 impl fmt::Display for ArenaFault {
+    ghost output = { λ fault. Some (code_of fault) };
+
     fn fmt<W: fmt::Write>(&self, f: &mut fmt::Formatter<W>) -> fmt::Result {
         f.write_str(self.code())
     }

@@ -4,7 +4,7 @@
 ghost use Rattle.std.specs.Prelude.{◌≡◌, ◌≢◌, ◌↔◌, ℕ, ◌+◌, ◌<◌, ◌≤◌, ◌==◌, ◌++◌, ◌∷◌, [], IsTrue, IsSome, OnOk, OnErr, OnSome, IfOk, IfErr, IfNone, None, Some, option_copied, vec_len, if◌then◌else◌};
 ghost use Rattle.std.specs.Option.{option_copied_mut};
 ghost use Rattle.std.specs.Borrow.{sem};
-ghost use Rattle.node_arena.specs.Slots.{slot_at, next_generation, value_at, IsUsed, value_count, slot_count, taken_count, empty_from, with_slot, with_value, IsGiven, CountsGiven, IsChangedAt, SameCounts};
+ghost use Rattle.node_arena.specs.Slots.{slot_at, next_generation, value_at, IsUsed, value_count, slot_count, taken_count, empty_from, with_slot, with_value, IsEmpty, IsGiven, CountsGiven, IsChangedAt, SameCounts};
 
 use slot::Slot;
 use std::alloc::Allocator;
@@ -55,14 +55,16 @@ impl<T, A: Allocator> Arena<T, A> {
 
     /// An arena with no value, which takes no memory until the first `insert`.
     pub fn new(alloc: A) -> Self
-        ensures { result ≡ empty_from 0 }
+        ensures value { result ≡ empty_from 0 }
+        ensures empty { IsEmpty result }
     {
         Self::starting_at(alloc, 0)
     }
 
     /// The same, where each slot begins at `generation` in place of 0. It is for tests of what comes at the last generations.
     pub fn starting_at(alloc: A, generation: u32) -> Self
-        ensures { result ≡ empty_from generation }
+        ensures value { result ≡ empty_from generation }
+        ensures empty { IsEmpty result }
     {
         Arena {
             slots: Vec::new(alloc),
@@ -90,6 +92,7 @@ impl<T, A: Allocator> Arena<T, A> {
     /// How many slots were given out at least once, worn-out ones among them. Each handle that was given out has a slot below this number.
     pub fn slots(&self) -> u32
         ensures value { result ≡ slot_count self.now }
+        ensures used { (handle : Handle) → IsSome (value_at self.now handle) → IsUsed self.now handle }
         ensures below { (handle : Handle) → IsUsed self.now handle → handle.slot < result }
         ensures given_out { (slot : ℕ) → slot < result → IsUsed self.now (record { slot = slot; generation = self.now.first }) }
         ensures taken { taken_count self.now ≤ result }
