@@ -1,11 +1,10 @@
 -- The laws of the map that an arena is, for this crate and its callers.
-use Rattle.std.proofs.Common.{◌≡◌, ◌≢◌, ◌⊎◌, ◌↔◌, ℕ, suc, ◌+◌, ◌<◌, ◌≤◌, Bool, true, false, List, length, get_or, set, Option, Some, None, is_some, IsSome, count_by, cond, eqb, refl, sym, ap, subst, ◌∙◌, inl, inr, arith, length-set, true≢false}
+use Rattle.std.proofs.Common.{◌≡◌, ◌≢◌, ◌⊎◌, ℕ, ◌+◌, ◌<◌, ◌≤◌, Bool, true, false, Option, Some, None, is_some, IsSome, count_by, cond, eqb, refl, sym, ap, subst, ◌∙◌, inl, inr, arith, length-set, true≢false}
 use Rattle.std.proofs.lemmas.Bool.{cases_eq, cases_lt, cases_order, eq-eqb, ne_eqb, lt-leb, le-leb}
-use Rattle.std.proofs.lemmas.Bool.Decides.{nat_tests}
 use Rattle.std.proofs.lemmas.List.{get_or-set_same, get_or-set_other, get_or_past}
 use Rattle.std.proofs.lemmas.List.Sums.{sum_by-set}
 use Rattle.node_arena.specs.declared.handle.Handle.{Handle}
-use Rattle.node_arena.specs.Slots.{Slots, slot_at, next_generation, value_at, IsUsed, value_count, slot_count, taken_count, is_taken, with_slot, with_value, IsGiven, CountsGiven, IsChangedAt, SameCounts}
+use Rattle.node_arena.specs.Slots.{Slots, slot_at, next_generation, value_at, value_count, slot_count, taken_count, is_taken, with_slot, with_value, IsGiven, CountsGiven, IsChangedAt, SameCounts}
 
 pub same_handle : (one other : Handle) → other.slot ≡ one.slot → other.generation ≡ one.generation → other ≡ one
 same_handle one other slot generation =
@@ -98,12 +97,14 @@ module _ {T : Type 0} where
           | inr later ↦
               let was_there = ap (next_generation old) later.0 in
               let is_there = ap (next_generation new) later.0 in
-              let below : other.generation ≤ handle.generation = omega (arith, used.1) in
-              (omega (arith, used.0), elim (cases_order other.generation handle.generation) [
-                | inl same ↦ absurd (later.1 same)
-                | inr (inl less) ↦ omega arith
-                | inr (inr more) ↦ omega arith
-              ])
+              let below : other.generation ≤ handle.generation = omega (arith, used.1) in (
+                omega (arith, used.0),
+                elim (cases_order other.generation handle.generation) [
+                  | inl same ↦ absurd (later.1 same)
+                  | inr (inl less) ↦ omega arith
+                  | inr (inr more) ↦ omega arith
+                ],
+              )
         ];
       }
 

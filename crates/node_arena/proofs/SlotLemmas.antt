@@ -1,8 +1,8 @@
 -- How each change of the slots keeps the counts and the chain of free slots.
-use Rattle.std.proofs.Common.{◌≡◌, ◌≢◌, ◌⊎◌, ℕ, zero, suc, ◌+◌, ◌-◌, ◌^◌, ◌<◌, ◌≤◌, Bool, true, false, List, [], ◌∷◌, ◌++◌, map, length, get_or, set, Option, Some, None, is_some, IsSome, count_by, cond, eqb, slice_get, refl, sym, ap, subst, ◌∙◌, inl, inr, arith, length-set, add-one, true≢false}
+use Rattle.std.proofs.Common.{◌≡◌, ◌≢◌, ◌⊎◌, ℕ, zero, suc, ◌+◌, ◌-◌, ◌<◌, ◌≤◌, Bool, false, List, map, length, get_or, set, Option, Some, None, is_some, IsSome, count_by, cond, eqb, slice_get, refl, sym, ap, subst, ◌∙◌, inl, inr, arith, length-set, add-one, true≢false}
 use Rattle.std.proofs.lemmas.Bool.{cases_eq, cases_lt, ne_eqb, lt-leb}
 use Rattle.std.proofs.lemmas.Bool.Decides.{nat_tests}
-use Rattle.std.proofs.lemmas.List.{map-set, length-map, get_or-map, get_or-set_same, get_or-set_other, get_or_past, get_or_default}
+use Rattle.std.proofs.lemmas.List.{map-set, length-map, get_or-map, get_or-set_same, get_or-set_other, get_or_past}
 use Rattle.std.proofs.lemmas.List.Elements.{All-set, All-get_or}
 use Rattle.std.proofs.lemmas.List.Sums.{sum_by-set}
 use Rattle.std.proofs.lemmas.Option.{slice_get_within, slice_get-get_or, slice_get_read, get_or_from_slice_get}
@@ -168,6 +168,7 @@ module _ {T : Type 0} where
         | inl same ↦ (value, rw (← same) found)
         | inr differs ↦ let other : eqb (generation + 1) (handle.generation + 1) ≡ false = ne_eqb _ _ (λ e. differs (omega arith)) in absurd (true≢false (sym (rw other at some)))
       ]
+
       by_place : (handle.slot < length slots) ⊎ (length slots ≤ handle.slot) → (value : T) × (slice_get slots handle.slot ≡ Some (Live handle.generation value))
       by_place (inl within) =
           let found = slice_get-get_or slots handle.slot WornOut within in

@@ -1,5 +1,5 @@
 -- What a contract sees of an arena: a map from handles to values, the handles that were used, and some counts.
-use Rattle.std.specs.Prelude.{◌≡◌, ◌≢◌, ◌↔◌, ℕ, Bool, ◌+◌, ◌<◌, ◌≤◌, ◌==◌, ◌||◌, nat_le, List, [], ◌∷◌, ◌++◌, length, Option, Some, None, is_some, IsSome, count_by, slice_index_or, slice_set, max, refl, if◌then◌else◌}
+use Rattle.std.specs.Prelude.{◌≡◌, ◌≢◌, ◌↔◌, ℕ, Bool, ◌+◌, ◌<◌, ◌≤◌, ◌==◌, ◌||◌, nat_le, List, [], length, Option, Some, None, is_some, count_by, slice_index_or, slice_set, max, refl, if◌then◌else◌}
 use Rattle.std.specs.Coded.{Coded, code_by, coded×, coded_ℕ, coded_list, coded_option}
 use Rattle.node_arena.specs.declared.handle.Handle.{Handle}
 

@@ -1,7 +1,7 @@
 //! Values under handles that are never given twice.
 #![tactic(auto)]
 
-ghost use Rattle.std.specs.Prelude.{◌≡◌, ◌≢◌, ◌↔◌, ℕ, ◌+◌, ◌<◌, ◌≤◌, ◌==◌, ◌++◌, ◌∷◌, [], IsTrue, IsSome, OnOk, OnErr, OnSome, IfOk, IfErr, IfNone, None, Some, option_copied, vec_len, if◌then◌else◌};
+ghost use Rattle.std.specs.Prelude.{◌≡◌, ◌↔◌, ℕ, ◌+◌, ◌<◌, ◌≤◌, ◌==◌, IsTrue, IsSome, OnErr, OnSome, IfOk, IfErr, IfNone, None, Some, option_copied, if◌then◌else◌};
 ghost use Rattle.std.specs.Option.{option_copied_mut};
 ghost use Rattle.std.specs.Borrow.{sem};
 ghost use Rattle.node_arena.specs.Slots.{slot_at, next_generation, value_at, IsUsed, value_count, slot_count, taken_count, empty_from, with_slot, with_value, IsEmpty, IsGiven, CountsGiven, IsChangedAt, SameCounts};

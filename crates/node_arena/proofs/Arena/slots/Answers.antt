@@ -1,4 +1,4 @@
-use Rattle.std.proofs.Common.{refl, arith}
+use Rattle.std.proofs.Common.{arith}
 use Rattle.node_arena.proofs.SlotLemmas.{first_given_out, used_from_value}
 use Rattle.node_arena.proofs.Arena.slots.Goals as goal
 
