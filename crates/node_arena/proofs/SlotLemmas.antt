@@ -1,5 +1,5 @@
 -- How each change of the slots keeps the counts and the chain of free slots.
-use Rattle.std.proofs.Common.{◌≡◌, ◌≢◌, ◌⊎◌, ℕ, zero, suc, ◌+◌, ◌-◌, ◌<◌, ◌≤◌, Bool, false, List, map, length, get_or, set, Option, Some, None, is_some, IsSome, count_by, cond, eqb, slice_get, refl, sym, ap, subst, ◌∙◌, inl, inr, arith, length-set, add-one, true≢false}
+use Rattle.std.proofs.Common.{◌≡◌, ◌≢◌, ◌⊎◌, ℕ, zero, suc, ◌+◌, ◌-◌, ◌<◌, ◌≤◌, Bool, false, List, map, length, get_or, set, Option, Some, None, is_some, IsSome, IsTrue, count_by, cond, eqb, slice_get, refl, sym, ap, subst, ◌∙◌, inl, inr, arith, length-set, add-one, true≢false}
 use Rattle.std.proofs.lemmas.Bool.{cases_eq, cases_lt, ne_eqb, lt-leb}
 use Rattle.std.proofs.lemmas.Bool.Decides.{nat_tests}
 use Rattle.std.proofs.lemmas.List.{map-set, length-map, get_or-map, get_or-set_same, get_or-set_other, get_or_past}
@@ -9,8 +9,8 @@ use Rattle.std.proofs.lemmas.Option.{slice_get_within, slice_get-get_or, slice_g
 use Rattle.node_arena.specs.declared.handle.Handle.{Handle}
 use Rattle.node_arena.specs.declared.slot.Slot.{Slot}
 use Rattle.node_arena.specs.declared.slot.Slot.TheVariants.{Live, Free, WornOut}
-use Rattle.node_arena.specs.Slots.{is_taken, value_at, IsUsed}
-use Rattle.node_arena.specs.Slot.{seen, IsInRange, IsLink, IsChain, IsSound}
+use Rattle.node_arena.specs.Slots.{last_generation, held_under, is_taken, value_at, IsUsed}
+use Rattle.node_arena.specs.Slot.{seen, is_free, IsInRange, IsLink, IsChain, IsSound}
 
 module _ {T : Type 0} where
   -- a link starts one chain at most
@@ -69,7 +69,7 @@ module _ {T : Type 0} where
       by_slot : (e : Slot T) → IsInRange first e → first < (seen e).0
       by_slot (Live generation value) range = omega (arith, range.0)
       by_slot (Free generation after) range = range.0
-      by_slot WornOut range = range
+      by_slot WornOut range = omega (arith, range)
 
   -- what a read of the first free slot gives is its link
   pub read_link : (first : ℕ) (slots : List (Slot T)) (live free : ℕ) (next : Option ℕ) (slot generation : ℕ) (after : Option ℕ) (e : Slot T) → IsSound first slots live free next → next ≡ Some slot → e ≡ get_or slots slot e → e ≡ Free generation after → IsLink slots next slot generation after
@@ -82,6 +82,18 @@ module _ {T : Type 0} where
           let link = chained.3 in
           let same : chained.0 ≡ slot = cc (link.named, named) in
           omega (arith, slice_get_within slots chained.0 _ link.found)
+
+  -- and it is free
+  pub next_is_free : (first : ℕ) (slots : List (Slot T)) (live free : ℕ) (next : Option ℕ) (slot : ℕ) (e : Slot T) → IsSound first slots live free next → next ≡ Some slot → e ≡ get_or slots slot e → IsTrue (is_free e)
+  next_is_free first slots live free next slot e sound named read = by_count free sound.chained
+    where
+      by_count : (n : ℕ) → IsChain slots n next → IsTrue (is_free e)
+      by_count zero chained = absurd (cc)
+      by_count (suc n) chained =
+          let link = chained.3 in
+          let same : chained.0 ≡ slot = cc (link.named, named) in
+          let is : e ≡ Free chained.1 chained.2 = read ∙ get_or_from_slice_get slots slot _ e (ap (slice_get slots) (sym same) ∙ link.found) in
+          rw is refl
 
   -- the first of the chain leaves it: the rest of the chain is shorter, so it does not come back to that slot
   pub IsSound-fill : (first : ℕ) (slots : List (Slot T)) (live free : ℕ) (next : Option ℕ) (slot generation : ℕ) (after : Option ℕ) (value : T) → IsSound first slots live free next → IsLink slots next slot generation after → IsSound first (set slots slot (Live generation value)) (live + 1) (free - 1) after
@@ -96,7 +108,7 @@ module _ {T : Type 0} where
           let off : (m : ℕ) → m < n → IsChain slots (suc m) (Some slot) → ⊥ =
           λ m below p. omega (arith, IsChain-count_unique slots (suc m) (suc n) (Some slot) p (subst (IsChain slots (suc n)) link.named chained)) in
           let fits = in_range_at first slots slot _ live free next sound link.found in
-          let was_free = lt-leb 4294967296 generation fits.1 in
+          let was_free = lt-leb (suc last_generation) generation (omega (arith, fits.1)) in
           let taken = count_seen-set is_taken slots slot _ (Live generation value) link.found in
           let values = count_seen-set (λ s. is_some s.1) slots slot _ (Live generation value) link.found in
           let one_less : suc n - 1 ≡ n = omega arith in
@@ -109,12 +121,12 @@ module _ {T : Type 0} where
           }
 
   -- an emptied slot becomes the first of the chain
-  pub IsSound-free : (first : ℕ) (slots : List (Slot T)) (live free : ℕ) (next : Option ℕ) (slot generation : ℕ) (value : T) → IsSound first slots live free next → slice_get slots slot ≡ Some (Live generation value) → generation + 1 < 4294967296 → IsSound first (set slots slot (Free (generation + 1) next)) (live - 1) (free + 1) (Some slot)
+  pub IsSound-free : (first : ℕ) (slots : List (Slot T)) (live free : ℕ) (next : Option ℕ) (slot generation : ℕ) (value : T) → IsSound first slots live free next → slice_get slots slot ≡ Some (Live generation value) → generation + 1 ≤ last_generation → IsSound first (set slots slot (Free (generation + 1) next)) (live - 1) (free + 1) (Some slot)
   IsSound-free first slots live free next slot generation value sound found fits =
       let emptied = Free (generation + 1) next in
       let within = slice_get_within slots slot _ found in
       let range = in_range_at first slots slot _ live free next sound found in
-      let is_free = lt-leb 4294967296 (generation + 1) fits in
+      let is_free = lt-leb (suc last_generation) (generation + 1) (omega (arith, fits)) in
       let taken = count_seen-set is_taken slots slot _ emptied found in
       let values = count_seen-set (λ s. is_some s.1) slots slot _ emptied found in
       let written : slice_get (set slots slot emptied) slot ≡ Some emptied =
@@ -161,7 +173,7 @@ module _ {T : Type 0} where
   pub live_at : (first : ℕ) (slots : List (Slot T)) (handle : Handle) → IsSome (value_at (record { first = first; slots = map seen slots }) handle) → (value : T) × (slice_get slots handle.slot ≡ Some (Live handle.generation value))
   live_at first slots handle present = by_place (cases_lt handle.slot (length slots))
     where
-      by_slot : (e : Slot T) → slice_get slots handle.slot ≡ Some e → IsSome (cond (eqb (seen e).0 (handle.generation + 1)) (seen e).1 None) → (value : T) × (slice_get slots handle.slot ≡ Some (Live handle.generation value))
+      by_slot : (e : Slot T) → slice_get slots handle.slot ≡ Some e → IsSome (held_under (seen e) handle.generation) → (value : T) × (slice_get slots handle.slot ≡ Some (Live handle.generation value))
       by_slot (Free generation next) found some = absurd (grind (arith, nat_tests))
       by_slot WornOut found some = absurd (grind (arith, nat_tests))
       by_slot (Live generation value) found some = elim (cases_eq generation handle.generation) [
@@ -172,7 +184,7 @@ module _ {T : Type 0} where
       by_place : (handle.slot < length slots) ⊎ (length slots ≤ handle.slot) → (value : T) × (slice_get slots handle.slot ≡ Some (Live handle.generation value))
       by_place (inl within) =
           let found = slice_get-get_or slots handle.slot WornOut within in
-          by_slot (get_or slots handle.slot WornOut) found (subst (λ (p : ℕ × Option T). IsSome (cond (eqb p.0 (handle.generation + 1)) p.1 None)) (seen_at slots handle.slot _ (first, None) found) present)
+          by_slot (get_or slots handle.slot WornOut) found (subst (λ (p : ℕ × Option T). IsSome (held_under p handle.generation)) (seen_at slots handle.slot _ (first, None) found) present)
       by_place (inr past) = absurd (grind (arith, nat_tests, get_or_past (map seen slots) handle.slot (first, None) (omega (arith, length-map slots seen))))
 
   -- and it is used

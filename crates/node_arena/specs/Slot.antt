@@ -1,6 +1,7 @@
 -- How an arena lays out its slots. No public clause cites this module.
 use Rattle.std.specs.Prelude.{◌≡◌, ℕ, Bool, true, false, zero, suc, ◌+◌, ◌<◌, ◌≤◌, List, map, length, Option, Some, None, is_some, count_by, slice_get, All}
-use Rattle.node_arena.specs.Slots.{is_taken}
+use Rattle.node_arena.specs.Slots.{last_generation, is_taken}
+use Rattle.node_arena.specs.declared.TheConstants.{MAX_SLOTS}
 use Rattle.node_arena.specs.declared.slot.Slot.{Slot}
 use Rattle.node_arena.specs.declared.slot.Slot.TheVariants.{Live, Free, WornOut}
 
@@ -26,13 +27,13 @@ module _ {T : Type 0} where
   abbrev pub seen : Slot T → ℕ × Option T
   seen (Live generation value) = (generation + 1, Some value)
   seen (Free generation _) = (generation, None)
-  seen WornOut = (4294967296, None)
+  seen WornOut = (last_generation + 1, None)
 
   -- the slot was given out, from the first generation on, and its generation fits
   abbrev pub IsInRange : ℕ → Slot T → Type 0
-  IsInRange first (Live generation _) = (first ≤ generation) × (generation < 4294967296)
-  IsInRange first (Free generation _) = (first < generation) × (generation < 4294967296)
-  IsInRange first WornOut = first < 4294967296
+  IsInRange first (Live generation _) = (first ≤ generation) × (generation ≤ last_generation)
+  IsInRange first (Free generation _) = (first < generation) × (generation ≤ last_generation)
+  IsInRange first WornOut = first ≤ last_generation
 
   -- the link names this free slot, which names the one after
   pub record IsLink (slots : List (Slot T)) (next : Option ℕ) (slot generation : ℕ) (after : Option ℕ) : Type 0 where
@@ -47,7 +48,7 @@ module _ {T : Type 0} where
 
   -- `live` counts the values, and the chain from `next` has the `free` slots that are not taken
   pub record IsSound (first : ℕ) (slots : List (Slot T)) (live free : ℕ) (next : Option ℕ) : Type 0 where
-    pub limit : length slots ≤ 1048576
+    pub limit : length slots ≤ MAX_SLOTS
     pub in_range : All (IsInRange first) slots
     pub live_counted : live ≡ count_by (λ slot. is_some slot.1) (map seen slots)
     pub free_counted : count_by is_taken (map seen slots) + free ≡ length slots

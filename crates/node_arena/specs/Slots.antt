@@ -1,5 +1,5 @@
 -- What a contract sees of an arena: a map from handles to values, the handles that were used, and some counts.
-use Rattle.std.specs.Prelude.{◌≡◌, ◌≢◌, ◌↔◌, ℕ, Bool, ◌+◌, ◌<◌, ◌≤◌, ◌==◌, ◌||◌, nat_le, List, [], length, Option, Some, None, is_some, count_by, slice_index_or, slice_set, max, refl, if◌then◌else◌}
+use Rattle.std.specs.Prelude.{◌≡◌, ◌≢◌, ◌↔◌, ℕ, Bool, ◌+◌, ◌<◌, ◌≤◌, ◌==◌, ◌||◌, nat_lt, List, [], length, Option, Some, None, is_some, count_by, slice_index_or, slice_set, max, refl, if◌then◌else◌}
 use Rattle.std.specs.Coded.{Coded, code_by, coded×, coded_ℕ, coded_list, coded_option}
 use Rattle.node_arena.specs.declared.handle.Handle.{Handle}
 
@@ -19,6 +19,10 @@ slots_code {T} code =
     (λ p. record { first = p.0; slots = p.1 })
     (λ _. refl)
 
+-- the highest generation
+abbrev pub last_generation : ℕ
+last_generation = 4294967295
+
 module _ {T : Type 0} where
   -- a slot's next generation and its value. A slot that was never given out is at its start
   abbrev pub slot_at : Slots T → ℕ → ℕ × Option T
@@ -28,10 +32,13 @@ module _ {T : Type 0} where
   abbrev pub next_generation : Slots T → ℕ → ℕ
   next_generation s slot = (slot_at s slot).0
 
-  -- the map: the value under a handle, which is that of its slot's last generation
+  -- what a slot holds under a generation: its value, where that is the last that it gave out
+  abbrev pub held_under : ℕ × Option T → ℕ → Option T
+  held_under slot generation = if slot.0 == generation + 1 then slot.1 else None
+
+  -- the map: the value under a handle
   abbrev pub value_at : Slots T → Handle → Option T
-  value_at s handle =
-      if next_generation s handle.slot == handle.generation + 1 then (slot_at s handle.slot).1 else None
+  value_at s handle = held_under (slot_at s handle.slot) handle.generation
 
   -- the used handles: those that were given out
   abbrev pub IsUsed : Slots T → Handle → Type 0
@@ -47,7 +54,7 @@ module _ {T : Type 0} where
 
   -- the slot holds a value, or is worn out: its last generation was given out
   abbrev pub is_taken : ℕ × Option T → Bool
-  is_taken slot = is_some slot.1 || nat_le 4294967296 slot.0
+  is_taken slot = is_some slot.1 || nat_lt last_generation slot.0
 
   -- how many slots hold a value or are worn out. The others are free
   abbrev pub taken_count : Slots T → ℕ
@@ -80,6 +87,7 @@ module _ {T : Type 0} where
     pub other_values : (other : Handle) → other ≢ handle → value_at new other ≡ value_at old other
     pub stay_used : (other : Handle) → IsUsed old other → IsUsed new other
     pub no_others : (other : Handle) → other ≢ handle → IsUsed new other → IsUsed old other
+    pub same_first : new.first ≡ old.first
 
   -- the counts with one more value, which stands under this handle. A slot that was given out before
   -- gives out its next generation, and another one is the first that was never given out
@@ -95,6 +103,7 @@ module _ {T : Type 0} where
     pub here : value_at new handle ≡ held
     pub other_values : (other : Handle) → other ≢ handle → value_at new other ≡ value_at old other
     pub same_used : (other : Handle) → IsUsed new other ↔ IsUsed old other
+    pub same_first : new.first ≡ old.first
 
   -- no count changes
   pub record SameCounts (old new : Slots T) : Type 0 where

@@ -4,7 +4,7 @@
 ghost use Rattle.std.specs.Prelude.{◌≡◌, ◌↔◌, ℕ, ◌+◌, ◌<◌, ◌≤◌, ◌==◌, IsTrue, IsSome, OnErr, OnSome, IfOk, IfErr, IfNone, None, Some, option_copied, if◌then◌else◌};
 ghost use Rattle.std.specs.Option.{option_copied_mut};
 ghost use Rattle.std.specs.Borrow.{sem};
-ghost use Rattle.node_arena.specs.Slots.{slot_at, next_generation, value_at, IsUsed, value_count, slot_count, taken_count, empty_from, with_slot, with_value, IsEmpty, IsGiven, CountsGiven, IsChangedAt, SameCounts};
+ghost use Rattle.node_arena.specs.Slots.{last_generation, slot_at, next_generation, value_at, IsUsed, value_count, slot_count, taken_count, empty_from, with_slot, with_value, IsEmpty, IsGiven, CountsGiven, IsChangedAt, SameCounts};
 
 use slot::Slot;
 use std::alloc::Allocator;
@@ -114,12 +114,7 @@ impl<T, A: Allocator> Arena<T, A> {
         ensures value { option_copied result ≡ value_at self.now handle }
         ensures used { OnSome result (IsUsed self.now handle) }
     {
-        match self.slots.get(handle.slot as usize) {
-            Some(Slot::Live { generation, value }) if *generation == handle.generation => {
-                Some(value)
-            }
-            _ => None,
-        }
+        self.slots.get(handle.slot as usize)?.get(handle.generation)
     }
 
     /// The handle in this slot that has a value, if there is one.
@@ -151,9 +146,9 @@ impl<T, A: Allocator> Arena<T, A> {
         }
     }
 
-    /// Puts `value` under a handle that was not used, and hands it back where that is not possible.
+    /// Puts `value` under a handle that was not used. It takes memory only where no slot is free.
     ///
-    /// It takes memory only where no slot is free.
+    /// Where that is not possible it hands the value back: with A1 where `MAX_SLOTS` slots hold a value or are worn out, and with A2 where no slot is free and there was no memory for one more.
     pub fn insert(&mut self, value: T) -> Result<Handle, (T, ArenaFault)>
         ensures ok { IfOk result (λ handle. IsGiven self.old self.new handle value) }
         ensures counts { IfOk result (CountsGiven self.old self.new) }
@@ -193,7 +188,7 @@ impl<T, A: Allocator> Arena<T, A> {
         ensures values { OnSome result (value_count self.new + 1 ≡ value_count self.old) }
 
         // The slot is free from then on, or worn out where that was its last generation.
-        ensures taken { OnSome result (taken_count self.new + (if handle.generation == 4294967295 then 0 else 1) ≡ taken_count self.old) }
+        ensures taken { OnSome result (taken_count self.new + (if handle.generation == last_generation then 0 else 1) ≡ taken_count self.old) }
         ensures slots { slot_count self.new ≡ slot_count self.old }
         ensures none { IfNone result (self.new ≡ self.old) }
     {
@@ -258,7 +253,7 @@ impl<T, A: Allocator> Arena<T, A> {
     // Takes out the value of a slot's last generation.
     fn wear_out(&mut self, handle: Handle) -> T
         requires present { IsSome (value_at self.old handle) }
-        requires last { handle.generation ≡ 4294967295 }
+        requires last { handle.generation ≡ last_generation }
         ensures value { value_at self.old handle ≡ Some result }
         ensures worn_out { self.new ≡ with_slot self.old handle None }
     {

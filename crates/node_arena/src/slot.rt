@@ -1,6 +1,7 @@
-ghost use Rattle.std.specs.Prelude.{◌≡◌, IsSome, Some, IsTrue};
+ghost use Rattle.std.specs.Prelude.{◌≡◌, IsSome, IsTrue, Some, option_copied};
+ghost use Rattle.node_arena.specs.Slots.{held_under};
 ghost use Rattle.std.specs.Borrow.{Lends, sem};
-ghost use Rattle.node_arena.specs.Slot.{value_of, rewritten, is_free};
+ghost use Rattle.node_arena.specs.Slot.{seen, value_of, rewritten, is_free};
 
 use std::mem;
 
@@ -16,6 +17,19 @@ pub(crate) enum Slot<T> {
 
 impl<T> Slot<T> {
     ghost use Rattle.node_arena.specs.contracts.slot.Slot.{the_row};
+
+    // The value, where the slot holds it under this generation.
+    pub(crate) fn get(&self, generation: u32) -> Option<&T>
+        ensures { option_copied result ≡ held_under (seen self.now) generation }
+    {
+        match self {
+            Slot::Live {
+                generation: held,
+                value,
+            } if *held == generation => Some(value),
+            _ => None,
+        }
+    }
 
     pub(crate) fn value_mut(&mut self) -> &mut T
         requires { IsSome (value_of self.old) }

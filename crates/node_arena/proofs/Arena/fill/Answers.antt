@@ -2,7 +2,7 @@ use Rattle.std.proofs.Common.{None, refl, arith}
 use Rattle.std.proofs.lemmas.List.{length-map, map-set}
 use Rattle.std.proofs.lemmas.Option.{slice_get_within}
 use Rattle.node_arena.specs.Slot.{seen}
-use Rattle.node_arena.proofs.SlotLemmas.{read_link, seen_at, in_range_at, IsSound-fill}
+use Rattle.node_arena.proofs.SlotLemmas.{next_is_free, read_link, seen_at, in_range_at, IsSound-fill}
 use Rattle.node_arena.proofs.Arena.fill.Goals as goal
 
 pub invariant_of-self : goal.invariant_of-self
@@ -28,3 +28,6 @@ returns-clause-begun g c =
     let link = read_link _ _ _ _ _ c.in-Some.slot _ _ _ c.self.invariant c.in-Some.is c.index_mut.ensures.value c.fill-generation.ensures.was in
     let range = in_range_at _ _ c.in-Some.slot _ _ _ _ c.self.invariant link.found in
     rw (← c.self.view_is) (omega (arith, range.0))
+
+pub fill-generation-requires : goal.fill-generation-requires
+fill-generation-requires g c = next_is_free _ _ _ _ _ c.in-Some.slot _ c.self.invariant c.in-Some.is c.index_mut.ensures.value
