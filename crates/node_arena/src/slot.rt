@@ -5,7 +5,7 @@ ghost use Rattle.node_arena.specs.Slot.{seen, value_of, rewritten, is_free};
 
 use std::mem;
 
-// What a slot holds. Its generation is that of the handle which it gave out last, or, where it is free, of the one that it gives out next.
+// What a slot holds. The generation is that of its handle, or, where the slot is free, that of the handle which it gives out next.
 #[derive(Drop)]
 pub(crate) enum Slot<T> {
     Live { generation: u32, value: T },
