@@ -18,13 +18,13 @@ handle_cases one other differs = elim (cases_eq other.slot one.slot) [
 ]
 
 module _ {T : Type 0} where
-  held_under-last : (slot : ℕ × Option T) (generation : ℕ) → slot.0 ≡ generation + 1 → held_under slot generation ≡ slot.1
+  pub held_under-last : (slot : ℕ × Option T) (generation : ℕ) → slot.0 ≡ generation + 1 → held_under slot generation ≡ slot.1
   held_under-last slot generation last = rw (eq-eqb slot.0 (generation + 1) last) refl
 
-  held_under-other : (slot : ℕ × Option T) (generation : ℕ) → slot.0 ≢ generation + 1 → held_under slot generation ≡ None
+  pub held_under-other : (slot : ℕ × Option T) (generation : ℕ) → slot.0 ≢ generation + 1 → held_under slot generation ≡ None
   held_under-other slot generation other = rw (ne_eqb slot.0 (generation + 1) other) refl
 
-  held_under-nothing : (next generation : ℕ) → held_under {T = T} (next, None) generation ≡ None
+  pub held_under-nothing : (next generation : ℕ) → held_under {T = T} (next, None) generation ≡ None
   held_under-nothing next generation = by_test (eqb next (generation + 1))
     where
       by_test : (b : Bool) → ◌≡◌ {A = Option T} (cond b None None) None
@@ -38,7 +38,7 @@ module _ {T : Type 0} where
     | inr other ↦ inr (held_under-other (slot_at s handle.slot) handle.generation other)
   ]
 
-  some_is_not_none : (o : Option T) → IsSome o → o ≡ None → ⊥
+  pub some_is_not_none : (o : Option T) → IsSome o → o ≡ None → ⊥
   some_is_not_none o some none = true≢false (sym (subst IsSome none some))
 
   pub last_from_value : (s : Slots T) (handle : Handle) → IsSome (value_at s handle) → (next_generation s handle.slot ≡ handle.generation + 1) × (value_at s handle ≡ (slot_at s handle.slot).1)

@@ -1,5 +1,5 @@
 -- What a contract sees of an arena: a map from handles to values, the handles that were used, and some counts.
-use Rattle.std.specs.Prelude.{◌≡◌, ◌≢◌, ◌↔◌, ℕ, Bool, ◌+◌, ◌<◌, ◌≤◌, ◌==◌, ◌||◌, nat_lt, List, [], length, Option, Some, None, is_some, count_by, slice_index_or, slice_set, max, refl, if◌then◌else◌}
+use Rattle.std.specs.Prelude.{◌≡◌, ◌≢◌, ◌↔◌, ℕ, Bool, ◌+◌, ◌<◌, ◌≤◌, ◌==◌, ◌||◌, nat_lt, List, [], length, AllPairs, Contains, IsSome, Option, Some, None, is_some, count_by, slice_index_or, slice_set, max, refl, if◌then◌else◌}
 use Rattle.std.specs.Coded.{Coded, code_by, coded×, coded_ℕ, coded_list, coded_option}
 use Rattle.node_arena.specs.declared.handle.Handle.{Handle}
 
@@ -47,6 +47,14 @@ module _ {T : Type 0} where
   -- how many values there are
   abbrev pub value_count : Slots T → ℕ
   value_count s = count_by (λ slot. is_some slot.1) s.slots
+
+  -- this is the size of the map: a list of so many handles has each handle with a value once, and no
+  -- other
+  pub record IsSize (s : Slots T) (size : ℕ) : Type 0 where
+    pub handles : List Handle
+    pub counted : length handles ≡ size
+    pub distinct : AllPairs (λ one other. one ≢ other) handles
+    pub listed : (handle : Handle) → Contains handles handle ↔ IsSome (value_at s handle)
 
   -- how many slots were given out at least once
   abbrev pub slot_count : Slots T → ℕ

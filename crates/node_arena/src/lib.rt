@@ -4,7 +4,7 @@
 ghost use Rattle.std.specs.Prelude.{◌≡◌, ◌↔◌, ℕ, ◌+◌, ◌<◌, ◌≤◌, ◌==◌, IsTrue, IsSome, OnErr, OnSome, IfOk, IfErr, IfNone, None, Some, option_copied, if◌then◌else◌};
 ghost use Rattle.std.specs.Option.{option_copied_mut};
 ghost use Rattle.std.specs.Borrow.{sem};
-ghost use Rattle.node_arena.specs.Slots.{last_generation, slot_at, next_generation, value_at, IsUsed, value_count, slot_count, taken_count, empty_from, with_slot, with_value, IsEmpty, IsGiven, CountsGiven, IsChangedAt, SameCounts};
+ghost use Rattle.node_arena.specs.Slots.{last_generation, slot_at, next_generation, value_at, IsUsed, value_count, IsSize, slot_count, taken_count, empty_from, with_slot, with_value, IsEmpty, IsGiven, CountsGiven, IsChangedAt, SameCounts};
 
 use slot::Slot;
 use std::alloc::Allocator;
@@ -77,7 +77,8 @@ impl<T, A: Allocator> Arena<T, A> {
 
     /// How many values there are.
     pub fn len(&self) -> usize
-        ensures { result ≡ value_count self.now }
+        ensures value { result ≡ value_count self.now }
+        ensures size { IsSize self.now result }
     {
         self.live as usize
     }
