@@ -2,4 +2,8 @@
 #![tactic(auto)]
 
 #[cfg(test)]
+mod features_tests;
+#[cfg(test)]
+mod node_arena_tests;
+#[cfg(test)]
 mod wkt_tests;

@@ -1,0 +1,4 @@
+pub mod Fault
+pub mod Slot
+pub mod Slots
+pub mod Lends

@@ -1,0 +1,37 @@
+ghost use Rattle.std.specs.Prelude.{◌≡◌, Some};
+ghost use Rattle.node_arena.specs.Fault.{code_of};
+
+use std::error::Error;
+use std::fmt;
+
+/// Why an arena took no value.
+#[derive(Clone, Copy, Debug, PartialEq, Eq)]
+pub enum ArenaFault {
+    /// A1: each slot that an arena may have holds a value or is worn out.
+    Full,
+    /// A2: no slot was free, and there was no memory for one more.
+    Memory,
+}
+
+impl ArenaFault {
+    /// The code that stands for the fault: `A1` or `A2`.
+    pub fn code(self) -> &'static str
+        ensures { result.now ≡ code_of self }
+    {
+        match self {
+            ArenaFault::Full => "A1",
+            ArenaFault::Memory => "A2",
+        }
+    }
+}
+
+/// Writes the code.
+impl fmt::Display for ArenaFault {
+    ghost output = { λ fault. Some (code_of fault) };
+
+    fn fmt<W: fmt::Write>(&self, f: &mut fmt::Formatter<W>) -> fmt::Result {
+        f.write_str(self.code())
+    }
+}
+
+impl Error for ArenaFault {}

@@ -1,0 +1,264 @@
+//! Values under handles that are never given twice.
+#![tactic(auto)]
+
+ghost use Rattle.std.specs.Prelude.{◌≡◌, ◌↔◌, ℕ, ◌+◌, ◌<◌, ◌≤◌, ◌==◌, IsTrue, IsSome, OnErr, OnSome, IfOk, IfErr, IfNone, None, Some, option_copied, if◌then◌else◌};
+ghost use Rattle.std.specs.Option.{option_copied_mut};
+ghost use Rattle.std.specs.Borrow.{sem};
+ghost use Rattle.node_arena.specs.Slots.{last_generation, slot_at, next_generation, value_at, IsUsed, value_count, IsSize, slot_count, taken_count, empty_from, with_slot, with_value, IsEmpty, IsGiven, CountsGiven, IsChangedAt, SameCounts};
+
+use slot::Slot;
+use std::alloc::Allocator;
+use std::marker::Model;
+
+mod fault;
+mod handle;
+mod slot;
+
+pub use fault::ArenaFault;
+pub use handle::Handle;
+
+/// How many slots an arena has at most.
+pub const MAX_SLOTS: u32 = 1_048_576;
+
+/// A map from handles to values. `insert` picks the handle, and gives no handle twice in the life of the arena.
+///
+/// A slot's handles differ in their generation, which begins at 0 and rises by 1 each time the slot's value is taken out. A slot is used again until its last generation, 4,294,967,295, has been: then it is worn out.
+#[derive(Drop)]
+pub struct Arena<T, A: Allocator> {
+    slots: Vec<Slot<T>, A>,
+    // The generation at which each slot begins.
+    first: u32,
+    // How many slots hold a value.
+    live: u32,
+    // How many slots are free, and the first of their chain.
+    free: u32,
+    next_free: Option<u32>,
+}
+
+impl<T, A: Allocator> Model for Arena<T, A> {
+    ghost use Rattle.std.specs.Prelude.{map};
+    ghost use Rattle.node_arena.specs.Slots.{Slots, slots_code};
+
+    ghost Value = { Slots T };
+
+    ghost coded = { slots_code T.code };
+
+    ghost use Rattle.node_arena.specs.Slot.{seen, IsSound};
+
+    ghost view = { λ a. record { first = a.first; slots = map seen a.slots.items } };
+
+    ghost invariant = { λ a. IsSound a.first a.slots.items a.live a.free a.next_free };
+}
+
+impl<T, A: Allocator> Arena<T, A> {
+    ghost use Rattle.node_arena.specs.Lends.{lends_get, lends_value};
+
+    /// An arena with no value, which takes no memory until the first `insert`.
+    pub fn new(alloc: A) -> Self
+        ensures value { result ≡ empty_from 0 }
+        ensures empty { IsEmpty result }
+    {
+        Self::starting_at(alloc, 0)
+    }
+
+    /// The same, where each slot begins at `generation` in place of 0. It is for tests of what comes at the last generations.
+    pub fn starting_at(alloc: A, generation: u32) -> Self
+        ensures value { result ≡ empty_from generation }
+        ensures empty { IsEmpty result }
+    {
+        Arena {
+            slots: Vec::new(alloc),
+            first: generation,
+            live: 0,
+            free: 0,
+            next_free: None,
+        }
+    }
+
+    /// How many values there are.
+    pub fn len(&self) -> usize
+        ensures value { result ≡ value_count self.now }
+        ensures size { IsSize self.now result }
+    {
+        self.live as usize
+    }
+
+    /// Whether there is no value.
+    pub fn is_empty(&self) -> bool
+        ensures { IsTrue result ↔ (value_count self.now ≡ 0) }
+    {
+        self.live == 0
+    }
+
+    /// How many slots were given out at least once, worn-out ones among them. Each handle that was given out has a slot below this number.
+    pub fn slots(&self) -> u32
+        ensures value { result ≡ slot_count self.now }
+        ensures used { (handle : Handle) → IsSome (value_at self.now handle) → IsUsed self.now handle }
+        ensures below { (handle : Handle) → IsUsed self.now handle → handle.slot < result }
+        ensures given_out { (slot : ℕ) → slot < result → IsUsed self.now (record { slot = slot; generation = self.now.first }) }
+        ensures taken { taken_count self.now ≤ result }
+        ensures limit { result ≤ MAX_SLOTS }
+    {
+        self.slots.len() as u32
+    }
+
+    /// Whether `insert` has room for so many more values before it answers A1.
+    pub fn has_room(&self, more: u32) -> bool
+        ensures { IsTrue result ↔ (taken_count self.now + more ≤ MAX_SLOTS) }
+    {
+        let taken = self.slots.len() - self.free as usize;
+        taken + more as usize <= MAX_SLOTS as usize
+    }
+
+    /// The value under `handle`, if there is one.
+    pub fn get(&self, handle: Handle) -> Option<&T>
+        ensures value { option_copied result ≡ value_at self.now handle }
+        ensures used { OnSome result (IsUsed self.now handle) }
+    {
+        self.slots.get(handle.slot as usize)?.get(handle.generation)
+    }
+
+    /// The handle in this slot that has a value, if there is one.
+    pub fn at_slot(&self, slot: u32) -> Option<Handle>
+        ensures { (handle : Handle) → (result ≡ Some handle) ↔ ((handle.slot ≡ slot) × IsSome (value_at self.now handle)) }
+    {
+        match self.slots.get(slot as usize) {
+            Some(Slot::Live { generation, .. }) => Some(Handle {
+                slot,
+                generation: *generation,
+            }),
+            _ => None,
+        }
+    }
+
+    /// The value under `handle` for writing, if there is one.
+    pub fn get_mut(&mut self, handle: Handle) -> Option<&mut T>
+        ensures* writes_back { sem 𝓛 (lends_get T.row A.row A.Allocator self.entry handle result) }
+        ensures value { option_copied_mut result ≡ value_at self.old handle }
+
+        // What a caller may leave behind the reference changes that pair and nothing else.
+        ensures changes { OnSome result ((value : T) → IsChangedAt self.old (with_value self.old handle value) handle (Some value)) }
+        ensures counts { OnSome result ((value : T) → SameCounts self.old (with_value self.old handle value)) }
+    {
+        if self.contains(handle) {
+            Some(self.value_mut(handle))
+        } else {
+            None
+        }
+    }
+
+    /// Puts `value` under a handle that was not used. It takes memory only where no slot is free.
+    ///
+    /// Where that is not possible it hands the value back: with A1 where `MAX_SLOTS` slots hold a value or are worn out, and with A2 where no slot is free and there was no memory for one more.
+    pub fn insert(&mut self, value: T) -> Result<Handle, (T, ArenaFault)>
+        ensures ok { IfOk result (λ handle. IsGiven self.old self.new handle value) }
+        ensures counts { IfOk result (CountsGiven self.old self.new) }
+
+        // A free slot comes before one that was never given out.
+        ensures reuses { taken_count self.old < slot_count self.old → IfOk result (λ handle. handle.slot < slot_count self.old) }
+        ensures full { (result ≡ Err (value, ArenaFault.Full)) ↔ (taken_count self.old ≡ MAX_SLOTS) }
+        ensures memory_only_where_none_is_free { result ≡ Err (value, ArenaFault.Memory) → taken_count self.old ≡ slot_count self.old }
+        ensures value_returned { IfErr result (λ refused. refused.0 ≡ value) }
+        ensures err { OnErr result (self.new ≡ self.old) }
+    {
+        if self.free > 0 {
+            return Ok(self.fill(value));
+        }
+        if self.slots.len() == MAX_SLOTS as usize {
+            return Err((value, ArenaFault::Full));
+        }
+        if self.slots.reserve(1).is_err() {
+            return Err((value, ArenaFault::Memory));
+        }
+        let handle = Handle {
+            slot: self.slots.len() as u32,
+            generation: self.first,
+        };
+        self.live += 1;
+        self.slots.push_reserved(Slot::Live {
+            generation: self.first,
+            value,
+        });
+        Ok(handle)
+    }
+
+    /// Takes out the value under `handle`, if there is one. The handle stays used, and reads nothing from then on.
+    pub fn remove(&mut self, handle: Handle) -> Option<T>
+        ensures value { result ≡ value_at self.old handle }
+        ensures changes { IsChangedAt self.old self.new handle None }
+        ensures values { OnSome result (value_count self.new + 1 ≡ value_count self.old) }
+
+        // The slot is free from then on, or worn out where that was its last generation.
+        ensures taken { OnSome result (taken_count self.new + (if handle.generation == last_generation then 0 else 1) ≡ taken_count self.old) }
+        ensures slots { slot_count self.new ≡ slot_count self.old }
+        ensures none { IfNone result (self.new ≡ self.old) }
+    {
+        if !self.contains(handle) {
+            return None;
+        }
+        Some(match handle.generation.checked_add(1) {
+            Some(generation) => self.free_slot(handle, generation),
+            None => self.wear_out(handle),
+        })
+    }
+
+    fn contains(&self, handle: Handle) -> bool
+        ensures { IsTrue result ↔ IsSome (value_at self.now handle) }
+    {
+        self.get(handle).is_some()
+    }
+
+    fn value_mut(&mut self, handle: Handle) -> &mut T
+        requires { IsSome (value_at self.old handle) }
+        ensures* writes_back { sem 𝓛 (lends_value T.row A.row A.Allocator self.entry handle result) }
+        ensures value { value_at self.old handle ≡ Some result.now }
+    {
+        self.slots[handle.slot as usize].value_mut()
+    }
+
+    // Puts `value` into the first of the free slots.
+    fn fill(&mut self, value: T) -> Handle
+        requires { taken_count self.old < slot_count self.old }
+        ensures was_free { slot_at self.old result.slot ≡ (result.generation, None) }
+        ensures begun { self.old.first ≤ result.generation }
+        ensures within { result.slot < slot_count self.old }
+        ensures filled { self.new ≡ with_value self.old result value }
+    {
+        let Some(slot) = self.next_free else {
+            unreachable!();
+        };
+        let (generation, next) = self.slots[slot as usize].fill(value);
+        self.live += 1;
+        self.free -= 1;
+        self.next_free = next;
+        Handle { slot, generation }
+    }
+
+    // Takes out a value whose slot has a next generation.
+    fn free_slot(&mut self, handle: Handle, generation: u32) -> T
+        requires present { IsSome (value_at self.old handle) }
+        requires next { generation ≡ handle.generation + 1 }
+        ensures value { value_at self.old handle ≡ Some result }
+        ensures freed { self.new ≡ with_slot self.old handle None }
+    {
+        let freed = Slot::Free {
+            generation,
+            next: self.next_free,
+        };
+        self.live -= 1;
+        self.free += 1;
+        self.next_free = Some(handle.slot);
+        self.slots[handle.slot as usize].take(freed)
+    }
+
+    // Takes out the value of a slot's last generation.
+    fn wear_out(&mut self, handle: Handle) -> T
+        requires present { IsSome (value_at self.old handle) }
+        requires last { handle.generation ≡ last_generation }
+        ensures value { value_at self.old handle ≡ Some result }
+        ensures worn_out { self.new ≡ with_slot self.old handle None }
+    {
+        self.live -= 1;
+        self.slots[handle.slot as usize].take(Slot::WornOut)
+    }
+}
