@@ -78,7 +78,7 @@ impl<T, A: Allocator> Arena<T, A> {
     /// How many values there are.
     pub fn len(&self) -> usize
         ensures value { result ≡ value_count self.now }
-        ensures size { IsSize self.now result }
+        ensures size { IsSize self.now (value_count self.now) }
     {
         self.live as usize
     }
