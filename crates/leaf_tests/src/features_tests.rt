@@ -44,25 +44,27 @@ fn names(rt: HostRuntime) -> Result<(), Fail> {
     Ok(())
 }
 
+// A subject of the office north.
+fn subject(rt: &impl Abort, text: &[u8]) -> Subject {
+    Subject {
+        name: name(rt, text),
+        office: name(rt, b"north"),
+        role: name(rt, b"editor"),
+        steward: false,
+    }
+}
+
 #[test]
 fn subjects(rt: HostRuntime) -> Result<(), Fail> {
-    let north = Subject {
-        name: name(&rt, b"north"),
-        office: name(&rt, b"north"),
-        role: name(&rt, b"editor"),
-        steward: false,
-    };
-    let south = Subject {
-        name: name(&rt, b"south"),
-        ..north
-    };
     assert_eq!(rt; Subjects::new(&[]).err(), Some(SubjectsFault::NoneGiven));
-    assert_eq!(rt; Subjects::new(&[north, south, north]).err(), Some(SubjectsFault::NameTwice));
-    assert_eq!(rt; Subjects::new(&[north; 65]).err(), Some(SubjectsFault::TooMany));
-    let both = Subjects::new(&[north, south]);
+    let twice = [subject(&rt, b"north"), subject(&rt, b"south"), subject(&rt, b"north")];
+    assert_eq!(rt; Subjects::new(&twice).err(), Some(SubjectsFault::NameTwice));
+    let many = [subject(&rt, b"north"); 65];
+    assert_eq!(rt; Subjects::new(&many).err(), Some(SubjectsFault::TooMany));
+    let both = Subjects::new(&[subject(&rt, b"north"), subject(&rt, b"south")]);
     assert!(rt; both.is_ok());
     let both = both.unwrap();
-    assert_eq!(rt; both.get(south.name), Some(south));
+    assert_eq!(rt; both.get(name(&rt, b"south")), Some(subject(&rt, b"south")));
     assert_eq!(rt; both.get(name(&rt, b"west")), None);
     Ok(())
 }
@@ -88,10 +90,52 @@ fn store(rt: HostRuntime) -> Result<(), Fail> {
     Ok(())
 }
 
-// Features of ids that rise, put in by lists of one.
-fn fill<A: Allocator + Copy>(rt: &impl Abort, store: &mut Store<A>, count: u64) {
-    let office = name(rt, b"north");
-    for id in 0..count {
-        assert!(rt; store.apply(1, office, &[addition(rt, id)]).is_ok());
+#[test]
+fn each_allocation_refused(rt: HostRuntime) -> Result<(), Fail> {
+    let memory = Refusing::new(rt.alloc(), 0);
+    let office = name(&rt, b"north");
+    for at in 1..8 {
+        memory.refuse(0);
+        let mut store = Store::new(&memory);
+        assert!(rt; store.apply(1, office, &[addition(&rt, 5), addition(&rt, 6), addition(&rt, 8), addition(&rt, 9)]).is_ok());
+        memory.refuse(at);
+        let answer = store.apply(2, office, &[addition(&rt, 7), addition(&rt, 3)]);
+        if !memory.has_refused() {
+            assert!(rt; answer.is_ok() && at > 1, "nothing was refused");
+            break;
+        }
+        assert_eq!(rt; answer, Err(StoreFault::Memory), "at {at}");
+        assert_eq!(rt; store.len(), 4, "at {at}");
+        assert!(rt; at < 7, "each allocation was refused");
     }
+    let mut store = Store::new(rt.alloc());
+    assert!(rt; store.apply(1, office, &[addition(&rt, 5)]).is_ok());
+    let mut meter = Meter::new();
+    memory.refuse(1);
+    let rows = store.dump(&memory, &mut meter);
+    assert!(rt; rows.is_err() && memory.has_refused());
+    assert_eq!(rt; meter.ticks(), 0);
+    memory.refuse(2);
+    assert!(rt; store.dump(&memory, &mut meter).is_ok() && !memory.has_refused());
+    assert_eq!(rt; meter.ticks(), 1);
+    Ok(())
+}
+
+#[test]
+fn as_many_as_fit(rt: HostRuntime) -> Result<(), Fail> {
+    let office = name(&rt, b"north");
+    let mut store = Store::new(rt.alloc());
+    let mut meter = Meter::new();
+    for id in 0..FEATURE_LIMIT as u64 {
+        // A look-up first, since the store takes only what is not there.
+        if store.get(id, &mut meter).is_none() {
+            assert!(rt; store.apply(1, office, &[addition(&rt, id)]).is_ok());
+        }
+    }
+    assert_eq!(rt; store.len(), FEATURE_LIMIT);
+    if store.get(u64::MAX, &mut meter).is_none() {
+        assert_eq!(rt; store.apply(2, office, &[addition(&rt, u64::MAX)]), Err(StoreFault::Full));
+    }
+    assert_eq!(rt; store.len(), FEATURE_LIMIT);
+    Ok(())
 }
