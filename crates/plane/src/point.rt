@@ -7,7 +7,7 @@ ghost use Rattle.plane.specs.Coordinates.{IsCoordinate, is_coordinate};
 pub const LIMIT: i32 = 10_000_000;
 
 /// A point of the plane. One that is listed for a shape has to be in range.
-#[derive(Clone, Copy, Debug, PartialEq, Eq)]
+#[derive(Clone, Copy, Debug, Default, PartialEq, Eq)]
 pub struct Point {
     pub x: i32,
     pub y: i32,
