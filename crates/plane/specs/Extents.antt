@@ -1,9 +1,10 @@
 -- Frames: the extents of shapes.
-use Rattle.std.specs.Prelude.{List, [], ◌∷◌, ℤ, ◌≤ℤ◌}
+use Rattle.std.specs.Prelude.{List, [], ◌∷◌, ℤ, pos, ◌-ℤ◌, ◌≤ℤ◌}
 use Rattle.std.specs.Int.{int_min, int_max}
 use Rattle.plane.specs.Coordinates.{IsCoordinate}
 use Rattle.plane.specs.Points.{origin}
 use Rattle.plane.specs.declared.point.Point.{Point}
+use Rattle.plane.specs.declared.point.TheConstants.{LIMIT}
 
 -- from x0 to x1 and from y0 to y1, both ends included
 pub record Extent : Type 0 where
@@ -34,3 +35,7 @@ abbrev pub extent_of : List Point → Extent
 extent_of [] = point_extent origin
 extent_of (p ∷ []) = point_extent p
 extent_of (p ∷ q ∷ rest) = joined (point_extent p) (extent_of (q ∷ rest))
+
+-- all points in range
+abbrev pub whole_extent : Extent
+whole_extent = record { x0 = pos 0 -ℤ LIMIT; y0 = pos 0 -ℤ LIMIT; x1 = LIMIT; y1 = LIMIT }

@@ -8,13 +8,20 @@ mod fault;
 mod bounds;
 mod elimination;
 mod fraction;
+mod frame;
+mod meeting;
+mod products;
+mod ring;
 mod rows;
 mod point;
 mod shape;
+mod shape_rows;
 
 pub use fault::ShapeFault;
 pub use rows::Row;
 pub use shape::{Shape, corners};
 pub use fraction::Fraction;
+pub use frame::{Frame, frame_of, hull};
+pub use meeting::{common_point, meets};
 pub use point::{LIMIT, Point};
 

@@ -7,7 +7,7 @@ ghost use Rattle.plane.specs.Coordinates.{IsCoordinate, is_coordinate};
 pub const LIMIT: i32 = 10_000_000;
 
 /// A point of the plane. One that is listed for a shape has to be in range.
-#[derive(Clone, Copy, Debug, PartialEq, Eq)]
+#[derive(Clone, Copy, Debug, Default, PartialEq, Eq)]
 pub struct Point {
     pub x: i32,
     pub y: i32,
@@ -21,7 +21,7 @@ fn is_coordinate(value: i32) -> bool
 }
 
 impl Point {
-    ghost use Rattle.plane.specs.Points.{IsInRange, is_in_range};
+    ghost use Rattle.plane.specs.Points.{IsInRange, is_in_range, is_before};
 
     /// Whether both coordinates lie from `-LIMIT` to `LIMIT`.
     pub fn is_in_range(self) -> bool
@@ -29,5 +29,12 @@ impl Point {
         ensures range { IsTrue result ↔ IsInRange self }
     {
         is_coordinate(self.x) && is_coordinate(self.y)
+    }
+
+    /// Whether this point has the lesser x, or at the same x the lesser y.
+    pub fn is_before(self, other: Point) -> bool
+        ensures { result ≡ is_before self other }
+    {
+        self.x < other.x || (self.x == other.x && self.y < other.y)
     }
 }

@@ -1,7 +1,7 @@
 //! Shapes: a point, a segment or a convex polygon, as a fixed row of corners.
 
 ghost use Rattle.std.specs.Prelude.{◌≡◌, List};
-ghost use Rattle.plane.specs.Canonical.{point_of, IsCanonical};
+ghost use Rattle.plane.specs.Canonical.{point_of, segment_of, IsCanonical};
 
 use crate::fault::ShapeFault;
 use crate::point::Point;
@@ -50,6 +50,27 @@ impl Shape {
         } else {
             Err(ShapeFault::OutOfRange)
         }
+    }
+
+    /// The segment between two points, whatever their order. P1 where one is out of range, P2 where they are the same.
+    pub fn segment(p: Point, q: Point) -> Result<Shape, ShapeFault>
+        ensures { result ≡ segment_of p q }
+    {
+        if !p.is_in_range() || !q.is_in_range() {
+            return Err(ShapeFault::OutOfRange);
+        }
+        if p == q {
+            return Err(ShapeFault::SameEnds);
+        }
+        let mut places = [ORIGIN; CORNERS];
+        if q.is_before(p) {
+            places[0] = q;
+            places[1] = p;
+        } else {
+            places[0] = p;
+            places[1] = q;
+        }
+        Ok(Shape { places, count: 2 })
     }
 }
 
