@@ -255,6 +255,10 @@ keyword_found end (t ∷ ts) k h =
 abbrev ListedBehind : List Token → List Point → Type 0
 ListedBehind all corners = (listed : Listed) × SpellsListed (words all) listed × (canonical_of listed ≡ Ok corners)
 
+point_words : (all ts inside p after : List Token) (keyword x y : Word) → Takes all keyword ts → Takes ts (mark_word OPENING) inside → words inside ≡ x ∷ y ∷ words p → Takes p (mark_word CLOSING) after → words after ≡ []
+    → words all ≡ keyword ∷ mark_word OPENING ∷ x ∷ y ∷ mark_word CLOSING ∷ []
+point_words all ts inside p after keyword x y front opening pair closing none = rw (front, opening, pair, closing, none) refl
+
 point_found : (end : ℕ) (all : List Token) (keyword : Word) (ts : List Token) (corners : List Point) → Takes all keyword ts → IsKind kinds.Point keyword → point_at end ts ≡ Ok corners → ListedBehind all corners
 unfolding point_at
 point_found end all keyword ts corners front kind h =
@@ -263,12 +267,16 @@ point_found end all keyword ts corners front kind h =
     let after = bind_ok (mark_at CLOSING end p.0.1) _ corners p.2 in
     let u = bind_ok (end_at after.0) _ corners after.2 in
     let pair = pair_found end inside.0 p.0 p.1 in
-    let tail = mark_found CLOSING end p.0.1 after.0 after.1 ∙ ap (λ (ws : List Word). mark_word CLOSING ∷ ws) (end_found after.0 u.0 u.1) in
-    let behind = opening_found end ts inside.0 inside.1 ∙ ap (λ (ws : List Word). mark_word OPENING ∷ ws) (pair.2 ∙ ap (λ (ws : List Word). pair.0 ∷ pair.1 ∷ ws) tail) in (
+    let whole = point_words all ts inside.0 p.0.1 after.0 keyword pair.0 pair.1 front (opening_found end ts inside.0 inside.1) pair.2 (mark_found CLOSING end p.0.1 after.0 after.1) (end_found after.0 u.0 u.1) in
+    (
       one_point p.0.0,
-      record { keyword = keyword; x = pair.0; y = pair.1; whole = front ∙ ap (λ (ws : List Word). keyword ∷ ws) behind; is_keyword = kind; pair = pair.3 },
+      record { keyword = keyword; x = pair.0; y = pair.1; whole = whole; is_keyword = kind; pair = pair.3 },
       made_ok (point_of p.0.0) corners u.2,
     )
+
+line_string_words : (all ts inside p next q after : List Token) (keyword x y u v : Word) → Takes all keyword ts → Takes ts (mark_word OPENING) inside → words inside ≡ x ∷ y ∷ words p → Takes p (mark_word COMMA) next
+    → words next ≡ u ∷ v ∷ words q → Takes q (mark_word CLOSING) after → words after ≡ [] → words all ≡ keyword ∷ mark_word OPENING ∷ x ∷ y ∷ mark_word COMMA ∷ u ∷ v ∷ mark_word CLOSING ∷ []
+line_string_words all ts inside p next q after keyword x y u v front opening one comma two closing none = rw (front, opening, one, comma, two, closing, none) refl
 
 line_string_found : (end : ℕ) (all : List Token) (keyword : Word) (ts : List Token) (corners : List Point) → Takes all keyword ts → IsKind kinds.LineString keyword → line_string_at end ts ≡ Ok corners → ListedBehind all corners
 unfolding line_string_at
@@ -281,13 +289,18 @@ line_string_found end all keyword ts corners front kind h =
     let u = bind_ok (end_at after.0) _ corners after.2 in
     let one = pair_found end inside.0 p.0 p.1 in
     let two = pair_found end next.0 q.0 q.1 in
-    let tail = closing_found end q.0.1 after.0 after.1 ∙ ap (λ (ws : List Word). mark_word CLOSING ∷ ws) (end_found after.0 u.0 u.1) in
-    let others = mark_found COMMA end p.0.1 next.0 next.1 ∙ ap (λ (ws : List Word). mark_word COMMA ∷ ws) (two.2 ∙ ap (λ (ws : List Word). two.0 ∷ two.1 ∷ ws) tail) in
-    let behind = opening_found end ts inside.0 inside.1 ∙ ap (λ (ws : List Word). mark_word OPENING ∷ ws) (one.2 ∙ ap (λ (ws : List Word). one.0 ∷ one.1 ∷ ws) others) in (
+    let whole = line_string_words all ts inside.0 p.0.1 next.0 q.0.1 after.0 keyword one.0 one.1 two.0 two.1 front (opening_found end ts inside.0 inside.1) one.2 (mark_found COMMA end p.0.1 next.0 next.1) two.2
+        (closing_found end q.0.1 after.0 after.1) (end_found after.0 u.0 u.1) in
+    (
       two_points p.0.0 q.0.0,
-      record { keyword = keyword; x = one.0; y = one.1; u = two.0; v = two.1; whole = front ∙ ap (λ (ws : List Word). keyword ∷ ws) behind; is_keyword = kind; first = one.3; second = two.3 },
+      record { keyword = keyword; x = one.0; y = one.1; u = two.0; v = two.1; whole = whole; is_keyword = kind; first = one.3; second = two.3 },
       made_ok (segment_of p.0.0 q.0.0) corners u.2,
     )
+
+ring_words : (all ts inside first behind after : List Token) (keyword : Word) (pairs : List Word) → Takes all keyword ts → Takes ts (mark_word OPENING) inside → Takes inside (mark_word OPENING) first
+    → words first ≡ pairs ++ mark_word CLOSING ∷ words behind → Takes behind (mark_word CLOSING) after → words after ≡ []
+    → words all ≡ keyword ∷ mark_word OPENING ∷ mark_word OPENING ∷ (pairs ++ mark_word CLOSING ∷ mark_word CLOSING ∷ [])
+ring_words all ts inside first behind after keyword pairs front opening second listed closing none = rw (front, opening, second, listed, closing, none) refl
 
 polygon_found : (end : ℕ) (all : List Token) (keyword : Word) (ts : List Token) (corners : List Point) → Takes all keyword ts → IsKind kinds.Polygon keyword → polygon_at end ts ≡ Ok corners → ListedBehind all corners
 unfolding polygon_at
@@ -298,11 +311,11 @@ polygon_found end all keyword ts corners front kind h =
     let after = bind_ok (closing_at end listed.0.1) _ corners listed.2 in
     let u = bind_ok (end_at after.0) _ corners after.2 in
     let pairs = ring_found end first.0 listed.0 listed.1 in
-    let tail = closing_found end listed.0.1 after.0 after.1 ∙ ap (λ (ws : List Word). mark_word CLOSING ∷ ws) (end_found after.0 u.0 u.1) in
-    let points = pairs.1 ∙ ap (λ (ws : List Word). pairs.0 ++ mark_word CLOSING ∷ ws) tail in
-    let behind = opening_found end ts inside.0 inside.1 ∙ ap (λ (ws : List Word). mark_word OPENING ∷ ws) (mark_found OPENING end inside.0 first.0 first.1 ∙ ap (λ (ws : List Word). mark_word OPENING ∷ ws) points) in (
+    let whole = ring_words all ts inside.0 first.0 listed.0.1 after.0 keyword pairs.0 front (opening_found end ts inside.0 inside.1) (mark_found OPENING end inside.0 first.0 first.1) pairs.1
+        (closing_found end listed.0.1 after.0 after.1) (end_found after.0 u.0 u.1) in
+    (
       ring listed.0.0,
-      record { keyword = keyword; pairs = pairs.0; whole = front ∙ ap (λ (ws : List Word). keyword ∷ ws) behind; is_keyword = kind; are_pairs = pairs.2 },
+      record { keyword = keyword; pairs = pairs.0; whole = whole; is_keyword = kind; are_pairs = pairs.2 },
       made_ok (polygon_of listed.0.0) corners u.2,
     )
 
