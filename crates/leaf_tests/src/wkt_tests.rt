@@ -1,4 +1,5 @@
 use plane::{Point, Shape, ShapeFault};
+use std::alloc::{AllocError, Allocator};
 use std::process::Abort;
 use std::test::Fail;
 use wkt::{WktFault, print_shape, read_shape, shape_text};
@@ -31,6 +32,15 @@ fn texts_read_and_printed(rt: HostRuntime) -> Result<(), Fail> {
         ),
         ("LINESTRING (3 1, 0 0)", "LINESTRING (0 0, 3 1)"),
         ("lineString(0 -1,0 -2)", "LINESTRING (0 -2, 0 -1)"),
+        (
+            "POLYGON ((4 4, 0 4, 0 0, 4 0, 4 4))",
+            "POLYGON ((0 0, 4 0, 4 4, 0 4, 0 0))",
+        ),
+        (
+            "polygon\t( ( 0 0 , 0 4 , 2 4 , 4 4 , 4 0 , 2 0 , 0 0 ) )\n",
+            "POLYGON ((0 0, 4 0, 4 4, 0 4, 0 0))",
+        ),
+        ("POLYGON((0 0,2 0,1 2,0 0))", "POLYGON ((0 0, 2 0, 1 2, 0 0))"),
     ] {
         check_printed(&rt, text, printed);
         check_printed(&rt, printed, printed);
@@ -52,7 +62,6 @@ fn faults_and_their_places(rt: HostRuntime) -> Result<(), Fail> {
         ("  MultiPoint (1 2)", WktFault::LeftOut(2)),
         ("MULTILINESTRING", WktFault::LeftOut(0)),
         ("MULTIPOLYGON", WktFault::LeftOut(0)),
-        ("  POLYGON ((0 0", WktFault::LeftOut(2)),
         ("GEOMETRYCOLLECTION", WktFault::LeftOut(0)),
         ("POINT EMPTY", WktFault::LeftOut(6)),
         ("POINT z (1 2 3)", WktFault::LeftOut(6)),
@@ -95,6 +104,19 @@ fn faults_and_their_places(rt: HostRuntime) -> Result<(), Fail> {
         ("LINESTRING (0 0, 1 1", WktFault::Syntax(20)),
         ("LINESTRING (0 0, 1 1)(", WktFault::Syntax(21)),
         ("LINESTRING ((0 0, 1 1))", WktFault::Syntax(12)),
+        ("POLYGON ZM ((0 0))", WktFault::LeftOut(8)),
+        ("POLYGON (EMPTY)", WktFault::Syntax(9)),
+        ("POLYGON (0 0, 1 0, 0 1, 0 0)", WktFault::Syntax(9)),
+        ("POLYGON (())", WktFault::Syntax(10)),
+        ("POLYGON ((0 0", WktFault::Syntax(13)),
+        ("POLYGON ((0 0 1 0", WktFault::Syntax(14)),
+        ("POLYGON ((0 0, 1 0, 0 1.5", WktFault::Number(22)),
+        ("POLYGON ((0 0, 1 0, 0 1,))", WktFault::Syntax(24)),
+        ("POLYGON ((0 0, 4 0, 0 4, 0 0)", WktFault::Syntax(29)),
+        ("POLYGON ((0 0, 4 0, 0 4, 0 0), (1 1, 2 1, 1 2, 1 1))", WktFault::LeftOut(29)),
+        ("POLYGON ((0 0, 4 0, 0 4, 0 0)(", WktFault::Syntax(29)),
+        ("POLYGON ((0 0, 4 0, 0 4, 0 0)))", WktFault::Syntax(30)),
+        ("POLYGON ((0 0), x", WktFault::LeftOut(14)),
     ] {
         check_fault(&rt, text, fault);
     }
@@ -123,12 +145,68 @@ fn coordinate_limits(rt: HostRuntime) -> Result<(), Fail> {
     Ok(())
 }
 
+// A text of a ring that lists this many points.
+fn ring_text<A: Allocator + Copy>(alloc: A, count: usize) -> Result<String<A>, AllocError> {
+    let mut text = String::from_str(alloc, "POLYGON ((0 0")?;
+    for _ in 1..count {
+        text.push_str(", 7 7")?;
+    }
+    text.push_str("))")?;
+    Ok(text)
+}
+
 #[test]
-fn refused_segments(rt: HostRuntime) -> Result<(), Fail> {
-    for (text, fault, code) in [("LINESTRING (1 1, 1 1.0)", ShapeFault::SameEnds, "P2")] {
+fn refused_rings(rt: HostRuntime) -> Result<(), Fail> {
+    for (text, fault, code) in [
+        ("LINESTRING (1 1, 1 1.0)", ShapeFault::SameEnds, "P2"),
+        ("POLYGON ((0 0, 4 0, 0 0))", ShapeFault::TooFew, "P4"),
+        ("POLYGON ((0 0))", ShapeFault::TooFew, "P4"),
+        ("POLYGON ((0 0, 4 0, 0 4, 1 1))", ShapeFault::NotClosed, "P5"),
+        ("POLYGON ((0 0, 4 0, 4 0, 4 4, 0 0))", ShapeFault::Repeated, "P6"),
+        ("POLYGON ((0 0, 1 1, 2 2, 0 0))", ShapeFault::Flat, "P7"),
+        ("POLYGON ((0 0, 4 0, 1 1, 0 4, 0 0))", ShapeFault::NotConvex, "P8"),
+        // Every turn of the pentagram is to the left.
+        (
+            "POLYGON ((0 0, 6 4, -2 4, 4 0, 2 7, 0 0))",
+            ShapeFault::NotConvex,
+            "P8",
+        ),
+    ] {
         check_fault(&rt, text, WktFault::Bad(fault));
         assert_eq!(rt; WktFault::Bad(fault).code(), code, "{text}");
     }
+    check_fault(&rt, "POLYGON EMPTY", WktFault::LeftOut(8));
+    // As many as a ring may list, one more, and many more, with a fault behind them.
+    for (count, fault) in [
+        (64, ShapeFault::NotClosed),
+        (65, ShapeFault::TooManyPoints),
+        (66, ShapeFault::TooManyPoints),
+        (1_000, ShapeFault::TooManyPoints),
+    ] {
+        let mut text = ring_text(rt.alloc(), count)?;
+        check_fault(&rt, text.as_str(), WktFault::Bad(fault));
+        text.push_str(" x")?;
+        check_fault(&rt, text.as_str(), WktFault::Syntax(text.len() - 1));
+    }
+    Ok(())
+}
+
+#[test]
+fn canonical_square(rt: HostRuntime) -> Result<(), Fail> {
+    let square = "POLYGON ((0 0, 4 0, 4 4, 0 4, 0 0))";
+    check_printed(&rt, "polygon((0 0,0 4,4 4,4 2,4 0,0 0))", square);
+    check_printed(&rt, square, square);
+    Ok(())
+}
+
+#[test]
+fn sixteen_corners(rt: HostRuntime) -> Result<(), Fail> {
+    let text = "POLYGON ((-9999999 -9999998, -9999998 -9999999, -9999996 -10000000, -9999993 -10000000, -9999989 -9999999, -9999985 -9999997, -9999982 -9999994, -9999980 -9999990, -9999980 -9999987, -9999981 -9999984, -9999983 -9999981, -9999986 -9999979, -9999989 -9999978, -9999993 -9999980, -9999996 -9999984, -9999998 -9999989, -9999999 -9999998))";
+    check_printed(&rt, text, text);
+    let read = read_shape(text.as_bytes());
+    assert!(rt; read.is_ok());
+    let printed = print_shape(rt.alloc(), &read.unwrap())?;
+    assert_eq!(rt; printed.as_str(), text);
     Ok(())
 }
 

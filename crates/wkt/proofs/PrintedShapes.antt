@@ -8,7 +8,7 @@ use Rattle.plane.specs.declared.point.Point.{Point}
 use Rattle.plane.specs.Canonical.{IsCanonical, point_of, segment_of, polygon_of}
 use Rattle.plane.specs.Points.{IsInRange}
 use Rattle.wkt.specs.Tokens.{tokens, tokens_from, is_word_byte, OPENING, CLOSING, COMMA}
-use Rattle.wkt.specs.Reading.{pair_at, opening_at, mark_at, closing_at, is_more, more_at, ring_at, point_at, line_string_at, polygon_at, kind_of, keyword_at, whole_shape_of, made}
+use Rattle.wkt.specs.Reading.{pair_at, opening_at, mark_at, closing_at, is_more, more_at, ring_at, point_at, line_string_at, polygon_at, kind_of, keyword_at, shape_of, made}
 use Rattle.wkt.specs.Printing.{pair_text, following_text, printed}
 use Rattle.wkt.proofs.RingLemmas.{ring_more, ring_last}
 use Rattle.wkt.proofs.PrintedNumbers.{number_read}
@@ -79,16 +79,16 @@ closing_read : (end at : ℕ) → closing_at end (tokens at (codes ")")) ≡ Ok 
 unfolding closing_at tokens_from
 closing_read end at = refl
 
-point_word : (tail : List ℕ) → whole_shape_of (codes "POINT " ++ tail) ≡ point_at (length (codes "POINT " ++ tail)) (tokens 6 tail)
-unfolding whole_shape_of keyword_at kind_of tokens_from
+point_word : (tail : List ℕ) → shape_of (codes "POINT " ++ tail) ≡ point_at (length (codes "POINT " ++ tail)) (tokens 6 tail)
+unfolding shape_of keyword_at kind_of tokens_from
 point_word tail = refl
 
-line_string_word : (tail : List ℕ) → whole_shape_of (codes "LINESTRING " ++ tail) ≡ line_string_at (length (codes "LINESTRING " ++ tail)) (tokens 11 tail)
-unfolding whole_shape_of keyword_at kind_of tokens_from
+line_string_word : (tail : List ℕ) → shape_of (codes "LINESTRING " ++ tail) ≡ line_string_at (length (codes "LINESTRING " ++ tail)) (tokens 11 tail)
+unfolding shape_of keyword_at kind_of tokens_from
 line_string_word tail = refl
 
-polygon_word : (tail : List ℕ) → whole_shape_of (codes "POLYGON " ++ tail) ≡ polygon_at (length (codes "POLYGON " ++ tail)) (tokens 8 tail)
-unfolding whole_shape_of keyword_at kind_of tokens_from
+polygon_word : (tail : List ℕ) → shape_of (codes "POLYGON " ++ tail) ≡ polygon_at (length (codes "POLYGON " ++ tail)) (tokens 8 tail)
+unfolding shape_of keyword_at kind_of tokens_from
 polygon_word tail = refl
 
 -- ---- the three kinds
@@ -129,7 +129,7 @@ in_range_behind : (qs : List Point) (p : Point) → AllByRecursion IsInRange qs 
 in_range_behind [] p hs h = (h, tt)
 in_range_behind (q ∷ qs) p hs h = (hs.0, in_range_behind qs p hs.1 h)
 
-pub printed_is_read : (corners : List Point) → IsCanonical corners → whole_shape_of (printed corners) ≡ Ok corners
+pub printed_is_read : (corners : List Point) → IsCanonical corners → shape_of (printed corners) ≡ Ok corners
 printed_is_read [] h = absurd (omega (arith, h.not_empty))
 printed_is_read (p ∷ []) h =
     let inside = recursion_from_All IsInRange (p ∷ []) h.in_range in

@@ -14,7 +14,7 @@ use Rattle.wkt.specs.declared.keyword.Kind.{Kind}
 use Rattle.wkt.specs.declared.keyword.Kind.TheVariants as kinds
 use Rattle.wkt.specs.Tokens.{Token, tokens, OPENING, CLOSING, COMMA}
 use Rattle.wkt.specs.Numbers.{in_limits, number_of, coordinate_of}
-use Rattle.wkt.specs.Reading.{◌>>=◌, with_rest, pair_of, is_word, is_the_mark, is_left_out_kind, is_left_out_form, begins_with_mark, kind_of, keyword_at, opening_at, mark_at, closing_at, end_at, number_of_token, number_at, pair_at, is_more, more_at, ring_at, made, point_at, line_string_at, polygon_at, body_at, whole_shape_of}
+use Rattle.wkt.specs.Reading.{◌>>=◌, with_rest, pair_of, is_word, is_the_mark, is_left_out_kind, is_left_out_form, begins_with_mark, kind_of, keyword_at, opening_at, mark_at, closing_at, end_at, number_of_token, number_at, pair_at, is_more, more_at, ring_at, made, point_at, line_string_at, polygon_at, body_at, shape_of}
 use Rattle.wkt.specs.Spelling.{Word, words, mark_word, SpellsNumber, SpellsPair, SpellsPairs, Listed, one_point, two_points, ring, IsKeyword, SpellsListed, canonical_of, Spells}
 use Rattle.wkt.proofs.NumberGrammar.{number_found}
 use Rattle.wkt.proofs.RingLemmas.{behind_pair, after_pair, ring_step}
@@ -267,7 +267,8 @@ point_found end all keyword ts corners front kind h =
     let after = bind_ok (mark_at CLOSING end p.0.1) _ corners p.2 in
     let u = bind_ok (end_at after.0) _ corners after.2 in
     let pair = pair_found end inside.0 p.0 p.1 in
-    let whole = point_words all ts inside.0 p.0.1 after.0 keyword pair.0 pair.1 front (opening_found end ts inside.0 inside.1) pair.2 (mark_found CLOSING end p.0.1 after.0 after.1) (end_found after.0 u.0 u.1) in (
+    let whole = point_words all ts inside.0 p.0.1 after.0 keyword pair.0 pair.1 front (opening_found end ts inside.0 inside.1) pair.2 (mark_found CLOSING end p.0.1 after.0 after.1) (end_found after.0 u.0 u.1) in
+    (
       one_point p.0.0,
       record { keyword = keyword; x = pair.0; y = pair.1; whole = whole; is_keyword = kind; pair = pair.3 },
       made_ok (point_of p.0.0) corners u.2,
@@ -289,7 +290,8 @@ line_string_found end all keyword ts corners front kind h =
     let one = pair_found end inside.0 p.0 p.1 in
     let two = pair_found end next.0 q.0 q.1 in
     let whole = line_string_words all ts inside.0 p.0.1 next.0 q.0.1 after.0 keyword one.0 one.1 two.0 two.1 front (opening_found end ts inside.0 inside.1) one.2 (mark_found COMMA end p.0.1 next.0 next.1) two.2
-    (closing_found end q.0.1 after.0 after.1) (end_found after.0 u.0 u.1) in (
+        (closing_found end q.0.1 after.0 after.1) (end_found after.0 u.0 u.1) in
+    (
       two_points p.0.0 q.0.0,
       record { keyword = keyword; x = one.0; y = one.1; u = two.0; v = two.1; whole = whole; is_keyword = kind; first = one.3; second = two.3 },
       made_ok (segment_of p.0.0 q.0.0) corners u.2,
@@ -310,7 +312,8 @@ polygon_found end all keyword ts corners front kind h =
     let u = bind_ok (end_at after.0) _ corners after.2 in
     let pairs = ring_found end first.0 listed.0 listed.1 in
     let whole = ring_words all ts inside.0 first.0 listed.0.1 after.0 keyword pairs.0 front (opening_found end ts inside.0 inside.1) (mark_found OPENING end inside.0 first.0 first.1) pairs.1
-    (closing_found end listed.0.1 after.0 after.1) (end_found after.0 u.0 u.1) in (
+        (closing_found end listed.0.1 after.0 after.1) (end_found after.0 u.0 u.1) in
+    (
       ring listed.0.0,
       record { keyword = keyword; pairs = pairs.0; whole = whole; is_keyword = kind; are_pairs = pairs.2 },
       made_ok (polygon_of listed.0.0) corners u.2,
@@ -321,8 +324,8 @@ body_found kinds.Point end all keyword ts corners front kind h = point_found end
 body_found kinds.LineString end all keyword ts corners front kind h = line_string_found end all keyword ts corners front kind h
 body_found kinds.Polygon end all keyword ts corners front kind h = polygon_found end all keyword ts corners front kind h
 
-pub found : (text : List ℕ) (corners : List Point) → whole_shape_of text ≡ Ok corners → Spells text corners
-unfolding whole_shape_of
+pub found : (text : List ℕ) (corners : List Point) → shape_of text ≡ Ok corners → Spells text corners
+unfolding shape_of
 found text corners h =
     let k = bind_ok (keyword_at (length text) (tokens 0 text)) (λ k. body_at k.0 (length text) k.1) corners h in
     let first = keyword_found (length text) (tokens 0 text) k.0 k.1 in

@@ -12,7 +12,7 @@ use Rattle.wkt.specs.declared.keyword.Kind.{Kind}
 use Rattle.wkt.specs.declared.keyword.Kind.TheVariants as kinds
 use Rattle.wkt.specs.Tokens.{Token, tokens, is_mark, OPENING, CLOSING, COMMA}
 use Rattle.wkt.specs.Numbers.{coordinate_of}
-use Rattle.wkt.specs.Reading.{◌>>=◌, with_front, is_the_mark, begins_with_mark, kind_of, keyword_at, opening_at, mark_at, closing_at, end_at, number_of_token, number_at, pair_at, is_more, more_at, ring_at, made, point_at, line_string_at, polygon_at, body_at, whole_shape_of}
+use Rattle.wkt.specs.Reading.{◌>>=◌, with_front, is_the_mark, begins_with_mark, kind_of, keyword_at, opening_at, mark_at, closing_at, end_at, number_of_token, number_at, pair_at, is_more, more_at, ring_at, made, point_at, line_string_at, polygon_at, body_at, shape_of}
 use Rattle.wkt.specs.Spelling.{Word, words, mark_word, SpellsSign, SpellsNumber, SpellsPair, SpellsPairs, Listed, one_point, two_points, ring, IsKeyword, SpellsPoint, SpellsLineString, SpellsRing, SpellsListed, canonical_of, Spells}
 use Rattle.wkt.proofs.NumberGrammar.{number_only}
 use Rattle.wkt.proofs.PrintedNumbers.{coordinate_test}
@@ -203,8 +203,8 @@ listed_only end ts (one_point p) h = point_only end ts p h
 listed_only end ts (two_points p q) h = line_string_only end ts p q h
 listed_only end ts (ring ps) h = polygon_only end ts ps h
 
-pub only : (text : List ℕ) (corners : List Point) → Spells text corners → whole_shape_of text ≡ Ok corners
-unfolding whole_shape_of
+pub only : (text : List ℕ) (corners : List Point) → Spells text corners → shape_of text ≡ Ok corners
+unfolding shape_of
 only text corners h = listed_only (length text) (tokens 0 text) h.listed h.spelled ∙ ap made h.canonical
 
 abbrev done : List Point → Result (List Point) WktFault

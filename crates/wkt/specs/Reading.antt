@@ -179,24 +179,8 @@ body_at kinds.Point end ts = point_at end ts
 body_at kinds.LineString end ts = line_string_at end ts
 body_at kinds.Polygon end ts = polygon_at end ts
 
--- the shape that a text of the whole language spells, as its corners; else the first fault from the left, with its place
-unfoldable pub whole_shape_of : List ℕ → Result (List Point) WktFault
-whole_shape_of text = do
-  keyword ← keyword_at (length text) (tokens 0 text)
-  body_at keyword.0 (length text) keyword.1
-
-abbrev pub place_of : ℕ → List Token → ℕ
-place_of end [] = end
-place_of end (t ∷ ts) = t.0
-
--- So far a polygon is not made: its keyword is answered K2.
-abbrev pub body_so_far : Kind → ℕ → ℕ → List Token → Result (List Point) WktFault
-body_so_far kinds.Point at end ts = point_at end ts
-body_so_far kinds.LineString at end ts = line_string_at end ts
-body_so_far kinds.Polygon at end ts = Err (LeftOut at)
-
--- what is read of a text
+-- the shape that a text spells, as its corners; else the first fault from the left, with its place
 unfoldable pub shape_of : List ℕ → Result (List Point) WktFault
 shape_of text = do
   keyword ← keyword_at (length text) (tokens 0 text)
-  body_so_far keyword.0 (place_of (length text) (tokens 0 text)) (length text) keyword.1
+  body_at keyword.0 (length text) keyword.1

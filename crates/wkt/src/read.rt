@@ -2,12 +2,13 @@
 
 ghost use Rattle.std.specs.Prelude.{◌≡◌, ◌+◌, ◌<◌, ◌^◌, Ok, IfOk, length};
 ghost use Rattle.wkt.specs.Tokens.{tokens};
-ghost use Rattle.wkt.specs.Reading.{point_at, line_string_at, place_of, shape_of};
+ghost use Rattle.wkt.specs.Reading.{point_at, line_string_at, shape_of};
+ghost use Rattle.wkt.specs.Kept.{kept_polygon_at};
 
 use crate::fault::WktFault;
 use crate::fields::{closing, end, keyword, mark, opening, pair};
 use crate::keyword::Kind;
-use crate::tokens::first_token;
+use crate::ring::ring;
 use plane::Shape;
 
 /// `( pair )`
@@ -38,26 +39,28 @@ fn line_string(at: usize, bytes: &[u8]) -> Result<Shape, WktFault>
     Shape::segment(first, second).map_err(WktFault::Bad)
 }
 
-/// Where the first token of a text stands, or its end.
-fn place(text: &[u8]) -> usize
-    ensures { result ≡ place_of (length text.now) (tokens 0 text.now) }
+/// `( ( pair , pair .. ) )`
+#[tactic(auto, unfolding(crate::specs::Kept::kept_polygon_at))]
+fn polygon(at: usize, bytes: &[u8]) -> Result<Shape, WktFault>
+    requires { at + length bytes.now < 2 ^ 64 }
+    ensures { result ≡ kept_polygon_at (at + length bytes.now) (tokens at bytes.now) }
 {
-    match first_token(0, text) {
-        None => text.len(),
-        Some(token) => token.at,
-    }
+    let (at, bytes) = opening(at, bytes)?;
+    let (at, bytes) = mark(b'(', at, bytes)?;
+    let (points, (at, bytes)) = ring(at, bytes)?;
+    let (at, bytes) = closing(at, bytes)?;
+    end(at, bytes)?;
+    Shape::polygon(points.points()).map_err(WktFault::Bad)
 }
 
 /// The shape that a text spells: `POINT (x y)`, `LINESTRING (x y, x y)` or `POLYGON ((x y, x y, ..))`, as OGC 06-103r4,
 /// 7.2.2, has them. It takes no memory.
 ///
-/// So far polygons are not read: POLYGON is K2.
-///
 /// A text with another first word is K1, or K2 where that word begins a kind of geometry that is left out. EMPTY, Z, M
 /// or ZM after the keyword, a third point of a line string and a second ring are K2. Any other token than the due one
 /// is K3, a word that is no number K4, a number from outside -10,000,000 to 10,000,000 K5. The first fault from the
 /// left counts, with its place. Points that make no shape are K6, where the text has no other fault.
-#[tactic(auto, unfolding(crate::specs::Reading::shape_of))]
+#[tactic(auto, using(crate::proofs::KeptLemmas::kept_polygon), unfolding(crate::specs::Reading::shape_of))]
 pub fn read_shape(text: &[u8]) -> Result<Shape, WktFault>
     ensures { result ≡ shape_of text.now }
 {
@@ -65,6 +68,6 @@ pub fn read_shape(text: &[u8]) -> Result<Shape, WktFault>
     match kind {
         Kind::Point => point(at, bytes),
         Kind::LineString => line_string(at, bytes),
-        Kind::Polygon => Err(WktFault::LeftOut(place(text))),
+        Kind::Polygon => polygon(at, bytes),
     }
 }
