@@ -1,7 +1,13 @@
+pub mod CornersKept
 pub mod Frames
+pub mod Least
 pub mod Narrowing
 pub mod Orders
+pub mod Turns
 pub mod Wide
+pub mod RingTests
+pub mod Rings
+pub mod Rotations
 pub mod ShapeRows
 pub mod Sides
 pub mod Sums

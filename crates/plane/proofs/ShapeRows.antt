@@ -167,11 +167,11 @@ rows-HasFrame e edges others = record {
   bottom = λ d. (refl, record { lt = tt });
 }
 
-left_part : {X : Type 0} (P : X → Type 0) (xs ys : List X) → All P (xs ++ ys) → All P xs
+pub left_part : {X : Type 0} (P : X → Type 0) (xs ys : List X) → All P (xs ++ ys) → All P xs
 left_part P [] ys all = All-nil P
 left_part P (x ∷ xs) ys all = All-cons P x xs (All-head P x (xs ++ ys) all) (left_part P xs ys (All-tail P x (xs ++ ys) all))
 
-right_part : {X : Type 0} (P : X → Type 0) (xs ys : List X) → All P (xs ++ ys) → All P ys
+pub right_part : {X : Type 0} (P : X → Type 0) (xs ys : List X) → All P (xs ++ ys) → All P ys
 right_part P [] ys all = all
 right_part P (x ∷ xs) ys all = right_part P xs ys (All-tail P x (xs ++ ys) all)
 

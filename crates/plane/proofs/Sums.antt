@@ -54,3 +54,7 @@ diff-mul u v u' v' = mul-go (diff u v) (diff u' v') u v u' v' (omega (arith, int
 -- turn along
 pub turn-id : (ux uy vx vy wx wy : ℤ) → (ux *ℤ vy -ℤ uy *ℤ vx) *ℤ wx +ℤ (vx *ℤ wy -ℤ vy *ℤ wx) *ℤ ux ≡ (ux *ℤ wy -ℤ uy *ℤ wx) *ℤ vx
 turn-id ux uy vx vy wx wy = rw (parts ux, parts uy, parts vx, parts vy, parts wx, parts wy) (simp (diff-mul, diff-sub, diff-add) (same-diff _ _ _ _ (omega arith)))
+
+pub zero-diff : (u v : ℕ) → u ≡ v → diff u v ≡ pos 0
+unfolding diff
+zero-diff u v e = omega (arith, ints)

@@ -1,5 +1,6 @@
 pub mod Bounds
 pub mod Canonical
+pub mod Convex
 pub mod Coordinates
 pub mod Elimination
 pub mod Extents

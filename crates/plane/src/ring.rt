@@ -2,12 +2,25 @@
 
 ghost use Rattle.std.specs.Prelude.{◌≡◌, ◌+◌, ◌<◌, ◌≤◌, ◌↔◌, pos, ◌≤ℤ◌, All, IsTrue, length, drop, reverse, slice_index_or};
 ghost use Rattle.std.specs.List.{list_all, list_any, position_or_len};
-ghost use Rattle.plane.specs.Points.{IsInRange, is_same};
+ghost use Rattle.plane.specs.Points.{IsInRange, is_in_range, is_same};
 ghost use Rattle.plane.specs.Rings.{first_of, last_of, turn, is_on_or_left, is_on_line, goes_left, is_flat, has_repeat, is_least, from_least, turning_points};
 
 use crate::point::Point;
 use crate::products::{cross, difference};
 use arrayvec::ArrayVec;
+
+/// Whether all points are in range.
+pub fn all_in_range(points: &[Point]) -> bool
+    ensures test { result ≡ list_all is_in_range points.now }
+    ensures range { IsTrue result → All IsInRange points.now }
+{
+    for point in points {
+        if !point.is_in_range() {
+            return false;
+        }
+    }
+    true
+}
 
 /// The point of a ring after the one at an index: after the last one comes the first.
 pub fn next_point(ring: &[Point], index: usize) -> Point

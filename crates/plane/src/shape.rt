@@ -1,14 +1,20 @@
 //! Shapes: a point, a segment or a convex polygon, as a fixed row of corners.
 
-ghost use Rattle.std.specs.Prelude.{◌≡◌, List};
-ghost use Rattle.plane.specs.Canonical.{point_of, segment_of, IsCanonical};
+ghost use Rattle.std.specs.Prelude.{◌≡◌, ◌-◌, ◌≤◌, ◌++◌, All, List, length, replicate};
+ghost use Rattle.plane.specs.Points.{IsInRange};
+ghost use Rattle.plane.specs.Canonical.{point_of, segment_of, polygon_of, ring_of, corners_of, IsCanonical};
+ghost use Rattle.plane.specs.Convex.{IsConvexRing};
 
 use crate::fault::ShapeFault;
 use crate::point::Point;
+use crate::ring::{all_in_range, corners_from_least, goes_left, has_repeat, is_flat, reversed};
 use std::marker::Model;
 
 /// A polygon has at most this many corners.
 const CORNERS: usize = 16;
+
+/// A ring lists at most this many points, its closing one included.
+const LISTED: usize = 64;
 
 const ORIGIN: Point = Point { x: 0, y: 0 };
 
@@ -72,6 +78,69 @@ impl Shape {
         }
         Ok(Shape { places, count: 2 })
     }
+
+    /// The convex polygon of a ring, which is listed in either direction and with its closing point. P1, P3, P4, P5,
+    /// P6, P7, P8 or P9, the first of them that the list has.
+    pub fn polygon(listed: &[Point]) -> Result<Shape, ShapeFault>
+        ensures { result ≡ polygon_of listed.now }
+    {
+        if !all_in_range(listed) {
+            return Err(ShapeFault::OutOfRange);
+        }
+        if listed.len() > LISTED {
+            return Err(ShapeFault::TooManyPoints);
+        }
+        if listed.len() < 4 {
+            return Err(ShapeFault::TooFew);
+        }
+        if listed[0] != listed[listed.len() - 1] {
+            return Err(ShapeFault::NotClosed);
+        }
+        of_ring(&listed[..listed.len() - 1])
+    }
+}
+
+/// The polygon of a ring without its closing point.
+fn of_ring(ring: &[Point]) -> Result<Shape, ShapeFault>
+    requires in_range { All IsInRange ring.now }
+    requires at_least { 3 ≤ length ring.now }
+    requires at_most { length ring.now ≤ 63 }
+    ensures { result ≡ ring_of ring.now }
+{
+    if has_repeat(ring) {
+        return Err(ShapeFault::Repeated);
+    }
+    if is_flat(ring) {
+        return Err(ShapeFault::Flat);
+    }
+    if goes_left(ring) {
+        return of_convex_ring(ring);
+    }
+    let other_way = reversed(ring);
+    if goes_left(other_way.as_slice()) { of_convex_ring(other_way.as_slice()) } else { Err(ShapeFault::NotConvex) }
+}
+
+/// The corners, and the origin in the places that are left.
+fn places_of(corners: &[Point]) -> [Point; 16]
+    requires { length corners.now ≤ 16 }
+    ensures { result ≡ corners.now ++ replicate (16 - length corners.now) ORIGIN }
+{
+    let mut places = [ORIGIN; CORNERS];
+    places[..corners.len()].copy_from_slice(corners);
+    places
+}
+
+/// The polygon of a ring that is known to be convex and counter-clockwise.
+fn of_convex_ring(ring: &[Point]) -> Result<Shape, ShapeFault>
+    requires { IsConvexRing ring.now }
+    ensures { result ≡ corners_of ring.now }
+{
+    let found = corners_from_least(ring);
+    if found.len() > CORNERS {
+        return Err(ShapeFault::TooManyCorners);
+    }
+    let places = places_of(found.as_slice());
+    Ok(Shape { places, count: found.len() as u8 })
 }
 
 /// The shape's corners in canonical order: a segment's lesser end first, a polygon's corners counter-clockwise from

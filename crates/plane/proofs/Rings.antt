@@ -1,0 +1,231 @@
+-- The corners of a convex ring are a canonical shape.
+use Rattle.std.specs.Prelude.{◌≡◌, ℕ, ◌+◌, ◌-◌, ◌<◌, ◌≤◌, Bool, true, false, not, cond, List, [], ◌∷◌, ◌++◌, All, Contains, length, drop, take, get_or, replicate, slice_index_or, ℤ, pos, ◌≤ℤ◌, ◌<ℤ◌, nat_lt, Result, Ok, Err, refl}
+use Rattle.std.specs.List.{list_all, position_or_len}
+use Rattle.std.proofs.Common.{arith, suc, ap, sym, subst, ◌∙◌, append-nil}
+use Rattle.std.proofs.lemmas.Bool.{false≢true, and_left, le-ltb, false_from_ne_true}
+use Rattle.std.proofs.lemmas.Int.{ints}
+use Rattle.std.proofs.lemmas.List.{drop-replicate, length-append, length-replicate}
+use Rattle.std.proofs.lemmas.List.Elements.{All-nil, All-cons, All-head, All-tail, All-append, All-weaker, All-contains, All-contains_itself}
+use Rattle.std.proofs.lemmas.List.Folds.{list_all_at}
+use Rattle.std.proofs.lemmas.List.Sums.{position_or_len_is}
+use Rattle.std.proofs.Math.Seq.{take-append_seam, drop-append_seam}
+use Rattle.plane.specs.Canonical.{IsCanonical, polygon_of, ring_of, corners_of}
+use Rattle.plane.specs.Convex.{Differ, AreOnOrLeft, IsConvexRing}
+use Rattle.plane.specs.Places.{IsKept}
+use Rattle.plane.specs.Points.{IsInRange, is_in_range, is_same, origin}
+use Rattle.plane.specs.Rings.{turn, first_of, last_of, sides, sides_to, is_on_line, is_least, has_repeat, is_flat, goes_left, from_least, turning, turning_points}
+use Rattle.plane.proofs.CornersKept.{AreCorners, StepsDiffer, TurnsAtEach, last, next, last_of-last, turning_all, corners_after, at_once, left_of_way}
+use Rattle.plane.proofs.Least.{Precedes, StartsLeast, decides_least, from_least-starts, turns_at_least}
+use Rattle.plane.proofs.RingTests.{decides_all, decides_in_range, decides_same, decides_line, decides_goes_left, repeats_not}
+use Rattle.plane.proofs.Rotations.{from_least_convex}
+use Rattle.plane.proofs.Turns.{turn-cycle, turn_back, turn_nowhere}
+use Rattle.plane.specs.declared.point.Point.{Point}
+use Rattle.plane.specs.declared.fault.ShapeFault.{ShapeFault}
+use Rattle.plane.specs.declared.fault.ShapeFault.TheVariants.{TooManyCorners}
+use native.Mathlib.Numerals.{unary_clauses}
+
+-- ---- places
+
+pub after_corners : (new corners : List Point) → new ≡ corners → new ++ drop (length corners) (replicate 16 origin) ≡ corners ++ replicate (16 - length corners) origin
+after_corners new corners e = rw (e, drop-replicate) refl
+
+pub kept_by : (corners : List Point) (n : ℕ) (places : List Point) → n ≡ length corners → length corners ≤ 16 → places ≡ corners ++ replicate (16 - length corners) origin
+    → IsCanonical corners → IsKept n places
+kept_by corners n places e small p canonical = record {
+  sixteen = rw (p, length-append, length-replicate) (omega (arith, small));
+  at_most = rw e small;
+  unused = rw (p, e, drop-append_seam) refl;
+  canonical = rw (p, e, take-append_seam) canonical;
+}
+
+-- ---- what dropping points keeps
+
+dropped-All : (P : Point → Type 0) (before end : Point) (rest : List Point) → All P rest → All P (turning before end rest)
+dropped-All P before end [] all = All-nil P
+dropped-All P before end (p ∷ rest) all = go (is_on_line (before, p) (next rest end)) (dropped-All P p end rest (All-tail P p rest all))
+  where
+    go : (v : Bool) → All P (turning p end rest) → All P (cond v (turning p end rest) (p ∷ turning p end rest))
+    go true others = others
+    go false others = All-cons P p (turning p end rest) (All-head P p rest all) others
+
+dropped-Differ : (before end : Point) (rest : List Point) → Differ rest → Differ (turning before end rest)
+dropped-Differ before end [] h = tt
+dropped-Differ before end (p ∷ rest) h = go (is_on_line (before, p) (next rest end)) (dropped-Differ p end rest h.1)
+  where
+    go : (v : Bool) → Differ (turning p end rest) → Differ (cond v (turning p end rest) (p ∷ turning p end rest))
+    go true others = others
+    go false others = (dropped-All (λ q. p ≡ q → ⊥) p end rest h.0, others)
+
+-- ---- the ring's own facts
+
+last_among : (P : Point → Type 0) (p : Point) (rest : List Point) → All P (p ∷ rest) → P (last p rest)
+last_among P p [] all = All-head P p [] all
+last_among P p (q ∷ rest) all = last_among P q rest (All-tail P p (q ∷ rest) all)
+
+last_side : (P : Point × Point → Type 0) (end p : Point) (rest : List Point) → All P (sides_to end (p ∷ rest)) → P (last p rest, end)
+last_side P end p [] all = All-head P (p, end) [] all
+last_side P end p (q ∷ rest) all = last_side P end q rest (All-tail P (p, q) (sides_to end (q ∷ rest)) all)
+
+steps_differ : (end m : Point) (rest : List Point) → Differ (m ∷ rest) → All (λ q. end ≡ q → ⊥) (m ∷ rest) → StepsDiffer end m rest
+steps_differ end m [] h apart = λ e. All-head (λ q. end ≡ q → ⊥) m [] apart (sym e)
+steps_differ end m (q ∷ rest) h apart = (All-head (λ r. m ≡ r → ⊥) q rest h.0, steps_differ end q rest h.1 (All-tail (λ r. end ≡ r → ⊥) m (q ∷ rest) apart))
+
+-- ---- a ring of corners, listed with the first one again
+
+last_of-push : (corners : List Point) (p : Point) → last_of (corners ++ p ∷ []) ≡ p
+last_of-push [] p = refl
+last_of-push (c ∷ corners) p = last_of-last c (corners ++ p ∷ []) ∙ go c corners
+  where
+    go : (c : Point) (corners : List Point) → last c (corners ++ p ∷ []) ≡ p
+    go c [] = refl
+    go c (d ∷ corners) = go d corners
+
+without_last : (corners : List Point) (p : Point) → take (length (corners ++ p ∷ []) - 1) (corners ++ p ∷ []) ≡ corners
+without_last corners p = ap (λ n. take n (corners ++ p ∷ [])) (count corners) ∙ take-append_seam corners (p ∷ [])
+  where
+    count : (corners : List Point) → length (corners ++ p ∷ []) - 1 ≡ length corners
+    count corners = rw length-append (omega arith)
+
+passes : (a b c d : Bool) (e f g h : ShapeFault) (r : Result (List Point) ShapeFault) → a ≡ true → b ≡ false → c ≡ false → d ≡ true
+    → cond (not a) (Err e) (cond b (Err f) (cond c (Err g) (cond (not d) (Err h) r))) ≡ r
+passes a b c d e f g h r p q s t = rw (p, q, s, t) refl
+
+passes_ring : (a b c : Bool) (e f : ShapeFault) (r s : Result (List Point) ShapeFault) → a ≡ false → b ≡ false → c ≡ true → cond a (Err e) (cond b (Err f) (cond c r s)) ≡ r
+passes_ring a b c e f r s p q t = rw (p, q, t) refl
+
+-- corners in range, no two alike, that start with the least one, turn at each one and are each on or left of each side
+record IsCornerRing (p x y : Point) (more : List Point) : Type 0 where
+  in_range : All IsInRange (p ∷ x ∷ y ∷ more)
+  at_most : length (p ∷ x ∷ y ∷ more) ≤ 16
+  differ : Differ (p ∷ x ∷ y ∷ more)
+  precedes : All (λ q. Precedes p q) (p ∷ x ∷ y ∷ more)
+  left : AreOnOrLeft (sides_to p (p ∷ x ∷ y ∷ more)) (p ∷ x ∷ y ∷ more)
+  turns : TurnsAtEach (last p (x ∷ y ∷ more)) p (p ∷ x ∷ y ∷ more)
+
+starts_least : (p x y : Point) (more : List Point) → IsCornerRing p x y more → from_least (p ∷ x ∷ y ∷ more) ≡ p ∷ x ∷ y ∷ more
+starts_least p x y more h =
+    ap (λ n. drop n (p ∷ x ∷ y ∷ more) ++ take n (p ∷ x ∷ y ∷ more))
+      (position_or_len_is (is_least (p ∷ x ∷ y ∷ more)) (p ∷ x ∷ y ∷ more) 0 origin (omega arith) (λ k low. absurd (omega (arith, low)))
+        (λ _. (decides_least (p ∷ x ∷ y ∷ more) p).1 h.precedes))
+    ∙ append-nil (p ∷ x ∷ y ∷ more)
+
+turns_everywhere : (p x y : Point) (more : List Point) → IsCornerRing p x y more → turning_points (p ∷ x ∷ y ∷ more) ≡ p ∷ x ∷ y ∷ more
+turns_everywhere p x y more h =
+    ap (λ before. turning before p (p ∷ x ∷ y ∷ more)) (last_of-last p (x ∷ y ∷ more)) ∙ turning_all (last p (x ∷ y ∷ more)) p (p ∷ x ∷ y ∷ more) h.turns
+
+same_corners : (p x y : Point) (more : List Point) → IsCornerRing p x y more → corners_of (p ∷ x ∷ y ∷ more) ≡ Ok (p ∷ x ∷ y ∷ more)
+same_corners p x y more h =
+    ap (λ ring. corners_found (turning_points ring)) (starts_least p x y more h) ∙ ap corners_found (turns_everywhere p x y more h)
+      ∙ few (nat_lt 16 (length (p ∷ x ∷ y ∷ more))) (le-ltb 16 (length (p ∷ x ∷ y ∷ more)) h.at_most)
+  where
+    corners_found : List Point → Result (List Point) ShapeFault
+    corners_found corners = cond (nat_lt 16 (length corners)) (Err TooManyCorners) (Ok corners)
+    few : (v : Bool) → v ≡ false → cond v (Err TooManyCorners) (Ok (p ∷ x ∷ y ∷ more)) ≡ Ok (p ∷ x ∷ y ∷ more)
+    few v e = rw e refl
+
+not_flat : (p x y : Point) (more : List Point) → IsCornerRing p x y more → is_flat (p ∷ x ∷ y ∷ more) ≡ false
+not_flat p x y more h =
+    and_left _ _ (list_all_at (is_on_line (p, x)) (p ∷ x ∷ y ∷ more) 2 origin (omega arith) (false_from_ne_true _ (λ e. h.turns.1.0 ((decides_line (p, x) y).0 e))))
+
+corner_ring_canonical : (p x y : Point) (more : List Point) → IsCornerRing p x y more → IsCanonical (p ∷ x ∷ y ∷ more)
+corner_ring_canonical p x y more h = record {
+  in_range = h.in_range;
+  not_empty = omega arith;
+  at_most = h.at_most;
+  listed =
+    passes (list_all is_in_range ((p ∷ x ∷ y ∷ more) ++ p ∷ [])) (nat_lt 64 (length ((p ∷ x ∷ y ∷ more) ++ p ∷ []))) (nat_lt (length ((p ∷ x ∷ y ∷ more) ++ p ∷ [])) 4)
+      (is_same p (last_of ((p ∷ x ∷ y ∷ more) ++ p ∷ []))) _ _ _ _ _
+      ((decides_all is_in_range IsInRange decides_in_range ((p ∷ x ∷ y ∷ more) ++ p ∷ [])).1
+        (All-append IsInRange (p ∷ x ∷ y ∷ more) (p ∷ []) h.in_range (All-cons IsInRange p [] (All-head IsInRange p (x ∷ y ∷ more) h.in_range) (All-nil IsInRange))))
+      (le-ltb 64 _ (rw length-append (omega (arith, h.at_most))))
+      (le-ltb _ 4 (rw length-append (omega arith)))
+      ((decides_same p (last_of ((p ∷ x ∷ y ∷ more) ++ p ∷ []))).1 (sym (last_of-push (p ∷ x ∷ y ∷ more) p)))
+    ∙ ap ring_of (without_last (p ∷ x ∷ y ∷ more) p)
+    ∙ passes_ring _ _ _ _ _ _ _ (repeats_not (p ∷ x ∷ y ∷ more) h.differ) (not_flat p x y more h) ((decides_goes_left (p ∷ x ∷ y ∷ more)).1 h.left)
+    ∙ same_corners p x y more h;
+}
+
+-- ---- the corners of a ring that starts with its least point
+
+record HasCorners (p b : Point) (rest : List Point) (more : List Point) : Type 0 where
+  dropped : turning_points (p ∷ b ∷ rest) ≡ p ∷ more
+  are : AreCorners (p ∷ b ∷ rest) p b (last p (b ∷ rest)) p more
+  more_is : more ≡ turning p p (b ∷ rest)
+  turns_first : turn (last p (b ∷ rest)) p b ≡ pos 0 → ⊥
+  left_first : pos 0 <ℤ turn p b (last p (b ∷ rest))
+
+has_corners : (p b : Point) (rest : List Point) → IsConvexRing (p ∷ b ∷ rest) → All (λ q. Precedes p q) (p ∷ b ∷ rest) → HasCorners p b rest (turning p p (b ∷ rest))
+has_corners p b rest h precedes = record {
+  dropped = ap (λ before. turning before p (p ∷ b ∷ rest)) (last_of-last p (b ∷ rest)) ∙ first_kept (is_on_line (a, p) b) (false_from_ne_true _ (λ e. apart ((decides_line (a, p) b).0 e)));
+  are = corners_after ring p p p a (b ∷ rest) (at_once ring p b a left_of_first (last_among (Contains ring) p (b ∷ rest) (All-contains_itself ring)))
+    (steps_from_p h.differ) h.left (λ P all. all) (λ P all. All-head P p (b ∷ rest) all);
+  more_is = refl;
+  turns_first = apart;
+  left_first = left_of_first;
+}
+  where
+    ring : List Point
+    ring = p ∷ b ∷ rest
+    a : Point
+    a = last b rest
+    from_last : All (λ r. pos 0 ≤ℤ turn a p r) (p ∷ b ∷ rest)
+    from_last = last_side (λ side. All (λ r. pos 0 ≤ℤ turn side.0 side.1 r) (p ∷ b ∷ rest)) p p (b ∷ rest) h.left
+    to_next : All (λ r. pos 0 ≤ℤ turn p b r) (p ∷ b ∷ rest)
+    to_next = All-head (λ side. All (λ r. pos 0 ≤ℤ turn side.0 side.1 r) (p ∷ b ∷ rest)) (p, b) (sides_to p (b ∷ rest)) h.left
+    apart : turn a p b ≡ pos 0 → ⊥
+    apart = turns_at_least (p ∷ b ∷ rest) a p b (last_among (λ q. Precedes p q) p (b ∷ rest) precedes) (last_among (λ q. p ≡ q → ⊥) b rest h.differ.0)
+        (All-head (λ q. Precedes p q) b rest (All-tail (λ q. Precedes p q) p (b ∷ rest) precedes)) (All-head (λ q. p ≡ q → ⊥) b rest h.differ.0) from_last to_next h.not_flat
+    left_of_first : pos 0 <ℤ turn p b a
+    left_of_first = left_of_way a p b (All-head (λ r. pos 0 ≤ℤ turn a p r) b rest (All-tail (λ r. pos 0 ≤ℤ turn a p r) p (b ∷ rest) from_last)) apart
+    steps_from_p : Differ (p ∷ b ∷ rest) → StepsDiffer p p (b ∷ rest)
+    steps_from_p d = (All-head (λ q. p ≡ q → ⊥) b rest d.0, steps_differ p b rest d.1 d.0)
+    first_kept : (v : Bool) → v ≡ false → cond v (turning p p (b ∷ rest)) (p ∷ turning p p (b ∷ rest)) ≡ p ∷ turning p p (b ∷ rest)
+    first_kept v e = rw e refl
+
+-- there are three corners at least, and they are a ring of corners
+three_corners : (p b : Point) (rest more : List Point) → IsConvexRing (p ∷ b ∷ rest) → All (λ q. Precedes p q) (p ∷ b ∷ rest) → HasCorners p b rest more
+    → length (p ∷ more) ≤ 16 → IsCanonical (p ∷ more)
+three_corners p b rest [] h precedes found small = absurd (not_zero _ found.left_first (found.are.forward (last b rest) (turn_nowhere p (last b rest))))
+  where
+    not_zero : (z : ℤ) → pos 0 <ℤ z → z ≡ pos 0 → ⊥
+    not_zero z h e = omega (arith, ints)
+three_corners p b rest (x ∷ []) h precedes found small = absurd (found.are.turns.0 (turn_back p x))
+three_corners p b rest (x ∷ y ∷ more) h precedes found small = corner_ring_canonical p x y more (record {
+  in_range = among IsInRange h.in_range;
+  at_most = small;
+  differ = (subst (λ l. All (λ q. p ≡ q → ⊥) l) (sym found.more_is) (dropped-All (λ q. p ≡ q → ⊥) p p (b ∷ rest) h.differ.0),
+    subst Differ (sym found.more_is) (dropped-Differ p p (b ∷ rest) h.differ.1));
+  precedes = among (λ q. Precedes p q) precedes;
+  left = All-weaker (λ side. All (λ r. pos 0 ≤ℤ turn side.0 side.1 r) (p ∷ b ∷ rest)) (λ side. All (λ r. pos 0 ≤ℤ turn side.0 side.1 r) (p ∷ x ∷ y ∷ more))
+    (λ side all. among (λ r. pos 0 ≤ℤ turn side.0 side.1 r) all) (sides_to p (p ∷ x ∷ y ∷ more)) found.are.sides;
+  turns = (λ e. found.turns_first (found.are.closing b (at_last (last p (x ∷ y ∷ more)) e)), found.are.turns);
+})
+  where
+    among : (P : Point → Type 0) → All P (p ∷ b ∷ rest) → All P (p ∷ x ∷ y ∷ more)
+    among P all = All-cons P p (x ∷ y ∷ more) (All-head P p (b ∷ rest) all) (subst (λ l. All P l) (sym found.more_is) (dropped-All P p p (b ∷ rest) (All-tail P p (b ∷ rest) all)))
+    at_last : (c : Point) → turn c p x ≡ pos 0 → turn c p b ≡ pos 0
+    at_last c e = turn-cycle c p b ∙ found.are.forward c (sym (turn-cycle c p x) ∙ e)
+
+ring_canonical : (points : List Point) → IsConvexRing points → StartsLeast points → length (turning_points points) ≤ 16 → IsCanonical (turning_points points)
+ring_canonical [] h starts small = absurd (omega (arith, h.at_least))
+ring_canonical (p ∷ []) h starts small = absurd (omega (arith, h.at_least))
+ring_canonical (p ∷ b ∷ rest) h starts small =
+    let found = has_corners p b rest h (subst (λ q. All (λ r. Precedes q r) (p ∷ b ∷ rest)) (same_first starts.ring_is) starts.precedes) in
+    subst IsCanonical (sym found.dropped)
+      (three_corners p b rest (turning p p (b ∷ rest)) h (subst (λ q. All (λ r. Precedes q r) (p ∷ b ∷ rest)) (same_first starts.ring_is) starts.precedes) found
+        (subst (λ l. length l ≤ 16) found.dropped small))
+  where
+    same_first : {q : Point} {others : List Point} → p ∷ b ∷ rest ≡ q ∷ others → q ≡ p
+    same_first e = cc
+
+pub convex_canonical : (ring : List Point) → IsConvexRing ring → length (turning_points (from_least ring)) ≤ 16 → IsCanonical (turning_points (from_least ring))
+convex_canonical ring h small = ring_canonical (from_least ring) (from_least_convex ring h) (from_least-starts ring (omega (arith, h.at_least))) small
+
+-- the places that the code fills with the corners of a convex ring
+pub kept_corners : (ring items now : List Point) (m n : ℕ) (places : List Point) → IsConvexRing ring → items ≡ turning_points (from_least ring) → now ≡ items
+    → m ≡ length items → n ≡ length items → m ≤ 16 → places ≡ now ++ replicate (16 - length now) origin → IsKept n places
+kept_corners ring items now m n places h found same m_is n_is small filled =
+    kept_by (turning_points (from_least ring)) n places (n_is ∙ ap length found) few (filled ∙ ap (λ l. l ++ replicate (16 - length l) origin) (same ∙ found)) (convex_canonical ring h few)
+  where
+    few : length (turning_points (from_least ring)) ≤ 16
+    few = subst (λ k. k ≤ 16) (m_is ∙ ap length found) small
