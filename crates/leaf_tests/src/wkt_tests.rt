@@ -40,7 +40,10 @@ fn texts_read_and_printed(rt: HostRuntime) -> Result<(), Fail> {
             "polygon\t( ( 0 0 , 0 4 , 2 4 , 4 4 , 4 0 , 2 0 , 0 0 ) )\n",
             "POLYGON ((0 0, 4 0, 4 4, 0 4, 0 0))",
         ),
-        ("POLYGON((0 0,2 0,1 2,0 0))", "POLYGON ((0 0, 2 0, 1 2, 0 0))"),
+        (
+            "POLYGON((0 0,2 0,1 2,0 0))",
+            "POLYGON ((0 0, 2 0, 1 2, 0 0))",
+        ),
     ] {
         check_printed(&rt, text, printed);
         check_printed(&rt, printed, printed);
@@ -113,7 +116,10 @@ fn faults_and_their_places(rt: HostRuntime) -> Result<(), Fail> {
         ("POLYGON ((0 0, 1 0, 0 1.5", WktFault::Number(22)),
         ("POLYGON ((0 0, 1 0, 0 1,))", WktFault::Syntax(24)),
         ("POLYGON ((0 0, 4 0, 0 4, 0 0)", WktFault::Syntax(29)),
-        ("POLYGON ((0 0, 4 0, 0 4, 0 0), (1 1, 2 1, 1 2, 1 1))", WktFault::LeftOut(29)),
+        (
+            "POLYGON ((0 0, 4 0, 0 4, 0 0), (1 1, 2 1, 1 2, 1 1))",
+            WktFault::LeftOut(29),
+        ),
         ("POLYGON ((0 0, 4 0, 0 4, 0 0)(", WktFault::Syntax(29)),
         ("POLYGON ((0 0, 4 0, 0 4, 0 0)))", WktFault::Syntax(30)),
         ("POLYGON ((0 0), x", WktFault::LeftOut(14)),
@@ -161,10 +167,22 @@ fn refused_rings(rt: HostRuntime) -> Result<(), Fail> {
         ("LINESTRING (1 1, 1 1.0)", ShapeFault::SameEnds, "P2"),
         ("POLYGON ((0 0, 4 0, 0 0))", ShapeFault::TooFew, "P4"),
         ("POLYGON ((0 0))", ShapeFault::TooFew, "P4"),
-        ("POLYGON ((0 0, 4 0, 0 4, 1 1))", ShapeFault::NotClosed, "P5"),
-        ("POLYGON ((0 0, 4 0, 4 0, 4 4, 0 0))", ShapeFault::Repeated, "P6"),
+        (
+            "POLYGON ((0 0, 4 0, 0 4, 1 1))",
+            ShapeFault::NotClosed,
+            "P5",
+        ),
+        (
+            "POLYGON ((0 0, 4 0, 4 0, 4 4, 0 0))",
+            ShapeFault::Repeated,
+            "P6",
+        ),
         ("POLYGON ((0 0, 1 1, 2 2, 0 0))", ShapeFault::Flat, "P7"),
-        ("POLYGON ((0 0, 4 0, 1 1, 0 4, 0 0))", ShapeFault::NotConvex, "P8"),
+        (
+            "POLYGON ((0 0, 4 0, 1 1, 0 4, 0 0))",
+            ShapeFault::NotConvex,
+            "P8",
+        ),
         // Every turn of the pentagram is to the left.
         (
             "POLYGON ((0 0, 6 4, -2 4, 4 0, 2 7, 0 0))",
@@ -201,7 +219,8 @@ fn canonical_square(rt: HostRuntime) -> Result<(), Fail> {
 
 #[test]
 fn sixteen_corners(rt: HostRuntime) -> Result<(), Fail> {
-    let text = "POLYGON ((-9999999 -9999998, -9999998 -9999999, -9999996 -10000000, -9999993 -10000000, -9999989 -9999999, -9999985 -9999997, -9999982 -9999994, -9999980 -9999990, -9999980 -9999987, -9999981 -9999984, -9999983 -9999981, -9999986 -9999979, -9999989 -9999978, -9999993 -9999980, -9999996 -9999984, -9999998 -9999989, -9999999 -9999998))";
+    let text =
+        "POLYGON ((-9999999 -9999998, -9999998 -9999999, -9999996 -10000000, -9999993 -10000000, -9999989 -9999999, -9999985 -9999997, -9999982 -9999994, -9999980 -9999990, -9999980 -9999987, -9999981 -9999984, -9999983 -9999981, -9999986 -9999979, -9999989 -9999978, -9999993 -9999980, -9999996 -9999984, -9999998 -9999989, -9999999 -9999998))";
     check_printed(&rt, text, text);
     let read = read_shape(text.as_bytes());
     assert!(rt; read.is_ok());

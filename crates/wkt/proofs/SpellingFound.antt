@@ -267,8 +267,7 @@ point_found end all keyword ts corners front kind h =
     let after = bind_ok (mark_at CLOSING end p.0.1) _ corners p.2 in
     let u = bind_ok (end_at after.0) _ corners after.2 in
     let pair = pair_found end inside.0 p.0 p.1 in
-    let whole = point_words all ts inside.0 p.0.1 after.0 keyword pair.0 pair.1 front (opening_found end ts inside.0 inside.1) pair.2 (mark_found CLOSING end p.0.1 after.0 after.1) (end_found after.0 u.0 u.1) in
-    (
+    let whole = point_words all ts inside.0 p.0.1 after.0 keyword pair.0 pair.1 front (opening_found end ts inside.0 inside.1) pair.2 (mark_found CLOSING end p.0.1 after.0 after.1) (end_found after.0 u.0 u.1) in (
       one_point p.0.0,
       record { keyword = keyword; x = pair.0; y = pair.1; whole = whole; is_keyword = kind; pair = pair.3 },
       made_ok (point_of p.0.0) corners u.2,
@@ -290,8 +289,7 @@ line_string_found end all keyword ts corners front kind h =
     let one = pair_found end inside.0 p.0 p.1 in
     let two = pair_found end next.0 q.0 q.1 in
     let whole = line_string_words all ts inside.0 p.0.1 next.0 q.0.1 after.0 keyword one.0 one.1 two.0 two.1 front (opening_found end ts inside.0 inside.1) one.2 (mark_found COMMA end p.0.1 next.0 next.1) two.2
-        (closing_found end q.0.1 after.0 after.1) (end_found after.0 u.0 u.1) in
-    (
+    (closing_found end q.0.1 after.0 after.1) (end_found after.0 u.0 u.1) in (
       two_points p.0.0 q.0.0,
       record { keyword = keyword; x = one.0; y = one.1; u = two.0; v = two.1; whole = whole; is_keyword = kind; first = one.3; second = two.3 },
       made_ok (segment_of p.0.0 q.0.0) corners u.2,
@@ -312,8 +310,7 @@ polygon_found end all keyword ts corners front kind h =
     let u = bind_ok (end_at after.0) _ corners after.2 in
     let pairs = ring_found end first.0 listed.0 listed.1 in
     let whole = ring_words all ts inside.0 first.0 listed.0.1 after.0 keyword pairs.0 front (opening_found end ts inside.0 inside.1) (mark_found OPENING end inside.0 first.0 first.1) pairs.1
-        (closing_found end listed.0.1 after.0 after.1) (end_found after.0 u.0 u.1) in
-    (
+    (closing_found end listed.0.1 after.0 after.1) (end_found after.0 u.0 u.1) in (
       ring listed.0.0,
       record { keyword = keyword; pairs = pairs.0; whole = whole; is_keyword = kind; are_pairs = pairs.2 },
       made_ok (polygon_of listed.0.0) corners u.2,
