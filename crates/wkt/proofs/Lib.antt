@@ -1,3 +1,10 @@
 pub mod TokensLemmas
 pub mod NumbersLemmas
 pub mod PrintingLemmas
+pub mod RingLemmas
+pub mod KeptLemmas
+pub mod PrintedNumbers
+pub mod PrintedShapes
+pub mod NumberGrammar
+pub mod SpellingFound
+pub mod SpellingOnly

@@ -7,7 +7,7 @@ use Rattle.wkt.specs.Tokens.{token_len, Token, tokens, tokens_from, is_space, is
 pub prefix_fits : (p : ℕ → Bool) (xs : List ℕ) → prefix_len p xs ≤ length xs
 prefix_fits p xs = prefix_len-le-length p xs
 
-tokens-space : (at b : ℕ) (bs : List ℕ) → is_space b ≡ true → tokens at (b ∷ bs) ≡ tokens (at + 1) bs
+pub tokens-space : (at b : ℕ) (bs : List ℕ) → is_space b ≡ true → tokens at (b ∷ bs) ≡ tokens (at + 1) bs
 unfolding tokens_from
 tokens-space at b bs e = rw e refl
 

@@ -2,4 +2,6 @@ pub mod Faults
 pub mod Tokens
 pub mod Numbers
 pub mod Reading
+pub mod Kept
+pub mod Spelling
 pub mod Printing

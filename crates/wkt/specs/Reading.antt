@@ -1,12 +1,14 @@
 -- The shape that a text spells, or the first fault from the left. `end` is the text's length.
-use Rattle.std.specs.Prelude.{◌≡◌, ℕ, ℤ, Bool, false, map, List, [], ◌∷◌, codes, length, Result, Ok, Err, ◌||◌, if◌then◌else◌}
+use Rattle.std.specs.Prelude.{◌≡◌, ℕ, ℤ, Bool, true, false, map, List, [], ◌∷◌, codes, length, Result, Ok, Err, ◌||◌, if◌then◌else◌}
 use Rattle.std.specs.Char.{to_ascii_lowercase}
 use Rattle.std.specs.Str.{bytes_eq}
 use Rattle.plane.specs.declared.point.Point.{Point}
 use Rattle.plane.specs.declared.fault.ShapeFault.{ShapeFault}
-use Rattle.plane.specs.Canonical.{point_of}
+use Rattle.plane.specs.Canonical.{point_of, segment_of, polygon_of}
 use Rattle.wkt.specs.declared.fault.WktFault.{WktFault}
 use Rattle.wkt.specs.declared.fault.WktFault.TheVariants.{UnknownWord, LeftOut, Syntax, Bad}
+use Rattle.wkt.specs.declared.keyword.Kind.{Kind}
+use Rattle.wkt.specs.declared.keyword.Kind.TheVariants as kinds
 use Rattle.wkt.specs.Tokens.{Token, tokens, is_mark, OPENING, CLOSING, COMMA}
 use Rattle.wkt.specs.Numbers.{coordinate_of}
 
@@ -20,6 +22,10 @@ abbrev pub Gives : {X Y : Type 0} → (X → Y) → Result X WktFault → Result
 Gives view (Ok x) reading = reading ≡ Ok (view x)
 Gives view (Err e) reading = reading ≡ Err e
 
+-- what a token gives, and the tokens behind it
+abbrev pub with_rest : {A : Type 0} → Result A WktFault → List Token → Result (A × List Token) WktFault
+with_rest reading ts = reading >>= λ x. Ok (x, ts)
+
 -- the same word, in any letter case of ASCII
 abbrev pub is_word : List ℕ → List ℕ → Bool
 is_word word bytes = bytes_eq (map to_ascii_lowercase bytes) (map to_ascii_lowercase word)
@@ -31,24 +37,30 @@ begins_with_mark (b ∷ bs) = is_mark b
 abbrev pub is_the_mark : ℕ → List ℕ → Bool
 is_the_mark mark bytes = bytes_eq bytes (mark ∷ [])
 
--- the kinds of geometry that are left out, by their first words; line strings and polygons are not read yet
+-- the kinds of geometry that are left out, by their first words
 abbrev pub is_left_out_kind : List ℕ → Bool
 is_left_out_kind word =
-    is_word (codes "LINESTRING") word || is_word (codes "POLYGON") word
-    || is_word (codes "MULTIPOINT") word || is_word (codes "MULTILINESTRING") word || is_word (codes "MULTIPOLYGON") word || is_word (codes "GEOMETRYCOLLECTION") word
+    is_word (codes "MULTIPOINT") word || is_word (codes "MULTILINESTRING") word || is_word (codes "MULTIPOLYGON") word || is_word (codes "GEOMETRYCOLLECTION") word
 
 -- what may stand after a keyword in the standard, and is left out
 abbrev pub is_left_out_form : List ℕ → Bool
 is_left_out_form word = is_word (codes "EMPTY") word || is_word (codes "Z") word || is_word (codes "M") word || is_word (codes "ZM") word
 
+-- what a first word announces, at its place
+unfoldable pub kind_of : Token → Result Kind WktFault
+kind_of t =
+    if is_word (codes "POINT") t.1 then Ok kinds.Point
+    else if is_word (codes "LINESTRING") t.1 then Ok kinds.LineString
+    else if is_word (codes "POLYGON") t.1 then Ok kinds.Polygon
+    else if is_left_out_kind t.1 then Err (LeftOut t.0)
+    else Err (UnknownWord t.0)
+
 -- the keyword
-unfoldable pub keyword_at : ℕ → List Token → Result (List Token) WktFault
+unfoldable pub keyword_at : ℕ → List Token → Result (Kind × List Token) WktFault
 keyword_at end [] = Err (Syntax end)
 keyword_at end (t ∷ ts) =
     if begins_with_mark t.1 then Err (Syntax t.0)
-    else if is_word (codes "POINT") t.1 then Ok ts
-    else if is_left_out_kind t.1 then Err (LeftOut t.0)
-    else Err (UnknownWord t.0)
+    else with_rest (kind_of t) ts
 
 -- the opening bracket after a keyword
 unfoldable pub opening_at : ℕ → List Token → Result (List Token) WktFault
@@ -76,17 +88,55 @@ abbrev pub end_at : List Token → Result (Unit {0}) WktFault
 end_at [] = Ok tt
 end_at (t ∷ ts) = Err (Syntax t.0)
 
+-- the coordinate that a token is
+unfoldable pub number_of_token : Token → Result ℤ WktFault
+number_of_token t = if begins_with_mark t.1 then Err (Syntax t.0) else coordinate_of t.0 t.1
+
 unfoldable pub number_at : ℕ → List Token → Result (ℤ × List Token) WktFault
 number_at end [] = Err (Syntax end)
-number_at end (t ∷ ts) =
-    if begins_with_mark t.1 then Err (Syntax t.0)
-    else (coordinate_of t.0 t.1 >>= λ n. Ok (n, ts))
+number_at end (t ∷ ts) = with_rest (number_of_token t) ts
+
+-- the point of an x, and of a y with the tokens behind it
+abbrev pub pair_of : ℤ → ℤ × List Token → Result (Point × List Token) WktFault
+pair_of x y = Ok (record { x = x; y = y.0 }, y.1)
 
 unfoldable pub pair_at : ℕ → List Token → Result (Point × List Token) WktFault
 pair_at end ts = do
   x ← number_at end ts
   y ← number_at end x.1
-  Ok (record { x = x.0; y = y.0 }, y.1)
+  pair_of x.0 y
+
+-- behind a pair of a ring: whether a comma stands there, and not the bracket that closes the ring
+unfoldable pub is_more : Token → Result Bool WktFault
+is_more t =
+    if is_the_mark COMMA t.1 then Ok true
+    else if is_the_mark CLOSING t.1 then Ok false
+    else Err (Syntax t.0)
+
+unfoldable pub more_at : ℕ → List Token → Result (Bool × List Token) WktFault
+more_at end [] = Err (Syntax end)
+more_at end (t ∷ ts) = with_rest (is_more t) ts
+
+-- what is due in a ring: a pair, the second number of one, or what follows it
+pub data Due : Type 0 where
+  pair : Due
+  second : ℤ → Due
+  mark : Due
+
+-- a point in front of those that are read
+abbrev pub with_front : Point → Result (List Point × List Token) WktFault → Result (List Point × List Token) WktFault
+with_front p reading = reading >>= λ ring. Ok (p ∷ ring.0, ring.1)
+
+-- the points that are still listed in a ring, and the tokens behind it
+unfoldable pub ring_from : Due → ℕ → List Token → Result (List Point × List Token) WktFault
+ring_from due end [] = Err (Syntax end)
+ring_from pair end (t ∷ ts) = number_of_token t >>= λ x. ring_from (second x) end ts
+ring_from (second x) end (t ∷ ts) = number_of_token t >>= λ y. with_front (record { x = x; y = y }) (ring_from mark end ts)
+ring_from mark end (t ∷ ts) = is_more t >>= λ more. if more then ring_from pair end ts else Ok ([], ts)
+
+-- the points of a ring from its first number on, and the tokens behind its closing bracket
+abbrev pub ring_at : ℕ → List Token → Result (List Point × List Token) WktFault
+ring_at end ts = ring_from pair end ts
 
 -- a whole text: its shape, or why its points make none
 abbrev pub made : Result (List Point) ShapeFault → Result (List Point) WktFault
@@ -102,6 +152,35 @@ point_at end ts = do
   _ ← end_at after
   made (point_of p.0)
 
+-- `( pair , pair )`
+unfoldable pub line_string_at : ℕ → List Token → Result (List Point) WktFault
+line_string_at end ts = do
+  inside ← opening_at end ts
+  p ← pair_at end inside
+  next ← mark_at COMMA end p.1
+  q ← pair_at end next
+  after ← closing_at end q.1
+  _ ← end_at after
+  made (segment_of p.0 q.0)
+
+-- `( ( pair , pair .. ) )`
+unfoldable pub polygon_at : ℕ → List Token → Result (List Point) WktFault
+polygon_at end ts = do
+  inside ← opening_at end ts
+  first ← mark_at OPENING end inside
+  ring ← ring_at end first
+  after ← closing_at end ring.1
+  _ ← end_at after
+  made (polygon_of ring.0)
+
+-- what follows the keyword
+abbrev pub body_at : Kind → ℕ → List Token → Result (List Point) WktFault
+body_at kinds.Point end ts = point_at end ts
+body_at kinds.LineString end ts = line_string_at end ts
+body_at kinds.Polygon end ts = polygon_at end ts
+
 -- the shape that a text spells, as its corners; else the first fault from the left, with its place
 unfoldable pub shape_of : List ℕ → Result (List Point) WktFault
-shape_of text = keyword_at (length text) (tokens 0 text) >>= point_at (length text)
+shape_of text = do
+  keyword ← keyword_at (length text) (tokens 0 text)
+  body_at keyword.0 (length text) keyword.1

@@ -1,38 +1,17 @@
+//! The parts of a text: each reader takes what stands at the front of the bytes from `at` on, and hands back the rest.
+
 ghost use Rattle.std.specs.Prelude.{◌≡◌, ◌+◌, ◌<◌, ◌^◌, Ok, IfOk, length};
 ghost use Rattle.wkt.specs.Tokens.{tokens};
-ghost use Rattle.wkt.specs.Reading.{Gives, is_word as word_test, is_left_out_kind as left_out_kind_test, is_left_out_form as left_out_form_test, begins_with_mark as mark_first, is_the_mark as mark_test, keyword_at, opening_at, mark_at, closing_at, end_at, number_at, pair_at};
+ghost use Rattle.wkt.specs.Reading.{Gives, begins_with_mark as mark_first, is_the_mark as mark_test, number_of_token as token_number, keyword_at, opening_at, mark_at, closing_at, end_at, number_at, pair_at, more_at};
 
 use crate::fault::WktFault;
+use crate::keyword::{Kind, is_left_out_form, kind_of};
 use crate::number::coordinate;
 use crate::tokens::{first_token, is_mark};
 use plane::Point;
 
 /// What is left of a text: its place, and its bytes.
 pub(crate) type Rest<'a> = (usize, &'a [u8]);
-
-/// Whether this is the word, in any letter case.
-fn is_word(word: &[u8], bytes: &[u8]) -> bool
-    ensures { result ≡ word_test word.now bytes.now }
-{
-    bytes.eq_ignore_ascii_case(word)
-}
-
-fn is_left_out_kind(word: &[u8]) -> bool
-    ensures { result ≡ left_out_kind_test word.now }
-{
-    is_word(b"LINESTRING", word)
-        || is_word(b"POLYGON", word)
-        || is_word(b"MULTIPOINT", word)
-        || is_word(b"MULTILINESTRING", word)
-        || is_word(b"MULTIPOLYGON", word)
-        || is_word(b"GEOMETRYCOLLECTION", word)
-}
-
-fn is_left_out_form(word: &[u8]) -> bool
-    ensures { result ≡ left_out_form_test word.now }
-{
-    is_word(b"EMPTY", word) || is_word(b"Z", word) || is_word(b"M", word) || is_word(b"ZM", word)
-}
 
 fn is_the_mark(mark: u8, bytes: &[u8]) -> bool
     ensures { result ≡ mark_test mark bytes.now }
@@ -54,10 +33,10 @@ fn begins_with_mark(bytes: &[u8]) -> bool
 
 /// The keyword.
 #[tactic(auto, unfolding(crate::specs::Reading::keyword_at))]
-pub(crate) fn keyword(at: usize, bytes: &[u8]) -> Result<Rest<'_>, WktFault>
+pub(crate) fn keyword(at: usize, bytes: &[u8]) -> Result<(Kind, Rest<'_>), WktFault>
     requires { at + length bytes.now < 2 ^ 64 }
-    ensures gives { Gives (λ r. tokens r.0 r.1.now) result (keyword_at (at + length bytes.now) (tokens at bytes.now)) }
-    ensures rest { IfOk result (λ r. r.0 + length r.1.now ≡ at + length bytes.now) }
+    ensures gives { Gives (λ r. (r.0, tokens r.1.0 r.1.1.now)) result (keyword_at (at + length bytes.now) (tokens at bytes.now)) }
+    ensures rest { IfOk result (λ r. r.1.0 + length r.1.1.now ≡ at + length bytes.now) }
 {
     let Some(token) = first_token(at, bytes) else {
         return Err(WktFault::Syntax(at + bytes.len()));
@@ -65,14 +44,8 @@ pub(crate) fn keyword(at: usize, bytes: &[u8]) -> Result<Rest<'_>, WktFault>
     if begins_with_mark(token.bytes) {
         return Err(WktFault::Syntax(token.at));
     }
-    if is_word(b"POINT", token.bytes) {
-        return Ok((token.at + token.bytes.len(), token.rest));
-    }
-    Err(if is_left_out_kind(token.bytes) {
-        WktFault::LeftOut(token.at)
-    } else {
-        WktFault::UnknownWord(token.at)
-    })
+    let kind = kind_of(token.at, token.bytes)?;
+    Ok((kind, (token.at + token.bytes.len(), token.rest)))
 }
 
 /// The opening bracket after a keyword.
@@ -111,6 +84,26 @@ pub(crate) fn mark(mark: u8, at: usize, bytes: &[u8]) -> Result<Rest<'_>, WktFau
     Ok((token.at + token.bytes.len(), token.rest))
 }
 
+/// The bracket that closes a list of fixed length.
+#[tactic(auto, unfolding(crate::specs::Reading::closing_at))]
+pub(crate) fn closing(at: usize, bytes: &[u8]) -> Result<Rest<'_>, WktFault>
+    requires { at + length bytes.now < 2 ^ 64 }
+    ensures gives { Gives (λ r. tokens r.0 r.1.now) result (closing_at (at + length bytes.now) (tokens at bytes.now)) }
+    ensures rest { IfOk result (λ r. r.0 + length r.1.now ≡ at + length bytes.now) }
+{
+    let Some(token) = first_token(at, bytes) else {
+        return Err(WktFault::Syntax(at + bytes.len()));
+    };
+    if is_the_mark(b')', token.bytes) {
+        return Ok((token.at + token.bytes.len(), token.rest));
+    }
+    Err(if is_the_mark(b',', token.bytes) {
+        WktFault::LeftOut(token.at)
+    } else {
+        WktFault::Syntax(token.at)
+    })
+}
+
 /// The end of the text.
 pub(crate) fn end(at: usize, bytes: &[u8]) -> Result<(), WktFault>
     requires { at + length bytes.now < 2 ^ 64 }
@@ -122,20 +115,29 @@ pub(crate) fn end(at: usize, bytes: &[u8]) -> Result<(), WktFault>
     }
 }
 
+/// The coordinate that a token is.
+#[tactic(auto, unfolding(crate::specs::Reading::number_of_token))]
+fn number_of_token(at: usize, bytes: &[u8]) -> Result<i32, WktFault>
+    ensures { result ≡ token_number (at, bytes.now) }
+{
+    if begins_with_mark(bytes) {
+        return Err(WktFault::Syntax(at));
+    }
+    coordinate(at, bytes)
+}
+
 /// A coordinate.
 #[tactic(auto, unfolding(crate::specs::Reading::number_at))]
-pub(crate) fn number(at: usize, bytes: &[u8]) -> Result<(i32, Rest<'_>), WktFault>
+fn number(at: usize, bytes: &[u8]) -> Result<(i32, Rest<'_>), WktFault>
     requires { at + length bytes.now < 2 ^ 64 }
     ensures gives { Gives (λ r. (r.0, tokens r.1.0 r.1.1.now)) result (number_at (at + length bytes.now) (tokens at bytes.now)) }
     ensures rest { IfOk result (λ r. r.1.0 + length r.1.1.now ≡ at + length bytes.now) }
+    ensures shorter { IfOk result (λ r. length r.1.1.now < length bytes.now) }
 {
     let Some(token) = first_token(at, bytes) else {
         return Err(WktFault::Syntax(at + bytes.len()));
     };
-    if begins_with_mark(token.bytes) {
-        return Err(WktFault::Syntax(token.at));
-    }
-    let n = coordinate(token.at, token.bytes)?;
+    let n = number_of_token(token.at, token.bytes)?;
     Ok((n, (token.at + token.bytes.len(), token.rest)))
 }
 
@@ -145,8 +147,29 @@ pub(crate) fn pair(at: usize, bytes: &[u8]) -> Result<(Point, Rest<'_>), WktFaul
     requires { at + length bytes.now < 2 ^ 64 }
     ensures gives { Gives (λ r. (r.0, tokens r.1.0 r.1.1.now)) result (pair_at (at + length bytes.now) (tokens at bytes.now)) }
     ensures rest { IfOk result (λ r. r.1.0 + length r.1.1.now ≡ at + length bytes.now) }
+    ensures shorter { IfOk result (λ r. length r.1.1.now < length bytes.now) }
 {
     let (x, (at, bytes)) = number(at, bytes)?;
     let (y, rest) = number(at, bytes)?;
     Ok((Point { x, y }, rest))
+}
+
+/// Whether a comma follows a pair of a ring, and not the bracket that closes it.
+#[tactic(auto, unfolding(crate::specs::Reading::more_at, crate::specs::Reading::is_more))]
+pub(crate) fn more(at: usize, bytes: &[u8]) -> Result<(bool, Rest<'_>), WktFault>
+    requires { at + length bytes.now < 2 ^ 64 }
+    ensures gives { Gives (λ r. (r.0, tokens r.1.0 r.1.1.now)) result (more_at (at + length bytes.now) (tokens at bytes.now)) }
+    ensures rest { IfOk result (λ r. r.1.0 + length r.1.1.now ≡ at + length bytes.now) }
+    ensures shorter { IfOk result (λ r. length r.1.1.now < length bytes.now) }
+{
+    let Some(token) = first_token(at, bytes) else {
+        return Err(WktFault::Syntax(at + bytes.len()));
+    };
+    if is_the_mark(b',', token.bytes) {
+        return Ok((true, (token.at + token.bytes.len(), token.rest)));
+    }
+    if is_the_mark(b')', token.bytes) {
+        return Ok((false, (token.at + token.bytes.len(), token.rest)));
+    }
+    Err(WktFault::Syntax(token.at))
 }

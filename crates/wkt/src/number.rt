@@ -1,3 +1,5 @@
+//! Numbers: a sign or none, digits, and a fraction of zeros or none.
+
 ghost use Rattle.std.specs.Prelude.{◌≡◌, ◌≤◌, ◌==◌, true, min, length, option_map};
 ghost use Rattle.std.specs.Char.{is_ascii_digit as digit_test};
 ghost use Rattle.std.specs.List.{list_all, prefix_len};
@@ -9,7 +11,7 @@ use crate::fault::WktFault;
 use plane::LIMIT;
 
 /// Above every coordinate: what a larger number is taken for.
-const TOO_LARGE: u32 = 10_000_001;
+const TOO_LARGE: u32 = LIMIT as u32 + 1;
 
 /// Whether a minus stands before the number, and what follows its sign.
 fn unsigned_part(word: &[u8]) -> (bool, &[u8])

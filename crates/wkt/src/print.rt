@@ -81,11 +81,11 @@ fn push_corners(text: &mut Text, corners: &[Point])
             push_following(text, *q);
             text.push_str(")");
         }
-        [p, rest @ ..] => {
+        [first, rest @ ..] => {
             text.push_str("POLYGON ((");
-            push_pair(text, *p);
+            push_pair(text, *first);
             push_all_following(text, rest);
-            push_following(text, *p);
+            push_following(text, *first);
             text.push_str("))");
         }
     }

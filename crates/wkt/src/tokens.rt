@@ -1,3 +1,5 @@
+//! Tokens: brackets and commas by themselves, and the words between them and the spaces.
+
 ghost use Rattle.std.specs.Prelude.{◌≡◌, ◌+◌, ◌<◌, ◌≤◌, ◌^◌, [], ◌∷◌, IfNone, IfSome, length};
 ghost use Rattle.std.specs.List.{prefix_len};
 ghost use Rattle.wkt.specs.Tokens.{tokens};
@@ -63,7 +65,7 @@ pub(crate) fn first_token(at: usize, bytes: &[u8]) -> Option<Token<'_>>
     requires { at + length bytes.now < 2 ^ 64 }
     ensures none { IfNone result (tokens at bytes.now ≡ []) }
     ensures some { IfSome result (λ t. tokens at bytes.now ≡ (t.at, t.bytes.now) ∷ tokens (t.at + length t.bytes.now) t.rest.now) }
-    ensures filled { IfSome result (λ t. 0 < length t.bytes.now) }
+    ensures shorter { IfSome result (λ t. length t.rest.now < length bytes.now) }
     ensures length { IfSome result (λ t. t.at + length t.bytes.now + length t.rest.now ≡ at + length bytes.now) }
 {
     let (front, rest) = bytes.split_at(space_len(bytes));

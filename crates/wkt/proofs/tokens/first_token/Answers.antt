@@ -1,4 +1,4 @@
-use Rattle.std.proofs.Common.{rules}
+use Rattle.std.proofs.Common.{arith, rules}
 use Rattle.wkt.proofs.TokensLemmas.{none_is, first_is, filled}
 use Rattle.wkt.proofs.tokens.first_token.Goals as goal
 
@@ -11,7 +11,7 @@ returns-clause-some c =
     rw (c.split_at.ensures.front_len, c.split_at-2.ensures.front_len, c.split_at-2.ensures.front, c.split_at-2.ensures.back, c.token_len.ensures.value)
     (first_is c.args.at c.args.bytes.now c.split_at.result.1.now c.space_len.result c.space_len.ensures.value c.split_at.ensures.back (search rules))
 
-pub returns-clause-filled : goal.returns-clause-filled
-returns-clause-filled c =
-    rw (c.split_at-2.ensures.front_len, c.token_len.ensures.value)
-    (filled c.args.bytes.now c.split_at.result.1.now c.space_len.result c.space_len.ensures.value c.split_at.ensures.back (search rules))
+pub returns-clause-shorter : goal.returns-clause-shorter
+returns-clause-shorter c =
+    let some = filled c.args.bytes.now c.split_at.result.1.now c.space_len.result c.space_len.ensures.value c.split_at.ensures.back (search rules) in
+    omega (arith, c.token_len.ensures.value, c.split_at.ensures.back_len, c.split_at-2.ensures.back_len)

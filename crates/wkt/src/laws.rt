@@ -1,0 +1,21 @@
+//! Laws of the definitions that the readers and printers are proved by. The functions do nothing: each is its contract.
+
+ghost use Rattle.std.specs.Prelude.{◌≡◌, ℕ, Ok, List};
+ghost use Rattle.plane.specs.declared.point.Point.{Point};
+ghost use Rattle.plane.specs.Canonical.{IsCanonical};
+ghost use Rattle.wkt.specs.Reading.{shape_of};
+ghost use Rattle.wkt.specs.Spelling.{Spells};
+ghost use Rattle.wkt.specs.Printing.{printed};
+
+/// The texts that `read_shape` reads as a shape are those that spell it, by cases, and no text spells two.
+pub fn read_is_spelled()
+    ensures found { (text : List ℕ) (corners : List Point) → shape_of text ≡ Ok corners → Spells text corners }
+    ensures only { (text : List ℕ) (corners : List Point) → Spells text corners → shape_of text ≡ Ok corners }
+    ensures one { (text : List ℕ) (a b : List Point) → Spells text a → Spells text b → a ≡ b }
+{}
+
+/// The text that `shape_text` prints of a shape is read as that shape, and spells it.
+pub fn printed_is_read()
+    ensures read { (corners : List Point) → IsCanonical corners → shape_of (printed corners) ≡ Ok corners }
+    ensures spells { (corners : List Point) → IsCanonical corners → Spells (printed corners) corners }
+{}
