@@ -3,3 +3,5 @@
 
 #[cfg(test)]
 mod node_arena_tests;
+#[cfg(test)]
+mod refusing_tests;
