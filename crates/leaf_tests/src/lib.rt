@@ -2,6 +2,10 @@
 #![tactic(auto)]
 
 #[cfg(test)]
+mod features_tests;
+#[cfg(test)]
 mod node_arena_tests;
 #[cfg(test)]
 mod refusing_tests;
+#[cfg(test)]
+mod wkt_tests;

@@ -1,0 +1,34 @@
+-- Names, as lists of bytes.
+use Rattle.std.specs.Prelude.{◌≡◌, ℕ, ◌-◌, ◌≤◌, ◌==◌, Bool, ◌||◌, ◌&&◌, nat_le, List, ◌++◌, length, take, drop, replicate, IsTrue, Option, Some, None, if◌then◌else◌}
+use Rattle.std.specs.List.{list_all}
+use Rattle.std.proofs.Common.{arith, ◌∙◌, ap, sym, take-append-drop, length-take-le}
+
+-- `a` to `z`, `0` to `9`, or `-`
+abbrev pub is_name_byte : ℕ → Bool
+is_name_byte b = (nat_le 97 b && nat_le b 122) || (nat_le 48 b && nat_le b 57) || (b == 45)
+
+-- 1 to 32 such bytes
+abbrev pub is_name : List ℕ → Bool
+is_name bytes = nat_le 1 (length bytes) && nat_le (length bytes) 32 && list_all is_name_byte bytes
+
+-- the name that a text is
+abbrev pub name_of : List ℕ → Option (List ℕ)
+name_of text = if is_name text then Some text else None
+
+-- what stands in the places that a name of this length leaves free
+abbrev pub padding : ℕ → List ℕ
+padding len = replicate (32 - len) 0
+
+-- a row of 32 bytes that begins with a name of this length, and is padded behind it
+pub record HoldsName (bytes : List ℕ) (len : ℕ) : Type 0 where
+  pub name : IsTrue (is_name (take len bytes))
+  pub whole : length bytes ≡ 32
+  pub within : len ≤ 32
+  pub padded : drop len bytes ≡ padding len
+
+pub length_again : (bytes : List ℕ) (len : ℕ) → HoldsName bytes len → length (take len bytes) ≡ len
+length_again bytes len h = length-take-le len bytes (omega (arith, h.whole, h.within))
+
+pub padded_again : (bytes : List ℕ) (len : ℕ) → HoldsName bytes len → take len bytes ++ padding (length (take len bytes)) ≡ bytes
+padded_again bytes len h =
+    ap (λ n. take len bytes ++ padding n) (length_again bytes len h) ∙ ap (λ xs. take len bytes ++ xs) (sym h.padded) ∙ take-append-drop len bytes

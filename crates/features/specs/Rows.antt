@@ -1,0 +1,22 @@
+-- The features of a store: a list sorted by id.
+use Rattle.std.specs.Prelude.{ℕ, ◌<◌, ◌==◌, List, [], ◌∷◌, Option, None, Some, if◌then◌else◌, nat_lt}
+use Rattle.features.specs.declared.rows.Feature.{Feature}
+
+-- the feature of an id
+abbrev pub feature_with : ℕ → List Feature → Option Feature
+feature_with id [] = None
+feature_with id (row ∷ rows) = if row.id == id then Some row else feature_with id rows
+
+abbrev pub IsBelowAll : ℕ → List Feature → Type 0
+IsBelowAll id [] = Unit {0}
+IsBelowAll id (row ∷ rows) = (id < row.id) × IsBelowAll id rows
+
+-- ids rise, so each stands once
+abbrev pub IsSortedById : List Feature → Type 0
+IsSortedById [] = Unit {0}
+IsSortedById (row ∷ rows) = IsBelowAll row.id rows × IsSortedById rows
+
+-- the list with one more feature, put in before the first of a greater id
+abbrev pub with_row : Feature → List Feature → List Feature
+with_row new [] = new ∷ []
+with_row new (row ∷ rows) = if nat_lt new.id row.id then new ∷ row ∷ rows else row ∷ with_row new rows

@@ -1,0 +1,31 @@
+-- Lists of subjects.
+use Rattle.std.specs.Prelude.{◌≡◌, ℕ, ◌≤◌, Bool, List, [], ◌∷◌, length, take, Option, None, Some, Result, Ok, Err, if◌then◌else◌, nat_eq, nat_lt, ◌&&◌, true, is_none, IsTrue}
+use Rattle.std.specs.Cmp.Lexicographic.{pointwise}
+use Rattle.features.specs.declared.actors.Subject.{Subject}
+use Rattle.features.specs.declared.actors.SubjectsFault.{SubjectsFault}
+use Rattle.features.specs.declared.actors.SubjectsFault.TheVariants.{NoneGiven, TooMany, NameTwice}
+
+-- the first subject of a name
+abbrev pub subject_named : List ℕ → List Subject → Option Subject
+subject_named name [] = None
+subject_named name (s ∷ ss) = if pointwise nat_eq s.name name then Some s else subject_named name ss
+
+-- whether no two subjects have one name
+abbrev pub have_distinct_names : List Subject → Bool
+have_distinct_names [] = true
+have_distinct_names (s ∷ ss) = is_none (subject_named s.name ss) && have_distinct_names ss
+
+-- a list of subjects as it is taken over, or why it is not
+abbrev pub subjects_of : List Subject → Result (List Subject) SubjectsFault
+subjects_of [] = Err NoneGiven
+subjects_of (s ∷ ss) =
+    if nat_lt 64 (length (s ∷ ss)) then Err TooMany
+    else if have_distinct_names (s ∷ ss) then Ok (s ∷ ss)
+    else Err NameTwice
+
+-- a row of 64 subjects that begins with this many of distinct names
+pub record HoldsSubjects (places : List Subject) (count : ℕ) : Type 0 where
+  pub whole : length places ≡ 64
+  pub within : count ≤ 64
+  pub filled : 1 ≤ count
+  pub distinct : IsTrue (have_distinct_names (take count places))

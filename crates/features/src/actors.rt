@@ -1,0 +1,136 @@
+ghost use Rattle.std.specs.Prelude.{◌≡◌, IsTrue};
+ghost use Rattle.features.specs.Subjects.{subject_named, have_distinct_names, subjects_of};
+
+use crate::names::Name;
+use std::fmt;
+use std::marker::Model;
+
+/// How many subjects there are at most.
+pub const SUBJECT_LIMIT: usize = 64;
+
+/// What a subject asks to do with a feature.
+#[derive(Clone, Copy, Debug, PartialEq, Eq)]
+pub enum Action {
+    Read,
+    Add,
+    Reshape,
+    Delete,
+}
+
+/// Who acts: a person or a program of an office. A steward may replace the access policy.
+#[derive(Clone, Copy, Debug, PartialEq, Eq)]
+pub struct Subject {
+    pub name: Name,
+    pub office: Name,
+    pub role: Name,
+    pub steward: bool,
+}
+
+/// Why a list of subjects is turned away.
+#[derive(Clone, Copy, Debug, PartialEq, Eq)]
+pub enum SubjectsFault {
+    NoneGiven,
+    TooMany,
+    NameTwice,
+}
+
+impl SubjectsFault {
+    /// The code by which users know the fault.
+    pub fn code(self) -> &'static str {
+        match self {
+            SubjectsFault::NoneGiven => "N1",
+            SubjectsFault::TooMany => "N2",
+            SubjectsFault::NameTwice => "N3",
+        }
+    }
+}
+
+impl fmt::Display for SubjectsFault {
+    fn fmt<W: fmt::Write>(&self, f: &mut fmt::Formatter<W>) -> fmt::Result {
+        f.write_str(self.code())
+    }
+}
+
+/// The subjects that a server knows: 1 to 64, each under a name of its own. A contract sees their list.
+#[derive(Debug, Drop)]
+pub struct Subjects {
+    places: [Subject; SUBJECT_LIMIT],
+    count: usize,
+}
+
+impl Model for Subjects {
+    ghost use Rattle.std.specs.Prelude.{List, take};
+    ghost use Rattle.features.specs.declared.actors.Subject.{Subject};
+    ghost use Rattle.features.specs.Subjects.{HoldsSubjects};
+
+    ghost Value = { List Subject };
+
+    ghost view = { λ s. take s.count s.places };
+
+    ghost invariant = { λ s. HoldsSubjects s.places s.count };
+}
+
+impl Subjects {
+    /// Takes a list of subjects over. Faults in this order: `NoneGiven` for an empty list, `TooMany` for more
+    /// than 64, `NameTwice` where two have one name.
+    pub fn new(subjects: &[Subject]) -> Result<Subjects, SubjectsFault>
+        ensures { result ≡ subjects_of subjects.now }
+    {
+        let Some(first) = subjects.first() else {
+            return Err(SubjectsFault::NoneGiven);
+        };
+        if subjects.len() > SUBJECT_LIMIT {
+            return Err(SubjectsFault::TooMany);
+        }
+        if !have_distinct_names(subjects) {
+            return Err(SubjectsFault::NameTwice);
+        }
+        let mut places = [*first; SUBJECT_LIMIT];
+        places[..subjects.len()].copy_from_slice(subjects);
+        Ok(Subjects {
+            places,
+            count: subjects.len(),
+        })
+    }
+
+    /// The subject of this name.
+    pub fn get(&self, name: Name) -> Option<Subject>
+        ensures { result ≡ subject_named name self.now }
+    {
+        find_named(self.as_slice(), &name)
+    }
+
+    /// The subjects, in the order in which they were given.
+    pub fn as_slice(&self) -> &[Subject]
+        ensures value { result.now ≡ self.now }
+        ensures distinct { IsTrue (have_distinct_names self.now) }
+    {
+        &self.places[..self.count]
+    }
+}
+
+/// The first subject of this name.
+fn find_named(subjects: &[Subject], name: &Name) -> Option<Subject>
+    ensures { result ≡ subject_named name.now subjects.now }
+{
+    for subject in subjects {
+        if subject.name == *name {
+            return Some(*subject);
+        }
+    }
+    None
+}
+
+/// Whether no two of these subjects have one name.
+fn have_distinct_names(subjects: &[Subject]) -> bool
+    ensures { result ≡ have_distinct_names subjects.now }
+{
+    let mut rest = subjects;
+    while let Some((first, others)) = rest.split_first() {
+        if find_named(others, &first.name).is_some() {
+            return false;
+        }
+        rest = others;
+    }
+    true
+}

@@ -1,0 +1,14 @@
+//! Map features, the names and subjects that act on them, and the store that keeps them by id.
+#![tactic(auto)]
+
+mod actors;
+mod meters;
+mod names;
+mod rows;
+mod stores;
+
+pub use actors::{Action, SUBJECT_LIMIT, Subject, Subjects, SubjectsFault};
+pub use meters::Meter;
+pub use names::{NAME_LIMIT, Name};
+pub use rows::{Change, Feature};
+pub use stores::{FEATURE_LIMIT, Store, StoreFault};

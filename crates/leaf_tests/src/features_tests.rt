@@ -1,0 +1,97 @@
+ghost use Rattle.std.specs.Prelude.{◌≡◌};
+ghost use Rattle.features.specs.Changes.{change_id};
+
+use features::{Change, FEATURE_LIMIT, Meter, Name, Store, StoreFault, Subject, Subjects, SubjectsFault};
+use plane::{Point, Shape};
+use refusing::Refusing;
+use std::alloc::Allocator;
+use std::process::Abort;
+use std::test::Fail;
+
+fn name(rt: &impl Abort, text: &[u8]) -> Name {
+    let name = Name::new(text);
+    assert!(rt; name.is_some());
+    name.unwrap()
+}
+
+fn point(rt: &impl Abort, x: i32, y: i32) -> Shape {
+    let shape = Shape::point(Point { x, y });
+    assert!(rt; shape.is_ok());
+    shape.unwrap()
+}
+
+// An addition of this id, at a point of its own.
+fn addition(rt: &impl Abort, id: u64) -> Change
+    ensures { change_id result ≡ id }
+{
+    Change::Add {
+        id,
+        class: name(rt, b"mast"),
+        shape: point(rt, 1, 2),
+    }
+}
+
+#[test]
+fn names(rt: HostRuntime) -> Result<(), Fail> {
+    for text in ["a", "-", "0", "north", "a-0-z", "abcdefghijklmnopqrstuvwxyz-01234"] {
+        let read = name(&rt, text.as_bytes());
+        assert_eq!(rt; read.as_bytes(), text.as_bytes());
+        assert_eq!(rt; format!(in rt.alloc(); "{read}")?.as_str(), text);
+    }
+    for text in ["", "North", "a b", "a_b", "é", "abcdefghijklmnopqrstuvwxyz-012345"] {
+        assert!(rt; Name::new(text.as_bytes()).is_none(), "{text}");
+    }
+    Ok(())
+}
+
+#[test]
+fn subjects(rt: HostRuntime) -> Result<(), Fail> {
+    let north = Subject {
+        name: name(&rt, b"north"),
+        office: name(&rt, b"north"),
+        role: name(&rt, b"editor"),
+        steward: false,
+    };
+    let south = Subject {
+        name: name(&rt, b"south"),
+        ..north
+    };
+    assert_eq!(rt; Subjects::new(&[]).err(), Some(SubjectsFault::NoneGiven));
+    assert_eq!(rt; Subjects::new(&[north, south, north]).err(), Some(SubjectsFault::NameTwice));
+    assert_eq!(rt; Subjects::new(&[north; 65]).err(), Some(SubjectsFault::TooMany));
+    let both = Subjects::new(&[north, south]);
+    assert!(rt; both.is_ok());
+    let both = both.unwrap();
+    assert_eq!(rt; both.get(south.name), Some(south));
+    assert_eq!(rt; both.get(name(&rt, b"west")), None);
+    Ok(())
+}
+
+#[test]
+fn store(rt: HostRuntime) -> Result<(), Fail> {
+    let office = name(&rt, b"north");
+    let mut store = Store::new(rt.alloc());
+    let mut meter = Meter::new();
+    assert!(rt; store.apply(1, office, &[addition(&rt, 5), addition(&rt, 9)]).is_ok());
+    assert!(rt; store.apply(2, office, &[addition(&rt, 7)]).is_ok());
+    assert_eq!(rt; store.len(), 3);
+    let rows = store.dump(rt.alloc(), &mut meter);
+    assert!(rt; rows.is_ok());
+    let rows = rows.unwrap();
+    assert_eq!(rt; meter.ticks(), 3);
+    assert_eq!(rt; rows.len(), 3);
+    assert_eq!(rt; (rows[0].id, rows[1].id, rows[2].id), (5, 7, 9));
+    assert_eq!(rt; (rows[0].version, rows[1].version, rows[2].version), (1, 2, 1));
+    assert_eq!(rt; store.get(7, &mut meter).copied(), Some(rows[1]));
+    assert_eq!(rt; store.get(8, &mut meter).copied(), None);
+    assert_eq!(rt; meter.ticks(), 5);
+    Ok(())
+}
+
+// Features of ids that rise, put in by lists of one.
+fn fill<A: Allocator + Copy>(rt: &impl Abort, store: &mut Store<A>, count: u64) {
+    let office = name(rt, b"north");
+    for id in 0..count {
+        assert!(rt; store.apply(1, office, &[addition(rt, id)]).is_ok());
+    }
+}

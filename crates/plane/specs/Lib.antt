@@ -1,0 +1,10 @@
+pub mod Bounds
+pub mod Canonical
+pub mod Coordinates
+pub mod Elimination
+pub mod Extents
+pub mod FaultCodes
+pub mod Places
+pub mod Points
+pub mod Rings
+pub mod Rows

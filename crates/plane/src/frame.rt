@@ -1,0 +1,101 @@
+//! Frames: rectangles with sides along the axes.
+
+ghost use Rattle.std.specs.Prelude.{◌≡◌, ◌↔◌, IsTrue, All};
+ghost use Rattle.plane.specs.Extents.{Extent, IsFrame, joined, point_extent, extent_of, whole_extent};
+ghost use Rattle.plane.specs.Points.{IsInRange};
+
+use crate::point::{LIMIT, Point};
+use crate::shape::{Shape, corners};
+use std::marker::Model;
+
+/// A rectangle from `x0` to `x1` and from `y0` to `y1`, both ends included, in the range of coordinates.
+#[derive(Clone, Copy, Debug, PartialEq, Eq)]
+pub struct Frame {
+    x0: i32,
+    y0: i32,
+    x1: i32,
+    y1: i32,
+}
+
+// Clauses see its extent. The ends are in order and in range.
+impl Model for Frame {
+    ghost use Rattle.plane.specs.Extents.{Extent, IsFrame};
+
+    ghost Value = { Extent };
+
+    ghost view = { λ f. record { x0 = f.x0; y0 = f.y0; x1 = f.x1; y1 = f.y1 } };
+
+    ghost invariant = { λ f. IsFrame (record { x0 = f.x0; y0 = f.y0; x1 = f.x1; y1 = f.y1 }) };
+
+    ghost inverse = { λ e. record { x0 = e.x0; y0 = e.y0; x1 = e.x1; y1 = e.y1 } };
+}
+
+impl Frame {
+    /// The frame of all points in range.
+    pub fn whole() -> Frame
+        ensures { result ≡ whole_extent }
+    {
+        Frame { x0: -LIMIT, y0: -LIMIT, x1: LIMIT, y1: LIMIT }
+    }
+
+    /// The left side. Every frame's ends are in order and in range.
+    pub fn x0(self) -> i32
+        ensures value { result ≡ self.x0 }
+        ensures frame { IsFrame self }
+    {
+        self.x0
+    }
+
+    /// The lower side.
+    pub fn y0(self) -> i32
+        ensures { result ≡ self.y0 }
+    {
+        self.y0
+    }
+
+    /// The right side.
+    pub fn x1(self) -> i32
+        ensures { result ≡ self.x1 }
+    {
+        self.x1
+    }
+
+    /// The upper side.
+    pub fn y1(self) -> i32
+        ensures { result ≡ self.y1 }
+    {
+        self.y1
+    }
+}
+
+/// The frame of one point.
+fn point_frame(p: Point) -> Frame
+    requires { IsInRange p }
+    ensures { result ≡ point_extent p }
+{
+    Frame { x0: p.x, y0: p.y, x1: p.x, y1: p.y }
+}
+
+/// The least frame that holds both frames.
+pub fn hull(first: Frame, second: Frame) -> Frame
+    ensures value { result ≡ joined first second }
+{
+    Frame {
+        x0: first.x0.min(second.x0),
+        y0: first.y0.min(second.y0),
+        x1: first.x1.max(second.x1),
+        y1: first.y1.max(second.y1),
+    }
+}
+
+/// The least frame that holds a shape's corners.
+pub fn frame_of(shape: &Shape) -> Frame
+    ensures value { result ≡ extent_of shape.now }
+{
+    let points = corners(shape);
+    let mut frame = point_frame(points[0]);
+    for point in points {
+        frame = hull(frame, point_frame(*point));
+    }
+    frame
+}

@@ -1,0 +1,25 @@
+//! Differences of coordinates and their products, in 128 bits.
+
+ghost use Rattle.std.specs.Prelude.{◌≡◌, ◌≤◌, ◌-ℤ◌, ◌*ℤ◌, unsigned_abs};
+ghost use Rattle.plane.specs.Coordinates.{IsCoordinate};
+
+/// How far one coordinate is above another.
+pub fn difference(from: i32, to: i32) -> i128
+    requires from { IsCoordinate from }
+    requires to { IsCoordinate to }
+    ensures value { result ≡ to -ℤ from }
+    ensures size { unsigned_abs result ≤ 20000000 }
+{
+    i128::from(to) - i128::from(from)
+}
+
+/// `a b - c d`.
+pub fn cross(a: i128, b: i128, c: i128, d: i128) -> i128
+    requires a { unsigned_abs a ≤ 20000000 }
+    requires b { unsigned_abs b ≤ 20000000 }
+    requires c { unsigned_abs c ≤ 20000000 }
+    requires d { unsigned_abs d ≤ 20000000 }
+    ensures { result ≡ a *ℤ b -ℤ c *ℤ d }
+{
+    a * b - c * d
+}

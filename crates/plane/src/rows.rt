@@ -1,0 +1,9 @@
+//! Rows: the half planes that a shape is made of.
+
+/// A row `a x + b y <= c`: the points of a half plane.
+#[derive(Clone, Copy, Debug, Default, PartialEq, Eq)]
+pub struct Row {
+    pub a: i128,
+    pub b: i128,
+    pub c: i128,
+}

@@ -1,0 +1,7 @@
+pub mod WordLemmas
+pub mod CommitLemmas
+pub mod DeskLemmas
+pub mod WritingLemmas
+pub mod ListingLemmas
+pub mod ScriptLemmas
+pub mod StreamLemmas

@@ -1,0 +1,106 @@
+-- What a line asks of its session, or why it asks nothing.
+use Rattle.std.specs.Prelude.{◌≡◌, ℕ, Bool, List, codes, Option, None, Some, Result, Ok, Err, if◌then◌else◌}
+use Rattle.std.specs.Str.{bytes_eq}
+use Rattle.plane.specs.declared.point.Point.{Point}
+use Rattle.wkt.specs.declared.fault.WktFault.{WktFault}
+use Rattle.wkt.specs.Reading.{shape_of}
+use Rattle.features.specs.Names.{name_of}
+use Rattle.sessions.specs.declared.commands.Command.{Command}
+use Rattle.sessions.specs.declared.commands.Command.TheVariants.{Hello, Add, Search, Commit, Bye}
+use Rattle.sessions.specs.declared.commands.Verb.{Verb}
+use Rattle.sessions.specs.declared.commands.Verb.TheVariants.{Hello as HelloVerb, Add as AddVerb, Search as SearchVerb, Commit as CommitVerb, Bye as ByeVerb}
+use Rattle.sessions.specs.declared.faults.Fault.{Fault}
+use Rattle.sessions.specs.declared.faults.Fault.TheVariants.{Command as CommandFault, Number, Name, BeforeHello, HelloAgain, Shape}
+use Rattle.sessions.specs.Words.{next_word, number_of}
+
+infixl 10 ◌>>=◌
+abbrev pub ◌>>=◌ : {A B : Type 0} → Result A Fault → (A → Result B Fault) → Result B Fault
+(Ok x) >>= f = f x
+(Err e) >>= f = Err e
+
+-- a returned value, seen by `view`, is what the reading gives
+abbrev pub Gives : {X Y : Type 0} → (X → Y) → Result X Fault → Result Y Fault → Type 0
+Gives view (Ok x) reading = reading ≡ Ok (view x)
+Gives view (Err e) reading = reading ≡ Err e
+
+-- what an option has, or this fault
+abbrev pub or_fault : {X : Type 0} → Fault → Option X → Result X Fault
+or_fault fault None = Err fault
+or_fault fault (Some x) = Ok x
+
+-- the command that a word names
+abbrev pub verb_of : List ℕ → Option Verb
+verb_of word =
+    if bytes_eq word (codes "HELLO") then Some HelloVerb
+    else if bytes_eq word (codes "ADD") then Some AddVerb
+    else if bytes_eq word (codes "SEARCH") then Some SearchVerb
+    else if bytes_eq word (codes "COMMIT") then Some CommitVerb
+    else if bytes_eq word (codes "BYE") then Some ByeVerb
+    else None
+
+-- the next word, which is due
+abbrev pub word_at : List ℕ → Result (List ℕ × List ℕ) Fault
+word_at text = or_fault CommandFault (next_word text)
+
+unfoldable pub verb_at : List ℕ → Result (Verb × List ℕ) Fault
+verb_at text = do
+  word ← word_at text
+  verb ← or_fault CommandFault (verb_of word.0)
+  Ok (verb, word.1)
+
+-- a session begins once, and everything but BYE comes after it has begun
+abbrev pub allowed : Bool → Verb → Result (Unit {0}) Fault
+allowed begun ByeVerb = Ok tt
+allowed begun HelloVerb = if begun then Err HelloAgain else Ok tt
+allowed begun AddVerb = if begun then Ok tt else Err BeforeHello
+allowed begun SearchVerb = if begun then Ok tt else Err BeforeHello
+allowed begun CommitVerb = if begun then Ok tt else Err BeforeHello
+
+-- a shape's text takes all that is left
+abbrev pub shape_or_fault : Result (List Point) WktFault → Result (List Point) Fault
+shape_or_fault (Ok corners) = Ok corners
+shape_or_fault (Err fault) = Err (Shape fault)
+
+unfoldable pub shape_at : List ℕ → Result (List Point) Fault
+shape_at text = shape_or_fault (shape_of text)
+
+-- nothing but spaces is left
+abbrev pub nothing_left : Option (List ℕ × List ℕ) → Result (Unit {0}) Fault
+nothing_left None = Ok tt
+nothing_left (Some word) = Err CommandFault
+
+unfoldable pub end_at : List ℕ → Result (Unit {0}) Fault
+end_at text = nothing_left (next_word text)
+
+unfoldable pub alone_at : Command → List ℕ → Result Command Fault
+alone_at command text = end_at text >>= λ _. Ok command
+
+unfoldable pub hello_at : List ℕ → Result Command Fault
+hello_at text = do
+  word ← word_at text
+  name ← or_fault Name (name_of word.0)
+  _ ← end_at word.1
+  Ok (Hello name)
+
+unfoldable pub add_at : List ℕ → Result Command Fault
+add_at text = do
+  first ← word_at text
+  id ← or_fault Number (number_of first.0)
+  second ← word_at first.1
+  class ← or_fault Name (name_of second.0)
+  shape ← shape_at second.1
+  Ok (Add id class shape)
+
+unfoldable pub arguments_at : Verb → List ℕ → Result Command Fault
+arguments_at HelloVerb text = hello_at text
+arguments_at AddVerb text = add_at text
+arguments_at SearchVerb text = shape_at text >>= λ shape. Ok (Search shape)
+arguments_at CommitVerb text = alone_at Commit text
+arguments_at ByeVerb text = alone_at Bye text
+
+-- what stands behind the label of a line: the command, whether it may come now, and its words from left to right
+unfoldable pub command_of : Bool → List ℕ → Result Command Fault
+command_of begun text = do
+  verb ← verb_at text
+  _ ← allowed begun verb.0
+  arguments_at verb.0 verb.1

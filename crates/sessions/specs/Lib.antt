@@ -1,0 +1,13 @@
+pub mod Faults
+pub mod Words
+pub mod Commands
+pub mod Replies
+pub mod States
+pub mod Worlds
+pub mod Desks
+pub mod Listing
+pub mod Printed
+pub mod Lines
+pub mod Scripts
+pub mod Streams
+pub mod BuiltIn

@@ -1,0 +1,84 @@
+-- The script text: what a list of lines is answered, over one plain state.
+use Rattle.std.specs.Prelude.{◌≡◌, ℕ, ◌+◌, ◌==◌, Bool, true, not, take, drop, nat_eq, nat_lt, List, [], ◌∷◌, ◌++◌, codes, length, slice_index_or, slice_set, Option, None, Some, MatchOption, if◌then◌else◌}
+use Rattle.std.specs.Bool.{MatchBool}
+use Rattle.std.specs.Cmp.Lexicographic.{pointwise}
+use Rattle.std.specs.List.{prefix_len}
+use Rattle.features.specs.Names.{name_of}
+use Rattle.sessions.specs.declared.faults.Fault.TheVariants.{LineTooLong, NoLabel}
+use Rattle.sessions.specs.declared.replies.Reply.{Reply}
+use Rattle.sessions.specs.declared.replies.Reply.TheVariants.{Error}
+use Rattle.sessions.specs.Desks.{Answers, fresh}
+use Rattle.sessions.specs.Lines.{lines_of}
+use Rattle.sessions.specs.Printed.{Shows, led, reply_text}
+use Rattle.sessions.specs.States.{PlainState, SessionState}
+
+-- a world, and the sessions of the labels that have come, in their order
+pub record Script : Type 0 where
+  pub world : PlainState
+  pub sessions : List SessionState
+
+abbrev pub script : PlainState → List SessionState → Script
+script world sessions = record { world = world; sessions = sessions }
+
+abbrev pub is_too_long : List ℕ → Bool
+is_too_long line = nat_lt 65536 (length line)
+
+-- an empty line, or a comment
+abbrev pub is_skipped : List ℕ → Bool
+is_skipped [] = true
+is_skipped (b ∷ bs) = b == 35
+
+abbrev pub is_not_colon : ℕ → Bool
+is_not_colon b = not (b == 58)
+
+-- what stands before the first colon of a line, and what stands behind it
+unfoldable pub parts_of : List ℕ → Option (List ℕ × List ℕ)
+parts_of line =
+    let len = prefix_len is_not_colon line in
+    if nat_lt len (length line) then Some (take len line, drop (len + 1) line) else None
+
+-- how many sessions stand before that of a label; all, where it has none
+abbrev pub place : List ℕ → List SessionState → ℕ
+place label [] = 0
+place label (session ∷ sessions) = if pointwise nat_eq session.label label then 0 else place label sessions + 1
+
+-- the sessions with that of a label, which is begun where it was not there
+abbrev pub with_label : List ℕ → List SessionState → List SessionState
+with_label label sessions = if place label sessions == length sessions then sessions ++ fresh label ∷ [] else sessions
+
+-- a fault of the line itself, which belongs to no session
+abbrev pub IsRefused : List ℕ → Script → Script → List ℕ → Type 0
+IsRefused text old new said = (new ≡ old) × (said ≡ led (codes "?") text)
+
+-- the session of a label answers what stands behind it
+pub record SessionTells (label text : List ℕ) (old new : Script) (said : List ℕ) : Type 0 where
+  pub session : SessionState
+  pub reply : Reply
+  pub answers : Answers text (slice_index_or (with_label label old.sessions) (place label old.sessions) (fresh label)) old.world session new.world reply
+  pub stays : new.sessions ≡ slice_set (with_label label old.sessions) (place label old.sessions) session
+  pub shows : Shows label reply new.world.features said
+
+-- a script has 64 labels at most
+abbrev pub LabelTells : List ℕ → List ℕ → Script → Script → List ℕ → Type 0
+LabelTells label text old new said =
+    MatchBool (nat_lt (place label old.sessions) 64) (SessionTells label text old new said) (IsRefused (reply_text (Error NoLabel)) old new said)
+
+-- what a line is answered, and what it leaves
+abbrev pub LineTells : List ℕ → Script → Script → List ℕ → Type 0
+LineTells line old new said =
+    MatchBool (is_too_long line) (IsRefused (reply_text (Error LineTooLong)) old new said)
+    (MatchBool (is_skipped line) ((new ≡ old) × (said ≡ []))
+    (MatchOption (parts_of line) (IsRefused (reply_text (Error NoLabel)) old new said)
+    (λ parts. MatchOption (name_of parts.0) (IsRefused (reply_text (Error NoLabel)) old new said)
+    (λ label. LabelTells label parts.1 old new said))))
+
+-- what lines are answered, one after another
+abbrev pub Tells : Script → List (List ℕ) → Script → List ℕ → Type 0
+Tells old [] new text = (new ≡ old) × (text ≡ [])
+Tells old (line ∷ lines) new text =
+    (mid : Script) × (said : List ℕ) × (more : List ℕ) × LineTells line old mid said × (text ≡ said ++ more) × Tells mid lines new more
+
+-- the script text of an input, from one world to another
+pub record IsScriptText (world : PlainState) (input : List ℕ) (end : PlainState) (text : List ℕ) : Type 0 where
+  pub sessions : List SessionState
+  pub tells : Tells (script world []) (lines_of input) (script end sessions) text

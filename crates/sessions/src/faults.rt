@@ -1,0 +1,72 @@
+ghost use Rattle.std.specs.Prelude.{◌≡◌};
+
+use std::fmt;
+use wkt::WktFault;
+
+/// Why a line is answered `error`.
+#[derive(Clone, Copy, Debug, PartialEq, Eq)]
+pub enum Fault {
+    /// E1: the line is longer than 65,536 bytes.
+    LineTooLong,
+    /// E2: the command is unknown, a word is missing, or something is left over.
+    Command,
+    /// E3: a word is no number of 1 to 20 digits below 2^64.
+    Number,
+    /// E4: a word is no name.
+    Name,
+    /// E5: the session has not begun.
+    BeforeHello,
+    /// E6: the session has begun already.
+    HelloAgain,
+    /// E7: nothing is staged.
+    NothingStaged,
+    /// E9: the line has no label, or one more than 64.
+    NoLabel,
+    /// H1: no subject has that name.
+    NoSubject,
+    /// H2: all seats are given.
+    NoPlace,
+    /// X5: the staged list names the feature already.
+    NamedTwice,
+    /// X6: the staged list has 16 changes already.
+    TooManyChanges,
+    /// X8: the version is at its end.
+    Spent,
+    /// X11: more features would stand than a store holds.
+    StoreFull,
+    /// K1 to K5, P1 to P9: the text spells no shape.
+    Shape(WktFault),
+}
+
+impl Fault {
+    ghost use Rattle.sessions.specs.Faults.{code_of};
+
+    /// The code that the reply shows.
+    pub fn code(self) -> &'static str
+        ensures { result.now ≡ code_of self }
+    {
+        match self {
+            Fault::LineTooLong => "E1",
+            Fault::Command => "E2",
+            Fault::Number => "E3",
+            Fault::Name => "E4",
+            Fault::BeforeHello => "E5",
+            Fault::HelloAgain => "E6",
+            Fault::NothingStaged => "E7",
+            Fault::NoLabel => "E9",
+            Fault::NoSubject => "H1",
+            Fault::NoPlace => "H2",
+            Fault::NamedTwice => "X5",
+            Fault::TooManyChanges => "X6",
+            Fault::Spent => "X8",
+            Fault::StoreFull => "X11",
+            Fault::Shape(fault) => fault.code(),
+        }
+    }
+}
+
+impl fmt::Display for Fault {
+    fn fmt<W: fmt::Write>(&self, f: &mut fmt::Formatter<W>) -> fmt::Result {
+        f.write_str(self.code())
+    }
+}

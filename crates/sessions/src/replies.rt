@@ -1,0 +1,43 @@
+ghost use Rattle.std.specs.Prelude.{◌≡◌};
+ghost use Rattle.sessions.specs.Replies.{is_memory as reply_is_memory, ends_list as reply_ends_list};
+
+use crate::faults::Fault;
+use features::Name;
+use plane::Shape;
+
+/// What a line is answered.
+#[derive(Clone, Copy, Debug, PartialEq, Eq)]
+pub enum Reply {
+    /// `hello NAME`
+    Hello(Name),
+    /// `staged`
+    Staged,
+    /// `rows N`, and then the features that meet this window.
+    Rows(Shape),
+    /// `applied VERSION`
+    Applied(u64),
+    /// `exists change K`: the change of this number, counted from 1, adds a feature that is there already.
+    Exists(u64),
+    /// `bye`
+    Bye,
+    /// `memory`: an allocation was refused.
+    Memory,
+    /// `error CODE`
+    Error(Fault),
+}
+
+impl Reply {
+    /// Whether the line is answered that an allocation was refused.
+    pub fn is_memory(&self) -> bool
+        ensures { result ≡ reply_is_memory self.now }
+    {
+        matches!(self, Reply::Memory)
+    }
+
+    /// Whether the session's staged list is dropped: it was applied, or adds what is there already.
+    pub fn ends_list(&self) -> bool
+        ensures { result ≡ reply_ends_list self.now }
+    {
+        matches!(self, Reply::Applied(_) | Reply::Exists(_))
+    }
+}

@@ -1,0 +1,222 @@
+ghost use Rattle.std.specs.Prelude.{◌≡◌, ◌+◌, ◌≤◌, ◌++◌, List, OnOk, codes, decimal, length, ℕ};
+ghost use Rattle.std.specs.Io.KnownBytes.{Appends};
+ghost use Rattle.std.specs.List.{flat_map};
+ghost use Rattle.arrayvec.specs.ArrayVec.{array_vec_len};
+ghost use Rattle.features.specs.declared.rows.Feature.{Feature};
+ghost use Rattle.sessions.specs.Listing.{IsListed};
+ghost use Rattle.sessions.specs.Printed.{Shows, led, reply_text, row_text, rows_head, rows_text};
+
+use crate::faults::Fault;
+use crate::replies::Reply;
+use arrayvec::ArrayVec;
+use features::Feature;
+use itoa::Buffer;
+use plane::{Shape, meets};
+use std::io;
+use std::io::Write;
+use wkt::shape_text;
+
+/// The longest line of a reply has 510 bytes: a label, a row's two numbers, its two names and a polygon's text.
+const LINE_ROOM: usize = 512;
+
+/// How many bytes what leads a line has at most.
+const LEAD_LIMIT: usize = 32;
+
+/// A line of a reply while it grows.
+type Line = ArrayVec<u8, LINE_ROOM>;
+
+fn push_bytes(line: &mut Line, bytes: &[u8])
+    requires room { array_vec_len line.old + length bytes.now ≤ 512 }
+    ensures items { line.new.items ≡ line.old.items ++ bytes.now }
+    ensures len { array_vec_len line.new ≡ array_vec_len line.old + length bytes.now }
+{
+    line.try_extend_from_slice(bytes).unwrap();
+}
+
+/// A number has 20 bytes at most.
+fn push_number(line: &mut Line, number: u64)
+    requires room { array_vec_len line.old + 20 ≤ 512 }
+    ensures items { line.new.items ≡ line.old.items ++ decimal number }
+    ensures len { array_vec_len line.new ≤ array_vec_len line.old + 20 }
+{
+    let mut buffer = Buffer::new();
+    push_bytes(line, buffer.format(number).as_bytes());
+}
+
+/// A word and a number.
+fn push_numbered(line: &mut Line, word: &[u8], number: u64)
+    requires room { array_vec_len line.old ≤ 34 }
+    requires word { length word.now ≤ 14 }
+    ensures items { line.new.items ≡ line.old.items ++ (word.now ++ decimal number) }
+    ensures len { array_vec_len line.new ≤ 68 }
+{
+    push_bytes(line, word);
+    push_number(line, number);
+}
+
+/// A line that has its lead alone.
+fn begin(lead: &[u8]) -> Line
+    requires { length lead.now ≤ LEAD_LIMIT }
+    ensures items { result.items ≡ lead.now ++ codes ": " }
+    ensures len { array_vec_len result ≤ 34 }
+{
+    let mut line = ArrayVec::new();
+    push_bytes(&mut line, lead);
+    push_bytes(&mut line, b": ");
+    line
+}
+
+fn push_fault(line: &mut Line, fault: Fault)
+    requires room { array_vec_len line.old ≤ 34 }
+    ensures items { line.new.items ≡ line.old.items ++ reply_text (Reply.Error fault) }
+    ensures len { array_vec_len line.new ≤ 100 }
+{
+    push_bytes(line, b"error ");
+    push_bytes(line, fault.code().as_bytes());
+}
+
+/// Whatever is answered in one line, and of `rows` nothing.
+fn push_reply(line: &mut Line, reply: Reply)
+    requires room { array_vec_len line.old ≤ 34 }
+    ensures items { line.new.items ≡ line.old.items ++ reply_text reply }
+    ensures len { array_vec_len line.new ≤ 100 }
+{
+    match reply {
+        Reply::Hello(name) => {
+            push_bytes(line, b"hello ");
+            push_bytes(line, name.as_bytes());
+        }
+        Reply::Staged => push_bytes(line, b"staged"),
+        Reply::Rows(_) => {}
+        Reply::Applied(version) => push_numbered(line, b"applied ", version),
+        Reply::Exists(number) => push_numbered(line, b"exists change ", number),
+        Reply::Bye => push_bytes(line, b"bye"),
+        Reply::Memory => push_bytes(line, b"memory"),
+        Reply::Error(fault) => push_fault(line, fault),
+    }
+}
+
+/// A feature as the line of a listing.
+fn push_row(line: &mut Line, feature: &Feature)
+    requires room { array_vec_len line.old ≤ 34 }
+    ensures items { line.new.items ≡ line.old.items ++ row_text feature.now }
+    ensures len { array_vec_len line.new ≤ 509 }
+{
+    push_number_field(line, feature.id);
+    push_number_field(line, feature.version);
+    push_field(line, feature.office.as_bytes());
+    push_field(line, feature.class.as_bytes());
+    push_bytes(line, shape_text(&feature.shape).as_bytes());
+}
+
+/// A field of a row, and the space behind it.
+fn push_field(line: &mut Line, field: &[u8])
+    requires room { array_vec_len line.old + length field.now ≤ 511 }
+    ensures items { line.new.items ≡ line.old.items ++ (field.now ++ codes " ") }
+    ensures len { array_vec_len line.new ≡ array_vec_len line.old + length field.now + 1 }
+{
+    push_bytes(line, field);
+    push_bytes(line, b" ");
+}
+
+/// A number as a field.
+fn push_number_field(line: &mut Line, number: u64)
+    requires room { array_vec_len line.old ≤ 400 }
+    ensures items { line.new.items ≡ line.old.items ++ (decimal number ++ codes " ") }
+    ensures len { array_vec_len line.new ≤ array_vec_len line.old + 21 }
+{
+    push_number(line, number);
+    push_bytes(line, b" ");
+}
+
+/// Writes a line with its end, by one call of the writer.
+fn finish<W: Write>(mut line: Line, writer: &mut W) -> io::Result<()>
+    requires { array_vec_len line ≤ 511 }
+    ensures { OnOk result (Appends (W.contents writer.old) (W.contents writer.new) (line.items ++ codes "\n")) }
+{
+    push_bytes(&mut line, b"\n");
+    writer.write_all(line.as_slice())
+}
+
+/// Writes a reply, each line led by the session's label. Takes no memory. An error is the writer's.
+pub(crate) fn write_reply<W: Write>(
+    lead: &[u8],
+    reply: Reply,
+    features: &[Feature],
+    writer: &mut W,
+) -> io::Result<()>
+    requires { length lead.now ≤ LEAD_LIMIT }
+    ensures { OnOk result ((said : List ℕ) × Appends (W.contents writer.old) (W.contents writer.new) said × Shows lead.now reply features.now said) }
+{
+    match reply {
+        Reply::Rows(window) => write_rows(lead, &window, features, writer),
+        _ => write_line(lead, reply, writer),
+    }
+}
+
+/// Writes a reply of one line.
+pub(crate) fn write_line<W: Write>(lead: &[u8], reply: Reply, writer: &mut W) -> io::Result<()>
+    requires { length lead.now ≤ LEAD_LIMIT }
+    ensures { OnOk result (Appends (W.contents writer.old) (W.contents writer.new) (led lead.now (reply_text reply))) }
+{
+    let mut line = begin(lead);
+    push_reply(&mut line, reply);
+    finish(line, writer)
+}
+
+/// Writes the features that meet a window, and before them how many they are.
+fn write_rows<W: Write>(
+    lead: &[u8],
+    window: &Shape,
+    features: &[Feature],
+    writer: &mut W,
+) -> io::Result<()>
+    requires { length lead.now ≤ LEAD_LIMIT }
+    ensures { OnOk result ((rows : List Feature) × IsListed window.now features.now rows × Appends (W.contents writer.old) (W.contents writer.new) (rows_text lead.now rows)) }
+{
+    let mut line = begin(lead);
+    push_numbered(&mut line, b"rows ", count_rows(window, features));
+    finish(line, writer)?;
+    write_each(lead, window, features, writer)
+}
+
+/// How many features meet a window.
+fn count_rows(window: &Shape, features: &[Feature]) -> u64
+    ensures { (rows : List Feature) × IsListed window.now features.now rows × (result ≡ length rows) }
+{
+    let mut count = 0;
+    for feature in features {
+        if meets(&feature.shape, window) {
+            count += 1;
+        }
+    }
+    count
+}
+
+/// Writes a line for each feature that meets a window.
+fn write_each<W: Write>(
+    lead: &[u8],
+    window: &Shape,
+    features: &[Feature],
+    writer: &mut W,
+) -> io::Result<()>
+    requires { length lead.now ≤ LEAD_LIMIT }
+    ensures { OnOk result ((rows : List Feature) × IsListed window.now features.now rows × Appends (W.contents writer.old) (W.contents writer.new) (flat_map (λ row. led lead.now (row_text row)) rows)) }
+{
+    for feature in features {
+        if meets(&feature.shape, window) {
+            write_row(lead, feature, writer)?;
+        }
+    }
+    Ok(())
+}
+
+/// Writes the line of a feature.
+fn write_row<W: Write>(lead: &[u8], feature: &Feature, writer: &mut W) -> io::Result<()>
+    requires { length lead.now ≤ LEAD_LIMIT }
+    ensures { OnOk result (Appends (W.contents writer.old) (W.contents writer.new) (led lead.now (row_text feature.now))) }
+{
+    let mut line = begin(lead);
+    push_row(&mut line, feature);
+    finish(line, writer)
+}

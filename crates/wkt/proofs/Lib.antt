@@ -1,0 +1,3 @@
+pub mod TokensLemmas
+pub mod NumbersLemmas
+pub mod PrintingLemmas

@@ -1,0 +1,297 @@
+use refusing::Refusing;
+use sessions::{PlainWorld, READ_LIMIT, ServeFault, built_in_subjects, run_script};
+use std::alloc::{AllocError, Allocator, Global};
+use std::io;
+use std::io::{ErrorKind, Read, Write};
+use std::process::Abort;
+use std::test::Fail;
+
+/// The worked script of a point that is added and found again, and its replies.
+const FIRST_POINT: &str = "n: HELLO north\nn: ADD 1 mast POINT (3 4)\nn: COMMIT\nn: SEARCH point(3 4)\nn: SEARCH POINT (3 5)\n";
+const FIRST_REPLIES: &str = "n: hello north\nn: staged\nn: applied 1\nn: rows 1\nn: 1 1 north mast POINT (3 4)\nn: rows 0\n";
+
+/// What a script is answered from a fresh world.
+fn replies(rt: &impl Abort, alloc: Global, script: &str) -> Result<Vec<u8>, AllocError> {
+    let mut world = PlainWorld::open(alloc, built_in_subjects());
+    let mut output = Vec::new(alloc);
+    let end = run_script(alloc, &mut world, &mut script.as_bytes(), &mut output);
+    assert!(rt; end.is_ok(), "{script}");
+    Ok(output)
+}
+
+/// Each of these scripts is answered so.
+fn check_all(rt: &impl Abort, alloc: Global, cases: &[(&str, &str)]) -> Result<(), AllocError> {
+    for (script, expected) in cases {
+        let output = replies(rt, alloc, script)?;
+        assert_eq!(rt; output.as_slice(), expected.as_bytes(), "{script}");
+    }
+    Ok(())
+}
+
+#[test]
+fn worked_scripts(rt: HostRuntime) -> Result<(), Fail> {
+    let cases = [
+        (FIRST_POINT, FIRST_REPLIES),
+        ("x: SEARCH POINT (0 0)\n", "x: error E5\n"),
+        ("x: HELLO nobody\n", "x: error H1\n"),
+        ("n: HELLO north\nn: FLY\nn: COMMIT\nn: ADD 1 mast\n", "n: hello north\nn: error E2\nn: error E7\nn: error K3\n"),
+        ("no label\n", "?: error E9\n"),
+        ("n: HELLO north\nn: SEARCH POINT (4 4)\nn: ADD 1 mast POINT (4 4)\nn: COMMIT\nn: SEARCH POINT (4 4)\n",
+            "n: hello north\nn: rows 0\nn: staged\nn: applied 1\nn: rows 1\nn: 1 1 north mast POINT (4 4)\n"),
+        ("n: HELLO north\nn: ADD 1 mast POINT (10000001 0)\nn: ADD 1 mast point(+3.00 -0)\nn: COMMIT\nn: SEARCH POINT (3 0)\nn: SEARCH POINT (10000000 -10000000)\n",
+            "n: hello north\nn: error K5\nn: staged\nn: applied 1\nn: rows 1\nn: 1 1 north mast POINT (3 0)\nn: rows 0\n"),
+    ];
+    check_all(&rt, rt.alloc(), &cases)?;
+    Ok(())
+}
+
+#[test]
+fn lines_and_labels(rt: HostRuntime) -> Result<(), Fail> {
+    let cases = [
+        ("", ""),
+        ("\n\r\n# a comment\n#\n", ""),
+        ("n: HELLO north\r\nn:  BYE  \r\nn: BYE", "n: hello north\nn: bye\nn: bye\n"),
+        ("n:HELLO north\nn:   HELLO\nn: BYE\r", "n: hello north\nn: error E6\nn: error E2\n"),
+        (" n: BYE\nN: BYE\n: BYE\n # x\n \nn\n", "?: error E9\n?: error E9\n?: error E9\n?: error E9\n?: error E9\n?: error E9\n"),
+        ("n:\nn: \nn: hello north\nn: HELLO\nn: HELLO North\nn: HELLO north x\nn: HELLO\tnorth\n",
+            "n: error E2\nn: error E2\nn: error E2\nn: error E2\nn: error E4\nn: error E2\nn: error E2\n"),
+        ("n: BYE x\nn: COMMIT\nn: COMMIT x\nn: SEARCH x\n", "n: error E2\nn: error E5\nn: error E5\nn: error E5\n"),
+        ("n: HELLO chief\nn: ADD\nn: ADD x\nn: ADD 1\nn: ADD 1 A POINT (0 0)\nn: ADD 1 a POLYGON EMPTY\nn: COMMIT x\nn: RESHAPE 1 1 POINT (0 0)\n",
+            "n: hello chief\nn: error E2\nn: error E3\nn: error E2\nn: error E4\nn: error K2\nn: error E2\nn: error E2\n"),
+        ("n: HELLO north\nn: ADD 18446744073709551615 a POINT (0 0)\nn: ADD 18446744073709551616 a POINT (0 0)\nn: ADD 000000000000000000000 a POINT (0 0)\nn: ADD +1 a POINT (0 0)\nn: ADD 00000000000000000007 a POINT (0 0)\n",
+            "n: hello north\nn: staged\nn: error E3\nn: error E3\nn: error E3\nn: staged\n"),
+    ];
+    check_all(&rt, rt.alloc(), &cases)?;
+    Ok(())
+}
+
+#[test]
+fn staged_lists(rt: HostRuntime) -> Result<(), Fail> {
+    let cases = [
+        // A list is of its session, and a later session of a label has none of it.
+        ("n: HELLO north\ns: HELLO south\nn: ADD 1 a POINT (0 0)\ns: COMMIT\ns: ADD 1 b POINT (0 0)\nn: COMMIT\ns: COMMIT\ns: COMMIT\nn: COMMIT\n",
+            "n: hello north\ns: hello south\nn: staged\ns: error E7\ns: staged\nn: applied 1\ns: exists change 1\ns: error E7\nn: error E7\n"),
+        ("n: HELLO north\nn: ADD 1 a POINT (0 0)\nn: BYE\nn: COMMIT\nn: HELLO south\nn: COMMIT\n",
+            "n: hello north\nn: staged\nn: bye\nn: error E5\nn: hello south\nn: error E7\n"),
+        // Of a list that is refused nothing is added.
+        ("n: HELLO north\nn: ADD 2 a POINT (0 0)\nn: COMMIT\nn: ADD 1 a POINT (0 0)\nn: ADD 2 a POINT (0 0)\nn: ADD 2 a POINT (1 1)\nn: COMMIT\nn: SEARCH POINT (0 0)\n",
+            "n: hello north\nn: staged\nn: applied 1\nn: staged\nn: staged\nn: error X5\nn: exists change 2\nn: rows 1\nn: 2 1 north a POINT (0 0)\n"),
+        // Rows come by rising id, and 16 changes fit a list.
+        ("n: HELLO north\nn: ADD 3 c POINT (0 0)\nn: ADD 1 a POINT (0 0)\nn: ADD 2 b POINT (1 0)\nn: COMMIT\nn: SEARCH POINT (0 0)\n",
+            "n: hello north\nn: staged\nn: staged\nn: staged\nn: applied 1\nn: rows 2\nn: 1 1 north a POINT (0 0)\nn: 3 1 north c POINT (0 0)\n"),
+    ];
+    check_all(&rt, rt.alloc(), &cases)?;
+    Ok(())
+}
+
+/// A script of as many lines, each written by a function of its number.
+fn numbered<F: Fn(&mut String, u64) -> Result<(), AllocError>>(alloc: Global, count: u64, line: F) -> Result<String, AllocError>
+    requires { F.IsAlwaysCallable line }
+{
+    let mut script = String::new(alloc);
+    for number in 0..count {
+        line(&mut script, number)?;
+    }
+    Ok(script)
+}
+
+#[test]
+fn limits(rt: HostRuntime) -> Result<(), Fail> {
+    // 64 labels have a session, and each further one is refused, also after a BYE.
+    let labels = numbered(rt.alloc(), 66, |script, number| write!(script, "s{number}: BYE\n"))?;
+    let output = replies(&rt, rt.alloc(), labels.as_str())?;
+    assert!(rt; output.ends_with(b"s63: bye\n?: error E9\n?: error E9\n"));
+    // 1,024 seats are given.
+    let seats = numbered(rt.alloc(), 1_026, |script, _| script.push_str("n: HELLO north\nn: BYE\n"))?;
+    let output = replies(&rt, rt.alloc(), seats.as_str())?;
+    assert!(rt; output.ends_with(b"n: hello north\nn: bye\nn: error H2\nn: bye\nn: error H2\nn: bye\n"));
+    // A list has 16 changes at most.
+    let changes = numbered(rt.alloc(), 17, |script, number| write!(script, "n: ADD {number} a POINT (0 0)\n"))?;
+    let script = format!(in rt.alloc(); "n: HELLO north\n{changes}n: COMMIT\nn: COMMIT\n")?;
+    let output = replies(&rt, rt.alloc(), script.as_str())?;
+    assert!(rt; output.ends_with(b"n: staged\nn: error X6\nn: applied 1\nn: error E7\n"));
+    Ok(())
+}
+
+/// A reader that gives one byte a call, and fails at a call, counted from 1.
+#[derive(Drop)]
+struct FailingReader<'a> {
+    bytes: &'a [u8],
+    fails_at: u64,
+}
+
+impl Read for FailingReader<'_> {
+    fn read(&mut self, buf: &mut [u8]) -> io::Result<usize> {
+        if self.fails_at == 1 {
+            return Err(ErrorKind::Other.into());
+        }
+        self.fails_at = self.fails_at.saturating_sub(1);
+        if self.bytes.is_empty() || buf.is_empty() {
+            return Ok(0);
+        }
+        buf[0] = self.bytes[0];
+        self.bytes = &self.bytes[1..];
+        Ok(1)
+    }
+}
+
+/// A writer that fails at a call, counted from 1, and counts what it took before.
+#[derive(Drop)]
+struct FailingWriter {
+    taken: Vec<u8>,
+    fails_at: u64,
+}
+
+impl Write for FailingWriter {
+    fn write(&mut self, buf: &[u8]) -> io::Result<usize> {
+        if self.fails_at == 1 {
+            return Err(ErrorKind::Other.into());
+        }
+        self.fails_at = self.fails_at.saturating_sub(1);
+        self.taken.extend_from_slice(buf)?;
+        Ok(buf.len())
+    }
+
+    fn flush(&mut self) -> io::Result<()> {
+        Ok(())
+    }
+}
+
+/// A reader that never ends.
+#[derive(Drop)]
+struct Endless;
+
+impl Read for Endless {
+    fn read(&mut self, buf: &mut [u8]) -> io::Result<usize> {
+        if buf.is_empty() {
+            return Ok(0);
+        }
+        buf[0] = b'#';
+        Ok(1)
+    }
+}
+
+#[test]
+fn each_read_fails(rt: HostRuntime) -> Result<(), Fail> {
+    let reads = FIRST_POINT.len() as u64 + 1;
+    for fails_at in 1..reads + 2 {
+        let mut world = PlainWorld::open(rt.alloc(), built_in_subjects());
+        let mut output = Vec::new(rt.alloc());
+        let mut reader = FailingReader {
+            bytes: FIRST_POINT.as_bytes(),
+            fails_at,
+        };
+        let end = run_script(rt.alloc(), &mut world, &mut reader, &mut output);
+        if fails_at > reads {
+            assert_eq!(rt; end, Ok(()));
+            assert_eq!(rt; output.as_slice(), FIRST_REPLIES.as_bytes());
+        } else {
+            assert_eq!(rt; end, Err(ServeFault::Read), "at {fails_at}");
+            assert!(rt; FIRST_REPLIES.as_bytes().starts_with(output.as_slice()), "at {fails_at}");
+        }
+        check_goes_on(&rt, rt.alloc(), &mut world)?;
+    }
+    Ok(())
+}
+
+/// A new run finds what was committed before, and no staged list.
+fn check_goes_on(rt: &impl Abort, alloc: Global, world: &mut PlainWorld<Global>) -> Result<(), AllocError> {
+    let mut output = Vec::new(alloc);
+    let committed = !world.features().is_empty();
+    let end = run_script(alloc, world, &mut "n: HELLO north\nn: COMMIT\nn: SEARCH POINT (3 4)\n".as_bytes(), &mut output);
+    assert_eq!(rt; end, Ok(()));
+    let expected = if committed {
+        "n: hello north\nn: error E7\nn: rows 1\nn: 1 1 north mast POINT (3 4)\n"
+    } else {
+        "n: hello north\nn: error E7\nn: rows 0\n"
+    };
+    assert_eq!(rt; output.as_slice(), expected.as_bytes());
+    Ok(())
+}
+
+#[test]
+fn each_write_fails(rt: HostRuntime) -> Result<(), Fail> {
+    let writes = 6;
+    for fails_at in 1..writes + 2 {
+        let mut world = PlainWorld::open(rt.alloc(), built_in_subjects());
+        let mut writer = FailingWriter {
+            taken: Vec::new(rt.alloc()),
+            fails_at,
+        };
+        let end = run_script(rt.alloc(), &mut world, &mut FIRST_POINT.as_bytes(), &mut writer);
+        assert!(rt; FIRST_REPLIES.as_bytes().starts_with(writer.taken.as_slice()), "at {fails_at}");
+        if fails_at > writes {
+            assert_eq!(rt; end, Ok(()));
+            assert_eq!(rt; writer.taken.len(), FIRST_REPLIES.len());
+        } else {
+            assert_eq!(rt; end, Err(ServeFault::Write), "at {fails_at}");
+        }
+        assert_eq!(rt; world.features().is_empty(), fails_at < 3, "at {fails_at}");
+        check_goes_on(&rt, rt.alloc(), &mut world)?;
+    }
+    Ok(())
+}
+
+#[test]
+fn a_reader_that_never_ends(rt: HostRuntime) {
+    let mut world = PlainWorld::open(rt.alloc(), built_in_subjects());
+    let mut output = Vec::new(rt.alloc());
+    let end = run_script(rt.alloc(), &mut world, &mut Endless, &mut output);
+    assert_eq!(rt; end, Err(ServeFault::TooManyTurns));
+    assert_eq!(rt; output.len(), 0);
+}
+
+/// A line of this length, without its end, that names no command.
+fn push_long_line(script: &mut String, len: usize) -> Result<(), AllocError> {
+    script.push_str("n: ")?;
+    for _ in 3..len {
+        script.push('X')?;
+    }
+    Ok(())
+}
+
+#[test]
+fn long_lines(rt: HostRuntime) -> Result<(), Fail> {
+    for (len, end, expected) in [
+        (65_536, "\nn: BYE\n", "n: error E2\nn: bye\n"),
+        (65_536, "\r\nn: BYE\n", "n: error E2\nn: bye\n"),
+        (65_537, "\nn: BYE\n", "?: error E1\nn: bye\n"),
+        (65_537, "\r\nn: BYE\n", "?: error E1\nn: bye\n"),
+        (65_536, "\r", "?: error E1\n"),
+        (200_000, "", "?: error E1\n"),
+    ] {
+        let mut script = String::new(rt.alloc());
+        push_long_line(&mut script, len)?;
+        script.push_str(end)?;
+        let output = replies(&rt, rt.alloc(), script.as_str())?;
+        assert_eq!(rt; output.as_slice(), expected.as_bytes(), "{len}");
+    }
+    Ok(())
+}
+
+#[test]
+fn each_allocation_refused(rt: HostRuntime) -> Result<(), Fail> {
+    let memory = Refusing::new(rt.alloc(), 0);
+    for at in 1..20 {
+        memory.refuse(at);
+        let mut world = PlainWorld::open(&memory, built_in_subjects());
+        let mut output = Vec::new(rt.alloc());
+        let end = run_script(&memory, &mut world, &mut FIRST_POINT.as_bytes(), &mut output);
+        if !memory.has_refused() {
+            assert_eq!(rt; end, Ok(()));
+            assert_eq!(rt; output.as_slice(), FIRST_REPLIES.as_bytes());
+            assert!(rt; at > 4, "nothing was refused");
+            return Ok(());
+        }
+        match at {
+            // The table of sessions and the held line: nothing is read.
+            1 | 2 => assert_eq!(rt; (end, output.len()), (Err(ServeFault::Memory), 0)),
+            // The staged list.
+            3 => assert_eq!(rt; output.as_slice(), "n: hello north\nn: memory\nn: error E7\nn: rows 0\nn: rows 0\n".as_bytes()),
+            // The feature, whose list stays staged.
+            _ => assert_eq!(rt; output.as_slice(), "n: hello north\nn: staged\nn: memory\nn: rows 0\nn: rows 0\n".as_bytes()),
+        }
+    }
+    assert!(rt; false, "each allocation was refused");
+    Ok(())
+}
