@@ -6,4 +6,6 @@ mod features_tests;
 #[cfg(test)]
 mod node_arena_tests;
 #[cfg(test)]
+mod refusing_tests;
+#[cfg(test)]
 mod wkt_tests;
