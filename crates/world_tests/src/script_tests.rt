@@ -45,6 +45,22 @@ fn worked_scripts(rt: HostRuntime) -> Result<(), Fail> {
     Ok(())
 }
 
+/// A square whose corner a point may touch.
+const SQUARE: &str = "POLYGON ((0 0, 4 0, 4 4, 0 4, 0 0))";
+
+#[test]
+fn shapes_of_every_kind(rt: HostRuntime) -> Result<(), Fail> {
+    let output = replies(&rt, rt.alloc(), format!(in rt.alloc(); "n: HELLO north\nn: SEARCH {SQUARE}\n")?.as_str())?;
+    assert_eq!(rt; output.as_slice(), b"n: hello north\nn: rows 0\n".as_slice());
+    let script = format!(in rt.alloc();
+        "n: HELLO north\nn: ADD 1 mast POINT (4 4)\nn: COMMIT\nn: SEARCH {SQUARE}\nn: ADD 2 road LINESTRING (6 2, -1 3)\nn: ADD 3 road LINESTRING (5 0, 9 9)\nn: ADD 4 parcel polygon((0 0,0 4,4 4,4 2,4 0,0 0))\nn: COMMIT\nn: SEARCH {SQUARE}\nn: SEARCH LINESTRING (5 0, 5 9)\nn: SEARCH POLYGON ((0 0, 1 1, 2 2, 0 0))\nn: SEARCH POLYGON ((0 0, 6 4, -2 4, 4 0, 2 7, 0 0))\n")?;
+    let expected = format!(in rt.alloc();
+        "n: hello north\nn: staged\nn: applied 1\nn: rows 1\nn: 1 1 north mast POINT (4 4)\nn: staged\nn: staged\nn: staged\nn: applied 2\nn: rows 3\nn: 1 1 north mast POINT (4 4)\nn: 2 2 north road LINESTRING (-1 3, 6 2)\nn: 4 2 north parcel {SQUARE}\nn: rows 2\nn: 2 2 north road LINESTRING (-1 3, 6 2)\nn: 3 2 north road LINESTRING (5 0, 9 9)\nn: error P7\nn: error P8\n")?;
+    let output = replies(&rt, rt.alloc(), script.as_str())?;
+    assert_eq!(rt; output.as_slice(), expected.as_bytes());
+    Ok(())
+}
+
 #[test]
 fn lines_and_labels(rt: HostRuntime) -> Result<(), Fail> {
     let cases = [
