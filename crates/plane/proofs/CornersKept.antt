@@ -1,10 +1,10 @@
 -- The corners of a convex ring: what is left of a ring when the points on its straight sides are dropped.
-use Rattle.std.specs.Prelude.{◌≡◌, ℕ, ◌+◌, ◌-◌, ◌<◌, ◌≤◌, Bool, true, false, cond, List, [], ◌∷◌, ◌++◌, All, Contains, length, get_or, slice_index_or, ℤ, pos, ◌≤ℤ◌, ◌<ℤ◌, refl}
-use Rattle.std.proofs.Common.{arith, suc, ap, sym, ◌∙◌, subst}
-use Rattle.std.proofs.lemmas.Bool.{false≢true, true≢false}
-use Rattle.std.proofs.lemmas.Int.{ints, by_lt_z}
+use Rattle.std.specs.Prelude.{◌≡◌, ◌-◌, Bool, true, false, cond, List, [], ◌∷◌, All, Contains, length, get_or, slice_index_or, ℤ, pos, ◌≤ℤ◌, ◌<ℤ◌, refl}
+use Rattle.std.proofs.Common.{arith, suc, ap, sym, ◌∙◌}
+use Rattle.std.proofs.lemmas.Bool.{false≢true}
+use Rattle.std.proofs.lemmas.Int.{ints}
 use Rattle.std.proofs.lemmas.List.Elements.{All-nil, All-cons, All-head, All-tail, All-weaker, All-contains, All-contains_itself}
-use Rattle.plane.specs.Convex.{Differ, AreOnOrLeft}
+use Rattle.plane.specs.Convex.{AreOnOrLeft}
 use Rattle.plane.specs.Points.{origin}
 use Rattle.plane.specs.Rings.{turn, sides_to, is_on_line, turning, last_of}
 use Rattle.plane.proofs.RingTests.{decides_line}
@@ -111,7 +111,7 @@ corner_step : (points : List Point) (c m p q z last_point end : Point) (corners 
     → AreCorners points p q last_point end corners → AreCorners points c p last_point end (p ∷ corners)
 corner_step points c m p q z last_point end corners way apart left after = record {
   sides = All-cons (λ side. All (λ r. pos 0 ≤ℤ turn side.0 side.1 r) points) (c, p) (sides_to end (p ∷ corners))
-    (All-weaker (λ r. pos 0 ≤ℤ turn m p r) (λ r. pos 0 ≤ℤ turn c p r) way.keeps_left points left) after.sides;
+      (All-weaker (λ r. pos 0 ≤ℤ turn m p r) (λ r. pos 0 ≤ℤ turn c p r) way.keeps_left points left) after.sides;
   turns = (λ e. apart (way.on_line q (turn-cycle c p q ∙ after.forward c (sym (turn-cycle c p (next corners end)) ∙ e))), after.turns);
   forward = λ r h. h;
   closing = after.closing;
@@ -124,24 +124,28 @@ pub corners_after : (points : List Point) (end c m z : Point) (rest : List Point
     → AreCorners points c (next rest end) (last m rest) end (turning m end rest)
 corners_after points end c m z [] way differ left among end_among = record {
   sides = All-cons (λ side. All (λ r. pos 0 ≤ℤ turn side.0 side.1 r) points) (c, end) []
-    (All-weaker (λ r. pos 0 ≤ℤ turn m end r) (λ r. pos 0 ≤ℤ turn c end r) way.keeps_left points (All-head (λ side. All (λ r. pos 0 ≤ℤ turn side.0 side.1 r) points) (m, end) [] left)) (All-nil _);
+      (All-weaker (λ r. pos 0 ≤ℤ turn m end r) (λ r. pos 0 ≤ℤ turn c end r) way.keeps_left points (All-head (λ side. All (λ r. pos 0 ≤ℤ turn side.0 side.1 r) points) (m, end) [] left)) (All-nil _);
   turns = tt;
   forward = λ r h. h;
   closing = way.on_line;
 }
 corners_after points end c m z (p ∷ rest) way differ left among end_among =
     go (is_on_line (m, p) (next rest end)) refl
-      (λ way. corners_after points end c p z rest way differ.1 others (λ P all. All-tail P m (p ∷ rest) (among P all)) end_among)
-      (λ way. corners_after points end p p m rest way differ.1 others (λ P all. All-tail P m (p ∷ rest) (among P all)) end_among)
+    (λ way. corners_after points end c p z rest way differ.1 others (λ P all. All-tail P m (p ∷ rest) (among P all)) end_among)
+    (λ way. corners_after points end p p m rest way differ.1 others (λ P all. All-tail P m (p ∷ rest) (among P all)) end_among)
   where
     here : All (λ r. pos 0 ≤ℤ turn m p r) points
     here = All-head (λ side. All (λ r. pos 0 ≤ℤ turn side.0 side.1 r) points) (m, p) (sides_to end (p ∷ rest)) left
+
     others : AreOnOrLeft (sides_to end (p ∷ rest)) points
     others = All-tail (λ side. All (λ r. pos 0 ≤ℤ turn side.0 side.1 r) points) (m, p) (sides_to end (p ∷ rest)) left
+
     there : All (λ r. pos 0 ≤ℤ turn p (next rest end) r) points
     there = All-head (λ side. All (λ r. pos 0 ≤ℤ turn side.0 side.1 r) points) (p, next rest end) (sides_to end rest) others
+
     next_is : (P : Point → Type 0) → All P points → P (next rest end)
     next_is = next_among points rest end (λ P all. All-tail P p rest (All-tail P m (p ∷ rest) (among P all))) end_among
+
     go : (v : Bool) → is_on_line (m, p) (next rest end) ≡ v
         → (IsUnderWay points c p (next rest end) z → AreCorners points c (next rest end) (last p rest) end (turning p end rest))
         → (IsUnderWay points p p (next rest end) m → AreCorners points p (next rest end) (last p rest) end (turning p end rest))
@@ -151,7 +155,7 @@ corners_after points end c m z (p ∷ rest) way differ left among end_among =
         straight_step points c p (next rest end) z (last p rest) end (turning p end rest) way_on (straight (further points c p (next rest end) z way_on way.among))
     go false e straight corner =
         corner_step points c m p (next rest end) z (last p rest) end (turning p end rest) way apart here
-          (corner (at_once points p (next rest end) m (left_of_way m p (next rest end) (next_is (λ r. pos 0 ≤ℤ turn m p r) here) apart) (All-head (Contains points) m (p ∷ rest) (among (Contains points) (All-contains_itself points)))))
+        (corner (at_once points p (next rest end) m (left_of_way m p (next rest end) (next_is (λ r. pos 0 ≤ℤ turn m p r) here) apart) (All-head (Contains points) m (p ∷ rest) (among (Contains points) (All-contains_itself points)))))
       where
         apart : turn m p (next rest end) ≡ pos 0 → ⊥
         apart flat = false≢true (sym e ∙ (decides_line (m, p) (next rest end)).1 flat)

@@ -1,7 +1,7 @@
 -- Frames: the least one of two, and the numbers of 32 bits that the code keeps.
-use Rattle.std.specs.Prelude.{◌≡◌, ℕ, ◌+◌, ◌<◌, ◌≤◌, List, [], ◌∷◌, length, drop, get_or, ℤ, pos, ◌-ℤ◌, ◌≤ℤ◌, refl, FitsSigned}
+use Rattle.std.specs.Prelude.{◌≡◌, ℕ, ◌+◌, ◌<◌, ◌≤◌, List, [], ◌∷◌, length, drop, get_or, ℤ, ◌≤ℤ◌, refl, FitsSigned}
 use Rattle.std.specs.Int.{int_min, int_max}
-use Rattle.std.proofs.Common.{arith, sym, ap, ◌∙◌, add-one, drop-cons, suc, to_z, of_z}
+use Rattle.std.proofs.Common.{arith, sym, ap, ◌∙◌, add-one, drop-cons, to_z, of_z}
 use Rattle.plane.specs.declared.point.Point.{Point}
 use Rattle.std.proofs.lemmas.List.{drop_all}
 use Rattle.std.proofs.lemmas.Int.{ints, clamps, to_z-of_z}
@@ -73,6 +73,7 @@ joined_itself e = same_extent _ _ _ _ _ _ _ _ (min_itself e.x0) (min_itself e.y0
   where
     min_itself : (a : ℤ) → int_min a a ≡ a
     min_itself a = omega (arith, ints, clamps)
+
     max_itself : (a : ℤ) → int_max a a ≡ a
     max_itself a = omega (arith, ints, clamps)
 

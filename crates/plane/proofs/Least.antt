@@ -1,22 +1,22 @@
 -- The least point of a ring, and why the ring turns there.
-use Rattle.std.specs.Prelude.{◌≡◌, ℕ, ◌+◌, ◌<◌, ◌≤◌, ◌⊎◌, Bool, true, false, not, ◌&&◌, ◌||◌, cond, List, [], ◌∷◌, ◌++◌, All, Contains, Decides, length, take, drop, get_or, slice_index_or, ℤ, pos, ◌+ℤ◌, ◌-ℤ◌, ◌*ℤ◌, ◌≤ℤ◌, ◌<ℤ◌, int_lt, neg_ℤ, refl}
-use Rattle.std.specs.List.{list_all, position_or_len}
+use Rattle.std.specs.Prelude.{◌≡◌, ◌+◌, ◌<◌, ◌≤◌, ◌⊎◌, true, false, not, List, [], ◌∷◌, ◌++◌, All, Contains, Decides, length, take, drop, get_or, ℤ, pos, ◌+ℤ◌, ◌-ℤ◌, ◌*ℤ◌, ◌≤ℤ◌, ◌<ℤ◌, int_lt, neg_ℤ, refl}
+use Rattle.std.specs.List.{position_or_len}
 use Rattle.std.specs.Ordering.{int_eq}
 use Rattle.std.proofs.Common.{arith, suc, ap, sym, ◌∙◌, subst, inl, inr, ⊎_elim, add-one, drop-cons, take-append-drop}
-use Rattle.std.proofs.lemmas.Bool.{false≢true, true≢false, or_from, or_right, and_from, and_left, and_right, not_from_false, not-true, false_from_ne_true, cases_lt}
+use Rattle.std.proofs.lemmas.Bool.{true≢false, or_from, or_right, and_from, and_left, and_right, not_from_false, not-true, false_from_ne_true, cases_lt}
 use Rattle.std.proofs.lemmas.Bool.Decides.{Decides-int_eq}
 use Rattle.plane.proofs.Rotations.{All-swap}
-use Rattle.std.proofs.lemmas.Int.{ints, by_lt_z}
-use Rattle.std.proofs.lemmas.List.Elements.{All-nil, All-cons, All-head, All-tail, All-weaker, All-contains, Contains-get_or}
+use Rattle.std.proofs.lemmas.Int.{ints}
+use Rattle.std.proofs.lemmas.List.Elements.{All-nil, All-cons, All-weaker}
 use Rattle.std.proofs.lemmas.List.Sums.{fails_before_first, passes_at_first}
-use Rattle.plane.specs.Convex.{AreOnOneLine, AreOnOrLeft, IsConvexRing}
+use Rattle.plane.specs.Convex.{AreOnOneLine}
 use Rattle.plane.specs.Points.{is_before, origin}
 use Rattle.plane.specs.Rings.{turn, is_least, from_least}
 use Rattle.plane.proofs.RingTests.{decides_all}
 use Rattle.plane.proofs.Orders.{le_refl, product_positive, product_not_negative}
-use Rattle.std.proofs.Math.IntN.{*ℤ_comm, *ℤ-zero, zero-*ℤ}
-use Rattle.plane.proofs.Sums.{parts, diff, diff-mul, diff-sub, diff-add, neg-diff, same-diff}
-use Rattle.plane.proofs.Turns.{order_cases, from_middle, off_line, on_one_line, same_point, no_zero_product}
+use Rattle.std.proofs.Math.IntN.{*ℤ-zero, zero-*ℤ}
+use Rattle.plane.proofs.Sums.{parts, diff-mul, diff-sub, diff-add, neg-diff, same-diff}
+use Rattle.plane.proofs.Turns.{order_cases, from_middle, on_one_line, same_point, no_zero_product}
 use Rattle.plane.specs.declared.point.Point.{Point}
 
 -- p is q, or has the lesser x, or at the same x the lesser y
@@ -38,13 +38,14 @@ pub one_precedes : (p q : Point) → Precedes p q ⊎ Precedes q p
 unfolding Precedes
 one_precedes p q =
     order_cases p.x q.x _
-        (λ le. order_cases q.x p.x _
-            (λ ge. order_cases p.y q.y _ (λ below. inl (inr (even _ _ le ge, below))) (λ above. inr (inr (even _ _ ge le, weak_lt _ _ above))))
-            (λ less. inl (inl less)))
-        (λ more. inr (inl more))
+    (λ le. order_cases q.x p.x _
+    (λ ge. order_cases p.y q.y _ (λ below. inl (inr (even _ _ le ge, below))) (λ above. inr (inr (even _ _ ge le, weak_lt _ _ above))))
+    (λ less. inl (inl less)))
+    (λ more. inr (inl more))
   where
     even : (a b : ℤ) → a ≤ℤ b → b ≤ℤ a → a ≡ b
     even a b h k = omega (arith, ints)
+
     weak_lt : (a b : ℤ) → a <ℤ b → a ≤ℤ b
     weak_lt a b h = omega (arith, ints)
 
@@ -85,10 +86,10 @@ pub precedes_if : (p q : Point) → is_before q p ≡ false → Precedes p q
 unfolding Precedes
 precedes_if p q e =
     order_cases p.x q.x _
-        (λ le. order_cases q.x p.x _
-            (λ ge. order_cases p.y q.y _ (λ below. inr (even _ _ le ge, below)) (λ above. absurd (true≢false (sym (before_below p q (even _ _ ge le) above) ∙ e))))
-            (λ less. inl less))
-        (λ more. absurd (true≢false (sym (before_left p q more) ∙ e)))
+    (λ le. order_cases q.x p.x _
+    (λ ge. order_cases p.y q.y _ (λ below. inr (even _ _ le ge, below)) (λ above. absurd (true≢false (sym (before_below p q (even _ _ ge le) above) ∙ e))))
+    (λ less. inl less))
+    (λ more. absurd (true≢false (sym (before_left p q more) ∙ e)))
 
 -- ---- the least point of a list
 
@@ -108,6 +109,7 @@ has_least p (q ∷ rest) = go (has_least q rest)
   where
     later : (points : List Point) (m : Point) → Contains points m → Contains (p ∷ points) m
     later points m (k, in', e) = (suc k, omega arith, e)
+
     go : HasLeast (q ∷ rest) → HasLeast (p ∷ q ∷ rest)
     go found = ⊎_elim
         (λ first. record {
@@ -129,10 +131,11 @@ least_place (p ∷ rest) h =
     let ring = p ∷ rest in
     let found = has_least p rest in
     ⊎_elim (λ in'. in') (λ past. absurd (true≢false (sym (passes found) ∙ fails found past)))
-      (cases_lt (position_or_len (is_least (p ∷ rest)) (p ∷ rest)) (length (p ∷ rest)))
+    (cases_lt (position_or_len (is_least (p ∷ rest)) (p ∷ rest)) (length (p ∷ rest)))
   where
     passes : (found : HasLeast (p ∷ rest)) → is_least (p ∷ rest) (get_or (p ∷ rest) found.among.0 found.least) ≡ true
     passes found = ap (is_least (p ∷ rest)) found.among.2 ∙ ((decides_least (p ∷ rest) found.least).1 found.precedes)
+
     fails : (found : HasLeast (p ∷ rest)) → length (p ∷ rest) ≤ position_or_len (is_least (p ∷ rest)) (p ∷ rest) → is_least (p ∷ rest) (get_or (p ∷ rest) found.among.0 found.least) ≡ false
     fails found past = fails_before_first (is_least (p ∷ rest)) (p ∷ rest) found.among.0 found.least (omega (arith, found.among.1))
 
@@ -153,7 +156,7 @@ from_least-starts ring h =
       rest = drop (at + 1) ring ++ take at ring;
       ring_is = ap (λ part. part ++ take at ring) left;
       precedes = All-swap (λ q. Precedes (get_or ring at origin) q) (take at ring) (drop at ring)
-        (subst (λ points. All (λ q. Precedes (get_or ring at origin) q) points) (sym (take-append-drop at ring))
+          (subst (λ points. All (λ q. Precedes (get_or ring at origin) q) points) (sym (take-append-drop at ring))
           ((decides_least ring (get_or ring at origin)).0 (passes_at_first (is_least ring) ring origin in')));
     }
 
@@ -166,12 +169,16 @@ least_numbers ux uy vx vy d e u v d_above e_above same_x same_y = order_cases e 
   where
     mul-neg : (a b : ℤ) → a *ℤ neg_ℤ b ≡ neg_ℤ (a *ℤ b)
     mul-neg a b = rw (parts a, parts b) (simp (diff-mul, neg-diff) (same-diff _ _ _ _ (omega arith)))
+
     product_negative : (a b : ℤ) → pos 0 <ℤ a → b <ℤ pos 0 → (a *ℤ b) <ℤ pos 0
     product_negative a b h k = let up : pos 0 <ℤ (a *ℤ neg_ℤ b) = product_positive a (neg_ℤ b) h (omega (arith, ints)) in omega (arith, ints, mul-neg a b)
+
     clash : (a b : ℤ) → a ≡ b → a <ℤ pos 0 → pos 0 ≤ℤ b → ⊥
     clash a b e h k = omega (arith, ints)
+
     positive : (a : ℤ) → pos 0 <ℤ a → a ≡ pos 0 → ⊥
     positive a h e = omega (arith, ints)
+
     no : pos 0 <ℤ e → (ux <ℤ pos 0) ⊎ ((ux ≡ pos 0) × (uy <ℤ pos 0)) → (pos 0 <ℤ vx) ⊎ ((vx ≡ pos 0) × (pos 0 ≤ℤ vy)) → ⊥
     no above (inl left) (inl right) = clash _ _ same_x (product_negative e ux above left) (product_not_negative d vx d_above (weak_lt _ _ right))
     no above (inl left) (inr up) = clash _ _ same_x (product_negative e ux above left) (rw (up.0, *ℤ-zero d) (le_refl (pos 0)))
@@ -198,20 +205,25 @@ unfolding Precedes
 nothing_left a p b r before differ after flat d_above e_above =
     let middle_flat : (p.x -ℤ a.x) *ℤ (b.y -ℤ p.y) -ℤ (p.y -ℤ a.y) *ℤ (b.x -ℤ p.x) ≡ pos 0 = sym (from_middle a p b) ∙ flat in
     least_numbers (p.x -ℤ a.x) (p.y -ℤ a.y) (b.x -ℤ p.x) (b.y -ℤ p.y) (turn a p r) (turn p b r) (lexical before) (ahead after) d_above e_above
-        (dropped _ _ _ _ (straight_x (p.x -ℤ a.x) (p.y -ℤ a.y) (b.x -ℤ p.x) (b.y -ℤ p.y) (r.x -ℤ p.x) (r.y -ℤ p.y)) middle_flat ∙ ap (λ z. z *ℤ (b.x -ℤ p.x)) (sym (from_middle a p r)))
-        (dropped _ _ _ _ (straight_y (p.x -ℤ a.x) (p.y -ℤ a.y) (b.x -ℤ p.x) (b.y -ℤ p.y) (r.x -ℤ p.x) (r.y -ℤ p.y)) middle_flat ∙ ap (λ z. z *ℤ (b.y -ℤ p.y)) (sym (from_middle a p r)))
+    (dropped _ _ _ _ (straight_x (p.x -ℤ a.x) (p.y -ℤ a.y) (b.x -ℤ p.x) (b.y -ℤ p.y) (r.x -ℤ p.x) (r.y -ℤ p.y)) middle_flat ∙ ap (λ z. z *ℤ (b.x -ℤ p.x)) (sym (from_middle a p r)))
+    (dropped _ _ _ _ (straight_y (p.x -ℤ a.x) (p.y -ℤ a.y) (b.x -ℤ p.x) (b.y -ℤ p.y) (r.x -ℤ p.x) (r.y -ℤ p.y)) middle_flat ∙ ap (λ z. z *ℤ (b.y -ℤ p.y)) (sym (from_middle a p r)))
   where
     less : (x y : ℤ) → x <ℤ y → (x -ℤ y) <ℤ pos 0
     less x y h = omega (arith, ints)
+
     none : (x y : ℤ) → x ≡ y → x -ℤ y ≡ pos 0
     none x y e = omega (arith, ints)
+
     more : (x y : ℤ) → x <ℤ y → pos 0 <ℤ (y -ℤ x)
     more x y h = omega (arith, ints)
+
     some : (x y : ℤ) → x ≤ℤ y → pos 0 ≤ℤ (y -ℤ x)
     some x y h = omega (arith, ints)
+
     lexical : (p.x <ℤ a.x) ⊎ ((p.x ≡ a.x) × (p.y ≤ℤ a.y)) → ((p.x -ℤ a.x) <ℤ pos 0) ⊎ ((p.x -ℤ a.x ≡ pos 0) × ((p.y -ℤ a.y) <ℤ pos 0))
     lexical (inl h) = inl (less _ _ h)
     lexical (inr h) = inr (none _ _ h.0, order_cases a.y p.y _ (λ le. absurd (differ (same_point p a h.0 (even _ _ h.1 le)))) (λ lt. less _ _ lt))
+
     ahead : (p.x <ℤ b.x) ⊎ ((p.x ≡ b.x) × (p.y ≤ℤ b.y)) → (pos 0 <ℤ (b.x -ℤ p.x)) ⊎ ((b.x -ℤ p.x ≡ pos 0) × (pos 0 ≤ℤ (b.y -ℤ p.y)))
     ahead (inl h) = inl (more _ _ h)
     ahead (inr h) = inr (none _ _ (sym h.0), some _ _ h.1)

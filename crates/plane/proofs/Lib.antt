@@ -1,4 +1,5 @@
 pub mod CornersKept
+pub mod Covering
 pub mod Frames
 pub mod Least
 pub mod Narrowing

@@ -4,7 +4,7 @@ use Rattle.std.proofs.Common.{lit<, arith, get_or, take, sym, take_all, subst, �
 use Rattle.std.proofs.lemmas.List.Elements.{All-nil, All-more, All-same}
 use Rattle.std.proofs.lemmas.Int.{ints, by_lt_z}
 use Rattle.plane.specs.Bounds.{IsSmallRow, IsHeight}
-use Rattle.plane.specs.Elimination.{Holds, HoldsIn, Allows, Narrows, IsNowhere, PairAllows, RowAllows, CrossesBoth, CrossesAll, HasFrame, reach, IsCloser, IsBest}
+use Rattle.plane.specs.Elimination.{Holds, HoldsIn, Allows, Narrows, IsNowhere, PairAllows, RowAllows, CrossesBoth, CrossesAll, reach, IsCloser, IsBest}
 use Rattle.plane.specs.Rows.{Satisfies}
 use Rattle.std.proofs.Math.IntN.{zero-*ℤ}
 use Rattle.plane.proofs.Orders.{removed, neg-mul-neg, closer_trans, below_right, above_left, on_level}
@@ -17,14 +17,28 @@ use Rattle.plane.specs.declared.rows.Row.{Row}
 
 pub cross_b : (first second : Row) → IsSmallRow first → IsSmallRow second → IsCross first.a second.b second.a first.b 20000000 20000000 20000000 20000000
 cross_b first second h k = record {
-  a_size = h.a_small; b_size = k.b_small; c_size = k.a_small; d_size = h.b_small;
-  m_fits = lit< tt; n_fits = lit< tt; k_fits = lit< tt; l_fits = lit< tt; fits = lit< tt;
+  a_size = h.a_small;
+  b_size = k.b_small;
+  c_size = k.a_small;
+  d_size = h.b_small;
+  m_fits = lit< tt;
+  n_fits = lit< tt;
+  k_fits = lit< tt;
+  l_fits = lit< tt;
+  fits = lit< tt;
 }
 
 pub cross_c : (first second : Row) → IsSmallRow first → IsSmallRow second → IsCross first.a second.c second.a first.c 20000000 400000000000000 20000000 400000000000000
 cross_c first second h k = record {
-  a_size = h.a_small; b_size = k.c_small; c_size = k.a_small; d_size = h.c_small;
-  m_fits = lit< tt; n_fits = lit< tt; k_fits = lit< tt; l_fits = lit< tt; fits = lit< tt;
+  a_size = h.a_small;
+  b_size = k.c_small;
+  c_size = k.a_small;
+  d_size = h.c_small;
+  m_fits = lit< tt;
+  n_fits = lit< tt;
+  k_fits = lit< tt;
+  l_fits = lit< tt;
+  fits = lit< tt;
 }
 
 -- what a pair of rows leaves when x is removed, as a level
@@ -85,8 +99,15 @@ paired_all rows row i old new end far = record {
 
 pub cross_reach : (row : Row) (y w : ℤ) → IsSmallRow row → IsHeight y w → IsCross row.c w row.b y 400000000000000 800000000000000 20000000 16000000000000000000000
 cross_reach row y w h k = record {
-  a_size = h.c_small; b_size = k.w_small; c_size = h.b_small; d_size = k.y_small;
-  m_fits = lit< tt; n_fits = lit< tt; k_fits = lit< tt; l_fits = lit< tt; fits = lit< tt;
+  a_size = h.c_small;
+  b_size = k.w_small;
+  c_size = h.b_small;
+  d_size = k.y_small;
+  m_fits = lit< tt;
+  n_fits = lit< tt;
+  k_fits = lit< tt;
+  l_fits = lit< tt;
+  fits = lit< tt;
 }
 
 -- a row without x, as a level
@@ -135,6 +156,7 @@ left_narrows rows row gap left = record {
   where
     not_flat : (a : ℤ) → a <ℤ pos 0 → a ≡ pos 0 → ⊥
     not_flat a h e = omega (arith, ints)
+
     not_both : (a : ℤ) → a <ℤ pos 0 → pos 0 <ℤ a → ⊥
     not_both a h k = omega (arith, ints)
 
@@ -191,12 +213,13 @@ best_more rows y w i d best new in' small allowed far step = record {
   right = one_is (λ row. pos 0 <ℤ row.a) far.right (λ right. right);
   allows = one_is (λ row. RowAllows rows row y w) far.allows (λ _. allowed i d in');
   closest = All-more (λ row. pos 0 <ℤ row.a → IsCloser new row y w) rows i d in'
-    (λ k e within row_right. closer_trans _ new.a _ best.a _ _ (weak new.a (one_is (λ row. pos 0 <ℤ row.a) far.right (λ right. right))) far.right (weak _ row_right) step.below_best (far.closest k e within row_right))
-    step.below_row;
+      (λ k e within row_right. closer_trans _ new.a _ best.a _ _ (weak new.a (one_is (λ row. pos 0 <ℤ row.a) far.right (λ right. right))) far.right (weak _ row_right) step.below_best (far.closest k e within row_right))
+      step.below_row;
 }
   where
     weak : (a : ℤ) → pos 0 <ℤ a → pos 0 ≤ℤ a
     weak a h = omega (arith, ints)
+
     one_is : (P : Row → Type 0) → P best → (pos 0 <ℤ (get_or rows i d).a → P (get_or rows i d)) → P new
     one_is P old other = ⊎_elim (λ e. subst P (sym e) old) (λ e. subst P (sym e.0) (other e.1)) step.one_of
 
@@ -205,14 +228,16 @@ pub satisfied : (rows : List Row) (best row : Row) (x y w : ℤ) → x ≡ reach
     → PairAllows best row y w → Satisfies x (y *ℤ best.a) (w *ℤ best.a) row
 satisfied rows best row x y w e right closest allows paired =
     rw e (by_sign row.a (Satisfies (reach best y w) (y *ℤ best.a) (w *ℤ best.a) row)
-        (λ above. below_right (reach best y w) best.a row.b row.c y w row.a (closest above))
-        (λ below. above_left best.a best.b best.c row.a row.b row.c y w (paired below))
-        (λ flat. rw flat (on_level (reach best y w) best.a row.b row.c y w (weak best.a right) (allows.flat flat))))
+    (λ above. below_right (reach best y w) best.a row.b row.c y w row.a (closest above))
+    (λ below. above_left best.a best.b best.c row.a row.b row.c y w (paired below))
+    (λ flat. rw flat (on_level (reach best y w) best.a row.b row.c y w (weak best.a right) (allows.flat flat))))
   where
     weak : (a : ℤ) → pos 0 <ℤ a → pos 0 ≤ℤ a
     weak a h = omega (arith, ints)
+
     flat_if : (a : ℤ) → a ≤ℤ pos 0 → pos 0 ≤ℤ a → a ≡ pos 0
     flat_if a h k = omega (arith, ints)
+
     by_sign : (a : ℤ) (P : Type 0) → (pos 0 <ℤ a → P) → (a <ℤ pos 0 → P) → (a ≡ pos 0 → P) → P
     by_sign a P f g h = by_lt_z (pos 0) a f (λ low. by_lt_z a (pos 0) g (λ high. h (flat_if a low high)))
 

@@ -1,11 +1,11 @@
 -- Products and the order of whole numbers.
-use Rattle.std.specs.Prelude.{◌≡◌, ℕ, ◌+◌, ◌*◌, ◌≤◌, ◌<◌, ℤ, pos, negsuc, ◌+ℤ◌, ◌-ℤ◌, ◌*ℤ◌, neg_ℤ, ◌≤ℤ◌, ◌<ℤ◌, unsigned_abs, refl, IsTrue, false}
-use Rattle.std.proofs.Common.{arith, suc, zero, sym, ◌∙◌, ap}
+use Rattle.std.specs.Prelude.{◌≡◌, ℕ, ◌+◌, ◌*◌, ◌≤◌, ℤ, pos, negsuc, ◌+ℤ◌, ◌-ℤ◌, ◌*ℤ◌, neg_ℤ, ◌≤ℤ◌, ◌<ℤ◌, unsigned_abs, IsTrue, false}
+use Rattle.std.proofs.Common.{arith, suc, zero}
 use Rattle.std.proofs.lemmas.Int.{ints, unsigned_abs-mul, by_lt_z}
 use Rattle.std.proofs.lemmas.Nat.{mul-le}
 use Rattle.std.proofs.lemmas.Bool.{false≢true}
 use Rattle.std.proofs.Math.IntN.{*ℤ_comm, zero-*ℤ}
-use Rattle.plane.proofs.Sums.{parts, diff, diff-mul, diff-sub, diff-add, neg-diff, same-diff}
+use Rattle.plane.proofs.Sums.{parts, diff-mul, diff-sub, diff-add, neg-diff, same-diff}
 
 -- a product of two numbers that are not negative is not
 pub product_not_negative : (a b : ℤ) → pos 0 ≤ℤ a → pos 0 ≤ℤ b → pos 0 ≤ℤ (a *ℤ b)
@@ -47,7 +47,7 @@ order_cases a b P f g = by_lt_z b a g f
 pub cancelled : (k a b : ℤ) → pos 0 <ℤ k → (k *ℤ a) ≤ℤ (k *ℤ b) → a ≤ℤ b
 cancelled k a b h e = order_cases a b (a ≤ℤ b) (λ le. le)
     (λ gt. let above : pos 0 <ℤ (k *ℤ (a -ℤ b)) = product_positive k (a -ℤ b) h (omega (arith, ints)) in
-        absurd (omega (arith, ints, mul-sub k b a)))
+    absurd (omega (arith, ints, mul-sub k b a)))
 
 -- the size of a product
 pub size-mul : (a b : ℤ) (m n : ℕ) → unsigned_abs a ≤ m → unsigned_abs b ≤ n → unsigned_abs (a *ℤ b) ≤ m * n
@@ -118,7 +118,7 @@ closer_trans r a s b t d a_above b_above d_above first second =
 pub below_right : (x a e f y w : ℤ) → (d : ℤ) → (x *ℤ d) ≤ℤ ((f *ℤ w -ℤ e *ℤ y) *ℤ a) → (d *ℤ x +ℤ e *ℤ (y *ℤ a)) ≤ℤ (f *ℤ (w *ℤ a))
 below_right x a e f y w d h =
     let one : (f *ℤ w -ℤ e *ℤ y) *ℤ a ≡ f *ℤ (w *ℤ a) -ℤ e *ℤ (y *ℤ a) =
-        rw (parts a, parts e, parts f, parts y, parts w) (simp (diff-mul, diff-sub) (same-diff _ _ _ _ (omega arith))) in
+    rw (parts a, parts e, parts f, parts y, parts w) (simp (diff-mul, diff-sub) (same-diff _ _ _ _ (omega arith))) in
     let held : (d *ℤ x) ≤ℤ (f *ℤ (w *ℤ a) -ℤ e *ℤ (y *ℤ a)) = rw (*ℤ_comm d x, ← one) h in
     moved _ _ _ held
   where
@@ -136,9 +136,9 @@ on_level x a e f y w above h =
 pub above_left : (a b c d e f y w : ℤ) → ((a *ℤ e -ℤ d *ℤ b) *ℤ y) ≤ℤ ((a *ℤ f -ℤ d *ℤ c) *ℤ w) → (d *ℤ (c *ℤ w -ℤ b *ℤ y) +ℤ e *ℤ (y *ℤ a)) ≤ℤ (f *ℤ (w *ℤ a))
 above_left a b c d e f y w h =
     let one : (a *ℤ e -ℤ d *ℤ b) *ℤ y ≡ e *ℤ (y *ℤ a) -ℤ d *ℤ (b *ℤ y) =
-        rw (parts a, parts b, parts d, parts e, parts y) (simp (diff-mul, diff-sub) (same-diff _ _ _ _ (omega arith))) in
+    rw (parts a, parts b, parts d, parts e, parts y) (simp (diff-mul, diff-sub) (same-diff _ _ _ _ (omega arith))) in
     let two : (a *ℤ f -ℤ d *ℤ c) *ℤ w ≡ f *ℤ (w *ℤ a) -ℤ d *ℤ (c *ℤ w) =
-        rw (parts a, parts c, parts d, parts f, parts w) (simp (diff-mul, diff-sub) (same-diff _ _ _ _ (omega arith))) in
+    rw (parts a, parts c, parts d, parts f, parts w) (simp (diff-mul, diff-sub) (same-diff _ _ _ _ (omega arith))) in
     let held : (e *ℤ (y *ℤ a) -ℤ d *ℤ (b *ℤ y)) ≤ℤ (f *ℤ (w *ℤ a) -ℤ d *ℤ (c *ℤ w)) = rw (← one, ← two) h in
     rw (mul-sub d (b *ℤ y) (c *ℤ w)) (moved _ _ _ _ held)
   where

@@ -1,8 +1,8 @@
 -- What the tests of points and rings say.
-use Rattle.std.specs.Prelude.{◌≡◌, ℕ, ◌+◌, ◌<◌, ◌≤◌, ◌⊎◌, Contains, Decides, cond, slice_index_or, Bool, true, false, not, ◌&&◌, ◌||◌, List, [], ◌∷◌, ◌++◌, All, length, ℤ, pos, ◌≤ℤ◌, ◌<ℤ◌, int_le, int_lt, refl}
+use Rattle.std.specs.Prelude.{◌≡◌, ◌≤◌, Contains, Decides, cond, slice_index_or, Bool, true, false, List, [], ◌∷◌, All, length, ℤ, pos, ◌≤ℤ◌, int_le, refl}
 use Rattle.std.specs.List.{list_all, list_any}
 use Rattle.std.specs.Ordering.{int_eq}
-use Rattle.std.proofs.Common.{arith, ap, sym, ◌∙◌, subst, inl, inr}
+use Rattle.std.proofs.Common.{arith, ap, sym, ◌∙◌}
 use Rattle.std.proofs.lemmas.Bool.{and_parts, and_from, or_parts, or_from, true≢false, false≢true, false_from_ne_true}
 use Rattle.std.proofs.lemmas.Bool.Decides.{Decides-by_and}
 use Rattle.plane.proofs.Turns.{same_point}
@@ -10,8 +10,8 @@ use Rattle.std.proofs.lemmas.Int.{ints}
 use Rattle.std.proofs.lemmas.List.Elements.{All-nil, All-cons, All-head, All-tail, All-weaker, All-contains, All-contains_itself}
 use Rattle.plane.specs.Convex.{Differ, AreOnOneLine, AreOnOrLeft, IsConvexRing}
 use Rattle.plane.specs.Coordinates.{IsCoordinate, is_coordinate}
-use Rattle.plane.specs.Points.{IsInRange, is_in_range, is_same, is_before}
-use Rattle.plane.specs.Rings.{turn, sides, sides_to, first_of, is_on_or_left, is_on_line, goes_left, is_flat, has_repeat, is_least}
+use Rattle.plane.specs.Points.{IsInRange, is_in_range, is_same}
+use Rattle.plane.specs.Rings.{turn, sides, sides_to, is_on_or_left, is_on_line, goes_left, is_flat, has_repeat}
 use Rattle.plane.specs.declared.point.Point.{Point}
 
 int_le-true : (a b : ℤ) → int_le a b ≡ true → a ≤ℤ b
@@ -34,12 +34,14 @@ decides_le : (a b : ℤ) → Decides (int_le a b) (a ≤ℤ b)
 decides_le a b = (int_le-true a b, le-int_le a b)
 
 pub decides_in_range : (p : Point) → Decides (is_in_range p) (IsInRange p)
-decides_in_range p =
-    (λ e. let both = and_parts _ _ e in record { x_in_range = coordinate _ both.0; y_in_range = coordinate _ both.1 },
-     λ h. and_from _ _ (test _ h.x_in_range) (test _ h.y_in_range))
+decides_in_range p = (
+  λ e. let both = and_parts _ _ e in record { x_in_range = coordinate _ both.0; y_in_range = coordinate _ both.1 },
+  λ h. and_from _ _ (test _ h.x_in_range) (test _ h.y_in_range),
+)
   where
     coordinate : (z : ℤ) → is_coordinate z ≡ true → IsCoordinate z
     coordinate z e = let both = and_parts _ _ e in record { low = int_le-true _ _ both.0; high = int_le-true _ _ both.1 }
+
     test : (z : ℤ) → IsCoordinate z → is_coordinate z ≡ true
     test z h = and_from _ _ (le-int_le _ _ h.low) (le-int_le _ _ h.high)
 
@@ -50,14 +52,15 @@ pub decides_line : (side : Point × Point) (r : Point) → Decides (is_on_line s
 decides_line side r = (int_eq-true _ _, eq-int_eq _ _)
 
 pub decides_same : (p q : Point) → Decides (is_same p q) (p ≡ q)
-decides_same p q =
-    (λ e. let both = and_parts _ _ e in same_point p q (int_eq-true _ _ both.0) (int_eq-true _ _ both.1),
-     λ e. and_from _ _ (eq-int_eq _ _ (ap (λ r. r.x) e)) (eq-int_eq _ _ (ap (λ r. r.y) e)))
+decides_same p q = (
+  λ e. let both = and_parts _ _ e in same_point p q (int_eq-true _ _ both.0) (int_eq-true _ _ both.1),
+  λ e. and_from _ _ (eq-int_eq _ _ (ap (λ r. r.x) e)) (eq-int_eq _ _ (ap (λ r. r.y) e)),
+)
 
 pub decides_goes_left : (ring : List Point) → Decides (goes_left ring) (AreOnOrLeft (sides ring) ring)
 decides_goes_left ring =
     decides_all (λ side. list_all (is_on_or_left side) ring) (λ side. All (λ r. pos 0 ≤ℤ turn side.0 side.1 r) ring)
-      (λ side. decides_all (is_on_or_left side) (λ r. pos 0 ≤ℤ turn side.0 side.1 r) (decides_left side) ring) (sides ring)
+    (λ side. decides_all (is_on_or_left side) (λ r. pos 0 ≤ℤ turn side.0 side.1 r) (decides_left side) ring) (sides ring)
 
 -- both ends of each side are among the points
 ends_among : (P : Point → Type 0) (end : Point) (ring : List Point) → P end → All P ring → All (λ side. P side.0 × P side.1) (sides_to end ring)
@@ -76,11 +79,12 @@ sides_among P (p ∷ rest) all = ends_among P p (p ∷ rest) (All-head P p rest 
 pub flat_if_on_line : (ring : List Point) → AreOnOneLine ring → is_flat ring ≡ true
 flat_if_on_line ring line =
     (decides_all (λ side. list_all (is_on_line side) ring) (λ side. All (λ r. turn side.0 side.1 r ≡ pos 0) ring)
-      (λ side. decides_all (is_on_line side) (λ r. turn side.0 side.1 r ≡ pos 0) (decides_line side) ring) (sides ring)).1
-      (All-weaker (λ side. Among side.0 × Among side.1) (λ side. All (λ r. turn side.0 side.1 r ≡ pos 0) ring) (λ side both. on_side side both) (sides ring) (sides_among Among ring (All-contains_itself ring)))
+    (λ side. decides_all (is_on_line side) (λ r. turn side.0 side.1 r ≡ pos 0) (decides_line side) ring) (sides ring)).1
+    (All-weaker (λ side. Among side.0 × Among side.1) (λ side. All (λ r. turn side.0 side.1 r ≡ pos 0) ring) (λ side both. on_side side both) (sides ring) (sides_among Among ring (All-contains_itself ring)))
   where
     Among : Point → Type 0
     Among = Contains ring
+
     on_side : (side : Point × Point) → Among side.0 × Among side.1 → All (λ r. turn side.0 side.1 r ≡ pos 0) ring
     on_side side both = All-contains (λ q. All (λ r. turn side.0 q r ≡ pos 0) ring) ring side.1 (All-contains (λ p. All (λ q. All (λ r. turn p q r ≡ pos 0) ring) ring) ring side.0 line both.0) both.1
 

@@ -1,19 +1,19 @@
 -- The corners of a convex ring are a canonical shape.
-use Rattle.std.specs.Prelude.{◌≡◌, ℕ, ◌+◌, ◌-◌, ◌<◌, ◌≤◌, Bool, true, false, not, cond, List, [], ◌∷◌, ◌++◌, All, Contains, length, drop, take, get_or, replicate, slice_index_or, ℤ, pos, ◌≤ℤ◌, ◌<ℤ◌, nat_lt, Result, Ok, Err, refl}
-use Rattle.std.specs.List.{list_all, position_or_len}
-use Rattle.std.proofs.Common.{arith, suc, ap, sym, subst, ◌∙◌, append-nil}
-use Rattle.std.proofs.lemmas.Bool.{false≢true, and_left, le-ltb, false_from_ne_true}
+use Rattle.std.specs.Prelude.{◌≡◌, ℕ, ◌-◌, ◌≤◌, Bool, true, false, not, cond, List, [], ◌∷◌, ◌++◌, All, Contains, length, drop, take, replicate, ℤ, pos, ◌≤ℤ◌, ◌<ℤ◌, nat_lt, Result, Ok, Err, refl}
+use Rattle.std.specs.List.{list_all}
+use Rattle.std.proofs.Common.{arith, ap, sym, subst, ◌∙◌, append-nil}
+use Rattle.std.proofs.lemmas.Bool.{and_left, le-ltb, false_from_ne_true}
 use Rattle.std.proofs.lemmas.Int.{ints}
 use Rattle.std.proofs.lemmas.List.{drop-replicate, length-append, length-replicate}
-use Rattle.std.proofs.lemmas.List.Elements.{All-nil, All-cons, All-head, All-tail, All-append, All-weaker, All-contains, All-contains_itself}
+use Rattle.std.proofs.lemmas.List.Elements.{All-nil, All-cons, All-head, All-tail, All-append, All-weaker, All-contains_itself}
 use Rattle.std.proofs.lemmas.List.Folds.{list_all_at}
 use Rattle.std.proofs.lemmas.List.Sums.{position_or_len_is}
 use Rattle.std.proofs.Math.Seq.{take-append_seam, drop-append_seam}
-use Rattle.plane.specs.Canonical.{IsCanonical, polygon_of, ring_of, corners_of}
+use Rattle.plane.specs.Canonical.{IsCanonical, ring_of, corners_of}
 use Rattle.plane.specs.Convex.{Differ, AreOnOrLeft, IsConvexRing}
 use Rattle.plane.specs.Places.{IsKept}
 use Rattle.plane.specs.Points.{IsInRange, is_in_range, is_same, origin}
-use Rattle.plane.specs.Rings.{turn, first_of, last_of, sides, sides_to, is_on_line, is_least, has_repeat, is_flat, goes_left, from_least, turning, turning_points}
+use Rattle.plane.specs.Rings.{turn, last_of, sides_to, is_on_line, is_least, is_flat, from_least, turning, turning_points}
 use Rattle.plane.proofs.CornersKept.{AreCorners, StepsDiffer, TurnsAtEach, last, next, last_of-last, turning_all, corners_after, at_once, left_of_way}
 use Rattle.plane.proofs.Least.{Precedes, StartsLeast, decides_least, from_least-starts, turns_at_least}
 use Rattle.plane.proofs.RingTests.{decides_all, decides_in_range, decides_same, decides_line, decides_goes_left, repeats_not}
@@ -22,7 +22,6 @@ use Rattle.plane.proofs.Turns.{turn-cycle, turn_back, turn_nowhere}
 use Rattle.plane.specs.declared.point.Point.{Point}
 use Rattle.plane.specs.declared.fault.ShapeFault.{ShapeFault}
 use Rattle.plane.specs.declared.fault.ShapeFault.TheVariants.{TooManyCorners}
-use native.Mathlib.Numerals.{unary_clauses}
 
 -- ---- places
 
@@ -105,8 +104,8 @@ record IsCornerRing (p x y : Point) (more : List Point) : Type 0 where
 starts_least : (p x y : Point) (more : List Point) → IsCornerRing p x y more → from_least (p ∷ x ∷ y ∷ more) ≡ p ∷ x ∷ y ∷ more
 starts_least p x y more h =
     ap (λ n. drop n (p ∷ x ∷ y ∷ more) ++ take n (p ∷ x ∷ y ∷ more))
-      (position_or_len_is (is_least (p ∷ x ∷ y ∷ more)) (p ∷ x ∷ y ∷ more) 0 origin (omega arith) (λ k low. absurd (omega (arith, low)))
-        (λ _. (decides_least (p ∷ x ∷ y ∷ more) p).1 h.precedes))
+    (position_or_len_is (is_least (p ∷ x ∷ y ∷ more)) (p ∷ x ∷ y ∷ more) 0 origin (omega arith) (λ k low. absurd (omega (arith, low)))
+    (λ _. (decides_least (p ∷ x ∷ y ∷ more) p).1 h.precedes))
     ∙ append-nil (p ∷ x ∷ y ∷ more)
 
 turns_everywhere : (p x y : Point) (more : List Point) → IsCornerRing p x y more → turning_points (p ∷ x ∷ y ∷ more) ≡ p ∷ x ∷ y ∷ more
@@ -116,10 +115,11 @@ turns_everywhere p x y more h =
 same_corners : (p x y : Point) (more : List Point) → IsCornerRing p x y more → corners_of (p ∷ x ∷ y ∷ more) ≡ Ok (p ∷ x ∷ y ∷ more)
 same_corners p x y more h =
     ap (λ ring. corners_found (turning_points ring)) (starts_least p x y more h) ∙ ap corners_found (turns_everywhere p x y more h)
-      ∙ few (nat_lt 16 (length (p ∷ x ∷ y ∷ more))) (le-ltb 16 (length (p ∷ x ∷ y ∷ more)) h.at_most)
+    ∙ few (nat_lt 16 (length (p ∷ x ∷ y ∷ more))) (le-ltb 16 (length (p ∷ x ∷ y ∷ more)) h.at_most)
   where
     corners_found : List Point → Result (List Point) ShapeFault
     corners_found corners = cond (nat_lt 16 (length corners)) (Err TooManyCorners) (Ok corners)
+
     few : (v : Bool) → v ≡ false → cond v (Err TooManyCorners) (Ok (p ∷ x ∷ y ∷ more)) ≡ Ok (p ∷ x ∷ y ∷ more)
     few v e = rw e refl
 
@@ -133,16 +133,16 @@ corner_ring_canonical p x y more h = record {
   not_empty = omega arith;
   at_most = h.at_most;
   listed =
-    passes (list_all is_in_range ((p ∷ x ∷ y ∷ more) ++ p ∷ [])) (nat_lt 64 (length ((p ∷ x ∷ y ∷ more) ++ p ∷ []))) (nat_lt (length ((p ∷ x ∷ y ∷ more) ++ p ∷ [])) 4)
+      passes (list_all is_in_range ((p ∷ x ∷ y ∷ more) ++ p ∷ [])) (nat_lt 64 (length ((p ∷ x ∷ y ∷ more) ++ p ∷ []))) (nat_lt (length ((p ∷ x ∷ y ∷ more) ++ p ∷ [])) 4)
       (is_same p (last_of ((p ∷ x ∷ y ∷ more) ++ p ∷ []))) _ _ _ _ _
       ((decides_all is_in_range IsInRange decides_in_range ((p ∷ x ∷ y ∷ more) ++ p ∷ [])).1
-        (All-append IsInRange (p ∷ x ∷ y ∷ more) (p ∷ []) h.in_range (All-cons IsInRange p [] (All-head IsInRange p (x ∷ y ∷ more) h.in_range) (All-nil IsInRange))))
+      (All-append IsInRange (p ∷ x ∷ y ∷ more) (p ∷ []) h.in_range (All-cons IsInRange p [] (All-head IsInRange p (x ∷ y ∷ more) h.in_range) (All-nil IsInRange))))
       (le-ltb 64 _ (rw length-append (omega (arith, h.at_most))))
       (le-ltb _ 4 (rw length-append (omega arith)))
       ((decides_same p (last_of ((p ∷ x ∷ y ∷ more) ++ p ∷ []))).1 (sym (last_of-push (p ∷ x ∷ y ∷ more) p)))
-    ∙ ap ring_of (without_last (p ∷ x ∷ y ∷ more) p)
-    ∙ passes_ring _ _ _ _ _ _ _ (repeats_not (p ∷ x ∷ y ∷ more) h.differ) (not_flat p x y more h) ((decides_goes_left (p ∷ x ∷ y ∷ more)).1 h.left)
-    ∙ same_corners p x y more h;
+      ∙ ap ring_of (without_last (p ∷ x ∷ y ∷ more) p)
+      ∙ passes_ring _ _ _ _ _ _ _ (repeats_not (p ∷ x ∷ y ∷ more) h.differ) (not_flat p x y more h) ((decides_goes_left (p ∷ x ∷ y ∷ more)).1 h.left)
+      ∙ same_corners p x y more h;
 }
 
 -- ---- the corners of a ring that starts with its least point
@@ -158,7 +158,7 @@ has_corners : (p b : Point) (rest : List Point) → IsConvexRing (p ∷ b ∷ re
 has_corners p b rest h precedes = record {
   dropped = ap (λ before. turning before p (p ∷ b ∷ rest)) (last_of-last p (b ∷ rest)) ∙ first_kept (is_on_line (a, p) b) (false_from_ne_true _ (λ e. apart ((decides_line (a, p) b).0 e)));
   are = corners_after ring p p p a (b ∷ rest) (at_once ring p b a left_of_first (last_among (Contains ring) p (b ∷ rest) (All-contains_itself ring)))
-    (steps_from_p h.differ) h.left (λ P all. all) (λ P all. All-head P p (b ∷ rest) all);
+      (steps_from_p h.differ) h.left (λ P all. all) (λ P all. All-head P p (b ∷ rest) all);
   more_is = refl;
   turns_first = apart;
   left_first = left_of_first;
@@ -166,19 +166,26 @@ has_corners p b rest h precedes = record {
   where
     ring : List Point
     ring = p ∷ b ∷ rest
+
     a : Point
     a = last b rest
+
     from_last : All (λ r. pos 0 ≤ℤ turn a p r) (p ∷ b ∷ rest)
     from_last = last_side (λ side. All (λ r. pos 0 ≤ℤ turn side.0 side.1 r) (p ∷ b ∷ rest)) p p (b ∷ rest) h.left
+
     to_next : All (λ r. pos 0 ≤ℤ turn p b r) (p ∷ b ∷ rest)
     to_next = All-head (λ side. All (λ r. pos 0 ≤ℤ turn side.0 side.1 r) (p ∷ b ∷ rest)) (p, b) (sides_to p (b ∷ rest)) h.left
+
     apart : turn a p b ≡ pos 0 → ⊥
     apart = turns_at_least (p ∷ b ∷ rest) a p b (last_among (λ q. Precedes p q) p (b ∷ rest) precedes) (last_among (λ q. p ≡ q → ⊥) b rest h.differ.0)
         (All-head (λ q. Precedes p q) b rest (All-tail (λ q. Precedes p q) p (b ∷ rest) precedes)) (All-head (λ q. p ≡ q → ⊥) b rest h.differ.0) from_last to_next h.not_flat
+
     left_of_first : pos 0 <ℤ turn p b a
     left_of_first = left_of_way a p b (All-head (λ r. pos 0 ≤ℤ turn a p r) b rest (All-tail (λ r. pos 0 ≤ℤ turn a p r) p (b ∷ rest) from_last)) apart
+
     steps_from_p : Differ (p ∷ b ∷ rest) → StepsDiffer p p (b ∷ rest)
     steps_from_p d = (All-head (λ q. p ≡ q → ⊥) b rest d.0, steps_differ p b rest d.1 d.0)
+
     first_kept : (v : Bool) → v ≡ false → cond v (turning p p (b ∷ rest)) (p ∷ turning p p (b ∷ rest)) ≡ p ∷ turning p p (b ∷ rest)
     first_kept v e = rw e refl
 
@@ -193,16 +200,19 @@ three_corners p b rest (x ∷ []) h precedes found small = absurd (found.are.tur
 three_corners p b rest (x ∷ y ∷ more) h precedes found small = corner_ring_canonical p x y more (record {
   in_range = among IsInRange h.in_range;
   at_most = small;
-  differ = (subst (λ l. All (λ q. p ≡ q → ⊥) l) (sym found.more_is) (dropped-All (λ q. p ≡ q → ⊥) p p (b ∷ rest) h.differ.0),
-    subst Differ (sym found.more_is) (dropped-Differ p p (b ∷ rest) h.differ.1));
+  differ = (
+    subst (λ l. All (λ q. p ≡ q → ⊥) l) (sym found.more_is) (dropped-All (λ q. p ≡ q → ⊥) p p (b ∷ rest) h.differ.0),
+    subst Differ (sym found.more_is) (dropped-Differ p p (b ∷ rest) h.differ.1),
+  );
   precedes = among (λ q. Precedes p q) precedes;
   left = All-weaker (λ side. All (λ r. pos 0 ≤ℤ turn side.0 side.1 r) (p ∷ b ∷ rest)) (λ side. All (λ r. pos 0 ≤ℤ turn side.0 side.1 r) (p ∷ x ∷ y ∷ more))
-    (λ side all. among (λ r. pos 0 ≤ℤ turn side.0 side.1 r) all) (sides_to p (p ∷ x ∷ y ∷ more)) found.are.sides;
+      (λ side all. among (λ r. pos 0 ≤ℤ turn side.0 side.1 r) all) (sides_to p (p ∷ x ∷ y ∷ more)) found.are.sides;
   turns = (λ e. found.turns_first (found.are.closing b (at_last (last p (x ∷ y ∷ more)) e)), found.are.turns);
 })
   where
     among : (P : Point → Type 0) → All P (p ∷ b ∷ rest) → All P (p ∷ x ∷ y ∷ more)
     among P all = All-cons P p (x ∷ y ∷ more) (All-head P p (b ∷ rest) all) (subst (λ l. All P l) (sym found.more_is) (dropped-All P p p (b ∷ rest) (All-tail P p (b ∷ rest) all)))
+
     at_last : (c : Point) → turn c p x ≡ pos 0 → turn c p b ≡ pos 0
     at_last c e = turn-cycle c p b ∙ found.are.forward c (sym (turn-cycle c p x) ∙ e)
 
@@ -212,8 +222,8 @@ ring_canonical (p ∷ []) h starts small = absurd (omega (arith, h.at_least))
 ring_canonical (p ∷ b ∷ rest) h starts small =
     let found = has_corners p b rest h (subst (λ q. All (λ r. Precedes q r) (p ∷ b ∷ rest)) (same_first starts.ring_is) starts.precedes) in
     subst IsCanonical (sym found.dropped)
-      (three_corners p b rest (turning p p (b ∷ rest)) h (subst (λ q. All (λ r. Precedes q r) (p ∷ b ∷ rest)) (same_first starts.ring_is) starts.precedes) found
-        (subst (λ l. length l ≤ 16) found.dropped small))
+    (three_corners p b rest (turning p p (b ∷ rest)) h (subst (λ q. All (λ r. Precedes q r) (p ∷ b ∷ rest)) (same_first starts.ring_is) starts.precedes) found
+    (subst (λ l. length l ≤ 16) found.dropped small))
   where
     same_first : {q : Point} {others : List Point} → p ∷ b ∷ rest ≡ q ∷ others → q ≡ p
     same_first e = cc

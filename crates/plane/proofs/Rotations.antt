@@ -1,16 +1,14 @@
 -- A ring read from another point on, or in the other direction.
-use Rattle.std.specs.Prelude.{◌≡◌, ℕ, ◌+◌, ◌<◌, ◌≤◌, ◌⊎◌, Bool, true, false, not, List, [], ◌∷◌, ◌++◌, All, Contains, length, take, drop, get_or, reverse, slice_index_or, ℤ, pos, ◌≤ℤ◌, ◌<ℤ◌, refl}
-use Rattle.std.specs.List.{list_all, position_or_len}
-use Rattle.std.proofs.Common.{arith, ap, sym, ◌∙◌, subst, inl, inr, ⊎_elim, take-append-drop, append-nil, append_assoc, add_comm}
-use Rattle.std.proofs.lemmas.Bool.{false≢true, not_from_false, not-true}
+use Rattle.std.specs.Prelude.{◌≡◌, ◌≤◌, true, false, List, [], ◌∷◌, ◌++◌, All, length, take, drop, reverse, slice_index_or, pos, ◌≤ℤ◌, refl}
+use Rattle.std.specs.List.{position_or_len}
+use Rattle.std.proofs.Common.{ap, sym, ◌∙◌, subst, take-append-drop, append-nil, add_comm}
+use Rattle.std.proofs.lemmas.Bool.{false≢true}
 use Rattle.std.proofs.lemmas.Grind.{reverse_onto}
-use Rattle.std.proofs.lemmas.Int.{ints, by_lt_z}
 use Rattle.std.proofs.lemmas.List.{length-append, length-reverse, reverse-reverse}
-use Rattle.std.proofs.lemmas.List.Elements.{All-nil, All-cons, All-head, All-tail, All-append, All-weaker, All-contains, All-contains_itself, All-same}
-use Rattle.std.proofs.lemmas.List.Sums.{fails_before_first, passes_at_first}
+use Rattle.std.proofs.lemmas.List.Elements.{All-nil, All-cons, All-head, All-tail, All-append, All-weaker, All-same}
 use Rattle.plane.specs.Convex.{Differ, AreOnOneLine, AreOnOrLeft, IsConvexRing}
-use Rattle.plane.specs.Points.{IsInRange, is_before, origin}
-use Rattle.plane.specs.Rings.{turn, sides, sides_to, first_of, is_least, from_least, has_repeat, is_flat, goes_left}
+use Rattle.plane.specs.Points.{IsInRange}
+use Rattle.plane.specs.Rings.{turn, sides, sides_to, is_least, from_least, has_repeat, is_flat, goes_left}
 use Rattle.plane.proofs.RingTests.{differ_if, flat_if_on_line, decides_goes_left}
 use Rattle.plane.proofs.ShapeRows.{left_part, right_part}
 use Rattle.plane.specs.declared.point.Point.{Point}
@@ -27,8 +25,8 @@ All-reverse P (x ∷ xs) all = All-same P (reverse (x ∷ xs)) (reverse xs ++ x 
 three_weaker : (xs ys : List Point) → ((P : Point → Type 0) → All P xs → All P ys) → AreOnOneLine xs → AreOnOneLine ys
 three_weaker xs ys f line =
     f (λ p. All (λ q. All (λ r. turn p q r ≡ pos 0) ys) ys)
-      (All-weaker _ (λ p. All (λ q. All (λ r. turn p q r ≡ pos 0) ys) ys)
-        (λ p two. f (λ q. All (λ r. turn p q r ≡ pos 0) ys) (All-weaker _ (λ q. All (λ r. turn p q r ≡ pos 0) ys) (λ q one. f (λ r. turn p q r ≡ pos 0) one) xs two)) xs line)
+    (All-weaker _ (λ p. All (λ q. All (λ r. turn p q r ≡ pos 0) ys) ys)
+    (λ p two. f (λ q. All (λ r. turn p q r ≡ pos 0) ys) (All-weaker _ (λ q. All (λ r. turn p q r ≡ pos 0) ys) (λ q one. f (λ r. turn p q r ≡ pos 0) one) xs two)) xs line)
 
 pub Differ-append : (xs ys : List Point) → Differ xs → Differ ys → All (λ x. All (λ y. x ≡ y → ⊥) ys) xs → Differ (xs ++ ys)
 Differ-append [] ys h k cross = k
@@ -52,8 +50,8 @@ Differ-reverse : (xs : List Point) → Differ xs → Differ (reverse xs)
 Differ-reverse [] h = tt
 Differ-reverse (x ∷ xs) h =
     subst Differ (sym (reverse_onto xs x []))
-      (Differ-append (reverse xs) (x ∷ []) (Differ-reverse xs h.1) (All-nil _, tt)
-        (All-weaker (λ q. x ≡ q → ⊥) (λ q. All (λ y. q ≡ y → ⊥) (x ∷ [])) (λ q apart. All-cons (λ y. q ≡ y → ⊥) x [] (λ e. apart (sym e)) (All-nil _)) (reverse xs) (All-reverse (λ q. x ≡ q → ⊥) xs h.0)))
+    (Differ-append (reverse xs) (x ∷ []) (Differ-reverse xs h.1) (All-nil _, tt)
+    (All-weaker (λ q. x ≡ q → ⊥) (λ q. All (λ y. q ≡ y → ⊥) (x ∷ [])) (λ q apart. All-cons (λ y. q ≡ y → ⊥) x [] (λ e. apart (sym e)) (All-nil _)) (reverse xs) (All-reverse (λ q. x ≡ q → ⊥) xs h.0)))
 
 -- a convex ring's points in the other direction, where they go left
 pub reversed_convex : (ring back : List Point) → back ≡ reverse ring → All IsInRange ring → 3 ≤ length ring → length ring ≤ 63 → Differ ring → (AreOnOneLine ring → ⊥) → AreOnOrLeft (sides back) back → IsConvexRing back
@@ -79,15 +77,15 @@ sides_to-append : (end : Point) (xs ys : List Point) → sides_to end (xs ++ ys)
 sides_to-append end [] ys = refl
 sides_to-append end (x ∷ xs) ys =
     one_more (x, slice_index_or (xs ++ ys) 0 end) (x, slice_index_or xs 0 (slice_index_or ys 0 end)) (sides_to end (xs ++ ys)) (sides_to (slice_index_or ys 0 end) xs) (sides_to end ys)
-      (ap (λ q. (x, q)) (next-append xs ys end)) (sides_to-append end xs ys)
+    (ap (λ q. (x, q)) (next-append xs ys end)) (sides_to-append end xs ys)
 
 sides-swap : (P : Point × Point → Type 0) (xs ys : List Point) → All P (sides (xs ++ ys)) → All P (sides (ys ++ xs))
 sides-swap P [] ys all = All-same P (sides (ys ++ [])) (sides ys) (ap sides (append-nil ys)) all
 sides-swap P (x ∷ xs) [] all = All-same P (sides (x ∷ xs)) (sides ((x ∷ xs) ++ [])) (ap sides (sym (append-nil (x ∷ xs)))) all
 sides-swap P (x ∷ xs) (y ∷ ys) all =
     All-same P (sides_to y ((y ∷ ys) ++ (x ∷ xs))) (sides_to x (y ∷ ys) ++ sides_to y (x ∷ xs)) (sides_to-append y (y ∷ ys) (x ∷ xs))
-      (All-swap P (sides_to y (x ∷ xs)) (sides_to x (y ∷ ys))
-        (All-same P (sides_to y (x ∷ xs) ++ sides_to x (y ∷ ys)) (sides_to x ((x ∷ xs) ++ (y ∷ ys))) (sym (sides_to-append x (x ∷ xs) (y ∷ ys))) all))
+    (All-swap P (sides_to y (x ∷ xs)) (sides_to x (y ∷ ys))
+    (All-same P (sides_to y (x ∷ xs) ++ sides_to x (y ∷ ys)) (sides_to x ((x ∷ xs) ++ (y ∷ ys))) (sym (sides_to-append x (x ∷ xs) (y ∷ ys))) all))
 
 pub swapped_convex : (xs ys : List Point) → IsConvexRing (xs ++ ys) → IsConvexRing (ys ++ xs)
 swapped_convex xs ys h = record {
@@ -97,7 +95,7 @@ swapped_convex xs ys h = record {
   differ = Differ-swap xs ys h.differ;
   not_flat = λ line. h.not_flat (three_weaker (ys ++ xs) (xs ++ ys) (λ P. All-swap P ys xs) line);
   left = All-weaker (λ side. All (λ r. pos 0 ≤ℤ turn side.0 side.1 r) (xs ++ ys)) (λ side. All (λ r. pos 0 ≤ℤ turn side.0 side.1 r) (ys ++ xs))
-    (λ side all. All-swap (λ r. pos 0 ≤ℤ turn side.0 side.1 r) xs ys all) (sides (ys ++ xs)) (sides-swap (λ side. All (λ r. pos 0 ≤ℤ turn side.0 side.1 r) (xs ++ ys)) xs ys h.left);
+      (λ side all. All-swap (λ r. pos 0 ≤ℤ turn side.0 side.1 r) xs ys all) (sides (ys ++ xs)) (sides-swap (λ side. All (λ r. pos 0 ≤ℤ turn side.0 side.1 r) (xs ++ ys)) xs ys h.left);
 }
   where
     same_length : (xs ys : List Point) → length (xs ++ ys) ≡ length (ys ++ xs)

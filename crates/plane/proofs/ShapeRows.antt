@@ -31,6 +31,7 @@ negated_read z r n h k e = ap (λ x. read (pos 0 -ℤ x)) e ∙ reads (pos 0 -�
   where
     size : (z : ℤ) (n : ℕ) → unsigned_abs z ≤ n → unsigned_abs (pos 0 -ℤ z) ≤ n
     size z n h = omega (arith, ints)
+
     minus : (z : ℤ) → pos 0 -ℤ z ≡ neg_ℤ z
     minus z = omega (arith, ints)
 
@@ -64,13 +65,15 @@ edge_is p q dx dy x y c h k e =
     let x_read : read x ≡ p.x = coordinate_read p.x p.x x h.x_in_range refl e.x_is in
     let y_read : read y ≡ p.y = coordinate_read p.y p.y y h.y_in_range refl e.y_is in
     same_row _ _ _ _ _ _ dy_read
-        (negated_read (q.x -ℤ p.x) dx 20000000 (size q.x p.x k.x_in_range h.x_in_range) (lit< tt) dx_read)
-        (to_z-of_z w128 c e.c_fits ∙ e.c_is ∙ products _ _ _ _ _ _ _ _ dy_read x_read dx_read y_read)
+    (negated_read (q.x -ℤ p.x) dx 20000000 (size q.x p.x k.x_in_range h.x_in_range) (lit< tt) dx_read)
+    (to_z-of_z w128 c e.c_fits ∙ e.c_is ∙ products _ _ _ _ _ _ _ _ dy_read x_read dx_read y_read)
   where
     difference : (a b : ℤ) → IsCoordinate a → IsCoordinate b → narrow a -ℤ narrow b ≡ a -ℤ b
     difference a b h k = rw (reads_narrow a h, reads_narrow b k) refl
+
     size : (a b : ℤ) → IsCoordinate a → IsCoordinate b → unsigned_abs (a -ℤ b) ≤ 20000000
     size a b h k = omega (arith, ints, h.low, h.high, k.low, k.high)
+
     products : (a b c d a' b' c' d' : ℤ) → a ≡ a' → b ≡ b' → c ≡ c' → d ≡ d' → a *ℤ b -ℤ c *ℤ d ≡ a' *ℤ b' -ℤ c' *ℤ d'
     products a b c d a' b' c' d' p q r s = cc
 
@@ -79,11 +82,12 @@ edge_small p q h k = record {
   a_small = difference q.y p.y k.y_in_range h.y_in_range;
   b_small = negated (q.x -ℤ p.x) (difference q.x p.x k.x_in_range h.x_in_range);
   c_small = size-cross (q.y -ℤ p.y) p.x (q.x -ℤ p.x) p.y 20000000 10000000 20000000 10000000
-    (difference q.y p.y k.y_in_range h.y_in_range) (coordinate_size p.x h.x_in_range) (difference q.x p.x k.x_in_range h.x_in_range) (coordinate_size p.y h.y_in_range);
+      (difference q.y p.y k.y_in_range h.y_in_range) (coordinate_size p.x h.x_in_range) (difference q.x p.x k.x_in_range h.x_in_range) (coordinate_size p.y h.y_in_range);
 }
   where
     difference : (a b : ℤ) → IsCoordinate a → IsCoordinate b → unsigned_abs (a -ℤ b) ≤ 20000000
     difference a b h k = omega (arith, ints, h.low, h.high, k.low, k.high)
+
     negated : (z : ℤ) → unsigned_abs z ≤ 20000000 → unsigned_abs (neg_ℤ z) ≤ 20000000
     negated z h = omega (arith, ints)
 
@@ -105,12 +109,13 @@ four_small a b c d h k l m = All-cons IsSmallRow a (b ∷ c ∷ d ∷ []) h (All
 pub frame_rows_small : (e : Extent) → IsFrame e → All IsSmallRow (frame_rows e)
 frame_rows_small e h =
     four_small _ _ _ _ (record { a_small = lit≤ tt; b_small = lit≤ tt; c_small = wide e.x1 h.x1_in_range })
-      (record { a_small = lit≤ tt; b_small = lit≤ tt; c_small = wide_negated e.x0 h.x0_in_range })
-      (record { a_small = lit≤ tt; b_small = lit≤ tt; c_small = wide e.y1 h.y1_in_range })
-      (record { a_small = lit≤ tt; b_small = lit≤ tt; c_small = wide_negated e.y0 h.y0_in_range })
+    (record { a_small = lit≤ tt; b_small = lit≤ tt; c_small = wide_negated e.x0 h.x0_in_range })
+    (record { a_small = lit≤ tt; b_small = lit≤ tt; c_small = wide e.y1 h.y1_in_range })
+    (record { a_small = lit≤ tt; b_small = lit≤ tt; c_small = wide_negated e.y0 h.y0_in_range })
   where
     wide : (z : ℤ) → IsCoordinate z → unsigned_abs z ≤ 400000000000000
     wide z h = omega (arith, ints, h.low, h.high)
+
     wide_negated : (z : ℤ) → IsCoordinate z → unsigned_abs (neg_ℤ z) ≤ 400000000000000
     wide_negated z h = omega (arith, ints, h.low, h.high)
 
@@ -134,8 +139,12 @@ edge_rows_small (p ∷ q ∷ r ∷ rest) all = sides_small p (p ∷ q ∷ r ∷ 
 
 pub point_frame-IsFrame : (p : Point) → IsInRange p → IsFrame (point_extent p)
 point_frame-IsFrame p h = record {
-  x0_in_range = h.x_in_range; y0_in_range = h.y_in_range; x1_in_range = h.x_in_range; y1_in_range = h.y_in_range;
-  x_order = le_refl p.x; y_order = le_refl p.y;
+  x0_in_range = h.x_in_range;
+  y0_in_range = h.y_in_range;
+  x1_in_range = h.x_in_range;
+  y1_in_range = h.y_in_range;
+  x_order = le_refl p.x;
+  y_order = le_refl p.y;
 }
 
 pub extent-IsFrame : (corners : List Point) → 1 ≤ length corners → All IsInRange corners → IsFrame (extent_of corners)
@@ -143,7 +152,7 @@ extent-IsFrame [] some all = absurd (omega (arith, some))
 extent-IsFrame (p ∷ []) some all = point_frame-IsFrame p (All-head IsInRange p [] all)
 extent-IsFrame (p ∷ q ∷ rest) some all =
     IsFrame-joined (point_extent p) (extent_of (q ∷ rest)) (point_frame-IsFrame p (All-head IsInRange p (q ∷ rest) all))
-      (extent-IsFrame (q ∷ rest) (omega arith) (All-tail IsInRange p (q ∷ rest) all))
+    (extent-IsFrame (q ∷ rest) (omega arith) (All-tail IsInRange p (q ∷ rest) all))
 
 pub rows_of_small : (corners : List Point) → 1 ≤ length corners → All IsInRange corners → All IsSmallRow (rows_of corners)
 rows_of_small corners some all = All-append IsSmallRow (frame_rows (extent_of corners)) (edge_rows corners) (frame_rows_small (extent_of corners) (extent-IsFrame corners some all)) (edge_rows_small corners all)

@@ -1,6 +1,6 @@
 -- Rows of the sides of rings, added one by one.
-use Rattle.std.specs.Prelude.{◌≡◌, ℕ, ◌+◌, ◌<◌, ◌≤◌, List, [], ◌∷◌, ◌++◌, length, drop, get_or, map, slice_index_or, refl}
-use Rattle.std.proofs.Common.{arith, ap, sym, ◌∙◌, add-one, drop-cons, append_assoc, append-nil}
+use Rattle.std.specs.Prelude.{◌≡◌, ℕ, ◌+◌, ◌<◌, ◌≤◌, List, [], ◌∷◌, ◌++◌, length, drop, get_or, map, slice_index_or}
+use Rattle.std.proofs.Common.{arith, sym, ◌∙◌, add-one, drop-cons, append_assoc, append-nil}
 use Rattle.std.proofs.lemmas.List.{length-append}
 use Rattle.std.proofs.lemmas.List.{drop_all}
 use Rattle.plane.specs.Rings.{first_of, sides_to, sides}

@@ -1,9 +1,9 @@
 -- Identities of sums and products of whole numbers. Each is read as a difference of two natural numbers, where `omega` multiplies out.
-use Rattle.std.specs.Prelude.{◌≡◌, ℕ, ◌+◌, ◌*◌, ◌≤◌, ◌<◌, ◌⊎◌, ℤ, pos, negsuc, ◌+ℤ◌, ◌-ℤ◌, ◌*ℤ◌, ◌≤ℤ◌, ◌<ℤ◌, refl}
-use Rattle.std.proofs.Common.{arith, suc, sym, ◌∙◌, ap, inl, inr}
+use Rattle.std.specs.Prelude.{◌≡◌, ℕ, ◌+◌, ◌*◌, ℤ, pos, negsuc, ◌+ℤ◌, ◌-ℤ◌, ◌*ℤ◌}
+use Rattle.std.proofs.Common.{arith, suc, sym, ◌∙◌, ap}
 use Rattle.std.proofs.lemmas.Int.{ints}
 use Rattle.std.proofs.Math.IntN.{neg_ℤ}
-use borrow.Author.Differences.{up, down, same_in}
+use borrow.Author.Differences.{up, down}
 
 -- u minus v
 pub diff : ℕ → ℕ → ℤ

@@ -1,12 +1,11 @@
 -- Turns: areas of triangles, and points on one line.
-use Rattle.std.specs.Prelude.{◌≡◌, ℕ, ℤ, pos, ◌+ℤ◌, ◌-ℤ◌, ◌*ℤ◌, neg_ℤ, ◌≤ℤ◌, ◌<ℤ◌, ◌⊎◌, refl}
+use Rattle.std.specs.Prelude.{◌≡◌, ℤ, pos, ◌+ℤ◌, ◌-ℤ◌, ◌*ℤ◌, neg_ℤ, ◌≤ℤ◌, ◌<ℤ◌, ◌⊎◌}
 use Rattle.std.proofs.Common.{arith, ap, sym, subst, inl, inr, ◌∙◌}
 use Rattle.std.proofs.lemmas.Int.{ints, by_lt_z}
-use Rattle.plane.specs.Points.{origin}
 use Rattle.plane.specs.Rings.{turn}
-use Rattle.plane.proofs.Orders.{product_positive, product_not_negative, cancelled, scaled, le_refl}
-use Rattle.std.proofs.Math.IntN.{*ℤ_comm, *ℤ-zero, *ℤ-one, zero-*ℤ}
-use Rattle.plane.proofs.Sums.{parts, diff, diff-mul, diff-sub, diff-add, neg-diff, same-diff, zero-diff}
+use Rattle.plane.proofs.Orders.{product_not_negative, cancelled, scaled, le_refl}
+use Rattle.std.proofs.Math.IntN.{*ℤ_comm, *ℤ-zero, zero-*ℤ}
+use Rattle.plane.proofs.Sums.{parts, diff-mul, diff-sub, diff-add, neg-diff, same-diff, zero-diff}
 use Rattle.plane.specs.declared.point.Point.{Point}
 
 pub turn-cycle : (p q r : Point) → turn p q r ≡ turn q r p
@@ -69,12 +68,13 @@ zero_follows d e a b e_above d_above same z =
 pub no_zero_product : (a b : ℤ) → a *ℤ b ≡ pos 0 → (b ≡ pos 0 → ⊥) → a ≡ pos 0
 no_zero_product a b e b_not =
     order_cases b (pos 0) (a ≡ pos 0)
-        (λ low. order_cases (pos 0) b (a ≡ pos 0) (λ high. absurd (b_not (zero_between b low high)))
-            (λ below. by_negative below))
-        (λ above. zero_between a (cancelled b a (pos 0) above (rw (*ℤ-zero b, *ℤ_comm b a, e) (le_refl (pos 0)))) (cancelled b (pos 0) a above (rw (*ℤ-zero b, *ℤ_comm b a, e) (le_refl (pos 0)))))
+    (λ low. order_cases (pos 0) b (a ≡ pos 0) (λ high. absurd (b_not (zero_between b low high)))
+    (λ below. by_negative below))
+    (λ above. zero_between a (cancelled b a (pos 0) above (rw (*ℤ-zero b, *ℤ_comm b a, e) (le_refl (pos 0)))) (cancelled b (pos 0) a above (rw (*ℤ-zero b, *ℤ_comm b a, e) (le_refl (pos 0)))))
   where
     negated_product : (b a : ℤ) → neg_ℤ b *ℤ a ≡ neg_ℤ (b *ℤ a)
     negated_product b a = rw (parts a, parts b) (simp (diff-mul, neg-diff) (same-diff _ _ _ _ (omega arith)))
+
     by_negative : b <ℤ pos 0 → a ≡ pos 0
     by_negative below =
         let above : pos 0 <ℤ neg_ℤ b = omega (arith, ints) in
@@ -125,6 +125,7 @@ off_line p q differ all =
   where
     from_x : (a b : ℤ) → b -ℤ a ≡ pos 0 → a ≡ b
     from_x a b e = omega (arith, ints)
+
     from_y : (a b : ℤ) → a -ℤ b ≡ pos 0 → a ≡ b
     from_y a b e = omega (arith, ints)
 
@@ -132,21 +133,25 @@ off_line p q differ all =
 middle : (p q b c : Point) → (p ≡ q → ⊥) → turn p q b ≡ pos 0 → turn p q c ≡ pos 0 → turn p b c ≡ pos 0
 middle p q b c differ hb hc =
     order_cases (turn p b c) (pos 0) _
-        (λ low. order_cases (pos 0) (turn p b c) _ (λ high. zero_between _ low high) (λ below. absurd (apart (λ e. strict_below _ below e))))
-        (λ above. absurd (apart (λ e. strict_above _ above e)))
+    (λ low. order_cases (pos 0) (turn p b c) _ (λ high. zero_between _ low high) (λ below. absurd (apart (λ e. strict_below _ below e))))
+    (λ above. absurd (apart (λ e. strict_above _ above e)))
   where
     strict_below : (a : ℤ) → a <ℤ pos 0 → a ≡ pos 0 → ⊥
     strict_below a h e = omega (arith, ints)
+
     strict_above : (a : ℤ) → pos 0 <ℤ a → a ≡ pos 0 → ⊥
     strict_above a h e = omega (arith, ints)
+
     sum_zero : (a b d : ℤ) → a ≡ pos 0 → d ≡ pos 0 → b +ℤ a ≡ d → b ≡ pos 0
     sum_zero a b d e f g = omega (arith, ints)
+
     products : (r : Point) → turn p b c *ℤ turn p q r +ℤ turn p q b *ℤ turn p c r ≡ turn p q c *ℤ turn p b r
     products r = cross-products (q.x -ℤ p.x) (q.y -ℤ p.y) (b.x -ℤ p.x) (b.y -ℤ p.y) (c.x -ℤ p.x) (c.y -ℤ p.y) (r.x -ℤ p.x) (r.y -ℤ p.y)
+
     apart : (turn p b c ≡ pos 0 → ⊥) → ⊥
     apart not = off_line p q differ (λ r. no_zero_product (turn p q r) (turn p b c)
         (*ℤ_comm (turn p q r) (turn p b c) ∙ sum_zero (turn p q b *ℤ turn p c r) (turn p b c *ℤ turn p q r) (turn p q c *ℤ turn p b r)
-            (ap (λ z. z *ℤ turn p c r) hb ∙ zero-*ℤ (turn p c r)) (ap (λ z. z *ℤ turn p b r) hc ∙ zero-*ℤ (turn p b r)) (products r))
+        (ap (λ z. z *ℤ turn p c r) hb ∙ zero-*ℤ (turn p c r)) (ap (λ z. z *ℤ turn p b r) hc ∙ zero-*ℤ (turn p b r)) (products r))
         not)
 
 pub on_one_line : (p q a b c : Point) → (p ≡ q → ⊥) → turn p q a ≡ pos 0 → turn p q b ≡ pos 0 → turn p q c ≡ pos 0 → turn a b c ≡ pos 0
@@ -178,6 +183,7 @@ straight_left c p q z h = order_cases (turn p q z) (pos 0) _
   where
     strict_above : (a : ℤ) → pos 0 <ℤ a → a ≡ pos 0 → ⊥
     strict_above a h e = omega (arith, ints)
+
     nowhere : (r : Point) → turn p q z ≡ pos 0 → turn p q r ≡ pos 0
     nowhere r e = no_zero_product (turn p q r) (turn c p z)
         (*ℤ_comm (turn p q r) (turn c p z) ∙ sym (straight_products c p q z r h) ∙ ap (λ k. k *ℤ turn c p r) e ∙ zero-*ℤ (turn c p r))
@@ -210,8 +216,8 @@ straight_on_line c p q z r h e =
     let sum : turn c p r +ℤ turn p q r ≡ pos 0 = sym (sum_of c p q z r h) ∙ e in
     let after = straight_left c p q z h in
     order_cases (turn p q r) (pos 0) _
-        (λ low. both _ _ sum (inl (low, sign_follows_below (turn c p z) (turn p q z) (turn c p r) (turn p q r) after (weak _ h.left) same low)))
-        (λ above. both _ _ sum (inr (weak _ above, sign_follows (turn c p z) (turn p q z) (turn c p r) (turn p q r) after (weak _ h.left) same (weak _ above))))
+    (λ low. both _ _ sum (inl (low, sign_follows_below (turn c p z) (turn p q z) (turn c p r) (turn p q r) after (weak _ h.left) same low)))
+    (λ above. both _ _ sum (inr (weak _ above, sign_follows (turn c p z) (turn p q z) (turn c p r) (turn p q r) after (weak _ h.left) same (weak _ above))))
   where
     both : (a b : ℤ) → a +ℤ b ≡ pos 0 → ((b ≤ℤ pos 0) × (a ≤ℤ pos 0)) ⊎ ((pos 0 ≤ℤ b) × (pos 0 ≤ℤ a)) → (a ≡ pos 0) × (b ≡ pos 0)
     both a b e (inl (h, k)) = (omega (arith, ints), omega (arith, ints))

@@ -1,5 +1,5 @@
 -- The canonical shape of a list of listed points, or its first fault.
-use Rattle.std.specs.Prelude.{◌≡◌, ℕ, ◌-◌, ◌≤◌, Bool, true, false, not, List, [], ◌∷◌, ◌++◌, length, take, reverse, All, if◌then◌else◌, nat_lt, Result, Ok, Err}
+use Rattle.std.specs.Prelude.{◌≡◌, ◌-◌, ◌≤◌, not, List, [], ◌∷◌, ◌++◌, length, take, reverse, All, if◌then◌else◌, nat_lt, Result, Ok, Err}
 use Rattle.std.specs.List.{list_all}
 use Rattle.plane.specs.Points.{IsInRange, is_in_range, is_same, is_before}
 use Rattle.plane.specs.Rings.{first_of, last_of, has_repeat, is_flat, goes_left, from_least, turning_points}
@@ -18,7 +18,7 @@ in_order p q = if is_before q p then q ∷ p ∷ [] else p ∷ q ∷ []
 abbrev pub segment_of : Point → Point → Result (List Point) ShapeFault
 segment_of p q =
     if list_all is_in_range (p ∷ q ∷ []) then
-        (if is_same p q then Err SameEnds else Ok (in_order p q))
+    (if is_same p q then Err SameEnds else Ok (in_order p q))
     else Err OutOfRange
 
 -- a polygon's corners are the points at which the ring turns, counter-clockwise from the least one

@@ -1,5 +1,5 @@
 -- What the steps of an elimination keep.
-use Rattle.std.specs.Prelude.{◌≡◌, ◌⊎◌, List, All, HoldsAt, length, ℤ, pos, ◌+ℤ◌, ◌-ℤ◌, ◌*ℤ◌, neg_ℤ, ◌≤ℤ◌, ◌<ℤ◌, ◌≤◌, unsigned_abs}
+use Rattle.std.specs.Prelude.{◌≡◌, ◌⊎◌, List, All, HoldsAt, length, ℤ, pos, ◌-ℤ◌, ◌*ℤ◌, neg_ℤ, ◌≤ℤ◌, ◌<ℤ◌, ◌≤◌}
 use Rattle.plane.specs.Rows.{Satisfies}
 use Rattle.plane.specs.declared.bounds.Bound.{Bound}
 use Rattle.plane.specs.declared.bounds.Gap.{Gap}

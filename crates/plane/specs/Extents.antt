@@ -39,3 +39,13 @@ extent_of (p ∷ q ∷ rest) = joined (point_extent p) (extent_of (q ∷ rest))
 -- all points in range
 abbrev pub whole_extent : Extent
 whole_extent = record { x0 = pos 0 -ℤ LIMIT; y0 = pos 0 -ℤ LIMIT; x1 = LIMIT; y1 = LIMIT }
+
+-- two stretches of one axis have a common number, their ends being in order
+pub record Overlap (low high other_low other_high : ℤ) : Type 0 where
+  pub below_high : low ≤ℤ other_high
+  pub above_low : other_low ≤ℤ high
+
+-- the first stretch of an axis holds the second
+pub record Spans (low high other_low other_high : ℤ) : Type 0 where
+  pub low_below : low ≤ℤ other_low
+  pub high_above : other_high ≤ℤ high

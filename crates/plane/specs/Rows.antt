@@ -1,6 +1,6 @@
 -- The rows of a shape, the fraction points that lie in it, and meeting.
 use Rattle.std.specs.Prelude.{List, [], ◌∷◌, ◌++◌, All, map, ℤ, pos, negsuc, ◌+ℤ◌, ◌-ℤ◌, ◌*ℤ◌, neg_ℤ, ◌≤ℤ◌, ◌<ℤ◌}
-use Rattle.plane.specs.Extents.{Extent, extent_of}
+use Rattle.plane.specs.Extents.{Extent, IsFrame, point_extent, extent_of}
 use Rattle.plane.specs.Rings.{sides}
 use Rattle.plane.specs.declared.rows.Row.{Row}
 use Rattle.plane.specs.declared.point.Point.{Point}
@@ -59,3 +59,18 @@ Meet first second = HaveCommonPoint (rows_of first) (rows_of second)
 -- the same for frames, which are judged by their four rows
 abbrev pub FramesMeet : Extent → Extent → Type 0
 FramesMeet first second = HaveCommonPoint (frame_rows first) (frame_rows second)
+
+-- each fraction point of the second frame lies in the first
+abbrev pub Covers : Extent → Extent → Type 0
+Covers first second = (x y w : ℤ) → pos 0 <ℤ w → All (Satisfies x y w) (frame_rows second) → All (Satisfies x y w) (frame_rows first)
+
+-- the first extent covers the two others, and any frame that covers both covers it
+pub record IsLeastCover (result first second : Extent) : Type 0 where
+  pub covers_first : Covers result first
+  pub covers_second : Covers result second
+  pub least : (e : Extent) → IsFrame e → Covers e first → Covers e second → Covers e result
+
+-- the extent covers each of the points, and any frame that covers them all covers it
+pub record IsLeastFrame (result : Extent) (points : List Point) : Type 0 where
+  pub covers : All (λ p. Covers result (point_extent p)) points
+  pub least : (e : Extent) → IsFrame e → All (λ p. Covers e (point_extent p)) points → Covers e result

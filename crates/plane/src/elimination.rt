@@ -26,7 +26,11 @@ fn tighter(first: Bound, second: Bound) -> Bound
     ensures second { (t w : ℤ) → pos 0 <ℤ w → Holds result t w → Holds second t w }
     ensures both { (t w : ℤ) → Holds first t w → Holds second t w → Holds result t w }
 {
-    if is_tighter(first, second) { first } else { second }
+    if is_tighter(first, second) {
+        first
+    } else {
+        second
+    }
 }
 
 /// A level with b above 0, as a bound on y/w.
@@ -35,7 +39,10 @@ fn bound_above(level: Level) -> Bound
     ensures scale { result.scale ≡ level.b }
     ensures most { result.most ≡ level.c }
 {
-    Bound { scale: level.b, most: level.c }
+    Bound {
+        scale: level.b,
+        most: level.c,
+    }
 }
 
 /// A level with b below 0, as a bound on -y/w.
@@ -44,7 +51,10 @@ fn bound_below(level: Level) -> Bound
     ensures scale { result.scale ≡ neg_ℤ level.b }
     ensures most { result.most ≡ level.c }
 {
-    Bound { scale: -level.b, most: level.c }
+    Bound {
+        scale: -level.b,
+        most: level.c,
+    }
 }
 
 /// The part of the gap that the level allows, or None where it allows no height at all.
@@ -54,10 +64,16 @@ fn narrowed(gap: Gap, level: Level) -> Option<Gap>
 {
     if level.b > 0 {
         let upper = tighter(gap.upper, bound_above(level));
-        Some(Gap { lower: gap.lower, upper })
+        Some(Gap {
+            lower: gap.lower,
+            upper,
+        })
     } else if level.b < 0 {
         let lower = tighter(gap.lower, bound_below(level));
-        Some(Gap { lower, upper: gap.upper })
+        Some(Gap {
+            lower,
+            upper: gap.upper,
+        })
     } else if level.c < 0 {
         None
     } else {
@@ -77,7 +93,10 @@ fn foot(gap: Gap) -> Height
     ensures y { result.y ≡ neg_ℤ gap.lower.most }
     ensures w { result.w ≡ gap.lower.scale }
 {
-    Height { y: -gap.lower.most, w: gap.lower.scale }
+    Height {
+        y: -gap.lower.most,
+        w: gap.lower.scale,
+    }
 }
 
 /// The lowest height in the gap, or None where it holds none.
@@ -86,7 +105,11 @@ fn lowest(gap: Gap) -> Option<Height>
     ensures none { IfNone result ((y w : ℤ) → pos 0 <ℤ w → HoldsIn gap y w → ⊥) }
 {
     let height = foot(gap);
-    if is_within(gap.upper, height) { Some(height) } else { None }
+    if is_within(gap.upper, height) {
+        Some(height)
+    } else {
+        None
+    }
 }
 
 /// A row without x.
@@ -214,7 +237,11 @@ fn closer(best: Row, row: Row, height: Height) -> Row
     ensures { IsBest best row height.y height.w result }
 {
     if row.a > 0 {
-        if is_closer(best, row, height) { best } else { row }
+        if is_closer(best, row, height) {
+            best
+        } else {
+            row
+        }
     } else {
         best
     }

@@ -1,8 +1,9 @@
 //! Frames: rectangles with sides along the axes.
 
 ghost use Rattle.std.specs.Prelude.{◌≡◌, ◌↔◌, IsTrue, All};
-ghost use Rattle.plane.specs.Extents.{Extent, IsFrame, joined, point_extent, extent_of, whole_extent};
+ghost use Rattle.plane.specs.Extents.{Extent, IsFrame, joined, point_extent, extent_of, whole_extent, Overlap, Spans};
 ghost use Rattle.plane.specs.Points.{IsInRange};
+ghost use Rattle.plane.specs.Rows.{FramesMeet, Covers, IsLeastCover, IsLeastFrame};
 
 use crate::point::{LIMIT, Point};
 use crate::shape::{Shape, corners};
@@ -33,9 +34,15 @@ impl Model for Frame {
 impl Frame {
     /// The frame of all points in range.
     pub fn whole() -> Frame
-        ensures { result ≡ whole_extent }
+        ensures value { result ≡ whole_extent }
+        ensures whole { (e : Extent) → IsFrame e → Covers result e }
     {
-        Frame { x0: -LIMIT, y0: -LIMIT, x1: LIMIT, y1: LIMIT }
+        Frame {
+            x0: -LIMIT,
+            y0: -LIMIT,
+            x1: LIMIT,
+            y1: LIMIT,
+        }
     }
 
     /// The left side. Every frame's ends are in order and in range.
@@ -73,12 +80,18 @@ fn point_frame(p: Point) -> Frame
     requires { IsInRange p }
     ensures { result ≡ point_extent p }
 {
-    Frame { x0: p.x, y0: p.y, x1: p.x, y1: p.y }
+    Frame {
+        x0: p.x,
+        y0: p.y,
+        x1: p.x,
+        y1: p.y,
+    }
 }
 
 /// The least frame that holds both frames.
 pub fn hull(first: Frame, second: Frame) -> Frame
     ensures value { result ≡ joined first second }
+    ensures least { IsLeastCover result first second }
 {
     Frame {
         x0: first.x0.min(second.x0),
@@ -91,6 +104,7 @@ pub fn hull(first: Frame, second: Frame) -> Frame
 /// The least frame that holds a shape's corners.
 pub fn frame_of(shape: &Shape) -> Frame
     ensures value { result ≡ extent_of shape.now }
+    ensures least { IsLeastFrame result shape.now }
 {
     let points = corners(shape);
     let mut frame = point_frame(points[0]);
@@ -98,4 +112,34 @@ pub fn frame_of(shape: &Shape) -> Frame
         frame = hull(frame, point_frame(*point));
     }
     frame
+}
+
+/// Whether two stretches of one axis, whose ends are in order, have a common number.
+fn overlap(low: i32, high: i32, other_low: i32, other_high: i32) -> bool
+    ensures { IsTrue result ↔ Overlap low high other_low other_high }
+{
+    low <= other_high && other_low <= high
+}
+
+/// Whether one stretch of an axis holds another.
+fn spans(low: i32, high: i32, other_low: i32, other_high: i32) -> bool
+    ensures { IsTrue result ↔ Spans low high other_low other_high }
+{
+    low <= other_low && other_high <= high
+}
+
+/// Whether some fraction point lies in both frames.
+pub fn frames_meet(first: Frame, second: Frame) -> bool
+    ensures { IsTrue result ↔ FramesMeet first second }
+{
+    overlap(first.x0, first.x1, second.x0, second.x1)
+        && overlap(first.y0, first.y1, second.y0, second.y1)
+}
+
+/// Whether each point of the second frame lies in the first.
+pub fn covers(first: Frame, second: Frame) -> bool
+    ensures { IsTrue result ↔ Covers first second }
+{
+    spans(first.x0, first.x1, second.x0, second.x1)
+        && spans(first.y0, first.y1, second.y0, second.y1)
 }

@@ -4,24 +4,23 @@
 //! any fractions, lies in both.
 #![tactic(auto)]
 
-mod fault;
 mod bounds;
 mod elimination;
+mod fault;
 mod fraction;
 mod frame;
 mod meeting;
+mod point;
 mod products;
 mod ring;
 mod rows;
-mod point;
 mod shape;
 mod shape_rows;
 
 pub use fault::ShapeFault;
-pub use rows::Row;
-pub use shape::{Shape, corners};
 pub use fraction::Fraction;
-pub use frame::{Frame, frame_of, hull};
+pub use frame::{Frame, covers, frame_of, frames_meet, hull};
 pub use meeting::{common_point, meets};
 pub use point::{LIMIT, Point};
-
+pub use rows::Row;
+pub use shape::{Shape, corners};

@@ -27,7 +27,11 @@ pub fn next_point(ring: &[Point], index: usize) -> Point
     requires { index < length ring.now }
     ensures { result ≡ slice_index_or (drop (index + 1) ring.now) 0 (first_of ring.now) }
 {
-    if index + 1 < ring.len() { ring[index + 1] } else { ring[0] }
+    if index + 1 < ring.len() {
+        ring[index + 1]
+    } else {
+        ring[0]
+    }
 }
 
 /// Twice the area of the triangle of three points: above 0 where the third is left of the way from the first to the
@@ -38,7 +42,12 @@ fn turn(p: Point, q: Point, r: Point) -> i128
     requires r { IsInRange r }
     ensures { result ≡ turn p q r }
 {
-    cross(difference(p.x, q.x), difference(p.y, r.y), difference(p.y, q.y), difference(p.x, r.x))
+    cross(
+        difference(p.x, q.x),
+        difference(p.y, r.y),
+        difference(p.y, q.y),
+        difference(p.x, r.x),
+    )
 }
 
 /// Whether a point is on the side from one point to another, or left of it.

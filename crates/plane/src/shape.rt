@@ -117,7 +117,11 @@ fn of_ring(ring: &[Point]) -> Result<Shape, ShapeFault>
         return of_convex_ring(ring);
     }
     let other_way = reversed(ring);
-    if goes_left(other_way.as_slice()) { of_convex_ring(other_way.as_slice()) } else { Err(ShapeFault::NotConvex) }
+    if goes_left(other_way.as_slice()) {
+        of_convex_ring(other_way.as_slice())
+    } else {
+        Err(ShapeFault::NotConvex)
+    }
 }
 
 /// The corners, and the origin in the places that are left.
@@ -140,7 +144,10 @@ fn of_convex_ring(ring: &[Point]) -> Result<Shape, ShapeFault>
         return Err(ShapeFault::TooManyCorners);
     }
     let places = places_of(found.as_slice());
-    Ok(Shape { places, count: found.len() as u8 })
+    Ok(Shape {
+        places,
+        count: found.len() as u8,
+    })
 }
 
 /// The shape's corners in canonical order: a segment's lesser end first, a polygon's corners counter-clockwise from

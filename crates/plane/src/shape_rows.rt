@@ -34,7 +34,11 @@ fn negated(row: Row) -> Row
     requires { IsSmallRow row }
     ensures { result ≡ negated row }
 {
-    Row { a: -row.a, b: -row.b, c: -row.c }
+    Row {
+        a: -row.a,
+        b: -row.b,
+        c: -row.c,
+    }
 }
 
 /// The four rows of a frame.
@@ -42,10 +46,26 @@ fn frame_rows(frame: Frame) -> [Row; 4]
     ensures { result ≡ frame_rows frame }
 {
     [
-        Row { a: 1, b: 0, c: i128::from(frame.x1()) },
-        Row { a: -1, b: 0, c: -i128::from(frame.x0()) },
-        Row { a: 0, b: 1, c: i128::from(frame.y1()) },
-        Row { a: 0, b: -1, c: -i128::from(frame.y0()) },
+        Row {
+            a: 1,
+            b: 0,
+            c: i128::from(frame.x1()),
+        },
+        Row {
+            a: -1,
+            b: 0,
+            c: -i128::from(frame.x0()),
+        },
+        Row {
+            a: 0,
+            b: 1,
+            c: i128::from(frame.y1()),
+        },
+        Row {
+            a: 0,
+            b: -1,
+            c: -i128::from(frame.y0()),
+        },
     ]
 }
 
@@ -84,6 +104,7 @@ pub fn push_rows(rows: &mut ArrayVec<Row, 40>, shape: &Shape)
     ensures small { All IsSmallRow (rows_of shape.now) }
     ensures count { length (rows_of shape.now) ≤ 20 }
 {
-    rows.try_extend_from_slice(&frame_rows(frame_of(shape))).unwrap();
+    rows.try_extend_from_slice(&frame_rows(frame_of(shape)))
+        .unwrap();
     push_edges(rows, corners(shape));
 }

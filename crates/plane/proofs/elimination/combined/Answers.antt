@@ -1,4 +1,4 @@
-use Rattle.std.proofs.Common.{lit<, lit≤}
+use Rattle.std.proofs.Common.{lit<}
 use Rattle.plane.proofs.Narrowing.{cross_b, cross_c}
 use Rattle.plane.proofs.Wide.{fits-cross, fits-product, reads-cross, size-reads_cross}
 use Rattle.plane.proofs.elimination.combined.Goals as goal
@@ -20,7 +20,7 @@ invariant_of-result c = record {
   in_range = record {
     b_small = size-reads_cross _ _ _ _ _ _ _ _ (cross_b c.args.first c.args.second c.requires.first c.requires.second);
     c_small = size-reads_cross _ _ _ _ _ _ _ _ (cross_c c.args.first c.args.second c.requires.first c.requires.second);
-  }
+  };
 }
 
 pub returns-clause-b : goal.returns-clause-b

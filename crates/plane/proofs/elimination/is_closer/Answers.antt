@@ -11,4 +11,4 @@ overflow_mul-result-2 c = fits-product c.reach-2.result c.args.first.a 640000000
 pub returns : goal.returns
 returns c =
     le_test-reached _ _ c.args.first.a c.args.second.a c.reach.result c.reach-2.result 640000000000000000000000000000 20000000
-        c.reach.ensures.value c.reach-2.ensures.value c.reach.ensures.size c.reach-2.ensures.size c.requires.first.a_small c.requires.second.a_small (lit< tt) (lit< tt) (lit< tt)
+    c.reach.ensures.value c.reach-2.ensures.value c.reach.ensures.size c.reach-2.ensures.size c.requires.first.a_small c.requires.second.a_small (lit< tt) (lit< tt) (lit< tt)

@@ -1,4 +1,3 @@
-use Rattle.std.proofs.Common.{sym}
 use Rattle.plane.proofs.Orders.{neg-mul-neg}
 use Rattle.plane.proofs.elimination.narrowed.Goals as goal
 

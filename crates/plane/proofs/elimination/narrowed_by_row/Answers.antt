@@ -1,8 +1,8 @@
-use Rattle.std.specs.Prelude.{◌≡◌, ℤ, pos, ◌<ℤ◌}
+use Rattle.std.specs.Prelude.{◌≡◌, pos}
 use Rattle.std.proofs.Common.{arith}
 use Rattle.std.proofs.lemmas.Int.{ints}
 use Rattle.std.proofs.lemmas.Option.{IfSome_then}
-use Rattle.plane.proofs.Narrowing.{flat_narrows, flat_nowhere, right_narrows, left_narrows}
+use Rattle.plane.proofs.Narrowing.{flat_narrows, flat_nowhere}
 use Rattle.plane.proofs.elimination.narrowed_by_row.Goals as goal
 
 pub returns-else-row-lt0-clause-some : goal.returns-else-row-lt0-clause-some

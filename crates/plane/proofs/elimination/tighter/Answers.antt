@@ -13,4 +13,4 @@ returns-else-is_tighter-clause-first c =
     let a = c.args.first.in_range in
     let b = c.args.second.in_range in
     (λ t w above. tighter_implies c.args.second.scale c.args.second.most c.args.first.scale c.args.first.most t w b.above_zero a.above_zero above
-        (at_most_otherwise _ _ c.if-is_tighter.ensures.1))
+    (at_most_otherwise _ _ c.if-is_tighter.ensures.1))

@@ -1,4 +1,3 @@
-use Rattle.std.specs.Prelude.{◌≡◌, drop}
 use Rattle.plane.specs.Points.{IsInRange, is_in_range}
 use Rattle.std.specs.List.{list_all}
 use Rattle.std.proofs.Common.{sym, ap, ◌∙◌}

@@ -13,4 +13,4 @@ goes_left-requires-2 c = reversed_in_range c.args.ring.now _ _ c.requires.in_ran
 pub of_convex_ring-requires-then-goes_left-2 : goal.of_convex_ring-requires-then-goes_left-2
 of_convex_ring-requires-then-goes_left-2 c =
     reversed_if c.args.ring.now _ c.as_slice-then-goes_left-2.result.now c.requires.in_range c.requires.at_least c.requires.at_most c.if-has_repeat.ensures c.if-is_flat.ensures
-      c.reversed-other_way.ensures c.as_slice-then-goes_left-2.ensures.value (c.if-goes_left-2.ensures ∙ ap goes_left (c.as_slice.ensures.value ∙ sym c.as_slice-then-goes_left-2.ensures.value))
+    c.reversed-other_way.ensures c.as_slice-then-goes_left-2.ensures.value (c.if-goes_left-2.ensures ∙ ap goes_left (c.as_slice.ensures.value ∙ sym c.as_slice-then-goes_left-2.ensures.value))

@@ -1,5 +1,3 @@
-use Rattle.std.specs.Prelude.{◌≡◌, ◌++◌}
-use Rattle.std.proofs.Common.{ap, ◌∙◌}
 use Rattle.plane.proofs.Rings.{after_corners}
 use Rattle.plane.proofs.shape.places_of.Goals as goal
 
