@@ -4,3 +4,4 @@ pub mod Ticks
 pub mod Rows
 pub mod Changes
 pub mod Places
+pub mod FaultCodes

@@ -1,4 +1,4 @@
-ghost use Rattle.std.specs.Prelude.{◌≡◌, IsTrue};
+ghost use Rattle.std.specs.Prelude.{◌≡◌, ◌≤◌, length, IsTrue};
 ghost use Rattle.features.specs.Subjects.{subject_named, have_distinct_names, subjects_of};
 
 use crate::names::Name;
@@ -35,8 +35,12 @@ pub enum SubjectsFault {
 }
 
 impl SubjectsFault {
+    ghost use Rattle.features.specs.FaultCodes.{subjects_code};
+
     /// The code by which users know the fault.
-    pub fn code(self) -> &'static str {
+    pub fn code(self) -> &'static str
+        ensures { result.now ≡ subjects_code self }
+    {
         match self {
             SubjectsFault::NoneGiven => "N1",
             SubjectsFault::TooMany => "N2",
@@ -46,6 +50,11 @@ impl SubjectsFault {
 }
 
 impl fmt::Display for SubjectsFault {
+    ghost use Rattle.std.specs.Prelude.{Some};
+    ghost use Rattle.features.specs.FaultCodes.{subjects_code};
+
+    ghost output = { λ fault. Some (subjects_code fault) };
+
     fn fmt<W: fmt::Write>(&self, f: &mut fmt::Formatter<W>) -> fmt::Result {
         f.write_str(self.code())
     }
@@ -104,6 +113,8 @@ impl Subjects {
     pub fn as_slice(&self) -> &[Subject]
         ensures value { result.now ≡ self.now }
         ensures distinct { IsTrue (have_distinct_names self.now) }
+        ensures some { 1 ≤ length self.now }
+        ensures fits { length self.now ≤ SUBJECT_LIMIT }
     {
         &self.places[..self.count]
     }

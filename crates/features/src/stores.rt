@@ -23,8 +23,12 @@ pub enum StoreFault {
 }
 
 impl StoreFault {
+    ghost use Rattle.features.specs.FaultCodes.{store_code};
+
     /// The code by which users know the fault.
-    pub fn code(self) -> &'static str {
+    pub fn code(self) -> &'static str
+        ensures { result.now ≡ store_code self }
+    {
         match self {
             StoreFault::Full => "F1",
             StoreFault::Memory => "F2",
@@ -33,6 +37,11 @@ impl StoreFault {
 }
 
 impl fmt::Display for StoreFault {
+    ghost use Rattle.std.specs.Prelude.{Some};
+    ghost use Rattle.features.specs.FaultCodes.{store_code};
+
+    ghost output = { λ fault. Some (store_code fault) };
+
     fn fmt<W: fmt::Write>(&self, f: &mut fmt::Formatter<W>) -> fmt::Result {
         f.write_str(self.code())
     }

@@ -42,6 +42,7 @@ verb_of word =
 abbrev pub word_at : List ℕ → Result (List ℕ × List ℕ) Fault
 word_at text = or_fault CommandFault (next_word text)
 
+-- the command's word, and what is left behind it
 unfoldable pub verb_at : List ℕ → Result (Verb × List ℕ) Fault
 verb_at text = do
   word ← word_at text
@@ -56,22 +57,24 @@ allowed begun AddVerb = if begun then Ok tt else Err BeforeHello
 allowed begun SearchVerb = if begun then Ok tt else Err BeforeHello
 allowed begun CommitVerb = if begun then Ok tt else Err BeforeHello
 
--- a shape's text takes all that is left
+-- a shape, or the fault of its text
 abbrev pub shape_or_fault : Result (List Point) WktFault → Result (List Point) Fault
 shape_or_fault (Ok corners) = Ok corners
 shape_or_fault (Err fault) = Err (Shape fault)
 
+-- a shape's text takes all that is left, with its spaces
 unfoldable pub shape_at : List ℕ → Result (List Point) Fault
 shape_at text = shape_or_fault (shape_of text)
 
--- nothing but spaces is left
 abbrev pub nothing_left : Option (List ℕ × List ℕ) → Result (Unit {0}) Fault
 nothing_left None = Ok tt
 nothing_left (Some word) = Err CommandFault
 
+-- nothing but spaces is left
 unfoldable pub end_at : List ℕ → Result (Unit {0}) Fault
 end_at text = nothing_left (next_word text)
 
+-- a command that has no words
 unfoldable pub alone_at : Command → List ℕ → Result Command Fault
 alone_at command text = end_at text >>= λ _. Ok command
 
@@ -91,6 +94,7 @@ add_at text = do
   shape ← shape_at second.1
   Ok (Add id class shape)
 
+-- the words of a command, from left to right
 unfoldable pub arguments_at : Verb → List ℕ → Result Command Fault
 arguments_at HelloVerb text = hello_at text
 arguments_at AddVerb text = add_at text

@@ -58,6 +58,7 @@ without_list reply session = if ends_list reply then record session { staged = [
 abbrev pub closed_by : PlainState × Reply → SessionState → SessionState × PlainState × Reply
 closed_by end session = (without_list end.1 session, end.0, end.1)
 
+-- a session's COMMIT, where no memory is wanted; before HELLO none comes here, since `command_of` refuses it
 abbrev pub closed : Option Subject → SessionState → PlainState → SessionState × PlainState × Reply
 closed None session state = (session, state, Error BeforeHello)
 closed (Some subject) session state =

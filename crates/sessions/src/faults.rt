@@ -66,6 +66,11 @@ impl Fault {
 }
 
 impl fmt::Display for Fault {
+    ghost use Rattle.std.specs.Prelude.{Some};
+    ghost use Rattle.sessions.specs.Faults.{code_of};
+
+    ghost output = { λ fault. Some (code_of fault) };
+
     fn fmt<W: fmt::Write>(&self, f: &mut fmt::Formatter<W>) -> fmt::Result {
         f.write_str(self.code())
     }

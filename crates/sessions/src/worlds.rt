@@ -1,5 +1,6 @@
 ghost use Rattle.std.specs.Prelude.{◌≡◌, ◌+◌, ◌≤◌, [], length, option_map, is_ok, if◌then◌else◌};
 ghost use Rattle.features.specs.Changes.{change_id};
+ghost use Rattle.features.specs.Rows.{IsSortedById};
 ghost use Rattle.sessions.specs.Worlds.{AreDistinct, Commits, first_present, opened, seat_of, seated};
 
 use crate::faults::Fault;
@@ -44,7 +45,8 @@ impl<A: Allocator> PlainWorld<A> {
 
     /// The features, by rising id.
     pub fn features(&self) -> &[Feature]
-        ensures { result.now ≡ self.now.features }
+        ensures value { result.now ≡ self.now.features }
+        ensures sorted { IsSortedById self.now.features }
     {
         self.store.rows()
     }
