@@ -5,7 +5,7 @@ usage: bench/script_bench.py points [FEATURES [SEARCHES]]    point features by r
        bench/script_bench.py mixed [FEATURES [SEARCHES]]     points, segments and polygons, searched by polygons
        bench/script_bench.py pairs [FEATURES [SEARCHES]]     what one test of meeting costs, by pair of kinds
 
-FEATURES is 100,000 if left out (10,000 for `pairs`), SEARCHES 10,000 for `points` (some minutes), else 20. Changes
+FEATURES is 100,000 if left out (5,000 for `pairs`), SEARCHES 10,000 for `points` (some minutes), 500 for `pairs`, else 20. Changes
 are committed by 16. Two runs are timed, one with the additions alone, so that a search has its own figure.
 """
 
@@ -90,8 +90,8 @@ def run(label, kind, windows, features, count, size=LIMIT):
 
 def main():
     what = sys.argv[1] if len(sys.argv) > 1 else "points"
-    features = int(sys.argv[2]) if len(sys.argv) > 2 else (10_000 if what == "pairs" else 100_000)
-    count = int(sys.argv[3]) if len(sys.argv) > 3 else (10_000 if what == "points" else 20)
+    features = int(sys.argv[2]) if len(sys.argv) > 2 else (5_000 if what == "pairs" else 100_000)
+    count = int(sys.argv[3]) if len(sys.argv) > 3 else {"points": 10_000, "pairs": 500}.get(what, 20)
     subprocess.run([os.path.join(TOP, "landmap"), "--help"], check=True, stdout=subprocess.DEVNULL)
     square, round_ = polygon(4, 100_000), polygon(16, 100_000)
     if what == "points":

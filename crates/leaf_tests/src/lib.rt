@@ -6,6 +6,8 @@ mod features_tests;
 #[cfg(test)]
 mod node_arena_tests;
 #[cfg(test)]
+mod plane_tests;
+#[cfg(test)]
 mod refusing_tests;
 #[cfg(test)]
 mod wkt_tests;

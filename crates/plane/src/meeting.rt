@@ -15,6 +15,15 @@ pub fn common_point(first: &Shape, second: &Shape) -> Option<Fraction>
     ensures none { IfNone result (Meet first.now second.now → ⊥) }
     ensures found { IsSome result ↔ Meet first.now second.now }
 {
+    by_elimination(first, second)
+}
+
+/// A common point of the rows of both shapes.
+fn by_elimination(first: &Shape, second: &Shape) -> Option<Fraction>
+    ensures common { IfSome result (λ p. LiesIn p.x p.y p.w first.now × LiesIn p.x p.y p.w second.now) }
+    ensures none { IfNone result (Meet first.now second.now → ⊥) }
+    ensures found { IsSome result ↔ Meet first.now second.now }
+{
     let mut rows = ArrayVec::new();
     push_rows(&mut rows, first);
     push_rows(&mut rows, second);

@@ -1,7 +1,7 @@
 use Rattle.std.specs.Prelude.{◌≡◌, ◌++◌}
 use Rattle.plane.specs.Rows.{rows_of}
 use Rattle.plane.proofs.ShapeRows.{both_rows, count_of_first, rows_small, rows_frame, common, without, found}
-use Rattle.plane.proofs.meeting.common_point.Goals as goal
+use Rattle.plane.proofs.meeting.by_elimination.Goals as goal
 
 pub push_rows-requires-2 : goal.push_rows-requires-2
 push_rows-requires-2 c = count_of_first _ _ _ c.push_rows.ensures.items c.new-rows.ensures c.push_rows.ensures.count
