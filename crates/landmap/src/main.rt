@@ -1,14 +1,13 @@
 //! The program `landmap`: a map feature server for land agencies.
 #![tactic(auto)]
 
+use clap::{Arg, Command};
+use sessions::{PlainWorld, ServeFault, built_in_subjects, run_script};
 use std::alloc::{AllocError, Global};
 use std::fs::File;
 use std::io::{BufWriter, Write};
 use std::process::ExitCode;
 use std::{env, fmt, io};
-
-use clap::{Arg, Command};
-use sessions::{PlainWorld, ServeFault, built_in_subjects, run_script};
 
 /// Why the program ends with status 1.
 #[derive(Drop)]

@@ -1,7 +1,9 @@
 ghost use Rattle.std.specs.Prelude.{◌≡◌};
 ghost use Rattle.features.specs.Changes.{change_id};
 
-use features::{Change, FEATURE_LIMIT, Meter, Name, Store, StoreFault, Subject, Subjects, SubjectsFault};
+use features::{
+    Change, FEATURE_LIMIT, Meter, Name, Store, StoreFault, Subject, Subjects, SubjectsFault,
+};
 use plane::{Point, Shape};
 use refusing::Refusing;
 use std::alloc::Allocator;
@@ -33,12 +35,26 @@ fn addition(rt: &impl Abort, id: u64) -> Change
 
 #[test]
 fn names(rt: HostRuntime) -> Result<(), Fail> {
-    for text in ["a", "-", "0", "north", "a-0-z", "abcdefghijklmnopqrstuvwxyz-01234"] {
+    for text in [
+        "a",
+        "-",
+        "0",
+        "north",
+        "a-0-z",
+        "abcdefghijklmnopqrstuvwxyz-01234",
+    ] {
         let read = name(&rt, text.as_bytes());
         assert_eq!(rt; read.as_bytes(), text.as_bytes());
         assert_eq!(rt; format!(in rt.alloc(); "{read}")?.as_str(), text);
     }
-    for text in ["", "North", "a b", "a_b", "é", "abcdefghijklmnopqrstuvwxyz-012345"] {
+    for text in [
+        "",
+        "North",
+        "a b",
+        "a_b",
+        "é",
+        "abcdefghijklmnopqrstuvwxyz-012345",
+    ] {
         assert!(rt; Name::new(text.as_bytes()).is_none(), "{text}");
     }
     Ok(())
@@ -57,7 +73,11 @@ fn subject(rt: &impl Abort, text: &[u8]) -> Subject {
 #[test]
 fn subjects(rt: HostRuntime) -> Result<(), Fail> {
     assert_eq!(rt; Subjects::new(&[]).err(), Some(SubjectsFault::NoneGiven));
-    let twice = [subject(&rt, b"north"), subject(&rt, b"south"), subject(&rt, b"north")];
+    let twice = [
+        subject(&rt, b"north"),
+        subject(&rt, b"south"),
+        subject(&rt, b"north"),
+    ];
     assert_eq!(rt; Subjects::new(&twice).err(), Some(SubjectsFault::NameTwice));
     let many = [subject(&rt, b"north"); 65];
     assert_eq!(rt; Subjects::new(&many).err(), Some(SubjectsFault::TooMany));
@@ -74,7 +94,11 @@ fn store(rt: HostRuntime) -> Result<(), Fail> {
     let office = name(&rt, b"north");
     let mut store = Store::new(rt.alloc());
     let mut meter = Meter::new();
-    assert!(rt; store.apply(1, office, &[addition(&rt, 5), addition(&rt, 9)]).is_ok());
+    assert!(rt;
+        store
+            .apply(1, office, &[addition(&rt, 5), addition(&rt, 9)])
+            .is_ok()
+    );
     assert!(rt; store.apply(2, office, &[addition(&rt, 7)]).is_ok());
     assert_eq!(rt; store.len(), 3);
     let rows = store.dump(rt.alloc(), &mut meter);
@@ -83,7 +107,10 @@ fn store(rt: HostRuntime) -> Result<(), Fail> {
     assert_eq!(rt; meter.ticks(), 3);
     assert_eq!(rt; rows.len(), 3);
     assert_eq!(rt; (rows[0].id, rows[1].id, rows[2].id), (5, 7, 9));
-    assert_eq!(rt; (rows[0].version, rows[1].version, rows[2].version), (1, 2, 1));
+    assert_eq!(rt;
+        (rows[0].version, rows[1].version, rows[2].version),
+        (1, 2, 1)
+    );
     assert_eq!(rt; store.get(7, &mut meter).copied(), Some(rows[1]));
     assert_eq!(rt; store.get(8, &mut meter).copied(), None);
     assert_eq!(rt; meter.ticks(), 5);
@@ -97,7 +124,20 @@ fn each_allocation_refused(rt: HostRuntime) -> Result<(), Fail> {
     for at in 1..8 {
         memory.refuse(0);
         let mut store = Store::new(&memory);
-        assert!(rt; store.apply(1, office, &[addition(&rt, 5), addition(&rt, 6), addition(&rt, 8), addition(&rt, 9)]).is_ok());
+        assert!(rt;
+            store
+                .apply(
+                    1,
+                    office,
+                    &[
+                        addition(&rt, 5),
+                        addition(&rt, 6),
+                        addition(&rt, 8),
+                        addition(&rt, 9)
+                    ]
+                )
+                .is_ok()
+        );
         memory.refuse(at);
         let answer = store.apply(2, office, &[addition(&rt, 7), addition(&rt, 3)]);
         if !memory.has_refused() {
@@ -134,7 +174,10 @@ fn as_many_as_fit(rt: HostRuntime) -> Result<(), Fail> {
     }
     assert_eq!(rt; store.len(), FEATURE_LIMIT);
     if store.get(u64::MAX, &mut meter).is_none() {
-        assert_eq!(rt; store.apply(2, office, &[addition(&rt, u64::MAX)]), Err(StoreFault::Full));
+        assert_eq!(rt;
+            store.apply(2, office, &[addition(&rt, u64::MAX)]),
+            Err(StoreFault::Full)
+        );
     }
     assert_eq!(rt; store.len(), FEATURE_LIMIT);
     Ok(())

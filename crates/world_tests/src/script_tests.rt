@@ -7,8 +7,11 @@ use std::process::Abort;
 use std::test::Fail;
 
 /// The worked script of a point that is added and found again, and its replies.
-const FIRST_POINT: &str = "n: HELLO north\nn: ADD 1 mast POINT (3 4)\nn: COMMIT\nn: SEARCH point(3 4)\nn: SEARCH POINT (3 5)\n";
-const FIRST_REPLIES: &str = "n: hello north\nn: staged\nn: applied 1\nn: rows 1\nn: 1 1 north mast POINT (3 4)\nn: rows 0\n";
+const FIRST_POINT: &str =
+    "n: HELLO north\nn: ADD 1 mast POINT (3 4)\nn: COMMIT\nn: SEARCH point(3 4)\nn: SEARCH POINT (3 5)\n";
+
+const FIRST_REPLIES: &str =
+    "n: hello north\nn: staged\nn: applied 1\nn: rows 1\nn: 1 1 north mast POINT (3 4)\nn: rows 0\n";
 
 /// What a script is answered from a fresh world.
 fn replies(rt: &impl Abort, alloc: Global, script: &str) -> Result<Vec<u8>, AllocError> {
@@ -34,12 +37,19 @@ fn worked_scripts(rt: HostRuntime) -> Result<(), Fail> {
         (FIRST_POINT, FIRST_REPLIES),
         ("x: SEARCH POINT (0 0)\n", "x: error E5\n"),
         ("x: HELLO nobody\n", "x: error H1\n"),
-        ("n: HELLO north\nn: FLY\nn: COMMIT\nn: ADD 1 mast\n", "n: hello north\nn: error E2\nn: error E7\nn: error K3\n"),
+        (
+            "n: HELLO north\nn: FLY\nn: COMMIT\nn: ADD 1 mast\n",
+            "n: hello north\nn: error E2\nn: error E7\nn: error K3\n",
+        ),
         ("no label\n", "?: error E9\n"),
-        ("n: HELLO north\nn: SEARCH POINT (4 4)\nn: ADD 1 mast POINT (4 4)\nn: COMMIT\nn: SEARCH POINT (4 4)\n",
-            "n: hello north\nn: rows 0\nn: staged\nn: applied 1\nn: rows 1\nn: 1 1 north mast POINT (4 4)\n"),
-        ("n: HELLO north\nn: ADD 1 mast POINT (10000001 0)\nn: ADD 1 mast point(+3.00 -0)\nn: COMMIT\nn: SEARCH POINT (3 0)\nn: SEARCH POINT (10000000 -10000000)\n",
-            "n: hello north\nn: error K5\nn: staged\nn: applied 1\nn: rows 1\nn: 1 1 north mast POINT (3 0)\nn: rows 0\n"),
+        (
+            "n: HELLO north\nn: SEARCH POINT (4 4)\nn: ADD 1 mast POINT (4 4)\nn: COMMIT\nn: SEARCH POINT (4 4)\n",
+            "n: hello north\nn: rows 0\nn: staged\nn: applied 1\nn: rows 1\nn: 1 1 north mast POINT (4 4)\n",
+        ),
+        (
+            "n: HELLO north\nn: ADD 1 mast POINT (10000001 0)\nn: ADD 1 mast point(+3.00 -0)\nn: COMMIT\nn: SEARCH POINT (3 0)\nn: SEARCH POINT (10000000 -10000000)\n",
+            "n: hello north\nn: error K5\nn: staged\nn: applied 1\nn: rows 1\nn: 1 1 north mast POINT (3 0)\nn: rows 0\n",
+        ),
     ];
     check_all(&rt, rt.alloc(), &cases)?;
     Ok(())
@@ -50,12 +60,21 @@ const SQUARE: &str = "POLYGON ((0 0, 4 0, 4 4, 0 4, 0 0))";
 
 #[test]
 fn shapes_of_every_kind(rt: HostRuntime) -> Result<(), Fail> {
-    let output = replies(&rt, rt.alloc(), format!(in rt.alloc(); "n: HELLO north\nn: SEARCH {SQUARE}\n")?.as_str())?;
-    assert_eq!(rt; output.as_slice(), b"n: hello north\nn: rows 0\n".as_slice());
+    let output = replies(
+        &rt,
+        rt.alloc(),
+        format!(in rt.alloc(); "n: HELLO north\nn: SEARCH {SQUARE}\n")?.as_str(),
+    )?;
+    assert_eq!(rt;
+        output.as_slice(),
+        b"n: hello north\nn: rows 0\n".as_slice()
+    );
     let script = format!(in rt.alloc();
-        "n: HELLO north\nn: ADD 1 mast POINT (4 4)\nn: COMMIT\nn: SEARCH {SQUARE}\nn: ADD 2 road LINESTRING (6 2, -1 3)\nn: ADD 3 road LINESTRING (5 0, 9 9)\nn: ADD 4 parcel polygon((0 0,0 4,4 4,4 2,4 0,0 0))\nn: COMMIT\nn: SEARCH {SQUARE}\nn: SEARCH LINESTRING (5 0, 5 9)\nn: SEARCH POLYGON ((0 0, 1 1, 2 2, 0 0))\nn: SEARCH POLYGON ((0 0, 6 4, -2 4, 4 0, 2 7, 0 0))\n")?;
+        "n: HELLO north\nn: ADD 1 mast POINT (4 4)\nn: COMMIT\nn: SEARCH {SQUARE}\nn: ADD 2 road LINESTRING (6 2, -1 3)\nn: ADD 3 road LINESTRING (5 0, 9 9)\nn: ADD 4 parcel polygon((0 0,0 4,4 4,4 2,4 0,0 0))\nn: COMMIT\nn: SEARCH {SQUARE}\nn: SEARCH LINESTRING (5 0, 5 9)\nn: SEARCH POLYGON ((0 0, 1 1, 2 2, 0 0))\nn: SEARCH POLYGON ((0 0, 6 4, -2 4, 4 0, 2 7, 0 0))\n"
+    )?;
     let expected = format!(in rt.alloc();
-        "n: hello north\nn: staged\nn: applied 1\nn: rows 1\nn: 1 1 north mast POINT (4 4)\nn: staged\nn: staged\nn: staged\nn: applied 2\nn: rows 3\nn: 1 1 north mast POINT (4 4)\nn: 2 2 north road LINESTRING (-1 3, 6 2)\nn: 4 2 north parcel {SQUARE}\nn: rows 2\nn: 2 2 north road LINESTRING (-1 3, 6 2)\nn: 3 2 north road LINESTRING (5 0, 9 9)\nn: error P7\nn: error P8\n")?;
+        "n: hello north\nn: staged\nn: applied 1\nn: rows 1\nn: 1 1 north mast POINT (4 4)\nn: staged\nn: staged\nn: staged\nn: applied 2\nn: rows 3\nn: 1 1 north mast POINT (4 4)\nn: 2 2 north road LINESTRING (-1 3, 6 2)\nn: 4 2 north parcel {SQUARE}\nn: rows 2\nn: 2 2 north road LINESTRING (-1 3, 6 2)\nn: 3 2 north road LINESTRING (5 0, 9 9)\nn: error P7\nn: error P8\n"
+    )?;
     let output = replies(&rt, rt.alloc(), script.as_str())?;
     assert_eq!(rt; output.as_slice(), expected.as_bytes());
     Ok(())
@@ -66,16 +85,34 @@ fn lines_and_labels(rt: HostRuntime) -> Result<(), Fail> {
     let cases = [
         ("", ""),
         ("\n\r\n# a comment\n#\n", ""),
-        ("n: HELLO north\r\nn:  BYE  \r\nn: BYE", "n: hello north\nn: bye\nn: bye\n"),
-        ("n:HELLO north\nn:   HELLO\nn: BYE\r", "n: hello north\nn: error E6\nn: error E2\n"),
-        (" n: BYE\nN: BYE\n: BYE\n # x\n \nn\n", "?: error E9\n?: error E9\n?: error E9\n?: error E9\n?: error E9\n?: error E9\n"),
-        ("n:\nn: \nn: hello north\nn: HELLO\nn: HELLO North\nn: HELLO north x\nn: HELLO\tnorth\n",
-            "n: error E2\nn: error E2\nn: error E2\nn: error E2\nn: error E4\nn: error E2\nn: error E2\n"),
-        ("n: BYE x\nn: COMMIT\nn: COMMIT x\nn: SEARCH x\n", "n: error E2\nn: error E5\nn: error E5\nn: error E5\n"),
-        ("n: HELLO chief\nn: ADD\nn: ADD x\nn: ADD 1\nn: ADD 1 A POINT (0 0)\nn: ADD 1 a POLYGON EMPTY\nn: COMMIT x\nn: RESHAPE 1 1 POINT (0 0)\n",
-            "n: hello chief\nn: error E2\nn: error E3\nn: error E2\nn: error E4\nn: error K2\nn: error E2\nn: error E2\n"),
-        ("n: HELLO north\nn: ADD 18446744073709551615 a POINT (0 0)\nn: ADD 18446744073709551616 a POINT (0 0)\nn: ADD 000000000000000000000 a POINT (0 0)\nn: ADD +1 a POINT (0 0)\nn: ADD 00000000000000000007 a POINT (0 0)\n",
-            "n: hello north\nn: staged\nn: error E3\nn: error E3\nn: error E3\nn: staged\n"),
+        (
+            "n: HELLO north\r\nn:  BYE  \r\nn: BYE",
+            "n: hello north\nn: bye\nn: bye\n",
+        ),
+        (
+            "n:HELLO north\nn:   HELLO\nn: BYE\r",
+            "n: hello north\nn: error E6\nn: error E2\n",
+        ),
+        (
+            " n: BYE\nN: BYE\n: BYE\n # x\n \nn\n",
+            "?: error E9\n?: error E9\n?: error E9\n?: error E9\n?: error E9\n?: error E9\n",
+        ),
+        (
+            "n:\nn: \nn: hello north\nn: HELLO\nn: HELLO North\nn: HELLO north x\nn: HELLO\tnorth\n",
+            "n: error E2\nn: error E2\nn: error E2\nn: error E2\nn: error E4\nn: error E2\nn: error E2\n",
+        ),
+        (
+            "n: BYE x\nn: COMMIT\nn: COMMIT x\nn: SEARCH x\n",
+            "n: error E2\nn: error E5\nn: error E5\nn: error E5\n",
+        ),
+        (
+            "n: HELLO chief\nn: ADD\nn: ADD x\nn: ADD 1\nn: ADD 1 A POINT (0 0)\nn: ADD 1 a POLYGON EMPTY\nn: COMMIT x\nn: RESHAPE 1 1 POINT (0 0)\n",
+            "n: hello chief\nn: error E2\nn: error E3\nn: error E2\nn: error E4\nn: error K2\nn: error E2\nn: error E2\n",
+        ),
+        (
+            "n: HELLO north\nn: ADD 18446744073709551615 a POINT (0 0)\nn: ADD 18446744073709551616 a POINT (0 0)\nn: ADD 000000000000000000000 a POINT (0 0)\nn: ADD +1 a POINT (0 0)\nn: ADD 00000000000000000007 a POINT (0 0)\n",
+            "n: hello north\nn: staged\nn: error E3\nn: error E3\nn: error E3\nn: staged\n",
+        ),
     ];
     check_all(&rt, rt.alloc(), &cases)?;
     Ok(())
@@ -85,23 +122,35 @@ fn lines_and_labels(rt: HostRuntime) -> Result<(), Fail> {
 fn staged_lists(rt: HostRuntime) -> Result<(), Fail> {
     let cases = [
         // A list is of its session, and a later session of a label has none of it.
-        ("n: HELLO north\ns: HELLO south\nn: ADD 1 a POINT (0 0)\ns: COMMIT\ns: ADD 1 b POINT (0 0)\nn: COMMIT\ns: COMMIT\ns: COMMIT\nn: COMMIT\n",
-            "n: hello north\ns: hello south\nn: staged\ns: error E7\ns: staged\nn: applied 1\ns: exists change 1\ns: error E7\nn: error E7\n"),
-        ("n: HELLO north\nn: ADD 1 a POINT (0 0)\nn: BYE\nn: COMMIT\nn: HELLO south\nn: COMMIT\n",
-            "n: hello north\nn: staged\nn: bye\nn: error E5\nn: hello south\nn: error E7\n"),
+        (
+            "n: HELLO north\ns: HELLO south\nn: ADD 1 a POINT (0 0)\ns: COMMIT\ns: ADD 1 b POINT (0 0)\nn: COMMIT\ns: COMMIT\ns: COMMIT\nn: COMMIT\n",
+            "n: hello north\ns: hello south\nn: staged\ns: error E7\ns: staged\nn: applied 1\ns: exists change 1\ns: error E7\nn: error E7\n",
+        ),
+        (
+            "n: HELLO north\nn: ADD 1 a POINT (0 0)\nn: BYE\nn: COMMIT\nn: HELLO south\nn: COMMIT\n",
+            "n: hello north\nn: staged\nn: bye\nn: error E5\nn: hello south\nn: error E7\n",
+        ),
         // Of a list that is refused nothing is added.
-        ("n: HELLO north\nn: ADD 2 a POINT (0 0)\nn: COMMIT\nn: ADD 1 a POINT (0 0)\nn: ADD 2 a POINT (0 0)\nn: ADD 2 a POINT (1 1)\nn: COMMIT\nn: SEARCH POINT (0 0)\n",
-            "n: hello north\nn: staged\nn: applied 1\nn: staged\nn: staged\nn: error X5\nn: exists change 2\nn: rows 1\nn: 2 1 north a POINT (0 0)\n"),
+        (
+            "n: HELLO north\nn: ADD 2 a POINT (0 0)\nn: COMMIT\nn: ADD 1 a POINT (0 0)\nn: ADD 2 a POINT (0 0)\nn: ADD 2 a POINT (1 1)\nn: COMMIT\nn: SEARCH POINT (0 0)\n",
+            "n: hello north\nn: staged\nn: applied 1\nn: staged\nn: staged\nn: error X5\nn: exists change 2\nn: rows 1\nn: 2 1 north a POINT (0 0)\n",
+        ),
         // Rows come by rising id, and 16 changes fit a list.
-        ("n: HELLO north\nn: ADD 3 c POINT (0 0)\nn: ADD 1 a POINT (0 0)\nn: ADD 2 b POINT (1 0)\nn: COMMIT\nn: SEARCH POINT (0 0)\n",
-            "n: hello north\nn: staged\nn: staged\nn: staged\nn: applied 1\nn: rows 2\nn: 1 1 north a POINT (0 0)\nn: 3 1 north c POINT (0 0)\n"),
+        (
+            "n: HELLO north\nn: ADD 3 c POINT (0 0)\nn: ADD 1 a POINT (0 0)\nn: ADD 2 b POINT (1 0)\nn: COMMIT\nn: SEARCH POINT (0 0)\n",
+            "n: hello north\nn: staged\nn: staged\nn: staged\nn: applied 1\nn: rows 2\nn: 1 1 north a POINT (0 0)\nn: 3 1 north c POINT (0 0)\n",
+        ),
     ];
     check_all(&rt, rt.alloc(), &cases)?;
     Ok(())
 }
 
 /// A script of as many lines, each written by a function of its number.
-fn numbered<F: Fn(&mut String, u64) -> Result<(), AllocError>>(alloc: Global, count: u64, line: F) -> Result<String, AllocError>
+fn numbered<F: Fn(&mut String, u64) -> Result<(), AllocError>>(
+    alloc: Global,
+    count: u64,
+    line: F,
+) -> Result<String, AllocError>
     requires { F.IsAlwaysCallable line }
 {
     let mut script = String::new(alloc);
@@ -114,15 +163,29 @@ fn numbered<F: Fn(&mut String, u64) -> Result<(), AllocError>>(alloc: Global, co
 #[test]
 fn limits(rt: HostRuntime) -> Result<(), Fail> {
     // 64 labels have a session, and each further one is refused, also after a BYE.
-    let labels = numbered(rt.alloc(), 66, |script, number| write!(script, "s{number}: BYE\n"))?;
+    let labels = numbered(
+        rt.alloc(),
+        66,
+        |script, number| write!(script, "s{number}: BYE\n"),
+    )?;
     let output = replies(&rt, rt.alloc(), labels.as_str())?;
     assert!(rt; output.ends_with(b"s63: bye\n?: error E9\n?: error E9\n"));
     // 1,024 seats are given.
-    let seats = numbered(rt.alloc(), 1_026, |script, _| script.push_str("n: HELLO north\nn: BYE\n"))?;
+    let seats = numbered(
+        rt.alloc(),
+        1_026,
+        |script, _| script.push_str("n: HELLO north\nn: BYE\n"),
+    )?;
     let output = replies(&rt, rt.alloc(), seats.as_str())?;
-    assert!(rt; output.ends_with(b"n: hello north\nn: bye\nn: error H2\nn: bye\nn: error H2\nn: bye\n"));
+    assert!(rt;
+        output.ends_with(b"n: hello north\nn: bye\nn: error H2\nn: bye\nn: error H2\nn: bye\n")
+    );
     // A list has 16 changes at most.
-    let changes = numbered(rt.alloc(), 17, |script, number| write!(script, "n: ADD {number} a POINT (0 0)\n"))?;
+    let changes = numbered(
+        rt.alloc(),
+        17,
+        |script, number| write!(script, "n: ADD {number} a POINT (0 0)\n"),
+    )?;
     let script = format!(in rt.alloc(); "n: HELLO north\n{changes}n: COMMIT\nn: COMMIT\n")?;
     let output = replies(&rt, rt.alloc(), script.as_str())?;
     assert!(rt; output.ends_with(b"n: staged\nn: error X6\nn: applied 1\nn: error E7\n"));
@@ -203,7 +266,10 @@ fn each_read_fails(rt: HostRuntime) -> Result<(), Fail> {
             assert_eq!(rt; output.as_slice(), FIRST_REPLIES.as_bytes());
         } else {
             assert_eq!(rt; end, Err(ServeFault::Read), "at {fails_at}");
-            assert!(rt; FIRST_REPLIES.as_bytes().starts_with(output.as_slice()), "at {fails_at}");
+            assert!(rt;
+                FIRST_REPLIES.as_bytes().starts_with(output.as_slice()),
+                "at {fails_at}"
+            );
         }
         check_goes_on(&rt, rt.alloc(), &mut world)?;
     }
@@ -211,10 +277,19 @@ fn each_read_fails(rt: HostRuntime) -> Result<(), Fail> {
 }
 
 /// A new run finds what was committed before, and no staged list.
-fn check_goes_on(rt: &impl Abort, alloc: Global, world: &mut PlainWorld<Global>) -> Result<(), AllocError> {
+fn check_goes_on(
+    rt: &impl Abort,
+    alloc: Global,
+    world: &mut PlainWorld<Global>,
+) -> Result<(), AllocError> {
     let mut output = Vec::new(alloc);
     let committed = !world.features().is_empty();
-    let end = run_script(alloc, world, &mut "n: HELLO north\nn: COMMIT\nn: SEARCH POINT (3 4)\n".as_bytes(), &mut output);
+    let end = run_script(
+        alloc,
+        world,
+        &mut "n: HELLO north\nn: COMMIT\nn: SEARCH POINT (3 4)\n".as_bytes(),
+        &mut output,
+    );
     assert_eq!(rt; end, Ok(()));
     let expected = if committed {
         "n: hello north\nn: error E7\nn: rows 1\nn: 1 1 north mast POINT (3 4)\n"
@@ -234,8 +309,18 @@ fn each_write_fails(rt: HostRuntime) -> Result<(), Fail> {
             taken: Vec::new(rt.alloc()),
             fails_at,
         };
-        let end = run_script(rt.alloc(), &mut world, &mut FIRST_POINT.as_bytes(), &mut writer);
-        assert!(rt; FIRST_REPLIES.as_bytes().starts_with(writer.taken.as_slice()), "at {fails_at}");
+        let end = run_script(
+            rt.alloc(),
+            &mut world,
+            &mut FIRST_POINT.as_bytes(),
+            &mut writer,
+        );
+        assert!(rt;
+            FIRST_REPLIES
+                .as_bytes()
+                .starts_with(writer.taken.as_slice()),
+            "at {fails_at}"
+        );
         if fails_at > writes {
             assert_eq!(rt; end, Ok(()));
             assert_eq!(rt; writer.taken.len(), FIRST_REPLIES.len());
@@ -292,7 +377,12 @@ fn each_allocation_refused(rt: HostRuntime) -> Result<(), Fail> {
         memory.refuse(at);
         let mut world = PlainWorld::open(&memory, built_in_subjects());
         let mut output = Vec::new(rt.alloc());
-        let end = run_script(&memory, &mut world, &mut FIRST_POINT.as_bytes(), &mut output);
+        let end = run_script(
+            &memory,
+            &mut world,
+            &mut FIRST_POINT.as_bytes(),
+            &mut output,
+        );
         if !memory.has_refused() {
             assert_eq!(rt; end, Ok(()));
             assert_eq!(rt; output.as_slice(), FIRST_REPLIES.as_bytes());
@@ -303,9 +393,15 @@ fn each_allocation_refused(rt: HostRuntime) -> Result<(), Fail> {
             // The table of sessions and the held line: nothing is read.
             1 | 2 => assert_eq!(rt; (end, output.len()), (Err(ServeFault::Memory), 0)),
             // The staged list.
-            3 => assert_eq!(rt; output.as_slice(), "n: hello north\nn: memory\nn: error E7\nn: rows 0\nn: rows 0\n".as_bytes()),
+            3 => assert_eq!(rt;
+                output.as_slice(),
+                "n: hello north\nn: memory\nn: error E7\nn: rows 0\nn: rows 0\n".as_bytes()
+            ),
             // The feature, whose list stays staged.
-            _ => assert_eq!(rt; output.as_slice(), "n: hello north\nn: staged\nn: memory\nn: rows 0\nn: rows 0\n".as_bytes()),
+            _ => assert_eq!(rt;
+                output.as_slice(),
+                "n: hello north\nn: staged\nn: memory\nn: rows 0\nn: rows 0\n".as_bytes()
+            ),
         }
     }
     assert!(rt; false, "each allocation was refused");
