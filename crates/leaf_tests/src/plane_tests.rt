@@ -52,20 +52,34 @@ fn long_parallel_segments(rt: HostRuntime) -> Result<(), Fail> {
 
 #[test]
 fn canonical_shapes(rt: HostRuntime) -> Result<(), Fail> {
-    let square =
-        Shape::polygon(&[at(0, 0), at(0, 4), at(4, 4), at(4, 2), at(4, 0), at(0, 0)])?;
-    assert_eq!(rt; corners(&square), [at(0, 0), at(4, 0), at(4, 4), at(0, 4)].as_slice());
+    let square = Shape::polygon(&[at(0, 0), at(0, 4), at(4, 4), at(4, 2), at(4, 0), at(0, 0)])?;
+    assert_eq!(rt;
+        corners(&square),
+        [at(0, 0), at(4, 0), at(4, 4), at(0, 4)].as_slice()
+    );
     assert_eq!(rt; square, four(at(4, 4), at(0, 4), at(0, 0), at(4, 0))?);
 
     let segment = Shape::segment(at(3, -1), at(3, -2))?;
     assert_eq!(rt; corners(&segment), [at(3, -2), at(3, -1)].as_slice());
-    assert_eq!(rt; Shape::segment(at(1, 2), at(1, 2)), Err(ShapeFault::SameEnds));
-    assert_eq!(rt; Shape::segment(at(10_000_001, 2), at(1, 2)), Err(ShapeFault::OutOfRange));
+    assert_eq!(rt;
+        Shape::segment(at(1, 2), at(1, 2)),
+        Err(ShapeFault::SameEnds)
+    );
+    assert_eq!(rt;
+        Shape::segment(at(10_000_001, 2), at(1, 2)),
+        Err(ShapeFault::OutOfRange)
+    );
 
     let point = Shape::point(at(10_000_000, -10_000_000))?;
     assert_eq!(rt; corners(&point), [at(10_000_000, -10_000_000)].as_slice());
-    assert_eq!(rt; Shape::point(at(10_000_001, 0)), Err(ShapeFault::OutOfRange));
-    assert_eq!(rt; Shape::point(at(0, -10_000_001)), Err(ShapeFault::OutOfRange));
+    assert_eq!(rt;
+        Shape::point(at(10_000_001, 0)),
+        Err(ShapeFault::OutOfRange)
+    );
+    assert_eq!(rt;
+        Shape::point(at(0, -10_000_001)),
+        Err(ShapeFault::OutOfRange)
+    );
     Ok(())
 }
 
@@ -77,8 +91,16 @@ fn refused_rings(rt: HostRuntime) -> Result<(), Fail> {
         &[at(0, 0), at(6, 4), at(-2, 4), at(4, 0), at(2, 7), at(0, 0)],
         ShapeFault::NotConvex,
     );
-    check_fault(&rt, &[at(0, 0), at(1, 1), at(2, 2), at(0, 0)], ShapeFault::Flat);
-    check_fault(&rt, &[at(0, 0), at(4, 0), at(0, 4), at(1, 1)], ShapeFault::NotClosed);
+    check_fault(
+        &rt,
+        &[at(0, 0), at(1, 1), at(2, 2), at(0, 0)],
+        ShapeFault::Flat,
+    );
+    check_fault(
+        &rt,
+        &[at(0, 0), at(4, 0), at(0, 4), at(1, 1)],
+        ShapeFault::NotClosed,
+    );
     check_fault(&rt, &[at(0, 0), at(4, 0), at(0, 0)], ShapeFault::TooFew);
     check_fault(&rt, &[], ShapeFault::TooFew);
     check_fault(
@@ -91,12 +113,22 @@ fn refused_rings(rt: HostRuntime) -> Result<(), Fail> {
         &[at(0, 0), at(4, 0), at(1, 1), at(0, 4), at(0, 0)],
         ShapeFault::NotConvex,
     );
-    check_fault(&rt, &[at(0, 0), at(10_000_001, 0), at(0, 4)], ShapeFault::OutOfRange);
+    check_fault(
+        &rt,
+        &[at(0, 0), at(10_000_001, 0), at(0, 4)],
+        ShapeFault::OutOfRange,
+    );
     check_fault(&rt, [at(0, 0); 65].as_slice(), ShapeFault::TooManyPoints);
-    check_fault(&rt, [at(0, 10_000_001); 65].as_slice(), ShapeFault::OutOfRange);
+    check_fault(
+        &rt,
+        [at(0, 10_000_001); 65].as_slice(),
+        ShapeFault::OutOfRange,
+    );
     check_fault(&rt, [at(0, 0); 64].as_slice(), ShapeFault::Repeated);
     assert_eq!(rt; ShapeFault::OutOfRange.code(), "P1");
     assert_eq!(rt; ShapeFault::TooManyCorners.code(), "P9");
+    let printed = format!(in rt.alloc(); "{}", ShapeFault::NotConvex)?;
+    assert_eq!(rt; printed.as_str(), "P8");
     Ok(())
 }
 
@@ -183,8 +215,18 @@ fn touching_and_missing(rt: HostRuntime) -> Result<(), Fail> {
         at(10_000_000, -10_000_000),
         at(10_000_000, 10_000_000),
     )?;
-    check_meeting(&rt, &lower, &Shape::point(at(-9_999_999, -9_999_999))?, true);
-    check_meeting(&rt, &lower, &Shape::point(at(-9_999_999, -9_999_998))?, false);
+    check_meeting(
+        &rt,
+        &lower,
+        &Shape::point(at(-9_999_999, -9_999_999))?,
+        true,
+    );
+    check_meeting(
+        &rt,
+        &lower,
+        &Shape::point(at(-9_999_999, -9_999_998))?,
+        false,
+    );
     check_meeting(
         &rt,
         &lower,
