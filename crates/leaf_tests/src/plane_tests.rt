@@ -127,6 +127,8 @@ fn refused_rings(rt: HostRuntime) -> Result<(), Fail> {
     check_fault(&rt, [at(0, 0); 64].as_slice(), ShapeFault::Repeated);
     assert_eq!(rt; ShapeFault::OutOfRange.code(), "P1");
     assert_eq!(rt; ShapeFault::TooManyCorners.code(), "P9");
+    let printed = format!(in rt.alloc(); "{}", ShapeFault::NotConvex)?;
+    assert_eq!(rt; printed.as_str(), "P8");
     Ok(())
 }
 

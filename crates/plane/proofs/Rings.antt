@@ -12,10 +12,10 @@ use Rattle.std.proofs.Math.Seq.{take-append_seam, drop-append_seam}
 use Rattle.plane.specs.Canonical.{IsCanonical, ring_of, corners_of}
 use Rattle.plane.specs.Convex.{Differ, AreOnOrLeft, IsConvexRing}
 use Rattle.plane.specs.Places.{IsKept}
-use Rattle.plane.specs.Points.{IsInRange, is_in_range, is_same, origin}
+use Rattle.plane.specs.Points.{IsInRange, is_in_range, is_same, is_before, origin}
 use Rattle.plane.specs.Rings.{turn, last_of, sides_to, is_on_line, is_least, is_flat, from_least, turning, turning_points}
 use Rattle.plane.proofs.CornersKept.{AreCorners, StepsDiffer, TurnsAtEach, last, next, last_of-last, turning_all, corners_after, at_once, left_of_way}
-use Rattle.plane.proofs.Least.{Precedes, StartsLeast, decides_least, from_least-starts, turns_at_least}
+use Rattle.plane.proofs.Least.{Precedes, not_before, StartsLeast, decides_least, from_least-starts, turns_at_least}
 use Rattle.plane.proofs.RingTests.{decides_all, decides_in_range, decides_same, decides_line, decides_goes_left, repeats_not}
 use Rattle.plane.proofs.Rotations.{from_least_convex}
 use Rattle.plane.proofs.Turns.{turn-cycle, turn_back, turn_nowhere}
@@ -132,6 +132,7 @@ corner_ring_canonical p x y more h = record {
   in_range = h.in_range;
   not_empty = omega arith;
   at_most = h.at_most;
+  first_least = All-weaker (λ q. Precedes p q) (λ q. is_before q p ≡ false) (λ q. not_before p q) (x ∷ y ∷ more) (All-tail (λ q. Precedes p q) p (x ∷ y ∷ more) h.precedes);
   listed =
       passes (list_all is_in_range ((p ∷ x ∷ y ∷ more) ++ p ∷ [])) (nat_lt 64 (length ((p ∷ x ∷ y ∷ more) ++ p ∷ []))) (nat_lt (length ((p ∷ x ∷ y ∷ more) ++ p ∷ [])) 4)
       (is_same p (last_of ((p ∷ x ∷ y ∷ more) ++ p ∷ []))) _ _ _ _ _

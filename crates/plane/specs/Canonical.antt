@@ -1,7 +1,7 @@
 -- The canonical shape of a list of listed points, or its first fault.
 use Rattle.std.specs.Prelude.{◌≡◌, ◌-◌, ◌≤◌, not, List, [], ◌∷◌, ◌++◌, length, take, reverse, All, if◌then◌else◌, nat_lt, Result, Ok, Err}
 use Rattle.std.specs.List.{list_all}
-use Rattle.plane.specs.Points.{IsInRange, is_in_range, is_same, is_before}
+use Rattle.plane.specs.Points.{IsInRange, IsFirstLeast, is_in_range, is_same, is_before}
 use Rattle.plane.specs.Rings.{first_of, last_of, has_repeat, is_flat, goes_left, from_least, turning_points}
 use Rattle.plane.specs.declared.point.Point.{Point}
 use Rattle.plane.specs.declared.fault.ShapeFault.{ShapeFault}
@@ -52,9 +52,10 @@ listed_shape (p ∷ []) = point_of p
 listed_shape (p ∷ q ∷ []) = segment_of p q
 listed_shape (p ∷ q ∷ r ∷ rest) = polygon_of ((p ∷ q ∷ r ∷ rest) ++ p ∷ [])
 
--- what every shape's corners are: 1 to 16 in range, and the canonical shape of the points by which they are listed
+-- what every shape's corners are: 1 to 16 in range, from the least one on, and the canonical shape of the points by which they are listed
 pub record IsCanonical (corners : List Point) : Type 0 where
   pub in_range : All IsInRange corners
   pub not_empty : 1 ≤ length corners
   pub at_most : length corners ≤ 16
+  pub first_least : IsFirstLeast corners
   pub listed : listed_shape corners ≡ Ok corners

@@ -1,5 +1,5 @@
 -- Points: their range, their order.
-use Rattle.std.specs.Prelude.{Bool, ◌&&◌, ◌||◌, pos, int_lt}
+use Rattle.std.specs.Prelude.{◌≡◌, Bool, false, ◌&&◌, ◌||◌, List, [], ◌∷◌, All, pos, int_lt}
 use Rattle.std.specs.Ordering.{int_eq}
 use Rattle.plane.specs.Coordinates.{IsCoordinate, is_coordinate}
 use Rattle.plane.specs.declared.point.Point.{Point}
@@ -23,3 +23,8 @@ is_same p q = int_eq p.x q.x && int_eq p.y q.y
 -- p has the lesser x, or at the same x the lesser y
 abbrev pub is_before : Point → Point → Bool
 is_before p q = int_lt p.x q.x || (int_eq p.x q.x && int_lt p.y q.y)
+
+-- none of the points is before the first one
+abbrev pub IsFirstLeast : List Point → Type 0
+IsFirstLeast [] = Unit {0}
+IsFirstLeast (p ∷ rest) = All (λ q. is_before q p ≡ false) rest
