@@ -7,6 +7,7 @@ use Rattle.std.specs.Str.Parse.{digits_value}
 abbrev pub is_space : ℕ → Bool
 is_space b = b == 32
 
+-- whatever is no space belongs to a word
 abbrev pub is_letter : ℕ → Bool
 is_letter b = not (b == 32)
 
