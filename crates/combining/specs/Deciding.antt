@@ -1,0 +1,77 @@
+-- The deciding rules: those that made the document's decision.
+use Rattle.std.specs.Prelude.{◌≡◌, ℕ, Bool, true, false, ◌&&◌, ◌||◌, List, [], ◌∷◌, ◌++◌, map, Option, if◌then◌else◌}
+use Rattle.std.specs.List.{list_all, position_from}
+use Rattle.policy_text.specs.Documents.{DocumentData, RuleData, NodeData, set, policy, Children, no_children, child}
+use Rattle.policy_text.specs.declared.algorithms.Algorithm.{Algorithm}
+use Rattle.policy_text.specs.declared.algorithms.Algorithm.TheVariants.{DenyOverrides, PermitOverrides, DenyUnlessPermit, PermitUnlessDeny, FirstApplicable}
+use Rattle.combining.specs.declared.questions.Question.{Question}
+use Rattle.combining.specs.declared.decisions.Decision.{Decision}
+use Rattle.combining.specs.declared.decisions.Verdict.{Verdict}
+use Rattle.combining.specs.Holding.{AreMet, rule_applies}
+use Rattle.combining.specs.Decisions.{is_permit, is_deny, is_not_applicable, effect_decision, rule_decision, decision_of}
+
+-- a set or a policy around a rule: its algorithm, its decision, and the decisions of its children that stand before the
+-- one to which the rule belongs
+pub record Enclosing : Type 0 where
+  pub combine : Algorithm
+  pub decision : Decision
+  pub earlier : List Decision
+
+-- a rule, with the sets and policies around it, the outermost first
+pub record Placed : Type 0 where
+  pub rule : RuleData
+  pub enclosing : List Enclosing
+
+abbrev pub is_decision : Decision → Decision → Bool
+is_decision d e = (is_permit d && is_permit e) || (is_deny d && is_deny e) || (is_not_applicable d && is_not_applicable e)
+
+abbrev pub is_first_applicable : Algorithm → Bool
+is_first_applicable DenyOverrides = false
+is_first_applicable PermitOverrides = false
+is_first_applicable DenyUnlessPermit = false
+is_first_applicable PermitUnlessDeny = false
+is_first_applicable FirstApplicable = true
+
+-- what stands within it counts for a decision: it has that decision, and under first-applicable no child before was applicable
+abbrev pub is_open : Decision → Enclosing → Bool
+is_open d e = is_decision d e.decision && (if is_first_applicable e.combine then list_all is_not_applicable e.earlier else true)
+
+abbrev pub within : Enclosing → Placed → Placed
+within e p = record p { enclosing = e ∷ p.enclosing }
+
+module _ (q : Question) (met : List (List ℕ)) where
+  -- the rules of the parts of a set or a policy, which stand behind children with these decisions
+  abbrev pub placed_within : Algorithm → Decision → List Decision → List (Decision × List Placed) → List Placed
+  placed_within a d earlier [] = []
+  placed_within a d earlier (part ∷ parts) =
+      map (within (record { combine = a; decision = d; earlier = earlier })) part.1 ++ placed_within a d (earlier ++ part.0 ∷ []) parts
+
+  abbrev pub rule_part : RuleData → Decision × List Placed
+  rule_part rule = (rule_decision q met rule, record { rule = rule; enclosing = [] } ∷ [])
+
+  -- the rules below a node in document order, with what is around them
+  abbrev mutual
+    pub placed_rules : NodeData → List Placed
+    placed_rules (set head children) = placed_within head.combine (decision_of q met (set head children)) [] (parts_of children)
+    placed_rules (policy head rules) = placed_within head.combine (decision_of q met (policy head rules)) [] (map rule_part rules)
+
+    pub parts_of : Children → List (Decision × List Placed)
+    parts_of no_children = []
+    parts_of (child node rest) = (decision_of q met node, placed_rules node) ∷ parts_of rest
+
+  -- the rule is one of those that made the decision d: it applies, has that effect, and all that is around it counts
+  abbrev pub is_deciding : Decision → Placed → Bool
+  is_deciding d p = list_all (is_open d) p.enclosing && (rule_applies q met p.rule && is_decision d (effect_decision p.rule.effect))
+
+  -- the number of the first deciding rule, counted from 1 in document order
+  abbrev pub first_deciding : NodeData → Option ℕ
+  first_deciding root = position_from (is_deciding (decision_of q met root)) 1 (placed_rules root)
+
+  abbrev pub verdict_of : NodeData → Verdict
+  verdict_of root = record { decision = decision_of q met root; rule = first_deciding root }
+
+-- what a document answers to a question
+pub record Answers (document : DocumentData) (q : Question) (verdict : Verdict) : Type 0 where
+  pub met : List (List ℕ)
+  pub are_met : AreMet q.shape document.zones met
+  pub is : verdict ≡ verdict_of q met document.root

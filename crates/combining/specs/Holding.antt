@@ -1,0 +1,55 @@
+-- When a match, an atom, a target, a rule hold for a question. Whether two shapes meet is a fact of geometry, and no
+-- test in specs: so these tests take the names of the zones that the question's shape meets, and `AreMet` says which these are.
+use Rattle.std.specs.Prelude.{ℕ, Bool, true, false, not, ◌&&◌, List, [], ◌∷◌}
+use Rattle.std.specs.List.{list_all, list_any}
+use Rattle.plane.specs.Rows.{Meet}
+use Rattle.plane.specs.declared.point.Point.{Point}
+use Rattle.features.specs.declared.actors.Action.{Action}
+use Rattle.features.specs.declared.actors.Action.TheVariants as actions
+use Rattle.policy_text.specs.Names.{is_name}
+use Rattle.policy_text.specs.Documents.{RuleData}
+use Rattle.policy_text.specs.declared.matches.Match.{Match}
+use Rattle.policy_text.specs.declared.matches.Match.TheVariants as matches
+use Rattle.policy_text.specs.declared.matches.Term.{Term}
+use Rattle.policy_text.specs.declared.matches.Term.TheVariants as terms
+use Rattle.policy_text.specs.declared.matches.Atom.{Atom}
+use Rattle.policy_text.specs.declared.matches.Atom.TheVariants as atoms
+use Rattle.policy_text.specs.declared.zones.Zone.{Zone}
+use Rattle.combining.specs.declared.questions.Question.{Question}
+
+-- the names of those of the zones that meet the shape, in their order
+pub data AreMet (shape : List Point) : List Zone → List (List ℕ) → Type 0 where
+  none : AreMet shape [] []
+  meets : (zone : Zone) → {zones : List Zone} → {names : List (List ℕ)} → Meet shape zone.shape → AreMet shape zones names → AreMet shape (zone ∷ zones) (zone.name ∷ names)
+  apart : (zone : Zone) → {zones : List Zone} → {names : List (List ℕ)} → (Meet shape zone.shape → ⊥) → AreMet shape zones names → AreMet shape (zone ∷ zones) names
+
+abbrev pub is_action : Action → Action → Bool
+is_action actions.Read actions.Read = true
+is_action actions.Add actions.Add = true
+is_action actions.Reshape actions.Reshape = true
+is_action actions.Delete actions.Delete = true
+is_action _ _ = false
+
+-- role and office are the subject's, owner and class the question's
+abbrev pub match_holds : Question → List (List ℕ) → Match → Bool
+match_holds q met (matches.Role name) = is_name q.subject.role name
+match_holds q met (matches.Office name) = is_name q.subject.office name
+match_holds q met (matches.Class name) = is_name q.class name
+match_holds q met (matches.Owner name) = is_name q.owner name
+match_holds q met (matches.Zone name) = list_any (is_name name) met
+match_holds q met (matches.Action action) = is_action q.action action
+
+abbrev pub term_holds : Question → List (List ℕ) → Term → Bool
+term_holds q met (terms.Match m) = match_holds q met m
+term_holds q met terms.Own = is_name q.owner q.subject.office
+
+abbrev pub atom_holds : Question → List (List ℕ) → Atom → Bool
+atom_holds q met (atoms.Is term) = term_holds q met term
+atom_holds q met (atoms.Not term) = not (term_holds q met term)
+
+-- each part of a target has an alternative all of whose matches hold
+abbrev pub target_holds : Question → List (List ℕ) → List (List (List Match)) → Bool
+target_holds q met target = list_all (list_any (list_all (match_holds q met))) target
+
+abbrev pub rule_applies : Question → List (List ℕ) → RuleData → Bool
+rule_applies q met rule = target_holds q met rule.target && list_all (atom_holds q met) rule.when

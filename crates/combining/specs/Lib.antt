@@ -1,0 +1,5 @@
+pub mod Holding
+pub mod Decisions
+pub mod Deciding
+pub mod Tallies
+pub mod Numbering

@@ -1,0 +1,74 @@
+//! The combining algorithms of XACML 3.0.
+
+ghost use Rattle.std.specs.Prelude.{◌≡◌, []};
+ghost use Rattle.combining.specs.Decisions.{combined};
+
+use crate::decisions::Decision;
+use policy_text::Algorithm;
+
+/// What is kept of the decisions of a node's children, so that none of them has to be stored.
+#[derive(Clone, Copy, Debug)]
+pub(crate) struct Tally {
+    permits: bool,
+    denies: bool,
+    first: Decision,
+}
+
+impl Tally {
+    ghost use Rattle.combining.specs.Tallies.{tally_of, with_decision, settled};
+
+    pub fn new() -> Tally
+        ensures { result ≡ tally_of [] }
+    {
+        Tally {
+            permits: false,
+            denies: false,
+            first: Decision::NotApplicable,
+        }
+    }
+
+    /// The tally with one decision more.
+    pub fn with(self, decision: Decision) -> Tally
+        ensures { result ≡ with_decision self decision }
+    {
+        Tally {
+            permits: self.permits || matches!(decision, Decision::Permit),
+            denies: self.denies || matches!(decision, Decision::Deny),
+            first: match self.first {
+                Decision::NotApplicable => decision,
+                Decision::Permit => Decision::Permit,
+                Decision::Deny => Decision::Deny,
+            },
+        }
+    }
+
+    /// What an algorithm makes of the decisions.
+    pub fn settle(self, algorithm: Algorithm) -> Decision
+        ensures { result ≡ settled algorithm self }
+    {
+        match algorithm {
+            Algorithm::DenyOverrides if self.denies => Decision::Deny,
+            Algorithm::DenyOverrides if self.permits => Decision::Permit,
+            Algorithm::DenyOverrides => Decision::NotApplicable,
+            Algorithm::PermitOverrides if self.permits => Decision::Permit,
+            Algorithm::PermitOverrides if self.denies => Decision::Deny,
+            Algorithm::PermitOverrides => Decision::NotApplicable,
+            Algorithm::DenyUnlessPermit if self.permits => Decision::Permit,
+            Algorithm::DenyUnlessPermit => Decision::Deny,
+            Algorithm::PermitUnlessDeny if self.denies => Decision::Deny,
+            Algorithm::PermitUnlessDeny => Decision::Permit,
+            Algorithm::FirstApplicable => self.first,
+        }
+    }
+}
+
+/// The decision of an algorithm over the decisions of all children, in their order.
+pub fn combine(algorithm: Algorithm, decisions: &[Decision]) -> Decision
+    ensures { result ≡ combined algorithm decisions.now }
+{
+    let mut tally = Tally::new();
+    for decision in decisions {
+        tally = tally.with(*decision);
+    }
+    tally.settle(algorithm)
+}

@@ -1,0 +1,108 @@
+//! When a match, a condition, a target or a rule holds for a question.
+
+ghost use Rattle.std.specs.Prelude.{◌≡◌};
+ghost use Rattle.std.specs.List.{list_all, list_any};
+ghost use Rattle.policy_text.specs.Names.{is_name};
+ghost use Rattle.combining.specs.Holding.{is_action, match_holds, term_holds, atom_holds, target_holds, rule_applies};
+
+use crate::questions::Question;
+use features::{Action, Name};
+use policy_text::{AllOf, AnyOf, Atom, Conditions, Match, Rule, Target, Term};
+use std::alloc::Allocator;
+
+fn is_action(first: Action, second: Action) -> bool
+    ensures { result ≡ is_action first second }
+{
+    match (first, second) {
+        (Action::Read, Action::Read) => true,
+        (Action::Add, Action::Add) => true,
+        (Action::Reshape, Action::Reshape) => true,
+        (Action::Delete, Action::Delete) => true,
+        _ => false,
+    }
+}
+
+/// Whether the name is one of these.
+fn is_met(met: &[Name], name: Name) -> bool
+    ensures { result ≡ list_any (is_name name) met.now }
+{
+    met.iter().any(|zone| name == *zone)
+}
+
+/// Whether a match holds, where the question's shape meets the zones of these names.
+fn match_holds(question: &Question, met: &[Name], test: &Match) -> bool
+    ensures { result ≡ match_holds question.now met.now test.now }
+{
+    match test {
+        Match::Role(name) => question.subject.role == *name,
+        Match::Office(name) => question.subject.office == *name,
+        Match::Class(name) => question.class == *name,
+        Match::Owner(name) => question.owner == *name,
+        Match::Zone(name) => is_met(met, *name),
+        Match::Action(action) => is_action(question.action, *action),
+    }
+}
+
+fn term_holds(question: &Question, met: &[Name], term: &Term) -> bool
+    ensures { result ≡ term_holds question.now met.now term.now }
+{
+    match term {
+        Term::Match(test) => match_holds(question, met, test),
+        Term::Own => question.owner == question.subject.office,
+    }
+}
+
+fn atom_holds(question: &Question, met: &[Name], atom: &Atom) -> bool
+    ensures { result ≡ atom_holds question.now met.now atom.now }
+{
+    match atom {
+        Atom::Is(term) => term_holds(question, met, term),
+        Atom::Not(term) => !term_holds(question, met, term),
+    }
+}
+
+fn all_hold<A: Allocator>(question: &Question, met: &[Name], matches: &AllOf<A>) -> bool
+    ensures { result ≡ list_all (match_holds question.now met.now) matches.now }
+{
+    matches
+        .as_slice()
+        .iter()
+        .all(|test| match_holds(question, met, test))
+}
+
+fn some_hold<A: Allocator>(question: &Question, met: &[Name], part: &AnyOf<A>) -> bool
+    ensures { result ≡ list_any (list_all (match_holds question.now met.now)) part.now }
+{
+    part.as_slice()
+        .iter()
+        .any(|matches| all_hold(question, met, matches))
+}
+
+/// Whether a target holds: each of its parts has an alternative all of whose matches hold.
+pub(crate) fn target_holds<A: Allocator>(
+    question: &Question,
+    met: &[Name],
+    target: &Target<A>,
+) -> bool
+    ensures { result ≡ target_holds question.now met.now target.now }
+{
+    target
+        .as_slice()
+        .iter()
+        .all(|part| some_hold(question, met, part))
+}
+
+fn conditions_hold<A: Allocator>(question: &Question, met: &[Name], when: &Conditions<A>) -> bool
+    ensures { result ≡ list_all (atom_holds question.now met.now) when.now }
+{
+    when.as_slice()
+        .iter()
+        .all(|atom| atom_holds(question, met, atom))
+}
+
+/// Whether a rule applies: its target and all its conditions hold.
+pub(crate) fn rule_applies<A: Allocator>(question: &Question, met: &[Name], rule: &Rule<A>) -> bool
+    ensures { result ≡ rule_applies question.now met.now rule.now }
+{
+    target_holds(question, met, &rule.target) && conditions_hold(question, met, &rule.when)
+}

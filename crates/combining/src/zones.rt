@@ -1,0 +1,83 @@
+//! The zones that a question's shape meets.
+
+ghost use Rattle.std.specs.Prelude.{◌≡◌, ◌+◌, ◌<◌, ◌≤◌, List, [], ◌∷◌, ◌++◌, length};
+ghost use Rattle.combining.specs.Holding.{AreMet};
+ghost use Rattle.policy_text.specs.declared.zones.Zone.{Zone};
+
+use features::Name;
+use plane::{Shape, meets};
+use policy_text::{Document, ZONE_LIMIT, Zone};
+use std::alloc::Allocator;
+use std::marker::Model;
+
+/// The names of the zones that a shape meets. A contract sees their list.
+#[derive(Drop)]
+pub(crate) struct MetZones {
+    names: [Name; ZONE_LIMIT],
+    count: usize,
+}
+
+impl Model for MetZones {
+    ghost use Rattle.std.specs.Prelude.{List, ℕ, ◌≤◌, take};
+
+    ghost Value = { List (List ℕ) };
+
+    ghost view = { λ m. take m.count m.names };
+
+    ghost invariant = { λ m. m.count ≤ 64 };
+}
+
+impl MetZones {
+    /// No zones. The places are filled with some name, since names have no empty one.
+    fn new(filler: Name) -> MetZones
+        ensures { result ≡ [] }
+    {
+        MetZones {
+            names: [filler; ZONE_LIMIT],
+            count: 0,
+        }
+    }
+
+    fn push(&mut self, name: Name)
+        requires { length self.old < 64 }
+        ensures { self.new ≡ self.old ++ name ∷ [] }
+    {
+        self.names[self.count] = name;
+        self.count += 1;
+    }
+
+    pub fn as_slice(&self) -> &[Name]
+        ensures { result.now ≡ self.now }
+    {
+        &self.names[..self.count]
+    }
+}
+
+/// Adds the zone where the shape meets it.
+fn add_if_met(met: &mut MetZones, shape: &Shape, zone: Zone)
+    requires { length met.old < 64 }
+    ensures met { (zones : List Zone) → AreMet shape.now zones met.old → AreMet shape.now (zones ++ zone ∷ []) met.new }
+    ensures count { length met.new ≤ length met.old + 1 }
+{
+    if meets(shape, &zone.shape) {
+        met.push(zone.name);
+    }
+}
+
+/// The zones of a document that the shape meets, each tested once. `filler` is any name.
+pub(crate) fn met_zones<A: Allocator>(
+    document: &Document<A>,
+    shape: &Shape,
+    filler: Name,
+) -> MetZones
+    requires { length document.now.zones ≤ 64 }
+    ensures { AreMet shape.now document.now.zones result }
+{
+    let mut met = MetZones::new(filler);
+    let mut index = 0;
+    while let Some(zone) = document.zone_at(index) {
+        add_if_met(&mut met, shape, zone);
+        index += 1;
+    }
+    met
+}

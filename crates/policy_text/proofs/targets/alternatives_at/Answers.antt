@@ -1,0 +1,21 @@
+use Rattle.std.proofs.Common.{map, sym, ap, ◌∙◌, subst, Ok}
+use Rattle.policy_text.specs.Views.{zone_of}
+use Rattle.policy_text.specs.Reading.{Fails, all_of_at}
+use Rattle.policy_text.proofs.EachLemmas.{Gives-residual, left_at-more, left_at-fails, left_at-end}
+use Rattle.policy_text.proofs.targets.alternatives_at.Goals as goal
+
+pub returns-in_err-matches : goal.returns-in_err-matches
+returns-in_err-matches g c =
+    Gives-residual _ _ _ _ c.from_residual.ensures.1 (subst (Fails c.in_err-matches.field-0.0) c.loop-index.invariant
+    (left_at-fails (all_of_at (map zone_of c.args.zones.now.entries)) c.args.path c.loop-index.alternatives.items c.loop-index.index c.loop-index.tests c.args.items.now
+    c.index-items-index.result c.in_err-matches.field-0.0 c.loop-index-test.true c.index-items-index.is (rw (← c.with.ensures) (c.in_err-matches.ensures))))
+
+pub returns : goal.returns
+returns g c =
+    sym c.loop-index.invariant ∙ left_at-end (all_of_at (map zone_of c.args.zones.now.entries)) c.args.path c.loop-index.alternatives.items c.loop-index.index c.loop-index.tests c.args.items.now c.loop-index-test.false
+    ∙ ap (λ xs. Ok (xs, c.loop-index.tests)) (sym c.from_vec.ensures)
+
+pub loop-index-preserved : goal.loop-index-preserved
+loop-index-preserved g c =
+    rw c.in_ok-push.ensures.items (left_at-more (all_of_at (map zone_of c.args.zones.now.entries)) c.args.path c.loop-index.alternatives.items c.loop-index.index c.loop-index.tests c.in_ok-matches.after c.args.items.now
+    c.index-items-index.result c.in_ok-matches.matches c.loop-index-test.true c.index-items-index.is (rw (← c.with.ensures) (c.in_ok-matches.ensures)) ∙ c.loop-index.invariant)

@@ -1,0 +1,345 @@
+-- Reading a document: what the JSON value of a text spells, or its first fault.
+use Rattle.std.specs.Prelude.{◌≡◌, ℕ, zero, suc, ◌+◌, ◌&&◌, Bool, true, false, List, [], ◌∷◌, ◌++◌, codes, length, nat_lt, if◌then◌else◌, Option, Some, None, is_some, option_and_then, Result, Ok, Err}
+use Rattle.std.specs.List.{list_any}
+use Rattle.std.specs.Option.{ok_or}
+use Rattle.std.specs.Str.{bytes_eq}
+use Rattle.serde_json.specs.Data.{Data, Items, no_items, item, Members, no_members, member}
+use Rattle.serde_json.specs.Find.{get, as_bool, as_str, as_array, as_object}
+use Rattle.features.specs.Names.{name_of}
+use Rattle.features.specs.declared.actors.Action.{Action}
+use Rattle.features.specs.declared.actors.Action.TheVariants as actions
+use Rattle.plane.specs.declared.point.Point.{Point}
+use Rattle.wkt.specs.Reading.{shape_of}
+use Rattle.wkt.specs.declared.fault.WktFault.{WktFault}
+use Rattle.serde_json.specs.Read.{read}
+use Rattle.policy_text.specs.Documents.{DocumentData, RuleData, Head, NodeData, set, policy, children_of}
+use Rattle.policy_text.specs.Names.{is_name}
+use Rattle.policy_text.specs.Keys.{key_text}
+use Rattle.policy_text.specs.declared.zones.Zone.{Zone}
+use Rattle.policy_text.specs.declared.paths.Key.{Key}
+use Rattle.policy_text.specs.declared.paths.Key.TheVariants as keys
+use Rattle.policy_text.specs.declared.paths.Step.{Step}
+use Rattle.policy_text.specs.declared.paths.Step.TheVariants as steps
+use Rattle.policy_text.specs.declared.faults.TextFault.{TextFault}
+use Rattle.policy_text.specs.declared.faults.TextFault.TheVariants as faults
+use Rattle.policy_text.specs.declared.algorithms.Algorithm.{Algorithm}
+use Rattle.policy_text.specs.declared.algorithms.Algorithm.TheVariants.{DenyOverrides, PermitOverrides, DenyUnlessPermit, PermitUnlessDeny, FirstApplicable}
+use Rattle.policy_text.specs.declared.algorithms.Effect.{Effect}
+use Rattle.policy_text.specs.declared.algorithms.Effect.TheVariants as effects
+use Rattle.policy_text.specs.declared.matches.Match.{Match}
+use Rattle.policy_text.specs.declared.matches.Match.TheVariants as matches
+use Rattle.policy_text.specs.declared.matches.Term.{Term}
+use Rattle.policy_text.specs.declared.matches.Term.TheVariants as terms
+use Rattle.policy_text.specs.declared.matches.Atom.{Atom}
+use Rattle.policy_text.specs.declared.matches.Atom.TheVariants as atoms
+
+infixl 10 ◌>>=◌
+abbrev pub ◌>>=◌ : {A B : Type 0} → Result A TextFault → (A → Result B TextFault) → Result B TextFault
+(Ok x) >>= f = f x
+(Err e) >>= f = Err e
+
+-- a fault is what reading gives, unless memory ran out
+abbrev pub Fails : {Y : Type 0} → TextFault → Result Y TextFault → Type 0
+Fails faults.Memory reading = Unit {0}
+Fails faults.NotJson reading = reading ≡ Err faults.NotJson
+Fails (faults.Form path) reading = reading ≡ Err (faults.Form path)
+Fails (faults.UnknownKey path) reading = reading ≡ Err (faults.UnknownKey path)
+Fails (faults.NameTwice name) reading = reading ≡ Err (faults.NameTwice name)
+Fails (faults.NoZone name) reading = reading ≡ Err (faults.NoZone name)
+Fails (faults.BadZone name fault) reading = reading ≡ Err (faults.BadZone name fault)
+Fails faults.TooDeep reading = reading ≡ Err faults.TooDeep
+Fails faults.TooMany reading = reading ≡ Err faults.TooMany
+
+-- what a function returned, seen by `view`, is what reading gives, unless memory ran out
+abbrev pub Gives : {X Y : Type 0} → (X → Y) → Result X TextFault → Result Y TextFault → Type 0
+Gives view (Ok x) reading = reading ≡ Ok (view x)
+Gives view (Err e) reading = Fails e reading
+
+-- the place of the value of a key
+abbrev pub at_key : List Step → Key → List Step
+at_key path key = path ++ steps.Key key ∷ []
+
+-- the place of an item of an array
+abbrev pub at_item : List Step → ℕ → List Step
+at_item path index = path ++ steps.Item index ∷ []
+
+abbrev pub value_of : Key → Data → Option Data
+value_of key d = get (key_text key) d
+
+-- the text is one of these keys
+abbrev pub is_listed : List Key → List ℕ → Bool
+is_listed listed text = list_any (λ key. bytes_eq (key_text key) text) listed
+
+-- each key of an object is listed
+abbrev pub has_only : List Key → Members → Bool
+has_only listed no_members = true
+has_only listed (member text d rest) = is_listed listed text && has_only listed rest
+
+-- the value is an object, all of whose keys are listed
+abbrev pub object_in : List Key → List Step → Data → Result (Unit {0}) TextFault
+object_in listed path d = ok_or (as_object d) (faults.Form path) >>= λ members. if has_only listed members then Ok tt else Err (faults.UnknownKey path)
+
+-- the name that stands under a key
+abbrev pub name_in : Key → List Step → Data → Result (List ℕ) TextFault
+name_in key path d = ok_or (option_and_then name_of (option_and_then as_str (value_of key d))) (faults.Form (at_key path key))
+
+-- the array that stands under a key
+abbrev pub array_in : Key → List Step → Data → Result Items TextFault
+array_in key path d = ok_or (option_and_then as_array (value_of key d)) (faults.Form (at_key path key))
+
+-- the array that stands under a key, empty where it is left out
+unfoldable pub optional_array_in : Key → List Step → Data → Result Items TextFault
+optional_array_in key path d = option_array (value_of key d)
+  where
+    option_array : Option Data → Result Items TextFault
+    option_array None = Ok no_items
+    option_array (Some e) = ok_or (as_array e) (faults.Form (at_key path key))
+
+abbrev pub algorithm_named : List ℕ → Option Algorithm
+algorithm_named text =
+    if bytes_eq text (codes "deny-overrides") then Some DenyOverrides
+    else if bytes_eq text (codes "permit-overrides") then Some PermitOverrides
+    else if bytes_eq text (codes "deny-unless-permit") then Some DenyUnlessPermit
+    else if bytes_eq text (codes "permit-unless-deny") then Some PermitUnlessDeny
+    else if bytes_eq text (codes "first-applicable") then Some FirstApplicable
+    else None
+
+abbrev pub algorithm_in : List Step → Data → Result Algorithm TextFault
+algorithm_in path d = ok_or (option_and_then algorithm_named (option_and_then as_str (value_of keys.Combine d))) (faults.Form (at_key path keys.Combine))
+
+abbrev pub effect_named : List ℕ → Option Effect
+effect_named text =
+    if bytes_eq text (codes "permit") then Some effects.Permit
+    else if bytes_eq text (codes "deny") then Some effects.Deny
+    else None
+
+abbrev pub effect_in : List Step → Data → Result Effect TextFault
+effect_in path d = ok_or (option_and_then effect_named (option_and_then as_str (value_of keys.Effect d))) (faults.Form (at_key path keys.Effect))
+
+abbrev pub action_named : List ℕ → Option Action
+action_named text =
+    if bytes_eq text (codes "read") then Some actions.Read
+    else if bytes_eq text (codes "add") then Some actions.Add
+    else if bytes_eq text (codes "reshape") then Some actions.Reshape
+    else if bytes_eq text (codes "delete") then Some actions.Delete
+    else None
+
+abbrev pub action_in : List Step → Data → Result Action TextFault
+action_in path d = ok_or (option_and_then action_named (option_and_then as_str (value_of keys.Action d))) (faults.Form (at_key path keys.Action))
+
+-- an object has exactly one key
+abbrev pub has_one : Members → Bool
+has_one no_members = false
+has_one (member text d no_members) = true
+has_one (member text d (member more e rest)) = false
+
+-- the value is an object with exactly one key, and that is listed
+abbrev pub single_in : List Key → List Step → Data → Result (Unit {0}) TextFault
+single_in listed path d = ok_or (as_object d) (faults.Form path) >>= λ members.
+    if has_only listed members then (if has_one members then Ok tt else Err (faults.Form path)) else Err (faults.UnknownKey path)
+
+-- the object has this key
+abbrev pub has_key : Key → Data → Bool
+has_key key d = is_some (value_of key d)
+
+-- the match of an object that has one key, a match's
+unfoldable pub match_in : List Step → Data → Result Match TextFault
+match_in path d =
+    if has_key keys.Role d then (name_in keys.Role path d >>= λ name. Ok (matches.Role name))
+    else if has_key keys.Office d then (name_in keys.Office path d >>= λ name. Ok (matches.Office name))
+    else if has_key keys.Class d then (name_in keys.Class path d >>= λ name. Ok (matches.Class name))
+    else if has_key keys.Owner d then (name_in keys.Owner path d >>= λ name. Ok (matches.Owner name))
+    else if has_key keys.Zone d then (name_in keys.Zone path d >>= λ name. Ok (matches.Zone name))
+    else (action_in path d >>= λ action. Ok (matches.Action action))
+
+-- the zone of which a match speaks is there
+abbrev pub known_in : List Zone → Match → Result (Unit {0}) TextFault
+known_in zones (matches.Zone name) = if list_any (λ z. is_name name z.name) zones then Ok tt else Err (faults.NoZone name)
+known_in zones (matches.Role name) = Ok tt
+known_in zones (matches.Office name) = Ok tt
+known_in zones (matches.Class name) = Ok tt
+known_in zones (matches.Owner name) = Ok tt
+known_in zones (matches.Action action) = Ok tt
+
+-- one match or atom more
+abbrev pub counted : ℕ → Result ℕ TextFault
+counted tests = if nat_lt tests 4096 then Ok (tests + 1) else Err faults.TooMany
+
+abbrev pub match_keys : List Key
+match_keys = keys.Role ∷ keys.Office ∷ keys.Class ∷ keys.Owner ∷ keys.Zone ∷ keys.Action ∷ []
+
+-- a match, with the count of matches and atoms behind it
+unfoldable pub match_at : List Zone → List Step → ℕ → Data → Result (Match × ℕ) TextFault
+match_at zones path tests d =
+    single_in match_keys path d >>= λ _. match_in path d >>= λ m. known_in zones m >>= λ _. counted tests >>= λ n. Ok (m, n)
+
+abbrev pub is_true : Option Bool → Bool
+is_true None = false
+is_true (Some b) = b
+
+abbrev pub is_empty : Items → Bool
+is_empty no_items = true
+is_empty (item d rest) = false
+
+-- the word for the subject's own office, whose value is true
+abbrev pub own_in : List Step → Data → Result Term TextFault
+own_in path d = if is_true (option_and_then as_bool (value_of keys.Own d)) then Ok terms.Own else Err (faults.Form (at_key path keys.Own))
+
+unfoldable pub term_in : List Step → Data → Result Term TextFault
+term_in path d = if has_key keys.Own d then own_in path d else (match_in path d >>= λ m. Ok (terms.Match m))
+
+abbrev pub known_term : List Zone → Term → Result (Unit {0}) TextFault
+known_term zones (terms.Match m) = known_in zones m
+known_term zones terms.Own = Ok tt
+
+abbrev pub term_keys : List Key
+term_keys = keys.Role ∷ keys.Office ∷ keys.Class ∷ keys.Owner ∷ keys.Zone ∷ keys.Action ∷ keys.Own ∷ []
+
+abbrev pub atom_keys : List Key
+atom_keys = keys.Role ∷ keys.Office ∷ keys.Class ∷ keys.Owner ∷ keys.Zone ∷ keys.Action ∷ keys.Own ∷ keys.Not ∷ []
+
+-- the term of an object that was found to be one
+unfoldable pub term_of : List Zone → List Step → ℕ → Data → Result (Term × ℕ) TextFault
+term_of zones path tests d = term_in path d >>= λ term. known_term zones term >>= λ _. counted tests >>= λ n. Ok (term, n)
+
+-- what stands in a `not`
+unfoldable pub term_at : List Zone → List Step → ℕ → Data → Result (Term × ℕ) TextFault
+term_at zones path tests d = single_in term_keys path d >>= λ _. term_of zones path tests d
+
+-- the object of a `not` counts before what stands in it
+unfoldable pub atom_of : List Zone → List Step → ℕ → Data → Option Data → Result (Atom × ℕ) TextFault
+atom_of zones path tests d None = term_of zones path tests d >>= λ r. Ok (atoms.Is r.0, r.1)
+atom_of zones path tests d (Some inner) = counted tests >>= λ n. term_at zones (at_key path keys.Not) n inner >>= λ r. Ok (atoms.Not r.0, r.1)
+
+-- an atom, with the count of matches and atoms behind it
+unfoldable pub atom_at : List Zone → List Step → ℕ → Data → Result (Atom × ℕ) TextFault
+atom_at zones path tests d = single_in atom_keys path d >>= λ _. atom_of zones path tests d (value_of keys.Not d)
+
+-- the items of an array, each read at its place from index on, with what was seen before it
+unfoldable pub each_at : {X S : Type 0} → (List Step → S → Data → Result (X × S) TextFault) → List Step → ℕ → S → Items → Result (List X × S) TextFault
+each_at read path index seen no_items = Ok ([], seen)
+each_at read path index seen (item d rest) =
+    read (at_item path index) seen d >>= λ first. each_at read path (index + 1) first.1 rest >>= λ others. Ok (first.0 ∷ others.0, others.1)
+
+-- an array that is not empty
+abbrev pub items_in : List Step → Data → Result Items TextFault
+items_in path d = ok_or (as_array d) (faults.Form path) >>= λ items. if is_empty items then Err (faults.Form path) else Ok items
+
+unfoldable pub all_of_at : List Zone → List Step → ℕ → Data → Result (List Match × ℕ) TextFault
+all_of_at zones path tests d = items_in path d >>= λ items. each_at (match_at zones) path 0 tests items
+
+unfoldable pub any_of_at : List Zone → List Step → ℕ → Data → Result (List (List Match) × ℕ) TextFault
+any_of_at zones path tests d = items_in path d >>= λ items. each_at (all_of_at zones) path 0 tests items
+
+unfoldable pub target_at : List Zone → List Step → ℕ → Items → Result (List (List (List Match)) × ℕ) TextFault
+target_at zones path tests items = each_at (any_of_at zones) path 0 tests items
+
+unfoldable pub when_at : List Zone → List Step → ℕ → Items → Result (List Atom × ℕ) TextFault
+when_at zones path tests items = each_at (atom_at zones) path 0 tests items
+
+-- what was read before: the names of sets, policies and rules, and how many there are of each kind
+pub record Seen : Type 0 where
+  pub names : List (List ℕ)
+  pub nodes : ℕ
+  pub rules : ℕ
+  pub tests : ℕ
+
+-- one name more, that was not seen before
+abbrev pub fresh : List ℕ → List (List ℕ) → Result (List (List ℕ)) TextFault
+fresh name names = if list_any (is_name name) names then Err (faults.NameTwice name) else Ok (names ++ name ∷ [])
+
+-- one more of a kind of which there may be so many
+abbrev pub within : ℕ → ℕ → Result ℕ TextFault
+within limit count = if nat_lt count limit then Ok (count + 1) else Err faults.TooMany
+
+abbrev pub rule_keys : List Key
+rule_keys = keys.Rule ∷ keys.Effect ∷ keys.Target ∷ keys.When ∷ []
+
+unfoldable pub rule_at : List Zone → List Step → Seen → Data → Result (RuleData × Seen) TextFault
+rule_at zones path seen d =
+    object_in rule_keys path d >>= λ _. name_in keys.Rule path d >>= λ name. effect_in path d >>= λ effect.
+    optional_array_in keys.Target path d >>= λ target. optional_array_in keys.When path d >>= λ when.
+    fresh name seen.names >>= λ names. within 512 seen.rules >>= λ rules.
+    target_at zones (at_key path keys.Target) seen.tests target >>= λ t. when_at zones (at_key path keys.When) t.1 when >>= λ w.
+    Ok (record { name = name; effect = effect; target = t.0; when = w.0 }, record { names = names; nodes = seen.nodes; rules = rules; tests = w.1 })
+
+abbrev pub set_keys : List Key
+set_keys = keys.Set ∷ keys.Combine ∷ keys.Target ∷ keys.Of ∷ []
+
+abbrev pub policy_keys : List Key
+policy_keys = keys.Policy ∷ keys.Combine ∷ keys.Target ∷ keys.Rules ∷ []
+
+-- a set or a policy before its children: its head, what was seen behind its target, and its children's array
+unfoldable pub head_at : List Zone → List Key → Key → Key → List Step → Seen → Data → Result (Head × (Seen × Items)) TextFault
+head_at zones listed name_key children path seen d =
+    object_in listed path d >>= λ _. name_in name_key path d >>= λ name. algorithm_in path d >>= λ combine.
+    optional_array_in keys.Target path d >>= λ target. array_in children path d >>= λ items.
+    fresh name seen.names >>= λ names. within 512 seen.nodes >>= λ nodes.
+    target_at zones (at_key path keys.Target) seen.tests target >>= λ t.
+    Ok (record { name = name; combine = combine; target = t.0 }, (record { names = names; nodes = nodes; rules = seen.rules; tests = t.1 }, items))
+
+unfoldable pub policy_at : List Zone → List Step → Seen → Data → Result (NodeData × Seen) TextFault
+policy_at zones path seen d =
+    head_at zones policy_keys keys.Policy keys.Rules path seen d >>= λ h.
+    each_at (rule_at zones) (at_key path keys.Rules) 0 h.1.0 h.1.1 >>= λ r. Ok (policy h.0 r.0, r.1)
+
+-- a set, whose children are read by `read`
+unfoldable pub set_at : (List Step → Seen → Data → Result (NodeData × Seen) TextFault) → List Zone → List Step → Seen → Data → Result (NodeData × Seen) TextFault
+set_at read zones path seen d =
+    head_at zones set_keys keys.Set keys.Of path seen d >>= λ h.
+    each_at read (at_key path keys.Of) 0 h.1.0 h.1.1 >>= λ r. Ok (set h.0 (children_of r.0), r.1)
+
+-- a set or a policy, where so many levels may stand; an object that has the key `set` is a set
+unfoldable pub node_at : List Zone → ℕ → List Step → Seen → Data → Result (NodeData × Seen) TextFault
+node_at zones zero path seen d = Err faults.TooDeep
+node_at zones (suc levels) path seen d = if has_key keys.Set d then set_at (node_at zones levels) zones path seen d else policy_at zones path seen d
+
+abbrev pub zone_keys : List Key
+zone_keys = keys.Zone ∷ keys.Shape ∷ []
+
+-- the text that stands under a key
+abbrev pub text_in : Key → List Step → Data → Result (List ℕ) TextFault
+text_in key path d = ok_or (option_and_then as_str (value_of key d)) (faults.Form (at_key path key))
+
+-- the shape of a zone
+abbrev pub shape_in : List ℕ → List ℕ → Result (List Point) TextFault
+shape_in name text = zone_fault (shape_of text)
+  where
+    zone_fault : Result (List Point) WktFault → Result (List Point) TextFault
+    zone_fault (Ok corners) = Ok corners
+    zone_fault (Err fault) = Err (faults.BadZone name fault)
+
+-- no zone has the name yet
+abbrev pub unseen : List ℕ → List Zone → Result (Unit {0}) TextFault
+unseen name zones = if list_any (λ z. is_name name z.name) zones then Err (faults.NameTwice name) else Ok tt
+
+-- the zones with one more, whose name is new
+unfoldable pub with_zone : List ℕ → List Point → List Zone → Result (List Zone) TextFault
+with_zone name shape zones = unseen name zones >>= λ _. within 64 (length zones) >>= λ _. Ok (zones ++ record { name = name; shape = shape } ∷ [])
+
+-- a zone, with those before it
+unfoldable pub zone_at : List Step → List Zone → Data → Result (List Zone) TextFault
+zone_at path zones d =
+    object_in zone_keys path d >>= λ _. name_in keys.Zone path d >>= λ name. text_in keys.Shape path d >>= λ text.
+    shape_in name text >>= λ shape. with_zone name shape zones
+
+unfoldable pub zones_at : ℕ → List Zone → Items → Result (List Zone) TextFault
+zones_at index zones no_items = Ok zones
+zones_at index zones (item d rest) = zone_at (at_item (steps.Key keys.Zones ∷ []) index) zones d >>= λ more. zones_at (index + 1) more rest
+
+abbrev pub document_keys : List Key
+document_keys = keys.Zones ∷ keys.Root ∷ []
+
+abbrev pub nothing_seen : Seen
+nothing_seen = record { names = []; nodes = 0; rules = 0; tests = 0 }
+
+-- the document that a JSON value spells, or its first fault
+unfoldable pub document_in : Data → Result DocumentData TextFault
+document_in d =
+    object_in document_keys [] d >>= λ _. optional_array_in keys.Zones [] d >>= λ items.
+    ok_or (value_of keys.Root d) (faults.Form (at_key [] keys.Root)) >>= λ root. zones_at 0 [] items >>= λ zones.
+    node_at zones 8 (at_key [] keys.Root) nothing_seen root >>= λ r. Ok (record { zones = zones; root = r.0 })
+
+-- the document that a text spells, by the JSON value that `serde_json` reads, or its first fault
+unfoldable pub document_of : List ℕ → Result DocumentData TextFault
+document_of text = ok_or (read text) faults.NotJson >>= document_in

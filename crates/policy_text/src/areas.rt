@@ -1,0 +1,114 @@
+//! Reading zones, and the parts of a document.
+
+ghost use Rattle.std.specs.Prelude.{◌≡◌, ◌<◌, [], length, map};
+ghost use Rattle.serde_json.specs.View.{view, items_view};
+ghost use Rattle.policy_text.specs.Views.{zone_of, document_view};
+ghost use Rattle.policy_text.specs.Reading.{Gives, shape_in, with_zone, zone_at, zones_at, document_in};
+
+use crate::documents::{ZONE_LIMIT, Zones};
+use crate::faults::TextFault;
+use crate::fields::{name_in, object_in, optional_array_in, text_in, value_in};
+use crate::nodes::Node;
+use crate::paths::{Key, Path, Step};
+use crate::reading::{DEPTH_LIMIT, SoFar, node_at};
+use crate::terms::has_zone;
+use crate::zones::ZoneName;
+use features::Name;
+use indexmap::IndexMap;
+use plane::Shape;
+use serde_json::Value;
+use std::alloc::Allocator;
+use wkt::read_shape;
+
+const ZONE_KEYS: [Key; 2] = [Key::Zone, Key::Shape];
+
+const DOCUMENT_KEYS: [Key; 2] = [Key::Zones, Key::Root];
+
+/// The shape of a zone.
+fn shape_in(name: Name, text: &str) -> Result<Shape, TextFault>
+    ensures { result ≡ shape_in name text.now }
+{
+    match read_shape(text.as_bytes()) {
+        Ok(shape) => Ok(shape),
+        Err(fault) => Err(TextFault::BadZone(name, fault)),
+    }
+}
+
+/// The zones with one more, whose name is new.
+#[tactic(auto, unfolding(crate::specs::Reading::with_zone))]
+fn with_zone<A: Allocator + Copy>(
+    name: Name,
+    shape: Shape,
+    zones: Zones<A>,
+) -> Result<Zones<A>, TextFault>
+    ensures { Gives (λ z. map zone_of z.entries) result (with_zone name shape (map zone_of zones.entries)) }
+{
+    if has_zone(&zones, name) {
+        return Err(TextFault::NameTwice(name));
+    }
+    if zones.len() >= ZONE_LIMIT {
+        return Err(TextFault::TooMany);
+    }
+    let mut zones = zones;
+    zones.insert(ZoneName { name }, shape)?;
+    Ok(zones)
+}
+
+/// A zone, with those before it.
+#[tactic(auto, unfolding(crate::specs::Reading::zone_at))]
+fn zone_at<A: Allocator + Copy>(
+    value: &Value,
+    path: Path,
+    zones: Zones<A>,
+) -> Result<Zones<A>, TextFault>
+    requires { length path < 24 }
+    ensures { Gives (λ z. map zone_of z.entries) result (zone_at path (map zone_of zones.entries) (view value.now)) }
+{
+    object_in(value, &ZONE_KEYS, path)?;
+    let name = name_in(value, Key::Zone, path)?;
+    let text = text_in(value, Key::Shape, path)?;
+    let shape = shape_in(name, text)?;
+    with_zone(name, shape, zones)
+}
+
+/// The zones of an array.
+fn zones_at<A: Allocator + Copy>(alloc: A, items: &[Value]) -> Result<Zones<A>, TextFault>
+    ensures { Gives (λ z. map zone_of z.entries) result (zones_at 0 [] (items_view items.now)) }
+{
+    let path = Path::new().with(Step::Key(Key::Zones));
+    let mut zones = IndexMap::new(alloc);
+    for (index, value) in items.iter().enumerate() {
+        zones = zone_at(value, path.with(Step::Item(index)), zones)?;
+    }
+    Ok(zones)
+}
+
+/// The zones and the root of the document that a JSON value spells.
+#[tactic(auto, unfolding(crate::specs::Reading::document_in))]
+pub(crate) fn document_in<A: Allocator + Copy>(
+    alloc: A,
+    value: &Value,
+) -> Result<(Zones<A>, Node<A>), TextFault>
+    ensures { Gives (λ r. document_view r.0.entries r.1) result (document_in (view value.now)) }
+{
+    let path = Path::new();
+    object_in(value, &DOCUMENT_KEYS, path)?;
+    let items = optional_array_in(value, Key::Zones, path)?;
+    let root = value_in(value, Key::Root, path)?;
+    let zones = zones_at(alloc, items)?;
+    let seen = SoFar {
+        names: Vec::new(alloc),
+        nodes: 0,
+        rules: 0,
+        tests: 0,
+    };
+    let (root, _) = node_at(
+        alloc,
+        &zones,
+        root,
+        DEPTH_LIMIT,
+        path.with(Step::Key(Key::Root)),
+        seen,
+    )?;
+    Ok((zones, root))
+}

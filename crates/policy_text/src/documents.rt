@@ -1,0 +1,157 @@
+//! Whole documents.
+
+ghost use Rattle.std.specs.Prelude.{◌≡◌, IfOk, length, map, slice_get};
+ghost use Rattle.std.specs.Option.{option_copied};
+ghost use Rattle.policy_text.specs.Documents.{zone_shape, rule_named, IsDocument, rules_of, rules_of_all, children_of, found_rule};
+ghost use Rattle.policy_text.specs.Views.{node_view};
+
+use crate::nodes::{Node, copy_node};
+use crate::rules::Rule;
+use crate::zones::{Zone, ZoneName};
+use features::Name;
+use indexmap::IndexMap;
+use plane::Shape;
+use std::alloc::{AllocError, Allocator};
+use std::hash::{BuildHasherDefault, FoldHasher};
+use std::marker::Model;
+
+/// How many zones a document has at most.
+pub const ZONE_LIMIT: usize = 64;
+
+pub(crate) type Zones<A> = IndexMap<ZoneName, Shape, BuildHasherDefault<FoldHasher>, A>;
+
+/// A policy document: its zones, in written order, and its root. It keeps the limits of documents, its sets,
+/// policies and rules have one name each, so have its zones, and each zone of which a match speaks is there. A
+/// contract sees the zones' list and a tree of plain data.
+#[derive(Debug, Drop)]
+pub struct Document<A: Allocator> {
+    zones: Zones<A>,
+    root: Node<A>,
+}
+
+impl<A: Allocator> Model for Document<A> {
+    ghost use Rattle.policy_text.specs.Documents.{DocumentData, IsDocument};
+    ghost use Rattle.policy_text.specs.Coding.{Part, stored, restored, restored-stored};
+    ghost use Rattle.policy_text.specs.declared.zones.Zone.{Zone};
+    ghost use Rattle.std.specs.Coded.{code_by, codes};
+    ghost use Rattle.std.specs.Prelude.{List};
+
+    ghost Value = { DocumentData };
+
+    ghost coded = { code_by (List Zone × List Part) (Prim.hlevel codes) stored restored restored-stored };
+
+    ghost use Rattle.policy_text.specs.Views.{document_view};
+
+    ghost view = { λ d. document_view d.zones.entries d.root };
+
+    ghost invariant = { λ d. IsDocument (document_view d.zones.entries d.root) };
+}
+
+impl<A: Allocator> Document<A> {
+    /// The set or policy at the root.
+    pub fn root(&self) -> &Node<A>
+        ensures root { node_view result.now ≡ self.now.root }
+        ensures sound { IsDocument self.now }
+    {
+        &self.root
+    }
+
+    /// How many zones there are.
+    pub fn zone_count(&self) -> usize
+        ensures { result ≡ length self.now.zones }
+    {
+        self.zones.len()
+    }
+
+    /// The zone at this place, counted from 0, in written order.
+    pub fn zone_at(&self, index: usize) -> Option<Zone>
+        ensures { result ≡ slice_get self.now.zones index }
+    {
+        let (key, shape) = self.zones.get_index(index)?;
+        Some(Zone {
+            name: key.name,
+            shape: *shape,
+        })
+    }
+
+    /// The shape of the zone of this name.
+    pub fn zone(&self, name: Name) -> Option<&Shape>
+        ensures { option_copied result ≡ zone_shape name self.now.zones }
+    {
+        self.zones.get(&ZoneName { name })
+    }
+
+    /// The name of the rule of this number. Rules are numbered from 1, in document order.
+    pub fn rule_name(&self, number: u32) -> Option<Name>
+        ensures { result ≡ rule_named number self.now.root }
+    {
+        if number == 0 {
+            return None;
+        }
+        rule_in(&self.root, number as usize - 1).ok()
+    }
+}
+
+/// The name of the rule at this place, counted from 0, in the node, or how far behind the node's rules the place is.
+#[cycle(rule_in)]
+fn rule_in<A: Allocator>(node: &Node<A>, index: usize) -> Result<Name, usize>
+    ensures { result ≡ found_rule index (rules_of (node_view node.now)) }
+{
+    match node {
+        Node::Set { of, .. } => rule_in_nodes(of, index),
+        Node::Policy { rules, .. } => rule_at(rules, index),
+    }
+}
+
+/// The same over the rules of a policy.
+fn rule_at<A: Allocator>(rules: &[Rule<A>], index: usize) -> Result<Name, usize>
+    ensures { result ≡ found_rule index rules.now }
+{
+    if index < rules.len() {
+        let rule = &rules[index];
+        Ok(rule.name)
+    } else {
+        Err(index - rules.len())
+    }
+}
+
+/// The same over several nodes.
+#[cycle(rule_in)]
+fn rule_in_nodes<A: Allocator>(nodes: &[Node<A>], index: usize) -> Result<Name, usize>
+    ensures { result ≡ found_rule index (rules_of_all (children_of (map node_view nodes.now))) }
+{
+    let mut left = index;
+    for node in nodes {
+        match rule_in(node, left) {
+            Ok(name) => return Ok(name),
+            Err(rest) => left = rest,
+        }
+    }
+    Err(left)
+}
+
+impl<A: Allocator> Document<A> {
+    /// A copy of the document, made by another allocator. The only error is want of memory.
+    pub fn copy<B: Allocator + Copy>(&self, alloc: B) -> Result<Document<B>, AllocError>
+        ensures { IfOk result (λ copy. copy ≡ self.now) }
+    {
+        Ok(Document {
+            zones: copy_zones(alloc, &self.zones)?,
+            root: copy_node(alloc, &self.root)?,
+        })
+    }
+}
+
+/// A copy of the zones. The only error is want of memory.
+fn copy_zones<A: Allocator, B: Allocator + Copy>(
+    alloc: B,
+    zones: &Zones<A>,
+) -> Result<Zones<B>, AllocError>
+    ensures { IfOk result (λ copy. copy.entries ≡ zones.now.entries) }
+{
+    let mut copies = IndexMap::with_capacity(alloc, zones.len())?;
+    for (key, shape) in zones.iter() {
+        copies.insert(*key, *shape)?;
+    }
+    Ok(copies)
+}

@@ -1,0 +1,25 @@
+//! Access policies as JSON documents: their types, their reader and their printer.
+#![tactic(auto)]
+
+mod algorithms;
+mod areas;
+mod documents;
+mod faults;
+mod fields;
+mod matches;
+mod nodes;
+mod paths;
+mod reading;
+mod rules;
+mod targets;
+mod terms;
+mod zones;
+
+pub use algorithms::{Algorithm, Effect};
+pub use documents::{Document, ZONE_LIMIT};
+pub use faults::TextFault;
+pub use matches::{AllOf, AnyOf, Atom, Conditions, Match, Target, Term};
+pub use nodes::Node;
+pub use paths::{Key, Path, STEP_LIMIT, Step};
+pub use rules::Rule;
+pub use zones::Zone;

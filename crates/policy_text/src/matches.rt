@@ -1,0 +1,214 @@
+//! What a rule, a policy or a set asks of a question before it applies.
+
+ghost use Rattle.std.specs.Prelude.{◌≡◌, IfOk};
+
+use features::{Action, Name};
+use std::alloc::{AllocError, Allocator};
+use std::marker::Model;
+
+/// A test of one part of a question.
+#[derive(Clone, Copy, Debug, PartialEq, Eq)]
+pub enum Match {
+    /// The subject's role.
+    Role(Name),
+    /// The subject's office.
+    Office(Name),
+    /// The class of the feature that the question is about.
+    Class(Name),
+    /// The office that the feature belongs to.
+    Owner(Name),
+    /// The question's shape meets the shape of this zone.
+    Zone(Name),
+    /// What the subject asks to do.
+    Action(Action),
+}
+
+/// A match, or the test that the feature belongs to the subject's own office.
+#[derive(Clone, Copy, Debug, PartialEq, Eq)]
+pub enum Term {
+    Match(Match),
+    Own,
+}
+
+/// A condition of a rule: a term that has to hold, or one that must not.
+#[derive(Clone, Copy, Debug, PartialEq, Eq)]
+pub enum Atom {
+    Is(Term),
+    Not(Term),
+}
+
+/// Matches that hold where each of them holds. A contract sees their list.
+#[derive(Debug, Drop)]
+pub struct AllOf<A: Allocator> {
+    matches: Vec<Match, A>,
+}
+
+impl<A: Allocator> Model for AllOf<A> {
+    ghost use Rattle.std.specs.Prelude.{List};
+    ghost use Rattle.policy_text.specs.declared.matches.Match.{Match};
+
+    ghost Value = { List Match };
+
+    ghost view = { λ a. a.matches.items };
+}
+
+impl<A: Allocator> AllOf<A> {
+    /// The matches of this list.
+    pub fn from_vec(matches: Vec<Match, A>) -> Self
+        ensures { result ≡ matches.items }
+    {
+        AllOf { matches }
+    }
+
+    /// The matches, in written order.
+    pub fn as_slice(&self) -> &[Match]
+        ensures { result.now ≡ self.now }
+    {
+        &self.matches
+    }
+}
+
+/// Alternatives, of which one has to hold. A contract sees their list.
+#[derive(Debug, Drop)]
+pub struct AnyOf<A: Allocator> {
+    alternatives: Vec<AllOf<A>, A>,
+}
+
+impl<A: Allocator> Model for AnyOf<A> {
+    ghost use Rattle.std.specs.Prelude.{List};
+    ghost use Rattle.policy_text.specs.declared.matches.Match.{Match};
+
+    ghost Value = { List (List Match) };
+
+    ghost view = { λ a. a.alternatives.items };
+}
+
+impl<A: Allocator> AnyOf<A> {
+    /// The alternatives of this list.
+    pub fn from_vec(alternatives: Vec<AllOf<A>, A>) -> Self
+        ensures { result ≡ alternatives.items }
+    {
+        AnyOf { alternatives }
+    }
+
+    /// The alternatives, in written order.
+    pub fn as_slice(&self) -> &[AllOf<A>]
+        ensures { result.now ≡ self.now }
+    {
+        &self.alternatives
+    }
+}
+
+/// What a set, a policy or a rule is about: each of its parts has to hold. A contract sees their list.
+#[derive(Debug, Drop)]
+pub struct Target<A: Allocator> {
+    parts: Vec<AnyOf<A>, A>,
+}
+
+impl<A: Allocator> Model for Target<A> {
+    ghost use Rattle.std.specs.Prelude.{List};
+    ghost use Rattle.policy_text.specs.declared.matches.Match.{Match};
+
+    ghost Value = { List (List (List Match)) };
+
+    ghost view = { λ t. t.parts.items };
+}
+
+impl<A: Allocator> Target<A> {
+    /// The target with these parts.
+    pub fn from_vec(parts: Vec<AnyOf<A>, A>) -> Self
+        ensures { result ≡ parts.items }
+    {
+        Target { parts }
+    }
+
+    /// The parts, in written order.
+    pub fn as_slice(&self) -> &[AnyOf<A>]
+        ensures { result.now ≡ self.now }
+    {
+        &self.parts
+    }
+}
+
+/// The conditions of a rule, all of which have to hold. A contract sees their list.
+#[derive(Debug, Drop)]
+pub struct Conditions<A: Allocator> {
+    atoms: Vec<Atom, A>,
+}
+
+impl<A: Allocator> Model for Conditions<A> {
+    ghost use Rattle.std.specs.Prelude.{List};
+    ghost use Rattle.policy_text.specs.declared.matches.Atom.{Atom};
+
+    ghost Value = { List Atom };
+
+    ghost view = { λ c. c.atoms.items };
+}
+
+impl<A: Allocator> Conditions<A> {
+    /// The conditions of this list.
+    pub fn from_vec(atoms: Vec<Atom, A>) -> Self
+        ensures { result ≡ atoms.items }
+    {
+        Conditions { atoms }
+    }
+
+    /// The conditions, in written order.
+    pub fn as_slice(&self) -> &[Atom]
+        ensures { result.now ≡ self.now }
+    {
+        &self.atoms
+    }
+}
+
+/// A copy of these matches. The only error is want of memory.
+pub(crate) fn copy_matches<A: Allocator, B: Allocator + Copy>(
+    alloc: B,
+    matches: &AllOf<A>,
+) -> Result<AllOf<B>, AllocError>
+    ensures { IfOk result (λ copy. copy ≡ matches.now) }
+{
+    let mut copies = Vec::with_capacity(alloc, matches.as_slice().len())?;
+    copies.extend_from_slice(matches.as_slice())?;
+    Ok(AllOf::from_vec(copies))
+}
+
+/// A copy of these alternatives. The only error is want of memory.
+pub(crate) fn copy_alternatives<A: Allocator, B: Allocator + Copy>(
+    alloc: B,
+    alternatives: &AnyOf<A>,
+) -> Result<AnyOf<B>, AllocError>
+    ensures { IfOk result (λ copy. copy ≡ alternatives.now) }
+{
+    let mut copies = Vec::with_capacity(alloc, alternatives.as_slice().len())?;
+    for matches in alternatives.as_slice() {
+        copies.push(copy_matches(alloc, matches)?)?;
+    }
+    Ok(AnyOf::from_vec(copies))
+}
+
+/// A copy of this target. The only error is want of memory.
+pub(crate) fn copy_target<A: Allocator, B: Allocator + Copy>(
+    alloc: B,
+    target: &Target<A>,
+) -> Result<Target<B>, AllocError>
+    ensures { IfOk result (λ copy. copy ≡ target.now) }
+{
+    let mut copies = Vec::with_capacity(alloc, target.as_slice().len())?;
+    for part in target.as_slice() {
+        copies.push(copy_alternatives(alloc, part)?)?;
+    }
+    Ok(Target::from_vec(copies))
+}
+
+/// A copy of these conditions. The only error is want of memory.
+pub(crate) fn copy_conditions<A: Allocator, B: Allocator + Copy>(
+    alloc: B,
+    conditions: &Conditions<A>,
+) -> Result<Conditions<B>, AllocError>
+    ensures { IfOk result (λ copy. copy ≡ conditions.now) }
+{
+    let mut copies = Vec::with_capacity(alloc, conditions.as_slice().len())?;
+    copies.extend_from_slice(conditions.as_slice())?;
+    Ok(Conditions::from_vec(copies))
+}

@@ -1,0 +1,149 @@
+//! Where a fault stands in a document.
+
+ghost use Rattle.std.specs.Prelude.{◌≡◌, ◌<◌, [], ◌∷◌, ◌++◌, length};
+ghost use Rattle.policy_text.specs.Keys.{key_text};
+
+use std::fmt;
+use std::marker::Model;
+
+/// How many steps a path has at most. The longest lead through eight nested sets and policies to a key of a match.
+pub const STEP_LIMIT: usize = 24;
+
+/// A key of an object of a document.
+#[derive(Clone, Copy, Debug, PartialEq, Eq)]
+pub enum Key {
+    Zones,
+    Root,
+    Zone,
+    Shape,
+    Set,
+    Policy,
+    Combine,
+    Target,
+    Of,
+    Rules,
+    Rule,
+    Effect,
+    When,
+    Role,
+    Office,
+    Class,
+    Owner,
+    Action,
+    Own,
+    Not,
+}
+
+impl Key {
+    /// The key as it is written.
+    pub fn text(self) -> &'static str
+        ensures { result.now ≡ key_text self }
+    {
+        match self {
+            Key::Zones => "zones",
+            Key::Root => "root",
+            Key::Zone => "zone",
+            Key::Shape => "shape",
+            Key::Set => "set",
+            Key::Policy => "policy",
+            Key::Combine => "combine",
+            Key::Target => "target",
+            Key::Of => "of",
+            Key::Rules => "rules",
+            Key::Rule => "rule",
+            Key::Effect => "effect",
+            Key::When => "when",
+            Key::Role => "role",
+            Key::Office => "office",
+            Key::Class => "class",
+            Key::Owner => "owner",
+            Key::Action => "action",
+            Key::Own => "own",
+            Key::Not => "not",
+        }
+    }
+}
+
+/// One step of a path: to the value of a key, or to an item of an array, counted from 0.
+#[derive(Clone, Copy, Debug, PartialEq, Eq)]
+pub enum Step {
+    Key(Key),
+    Item(usize),
+}
+
+/// A place in a document. A contract sees its steps. It has room for the longest path of a fault, so that faults take
+/// no memory. It is written as `/root/of/0`, the document's own as the empty text.
+#[derive(Clone, Copy)]
+pub struct Path {
+    steps: [Step; STEP_LIMIT],
+    len: usize,
+}
+
+impl Model for Path {
+    ghost use Rattle.policy_text.specs.Paths.{HoldsSteps, padded, padded_again, length_again};
+    ghost use Rattle.policy_text.specs.declared.paths.Step.{Step};
+    ghost use Rattle.std.specs.Prelude.{List, take, length};
+
+    ghost Value = { List Step };
+
+    ghost view = { λ p. take p.len p.steps };
+
+    ghost invariant = { λ p. HoldsSteps p.steps p.len };
+
+    ghost inverse = { λ v. record { steps = padded v; len = length v } };
+
+    ghost inverse_ok = { λ p h i. record {
+      steps = padded_again p.steps p.len h i;
+      len = length_again p.steps p.len h i;
+    } };
+}
+
+impl Path {
+    /// The document's own place.
+    pub fn new() -> Path
+        ensures { result ≡ [] }
+    {
+        Path {
+            steps: [Step::Item(0); STEP_LIMIT],
+            len: 0,
+        }
+    }
+
+    /// The place that one step more leads to.
+    pub(crate) fn with(self, step: Step) -> Path
+        requires { length self < 24 }
+        ensures { result ≡ self ++ step ∷ [] }
+    {
+        let mut steps = self.steps;
+        steps[self.len] = step;
+        Path {
+            steps,
+            len: self.len + 1,
+        }
+    }
+
+    /// The steps, from the document on.
+    pub fn as_slice(&self) -> &[Step]
+        ensures { result.now ≡ self.now }
+    {
+        &self.steps[..self.len]
+    }
+}
+
+impl fmt::Display for Path {
+    fn fmt<W: fmt::Write>(&self, f: &mut fmt::Formatter<W>) -> fmt::Result {
+        for step in self.as_slice() {
+            match step {
+                Step::Key(key) => write!(f, "/{}", key.text())?,
+                Step::Item(index) => write!(f, "/{}", *index)?,
+            }
+        }
+        Ok(())
+    }
+}
+
+impl fmt::Debug for Path {
+    fn fmt<W: fmt::Write>(&self, f: &mut fmt::Formatter<W>) -> fmt::Result {
+        fmt::Display::fmt(self, f)
+    }
+}

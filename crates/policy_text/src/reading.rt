@@ -1,0 +1,355 @@
+//! Reading rules, policies and sets.
+
+ghost use Rattle.std.specs.Prelude.{◌≡◌, suc, ◌+◌, ◌*◌, ◌<◌, ◌≤◌, length, map};
+ghost use Rattle.std.specs.List.{list_any};
+ghost use Rattle.serde_json.specs.View.{view, items_view};
+ghost use Rattle.policy_text.specs.Names.{is_name};
+ghost use Rattle.policy_text.specs.SeenViews.{seen_view, head_view};
+ghost use Rattle.policy_text.specs.Views.{zone_of, node_view};
+ghost use Rattle.policy_text.specs.Reading.{Gives, fresh, within, each_at, rule_at, head_at, policy_at, set_at, node_at};
+
+use crate::algorithms::Algorithm;
+use crate::documents::Zones;
+use crate::faults::TextFault;
+use crate::fields::{
+    algorithm_in, array_in, effect_in, has_key, name_in, object_in, optional_array_in,
+};
+use crate::matches::Target;
+use crate::nodes::Node;
+use crate::paths::{Key, Path, Step};
+use crate::rules::Rule;
+use crate::targets::{conditions_at, target_at};
+use features::Name;
+use serde_json::Value;
+use std::alloc::Allocator;
+
+/// How many rules a document has at most.
+pub const RULE_LIMIT: u32 = 512;
+
+/// How many sets and policies a document has at most.
+pub const NODE_LIMIT: u32 = 512;
+
+/// How many sets and policies may stand within one another.
+pub const DEPTH_LIMIT: usize = 8;
+
+const RULE_KEYS: [Key; 4] = [Key::Rule, Key::Effect, Key::Target, Key::When];
+
+/// What an object of a kind of node may have as keys: its name, its children and two more.
+#[derive(Clone, Copy)]
+struct NodeForm {
+    listed: [Key; 4],
+    name: Key,
+    children: Key,
+}
+
+const SET: NodeForm = NodeForm {
+    listed: [Key::Set, Key::Combine, Key::Target, Key::Of],
+    name: Key::Set,
+    children: Key::Of,
+};
+
+const POLICY: NodeForm = NodeForm {
+    listed: [Key::Policy, Key::Combine, Key::Target, Key::Rules],
+    name: Key::Policy,
+    children: Key::Rules,
+};
+
+/// What was read before: the names of sets, policies and rules, and how many there are of each kind.
+#[derive(Drop)]
+pub(crate) struct SoFar<A: Allocator> {
+    pub names: Vec<Name, A>,
+    pub nodes: u32,
+    pub rules: u32,
+    pub tests: u32,
+}
+
+/// A set or a policy without its children.
+#[derive(Drop)]
+struct Headed<A: Allocator> {
+    name: Name,
+    combine: Algorithm,
+    target: Target<A>,
+}
+
+/// Whether the name is one of these.
+fn has_name(names: &[Name], name: Name) -> bool
+    ensures { result ≡ list_any (is_name name) names.now }
+{
+    names.iter().any(|other| name == *other)
+}
+
+/// The names with one more, that was not there before.
+pub(crate) fn fresh<A: Allocator>(
+    name: Name,
+    names: Vec<Name, A>,
+) -> Result<Vec<Name, A>, TextFault>
+    ensures { Gives (λ v. v.items) result (fresh name names.items) }
+{
+    if has_name(&names, name) {
+        return Err(TextFault::NameTwice(name));
+    }
+    let mut names = names;
+    names.push(name)?;
+    Ok(names)
+}
+
+/// One more of a kind of which there may be so many.
+fn within(limit: u32, count: u32) -> Result<u32, TextFault>
+    ensures { result ≡ within limit count }
+{
+    if count < limit {
+        Ok(count + 1)
+    } else {
+        Err(TextFault::TooMany)
+    }
+}
+
+/// A rule, with what was seen behind it.
+#[tactic(auto, unfolding(crate::specs::Reading::rule_at, crate::specs::Reading::target_at, crate::specs::Reading::when_at))]
+fn rule_at<A: Allocator + Copy, B: Allocator>(
+    alloc: A,
+    zones: &Zones<B>,
+    value: &Value,
+    path: Path,
+    seen: SoFar<A>,
+) -> Result<(Rule<A>, SoFar<A>), TextFault>
+    requires { length path < 20 }
+    ensures { Gives (λ r. (r.0, seen_view r.1)) result (rule_at (map zone_of zones.now.entries) path (seen_view seen) (view value.now)) }
+{
+    object_in(value, &RULE_KEYS, path)?;
+    let name = name_in(value, Key::Rule, path)?;
+    let effect = effect_in(value, path)?;
+    let target = optional_array_in(value, Key::Target, path)?;
+    let when = optional_array_in(value, Key::When, path)?;
+    let names = fresh(name, seen.names)?;
+    let rules = within(RULE_LIMIT, seen.rules)?;
+    let (target, tests) = target_at(
+        alloc,
+        zones,
+        target,
+        path.with(Step::Key(Key::Target)),
+        seen.tests,
+    )?;
+    let (when, tests) = conditions_at(alloc, zones, when, path.with(Step::Key(Key::When)), tests)?;
+    let rule = Rule {
+        name,
+        effect,
+        target,
+        when,
+    };
+    Ok((
+        rule,
+        SoFar {
+            names,
+            nodes: seen.nodes,
+            rules,
+            tests,
+        },
+    ))
+}
+
+/// The rules of an array, with what was seen behind them.
+fn rules_at<A: Allocator + Copy, B: Allocator>(
+    alloc: A,
+    zones: &Zones<B>,
+    items: &[Value],
+    path: Path,
+    seen: SoFar<A>,
+) -> Result<(Vec<Rule<A>, A>, SoFar<A>), TextFault>
+    requires { length path < 19 }
+    ensures { Gives (λ r. (r.0.items, seen_view r.1)) result (each_at (rule_at (map zone_of zones.now.entries)) path 0 (seen_view seen) (items_view items.now)) }
+{
+    let mut rules = Vec::new(alloc);
+    let mut seen = seen;
+    for (index, value) in items.iter().enumerate() {
+        let (rule, after) = rule_at(alloc, zones, value, path.with(Step::Item(index)), seen)?;
+        rules.push(rule)?;
+        seen = after;
+    }
+    Ok((rules, seen))
+}
+
+/// A set or a policy without its children, with what was seen behind its target, and its children's array.
+#[tactic(auto, unfolding(crate::specs::Reading::head_at, crate::specs::Reading::target_at))]
+fn head_at<'v, A: Allocator + Copy, B: Allocator>(
+    alloc: A,
+    zones: &Zones<B>,
+    value: &'v Value,
+    form: NodeForm,
+    path: Path,
+    seen: SoFar<A>,
+) -> Result<(Headed<A>, SoFar<A>, &'v [Value]), TextFault>
+    requires { length path < 20 }
+    ensures { Gives (λ r. (head_view r.0, (seen_view r.1, items_view r.2.now))) result
+        (head_at (map zone_of zones.now.entries) form.listed form.name form.children path (seen_view seen) (view value.now)) }
+{
+    object_in(value, &form.listed, path)?;
+    let name = name_in(value, form.name, path)?;
+    let combine = algorithm_in(value, path)?;
+    let target = optional_array_in(value, Key::Target, path)?;
+    let items = array_in(value, form.children, path)?;
+    let names = fresh(name, seen.names)?;
+    let nodes = within(NODE_LIMIT, seen.nodes)?;
+    let (target, tests) = target_at(
+        alloc,
+        zones,
+        target,
+        path.with(Step::Key(Key::Target)),
+        seen.tests,
+    )?;
+    let head = Headed {
+        name,
+        combine,
+        target,
+    };
+    Ok((
+        head,
+        SoFar {
+            names,
+            nodes,
+            rules: seen.rules,
+            tests,
+        },
+        items,
+    ))
+}
+
+/// A policy.
+#[tactic(auto, unfolding(crate::specs::Reading::policy_at))]
+fn policy_at<A: Allocator + Copy, B: Allocator>(
+    alloc: A,
+    zones: &Zones<B>,
+    value: &Value,
+    path: Path,
+    seen: SoFar<A>,
+) -> Result<(Node<A>, SoFar<A>), TextFault>
+    requires { length path < 18 }
+    ensures { Gives (λ r. (node_view r.0, seen_view r.1)) result (policy_at (map zone_of zones.now.entries) path (seen_view seen) (view value.now)) }
+{
+    let (head, seen, items) = head_at(alloc, zones, value, POLICY, path, seen)?;
+    let (rules, seen) = rules_at(alloc, zones, items, path.with(Step::Key(Key::Rules)), seen)?;
+    let Headed {
+        name,
+        combine,
+        target,
+    } = head;
+    Ok((
+        Node::Policy {
+            name,
+            combine,
+            target,
+            rules,
+        },
+        seen,
+    ))
+}
+
+/// A set or a policy, where so many levels may stand, its own among them.
+#[cycle(read)]
+pub(crate) fn node_at<A: Allocator + Copy, B: Allocator>(
+    alloc: A,
+    zones: &Zones<B>,
+    value: &Value,
+    levels: usize,
+    path: Path,
+    seen: SoFar<A>,
+) -> Result<(Node<A>, SoFar<A>), TextFault>
+    requires { length path + 2 * levels ≤ 17 }
+    ensures { Gives (λ r. (node_view r.0, seen_view r.1)) result (node_at (map zone_of zones.now.entries) levels path (seen_view seen) (view value.now)) }
+{
+    if levels == 0 {
+        return Err(TextFault::TooDeep);
+    }
+    open_node(alloc, zones, value, levels - 1, path, seen)
+}
+
+/// A set or a policy, where so many levels may stand below it.
+#[cycle(read)]
+fn open_node<A: Allocator + Copy, B: Allocator>(
+    alloc: A,
+    zones: &Zones<B>,
+    value: &Value,
+    below: usize,
+    path: Path,
+    seen: SoFar<A>,
+) -> Result<(Node<A>, SoFar<A>), TextFault>
+    requires { length path + 2 * below ≤ 15 }
+    ensures { Gives (λ r. (node_view r.0, seen_view r.1)) result (node_at (map zone_of zones.now.entries) (suc below) path (seen_view seen) (view value.now)) }
+{
+    if has_key(value, Key::Set) {
+        set_at(alloc, zones, value, below, path, seen)
+    } else {
+        policy_at(alloc, zones, value, path, seen)
+    }
+}
+
+/// A set, where so many levels may stand below it.
+#[cycle(read)]
+#[tactic(auto, unfolding(crate::specs::Reading::set_at))]
+fn set_at<A: Allocator + Copy, B: Allocator>(
+    alloc: A,
+    zones: &Zones<B>,
+    value: &Value,
+    below: usize,
+    path: Path,
+    seen: SoFar<A>,
+) -> Result<(Node<A>, SoFar<A>), TextFault>
+    requires { length path + 2 * below ≤ 15 }
+    ensures { Gives (λ r. (node_view r.0, seen_view r.1)) result
+        (set_at (node_at (map zone_of zones.now.entries) below) (map zone_of zones.now.entries) path (seen_view seen) (view value.now)) }
+{
+    let (head, seen, items) = head_at(alloc, zones, value, SET, path, seen)?;
+    let (of, seen) = nodes_at(
+        alloc,
+        zones,
+        items,
+        below,
+        path.with(Step::Key(Key::Of)),
+        seen,
+    )?;
+    let Headed {
+        name,
+        combine,
+        target,
+    } = head;
+    Ok((
+        Node::Set {
+            name,
+            combine,
+            target,
+            of,
+        },
+        seen,
+    ))
+}
+
+/// The sets and policies of an array, with what was seen behind them.
+#[cycle(read)]
+fn nodes_at<A: Allocator + Copy, B: Allocator>(
+    alloc: A,
+    zones: &Zones<B>,
+    items: &[Value],
+    levels: usize,
+    path: Path,
+    seen: SoFar<A>,
+) -> Result<(Vec<Node<A>, A>, SoFar<A>), TextFault>
+    requires { length path + 2 * levels ≤ 16 }
+    ensures { Gives (λ r. (map node_view r.0.items, seen_view r.1)) result
+        (each_at (node_at (map zone_of zones.now.entries) levels) path 0 (seen_view seen) (items_view items.now)) }
+{
+    let mut nodes = Vec::new(alloc);
+    let mut seen = seen;
+    for (index, value) in items.iter().enumerate() {
+        let (node, after) = node_at(
+            alloc,
+            zones,
+            value,
+            levels,
+            path.with(Step::Item(index)),
+            seen,
+        )?;
+        nodes.push(node)?;
+        seen = after;
+    }
+    Ok((nodes, seen))
+}

@@ -1,0 +1,40 @@
+//! Rules.
+
+ghost use Rattle.std.specs.Prelude.{◌≡◌, IfOk};
+
+use crate::algorithms::Effect;
+use crate::matches::{Conditions, Target, copy_conditions, copy_target};
+use features::Name;
+use std::alloc::{AllocError, Allocator};
+use std::marker::Model;
+
+/// A rule: it gives its effect where its target and all its conditions hold.
+#[derive(Debug, Drop)]
+pub struct Rule<A: Allocator> {
+    pub name: Name,
+    pub effect: Effect,
+    pub target: Target<A>,
+    pub when: Conditions<A>,
+}
+
+impl<A: Allocator> Model for Rule<A> {
+    ghost use Rattle.policy_text.specs.Documents.{RuleData};
+
+    ghost Value = { RuleData };
+
+    ghost view = { λ r. record { name = r.name; effect = r.effect; target = r.target; when = r.when } };
+}
+
+impl<A: Allocator> Rule<A> {
+    /// A copy of the rule. The only error is want of memory.
+    pub fn copy<B: Allocator + Copy>(&self, alloc: B) -> Result<Rule<B>, AllocError>
+        ensures { IfOk result (λ copy. copy ≡ self.now) }
+    {
+        Ok(Rule {
+            name: self.name,
+            effect: self.effect,
+            target: copy_target(alloc, &self.target)?,
+            when: copy_conditions(alloc, &self.when)?,
+        })
+    }
+}

@@ -1,0 +1,203 @@
+//! Reading matches and atoms.
+
+ghost use Rattle.std.specs.Prelude.{◌≡◌, ◌<◌, ◌≤◌, length, map};
+ghost use Rattle.std.specs.List.{list_any};
+ghost use Rattle.serde_json.specs.View.{view};
+ghost use Rattle.policy_text.specs.Names.{is_name};
+ghost use Rattle.policy_text.specs.Views.{zone_of};
+ghost use Rattle.policy_text.specs.Reading.{match_in, known_in, counted, match_at, term_in, known_term, term_of, term_at, atom_at, own_in};
+
+use crate::documents::Zones;
+use crate::faults::TextFault;
+use crate::fields::{action_in, name_in, single_in};
+use crate::matches::{Atom, Match, Term};
+use crate::paths::{Key, Path, Step};
+use crate::zones::ZoneName;
+use features::Name;
+use serde_json::Value;
+use std::alloc::Allocator;
+
+/// How many matches and atoms a document has at most.
+pub const TEST_LIMIT: u32 = 4096;
+
+const MATCH_KEYS: [Key; 6] = [
+    Key::Role,
+    Key::Office,
+    Key::Class,
+    Key::Owner,
+    Key::Zone,
+    Key::Action,
+];
+
+const TERM_KEYS: [Key; 7] = [
+    Key::Role,
+    Key::Office,
+    Key::Class,
+    Key::Owner,
+    Key::Zone,
+    Key::Action,
+    Key::Own,
+];
+
+const ATOM_KEYS: [Key; 8] = [
+    Key::Role,
+    Key::Office,
+    Key::Class,
+    Key::Owner,
+    Key::Zone,
+    Key::Action,
+    Key::Own,
+    Key::Not,
+];
+
+/// The match of an object that has one key, a match's.
+#[tactic(auto, unfolding(crate::specs::Reading::match_in))]
+fn match_in(value: &Value, path: Path) -> Result<Match, TextFault>
+    requires { length path < 24 }
+    ensures { result ≡ match_in path (view value.now) }
+{
+    if value.get(Key::Role.text()).is_some() {
+        return Ok(Match::Role(name_in(value, Key::Role, path)?));
+    }
+    if value.get(Key::Office.text()).is_some() {
+        return Ok(Match::Office(name_in(value, Key::Office, path)?));
+    }
+    if value.get(Key::Class.text()).is_some() {
+        return Ok(Match::Class(name_in(value, Key::Class, path)?));
+    }
+    if value.get(Key::Owner.text()).is_some() {
+        return Ok(Match::Owner(name_in(value, Key::Owner, path)?));
+    }
+    if value.get(Key::Zone.text()).is_some() {
+        return Ok(Match::Zone(name_in(value, Key::Zone, path)?));
+    }
+    Ok(Match::Action(action_in(value, path)?))
+}
+
+/// Whether there is a zone of this name.
+pub(crate) fn has_zone<A: Allocator>(zones: &Zones<A>, name: Name) -> bool
+    ensures { result ≡ list_any (λ z. is_name name z.name) (map zone_of zones.now.entries) }
+{
+    zones.contains_key(&ZoneName { name })
+}
+
+/// Finds that the zone of which a match speaks is there.
+fn known_in<A: Allocator>(zones: &Zones<A>, test: &Match) -> Result<(), TextFault>
+    ensures { result ≡ known_in (map zone_of zones.now.entries) test.now }
+{
+    match test {
+        Match::Zone(name) => {
+            if has_zone(zones, *name) {
+                Ok(())
+            } else {
+                Err(TextFault::NoZone(*name))
+            }
+        }
+        _ => Ok(()),
+    }
+}
+
+/// One match or atom more.
+fn counted(tests: u32) -> Result<u32, TextFault>
+    ensures { result ≡ counted tests }
+{
+    if tests < TEST_LIMIT {
+        Ok(tests + 1)
+    } else {
+        Err(TextFault::TooMany)
+    }
+}
+
+/// A match, with the count of matches and atoms behind it.
+#[tactic(auto, unfolding(crate::specs::Reading::match_at))]
+pub(crate) fn match_at<A: Allocator>(
+    zones: &Zones<A>,
+    value: &Value,
+    path: Path,
+    tests: u32,
+) -> Result<(Match, u32), TextFault>
+    requires { length path < 24 }
+    ensures { result ≡ match_at (map zone_of zones.now.entries) path tests (view value.now) }
+{
+    single_in(value, &MATCH_KEYS, path)?;
+    let test = match_in(value, path)?;
+    known_in(zones, &test)?;
+    let tests = counted(tests)?;
+    Ok((test, tests))
+}
+
+/// The term of an object that has one key, a term's.
+#[tactic(auto, unfolding(crate::specs::Reading::term_in))]
+fn term_in(value: &Value, path: Path) -> Result<Term, TextFault>
+    requires { length path < 24 }
+    ensures { result ≡ term_in path (view value.now) }
+{
+    let Some(own) = value.get(Key::Own.text()) else {
+        return Ok(Term::Match(match_in(value, path)?));
+    };
+    match own.as_bool() {
+        Some(true) => Ok(Term::Own),
+        _ => Err(TextFault::Form(path.with(Step::Key(Key::Own)))),
+    }
+}
+
+fn known_term<A: Allocator>(zones: &Zones<A>, term: &Term) -> Result<(), TextFault>
+    ensures { result ≡ known_term (map zone_of zones.now.entries) term.now }
+{
+    match term {
+        Term::Match(test) => known_in(zones, test),
+        Term::Own => Ok(()),
+    }
+}
+
+#[tactic(auto, unfolding(crate::specs::Reading::term_of))]
+fn term_of<A: Allocator>(
+    zones: &Zones<A>,
+    value: &Value,
+    path: Path,
+    tests: u32,
+) -> Result<(Term, u32), TextFault>
+    requires { length path < 24 }
+    ensures { result ≡ term_of (map zone_of zones.now.entries) path tests (view value.now) }
+{
+    let term = term_in(value, path)?;
+    known_term(zones, &term)?;
+    let tests = counted(tests)?;
+    Ok((term, tests))
+}
+
+/// What stands in a `not`.
+#[tactic(auto, unfolding(crate::specs::Reading::term_at))]
+fn term_at<A: Allocator>(
+    zones: &Zones<A>,
+    value: &Value,
+    path: Path,
+    tests: u32,
+) -> Result<(Term, u32), TextFault>
+    requires { length path < 24 }
+    ensures { result ≡ term_at (map zone_of zones.now.entries) path tests (view value.now) }
+{
+    single_in(value, &TERM_KEYS, path)?;
+    term_of(zones, value, path, tests)
+}
+
+/// An atom, with the count of matches and atoms behind it.
+#[tactic(auto, unfolding(crate::specs::Reading::atom_at, crate::specs::Reading::atom_of))]
+pub(crate) fn atom_at<A: Allocator>(
+    zones: &Zones<A>,
+    value: &Value,
+    path: Path,
+    tests: u32,
+) -> Result<(Atom, u32), TextFault>
+    requires { length path < 23 }
+    ensures { result ≡ atom_at (map zone_of zones.now.entries) path tests (view value.now) }
+{
+    single_in(value, &ATOM_KEYS, path)?;
+    let Some(inner) = value.get(Key::Not.text()) else {
+        let (term, tests) = term_of(zones, value, path, tests)?;
+        return Ok((Atom::Is(term), tests));
+    };
+    let tests = counted(tests)?;
+    let (term, tests) = term_at(zones, inner, path.with(Step::Key(Key::Not)), tests)?;
+    Ok((Atom::Not(term), tests))
+}
