@@ -12,7 +12,6 @@ are committed by 16. Two runs are timed, one with the additions alone, so that a
 import math
 import os
 import random
-import resource
 import subprocess
 import sys
 import tempfile
@@ -20,6 +19,9 @@ import time
 
 TOP = os.path.dirname(os.path.dirname(os.path.abspath(__file__)))
 LIMIT = 10_000_000
+
+# The greatest memory of the runs so far, in KiB.
+greatest = 0
 
 
 def point(chance, size):
@@ -69,9 +71,14 @@ def timed(lines):
     with tempfile.NamedTemporaryFile("w", suffix=".map", delete=False) as file:
         file.writelines(lines)
     start = time.monotonic()
-    subprocess.run([os.path.join(TOP, "landmap"), "script", file.name], check=True, stdout=subprocess.DEVNULL)
+    child = subprocess.Popen([os.path.join(TOP, "landmap"), "script", file.name], stdout=subprocess.DEVNULL)
+    _, status, usage = os.wait4(child.pid, 0)
     seconds = time.monotonic() - start
     os.unlink(file.name)
+    if status != 0:
+        sys.exit(f"landmap ended with status {status}")
+    global greatest
+    greatest = max(greatest, usage.ru_maxrss)
     return seconds
 
 
@@ -104,7 +111,7 @@ def main():
             for name, milliseconds in run(label, kind, kinds, features, count, 100_000):
                 # A listing tests each feature twice: to count the rows, and to write them.
                 print(f"    one test, {label} and {name}: {1e6 * milliseconds / (2 * features):.0f} ns")
-    print(f"greatest memory: {resource.getrusage(resource.RUSAGE_CHILDREN).ru_maxrss} KiB")
+    print(f"greatest memory: {greatest} KiB")
 
 
 if __name__ == "__main__":
