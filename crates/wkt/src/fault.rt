@@ -43,6 +43,11 @@ impl WktFault {
 }
 
 impl fmt::Display for WktFault {
+    ghost use Rattle.std.specs.Prelude.{Some};
+    ghost use Rattle.wkt.specs.Faults.{code_of};
+
+    ghost output = { λ fault. Some (code_of fault) };
+
     fn fmt<W: fmt::Write>(&self, f: &mut fmt::Formatter<W>) -> fmt::Result {
         f.write_str(self.code())
     }
