@@ -1,6 +1,8 @@
 -- What contracts see of a document: plain data.
-use Rattle.std.specs.Prelude.{ℕ, zero, suc, ◌+◌, ◌≤◌, Bool, true, not, ◌&&◌, List, [], ◌∷◌, ◌++◌, length, map, max, slice_get, Option, None, option_map, Result, Ok, Err, find, IsTrue}
+use Rattle.std.specs.Prelude.{ℕ, zero, suc, ◌+◌, ◌≤◌, Bool, true, false, not, ◌&&◌, All, List, [], ◌∷◌, ◌++◌, length, map, max, slice_get, Option, None, option_map, Result, Ok, Err, find, IsTrue}
 use Rattle.std.specs.List.{list_all, list_any, flat_map}
+use Rattle.plane.specs.Canonical.{IsCanonical}
+use Rattle.features.specs.Names as spelling
 use Rattle.policy_text.specs.Names.{is_name}
 use Rattle.policy_text.specs.declared.algorithms.Algorithm.{Algorithm}
 use Rattle.policy_text.specs.declared.algorithms.Effect.{Effect}
@@ -125,6 +127,25 @@ abbrev mutual
   matches_of_all no_children = []
   matches_of_all (child node rest) = matches_of node ++ matches_of_all rest
 
+-- the targets of sets, policies and rules, in document order
+abbrev mutual
+  pub targets_of : NodeData → List (List (List (List Match)))
+  targets_of (set head children) = head.target ∷ targets_of_all children
+  targets_of (policy head rules) = head.target ∷ map (λ rule. rule.target) rules
+
+  pub targets_of_all : Children → List (List (List (List Match)))
+  targets_of_all no_children = []
+  targets_of_all (child node rest) = targets_of node ++ targets_of_all rest
+
+-- something stands in the list
+abbrev pub is_filled : {X : Type 0} → List X → Bool
+is_filled [] = false
+is_filled (x ∷ xs) = true
+
+-- each part of a target has an alternative, and each of these a match
+abbrev pub is_target : List (List (List Match)) → Bool
+is_target target = list_all (λ part. is_filled part && list_all is_filled part) target
+
 -- how many objects spell an atom: two where it is negated
 abbrev pub atom_size : Atom → ℕ
 atom_size (atoms.Is term) = 1
@@ -162,7 +183,22 @@ is_zone_known zones (matches.Class name) = true
 is_zone_known zones (matches.Owner name) = true
 is_zone_known zones (matches.Action action) = true
 
--- what every document keeps: its limits, one name for each, and the zones of which it speaks
+-- what stands in a match as a name is spelled as one
+abbrev pub is_match_spelled : Match → Bool
+is_match_spelled (matches.Role name) = spelling.is_name name
+is_match_spelled (matches.Office name) = spelling.is_name name
+is_match_spelled (matches.Class name) = spelling.is_name name
+is_match_spelled (matches.Owner name) = spelling.is_name name
+is_match_spelled (matches.Zone name) = spelling.is_name name
+is_match_spelled (matches.Action action) = true
+
+-- a zone has a name, and the corners of a shape
+pub record IsZone (z : Zone) : Type 0 where
+  pub name : IsTrue (spelling.is_name z.name)
+  pub shape : IsCanonical z.shape
+
+-- what every document keeps: its limits, one name for each, the zones of which it speaks, and that nothing stands in it
+-- that no text can spell
 pub record IsDocument (d : DocumentData) : Type 0 where
   pub depth : depth_of d.root ≤ 8
   pub rules : length (rules_of d.root) ≤ 512
@@ -172,3 +208,7 @@ pub record IsDocument (d : DocumentData) : Type 0 where
   pub names : IsTrue (are_distinct (names_of d.root))
   pub zone_names : IsTrue (are_distinct (map (λ z. z.name) d.zones))
   pub zones_known : IsTrue (list_all (is_zone_known d.zones) (matches_of d.root))
+  pub names_spelled : IsTrue (list_all spelling.is_name (names_of d.root))
+  pub zones_spelled : All IsZone d.zones
+  pub matches_spelled : IsTrue (list_all is_match_spelled (matches_of d.root))
+  pub targets_filled : IsTrue (list_all is_target (targets_of d.root))

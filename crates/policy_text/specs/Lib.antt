@@ -6,3 +6,4 @@ pub mod Keys
 pub mod Paths
 pub mod Reading
 pub mod SeenViews
+pub mod SeenAfter
