@@ -7,3 +7,4 @@ pub mod Paths
 pub mod Reading
 pub mod SeenViews
 pub mod SeenAfter
+pub mod Printed

@@ -1,0 +1,111 @@
+-- The JSON value as which a document is printed: each object has its keys in order, and zones, targets and conditions
+-- are left out where there are none.
+use Rattle.std.specs.Prelude.{ℕ, true, List, map, codes}
+use Rattle.serde_json.specs.Data.{Data, string, array, object, boolean, Items, no_items, item, Members, no_members, member}
+use Rattle.serde_json.specs.View.{items_of}
+use Rattle.serde_json.specs.Written.{compact_text}
+use Rattle.features.specs.declared.actors.Action.{Action}
+use Rattle.features.specs.declared.actors.Action.TheVariants as actions
+use Rattle.wkt.specs.Printing.{printed}
+use Rattle.policy_text.specs.Documents.{DocumentData, RuleData, Head, NodeData, set, policy, Children, no_children, child}
+use Rattle.policy_text.specs.Keys.{key_text}
+use Rattle.policy_text.specs.declared.zones.Zone.{Zone}
+use Rattle.policy_text.specs.declared.paths.Key.{Key}
+use Rattle.policy_text.specs.declared.paths.Key.TheVariants as keys
+use Rattle.policy_text.specs.declared.algorithms.Algorithm.{Algorithm}
+use Rattle.policy_text.specs.declared.algorithms.Algorithm.TheVariants.{DenyOverrides, PermitOverrides, DenyUnlessPermit, PermitUnlessDeny, FirstApplicable}
+use Rattle.policy_text.specs.declared.algorithms.Effect.{Effect}
+use Rattle.policy_text.specs.declared.algorithms.Effect.TheVariants as effects
+use Rattle.policy_text.specs.declared.matches.Match.{Match}
+use Rattle.policy_text.specs.declared.matches.Match.TheVariants as matches
+use Rattle.policy_text.specs.declared.matches.Term.{Term}
+use Rattle.policy_text.specs.declared.matches.Term.TheVariants as terms
+use Rattle.policy_text.specs.declared.matches.Atom.{Atom}
+use Rattle.policy_text.specs.declared.matches.Atom.TheVariants as atoms
+
+-- the words of algorithms, effects and actions
+abbrev pub algorithm_text : Algorithm → List ℕ
+algorithm_text DenyOverrides = codes "deny-overrides"
+algorithm_text PermitOverrides = codes "permit-overrides"
+algorithm_text DenyUnlessPermit = codes "deny-unless-permit"
+algorithm_text PermitUnlessDeny = codes "permit-unless-deny"
+algorithm_text FirstApplicable = codes "first-applicable"
+
+abbrev pub effect_text : Effect → List ℕ
+effect_text effects.Permit = codes "permit"
+effect_text effects.Deny = codes "deny"
+
+abbrev pub action_text : Action → List ℕ
+action_text actions.Read = codes "read"
+action_text actions.Add = codes "add"
+action_text actions.Reshape = codes "reshape"
+action_text actions.Delete = codes "delete"
+
+-- a member under a key, before others
+abbrev pub keyed : Key → Data → Members → Members
+keyed key d rest = member (key_text key) d rest
+
+-- an array under a key, left out where it is empty
+abbrev pub keyed_items : Key → Items → Members → Members
+keyed_items key no_items rest = rest
+keyed_items key (item d ds) rest = keyed key (array (item d ds)) rest
+
+-- an object with one member
+abbrev pub single : Key → Data → Data
+single key d = object (keyed key d no_members)
+
+abbrev pub match_data : Match → Data
+match_data (matches.Role name) = single keys.Role (string name)
+match_data (matches.Office name) = single keys.Office (string name)
+match_data (matches.Class name) = single keys.Class (string name)
+match_data (matches.Owner name) = single keys.Owner (string name)
+match_data (matches.Zone name) = single keys.Zone (string name)
+match_data (matches.Action action) = single keys.Action (string (action_text action))
+
+abbrev pub term_data : Term → Data
+term_data (terms.Match m) = match_data m
+term_data terms.Own = single keys.Own (boolean true)
+
+abbrev pub atom_data : Atom → Data
+atom_data (atoms.Is term) = term_data term
+atom_data (atoms.Not term) = single keys.Not (term_data term)
+
+abbrev pub all_of_data : List Match → Data
+all_of_data all = array (items_of (map match_data all))
+
+abbrev pub any_of_data : List (List Match) → Data
+any_of_data alternatives = array (items_of (map all_of_data alternatives))
+
+abbrev pub target_items : List (List (List Match)) → Items
+target_items target = items_of (map any_of_data target)
+
+abbrev pub when_items : List Atom → Items
+when_items conditions = items_of (map atom_data conditions)
+
+abbrev pub rule_data : RuleData → Data
+rule_data rule = object (keyed keys.Effect (string (effect_text rule.effect)) (keyed keys.Rule (string rule.name)
+    (keyed_items keys.Target (target_items rule.target) (keyed_items keys.When (when_items rule.when) no_members))))
+
+abbrev mutual
+  pub node_data : NodeData → Data
+  node_data (set head children) = object (keyed keys.Combine (string (algorithm_text head.combine)) (keyed keys.Of (array (nodes_items children))
+      (keyed keys.Set (string head.name) (keyed_items keys.Target (target_items head.target) no_members))))
+  node_data (policy head rules) = object (keyed keys.Combine (string (algorithm_text head.combine)) (keyed keys.Policy (string head.name)
+      (keyed keys.Rules (array (items_of (map rule_data rules))) (keyed_items keys.Target (target_items head.target) no_members))))
+
+  pub nodes_items : Children → Items
+  nodes_items no_children = no_items
+  nodes_items (child node rest) = item (node_data node) (nodes_items rest)
+
+abbrev pub zone_data : Zone → Data
+zone_data z = object (keyed keys.Shape (string (printed z.shape)) (keyed keys.Zone (string z.name) no_members))
+
+abbrev pub zones_items : List Zone → Items
+zones_items zones = items_of (map zone_data zones)
+
+abbrev pub document_data : DocumentData → Data
+document_data d = object (keyed keys.Root (node_data d.root) (keyed_items keys.Zones (zones_items d.zones) no_members))
+
+-- the printed form of a document: JSON without spaces (RFC 8259), the keys of each object in order
+abbrev pub document_text : DocumentData → List ℕ
+document_text d = compact_text (document_data d)
