@@ -2,11 +2,15 @@
 #![tactic(auto)]
 
 #[cfg(test)]
+mod combining_tests;
+#[cfg(test)]
 mod features_tests;
 #[cfg(test)]
 mod node_arena_tests;
 #[cfg(test)]
 mod plane_tests;
+#[cfg(test)]
+mod policy_text_tests;
 #[cfg(test)]
 mod refusing_tests;
 #[cfg(test)]

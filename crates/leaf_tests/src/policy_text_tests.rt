@@ -1,0 +1,602 @@
+use features::Name;
+use plane::{Point, Shape};
+use policy_text::{Document, Node, TextFault, print_document, read_document};
+use refusing::Refusing;
+use std::alloc::{AllocError, Global};
+use std::process::Abort;
+use std::test::Fail;
+
+// A set of two policies, with three rules.
+const TWO_POLICIES: &str =
+    r#"{"root":{"combine":"deny-overrides","of":[{"combine":"permit-overrides","policy":"soft","rules":[{"effect":"deny","rule":"early"},{"effect":"permit","rule":"grant"}]},{"combine":"deny-overrides","policy":"hard","rules":[{"effect":"deny","rule":"late"}]}],"set":"top"}}"#;
+
+const NO_PARCEL: &str =
+    r#"{"root":{"combine":"deny-overrides","policy":"p","rules":[{"effect":"deny","rule":"no-parcel","target":[[[{"class":"parcel"}]]]},{"effect":"permit","rule":"open"}]}}"#;
+
+const ROADS: &str =
+    r#"{"root":{"combine":"first-applicable","policy":"p","rules":[{"effect":"permit","rule":"roads","target":[[[{"class":"road"}]]]}]}}"#;
+
+// Each kind of thing that may stand in a document, in keys out of order and shapes of other spelling.
+const EACH_KIND: &str = r#"
+    {"zones": [{"zone": "harbour", "shape": " polygon ((4 0, 4 4, 0 4, 0 0, 2 0, 4 0)) "},
+               {"shape": "point(+1 02.0)", "zone": "post"},
+               {"zone": "road", "shape": "LINESTRING(3 1,0 0)"}],
+     "root": {"set": "top", "combine": "permit-overrides", "target": [], "of": [
+         {"policy": "empty", "combine": "deny-unless-permit", "rules": []},
+         {"set": "inner", "of": [], "combine": "permit-unless-deny", "target":
+             [[[{"zone": "harbour"}]], [[{"role": "editor"}, {"office": "north"}], [{"action": "add"}]]]},
+         {"policy": "rest", "combine": "first-applicable", "target": [[[{"owner": "south"}]]], "rules": [
+             {"rule": "one", "effect": "permit", "when":
+                 [{"class": "mast"}, {"not": {"zone": "post"}}, {"own": true}, {"not": {"own": true}},
+                  {"not": {"action": "delete"}}],
+              "target": [[[{"action": "read"}], [{"action": "reshape"}]]]},
+             {"rule": "two", "effect": "deny", "when": [], "target": []}]}]}}
+"#;
+
+const EACH_KIND_PRINTED: &str =
+    r#"{"root":{"combine":"permit-overrides","of":[{"combine":"deny-unless-permit","policy":"empty","rules":[]},{"combine":"permit-unless-deny","of":[],"set":"inner","target":[[[{"zone":"harbour"}]],[[{"role":"editor"},{"office":"north"}],[{"action":"add"}]]]},{"combine":"first-applicable","policy":"rest","rules":[{"effect":"permit","rule":"one","target":[[[{"action":"read"}],[{"action":"reshape"}]]],"when":[{"class":"mast"},{"not":{"zone":"post"}},{"own":true},{"not":{"own":true}},{"not":{"action":"delete"}}]},{"effect":"deny","rule":"two"}],"target":[[[{"owner":"south"}]]]}],"set":"top"},"zones":[{"shape":"POLYGON ((0 0, 4 0, 4 4, 0 4, 0 0))","zone":"harbour"},{"shape":"POINT (1 2)","zone":"post"},{"shape":"LINESTRING (0 0, 3 1)","zone":"road"}]}"#;
+
+// What stands around a node, the rules of a policy, a match of its target, an atom of its rule, and its zones.
+const NODE: (&str, &str) = (r#"{"root":"#, "}");
+
+const RULES: (&str, &str) = (
+    r#"{"root":{"combine":"deny-overrides","policy":"p","rules":["#,
+    "]}}",
+);
+
+const MATCHES: (&str, &str) = (
+    r#"{"root":{"combine":"deny-overrides","policy":"p","rules":[],"target":[[["#,
+    "]]]}}",
+);
+
+const ATOMS: (&str, &str) = (
+    r#"{"root":{"combine":"deny-overrides","policy":"p","rules":[{"effect":"deny","rule":"r","when":["#,
+    "]}]}}",
+);
+
+const ZONES: (&str, &str) = (
+    r#"{"root":{"combine":"deny-overrides","policy":"p","rules":[]},"zones":["#,
+    "]}",
+);
+
+// What stands around the target of a policy, and around the children of the set s.
+const TARGET: (&str, &str) = (
+    r#"{"root":{"combine":"deny-overrides","policy":"p","rules":[],"target":"#,
+    "}}",
+);
+
+const CHILDREN: (&str, &str) = (
+    r#"{"root":{"combine":"deny-overrides","set":"s","of":["#,
+    "]}}",
+);
+
+// Tables of texts: each line has what reading one says, a colon, a space, and the text.
+const TEXTS: &str = r#"D1: {
+D1: {"root":01}
+D2 at : 1
+D2 at : []
+D2 at : null
+D2 at /root: {}
+D2 at /root: {"root":1}
+D3 at : {"x":1}
+D1: {"root":{"combine":"first-applicable","policy":"p","rules":[]}} x
+D1: {"root":{"combine":"first-applicable","policy":"p","rules":[]}}x
+read: {"root":{"combine":"first-applicable","policy":"p","rules":[]}}
+D2 at /root: {"root":1,"zones":[]}
+D3 at : {"x":1,"zones":1}
+D2 at /zones: {"zones":null}
+D2 at /root: {"zones":[1]}
+D2 at /zones: {"root":1,"zones":{}}
+D2 at /zones/0: {"root":1,"zones":[1]}
+D6 z Syntax(8): {"root":1,"zones":[{"shape":"POINT (1)","zone":"z"},1]}"#;
+
+const NODE_TEXTS: &str = r#"D2 at /root: []
+D2 at /root: null
+D3 at /root: {"combine":"first-applicable","policy":"p","rules":[],"x":1}
+D3 at /root: {"combine":"first-applicable","of":[],"policy":"p","rules":[]}
+D2 at /root/rules: {"combine":"first-applicable","policy":"p"}
+D2 at /root/rules: {"combine":"first-applicable","policy":"p","rules":null}
+D2 at /root/policy: {"combine":"first-applicable","rules":[]}
+D2 at /root/policy: {"combine":"first-applicable","policy":null,"rules":[]}
+D2 at /root/policy: {"combine":"first-applicable","policy":"","rules":[]}
+D2 at /root/policy: {"combine":"first-applicable","policy":"P","rules":[]}
+D2 at /root/policy: {"combine":"first-applicable","policy":"abcdefghijklmnopqrstuvwxyz-012345","rules":[]}
+read: {"combine":"first-applicable","policy":"abcdefghijklmnopqrstuvwxyz-01234","rules":[]}
+D2 at /root/combine: {"policy":"p","rules":[]}
+D2 at /root/combine: {"combine":"only-one-applicable","policy":"p","rules":[]}
+D2 at /root/combine: {"combine":1,"of":[],"set":"s"}
+D2 at /root/of: {"combine":"deny-overrides","set":"s"}
+D2 at /root/of: {"combine":"deny-overrides","of":{},"set":"s"}
+D2 at /root/of/0: {"combine":"deny-overrides","of":[1],"set":"s"}
+D4 s: {"combine":"deny-overrides","of":[{"combine":"deny-overrides","policy":"s","rules":[]}],"set":"s"}
+D3 at /root: {"policy":1,"x":1}
+D2 at /root/policy: {"combine":1,"policy":1,"rules":1,"target":1}
+D2 at /root/combine: {"combine":1,"policy":"p","rules":1,"target":1}
+D2 at /root/target: {"combine":"deny-overrides","policy":"p","rules":1,"target":1}
+D2 at /root/rules: {"combine":"deny-overrides","policy":"p","rules":1,"target":[1]}
+D2 at /root/target/0: {"combine":"deny-overrides","policy":"p","rules":[1],"target":[1]}
+D2 at /root/set: {"combine":1,"of":1,"set":1,"target":1}
+D2 at /root/combine: {"combine":1,"of":1,"set":"s","target":1}
+D2 at /root/target/0: {"combine":"deny-overrides","of":[1],"set":"s","target":[1]}"#;
+
+// The form of an object comes before its name, and this before what stands in it.
+const CHILD_TEXTS: &str = r#"D2 at /root/of/0/rules: {"combine":"deny-overrides","policy":"s"}
+D4 s: {"combine":"deny-overrides","policy":"s","rules":[1],"target":[1]}
+D2 at /root/of/0/rules/0: {"combine":"deny-overrides","policy":"p","rules":[1]},1
+D2 at /root/of/1: {"combine":"deny-overrides","policy":"p","rules":[]},1
+D4 p: {"combine":"deny-overrides","policy":"p","rules":[]},{"combine":"deny-overrides","of":[],"set":"p"}
+D3 at /root/of/1: {"combine":"deny-overrides","policy":"p","rules":[]},{"combine":"deny-overrides","of":[],"set":"p","x":1}"#;
+
+const TARGET_TEXTS: &str = r#"D2 at /root/target: null
+D2 at /root/target: {}
+read: []
+D2 at /root/target/0: [1]
+D2 at /root/target/0: [[]]
+D2 at /root/target/0/0: [[null]]
+D2 at /root/target/0/0: [[[]]]
+D2 at /root/target/0/1: [[[{"class":"a"}],[]]]
+D2 at /root/target/1: [[[{"class":"a"}]],{}]"#;
+
+const RULE_TEXTS: &str = r#"D2 at /root/rules/0: 1
+D2 at /root/rules/0/rule: {}
+D2 at /root/rules/0/rule: {"effect":"deny"}
+D2 at /root/rules/0/rule: {"effect":"deny","rule":"a b"}
+D2 at /root/rules/0/effect: {"rule":"r"}
+D2 at /root/rules/0/effect: {"effect":"Deny","rule":"r"}
+D2 at /root/rules/0/target: {"effect":"deny","rule":"r","target":null}
+D2 at /root/rules/0/when: {"effect":"deny","rule":"r","when":null}
+D3 at /root/rules/0: {"effect":"deny","rule":"r","of":1}
+D4 p: {"effect":"deny","rule":"p"}
+D4 r: {"effect":"deny","rule":"r"},{"effect":"permit","rule":"r"}
+D3 at /root/rules/0: {"effect":1,"rule":1,"target":1,"when":1,"x":1}
+D2 at /root/rules/0/rule: {"effect":1,"rule":1,"target":1,"when":1}
+D2 at /root/rules/0/effect: {"effect":1,"rule":"p","target":1,"when":1}
+D2 at /root/rules/0/target: {"effect":"deny","rule":"p","target":1,"when":1}
+D2 at /root/rules/0/when: {"effect":"deny","rule":"p","target":[1],"when":1}
+D4 p: {"effect":"deny","rule":"p","target":[1],"when":[1]}
+D2 at /root/rules/0/target/0: {"effect":"deny","rule":"r","target":[1],"when":[1]},1
+D2 at /root/rules/0/when/0: {"effect":"deny","rule":"r","when":[1]},1"#;
+
+const MATCH_TEXTS: &str = r#"D2 at /root/target/0/0/0: 1
+D2 at /root/target/0/0/0: {}
+D2 at /root/target/0/0/0: {"class":"a","role":"b"}
+D3 at /root/target/0/0/0: {"class":"a","x":1}
+D3 at /root/target/0/0/0: {"own":true}
+D3 at /root/target/0/0/0: {"not":{"class":"a"}}
+D2 at /root/target/0/0/0/role: {"role":null}
+D2 at /root/target/0/0/0/office: {"office":""}
+D2 at /root/target/0/0/1/class: {"class":"a"},{"class":"A"}
+D2 at /root/target/0/0/0/owner: {"owner":1}
+D2 at /root/target/0/0/0/action: {"action":"paint"}
+D2 at /root/target/0/0/0/action: {"action":null}
+D2 at /root/target/0/0/0/zone: {"zone":"Z"}
+D5 z: {"zone":"z"}"#;
+
+const ATOM_TEXTS: &str = r#"D2 at /root/rules/0/when/0: null
+D2 at /root/rules/0/when/0: {"own":true,"class":"a"}
+D2 at /root/rules/0/when/0: {"not":{"own":true},"own":true}
+D3 at /root/rules/0/when/1: {"own":true},{"x":true}
+D2 at /root/rules/0/when/0/own: {"own":false}
+D2 at /root/rules/0/when/0/own: {"own":null}
+D2 at /root/rules/0/when/0/not: {"not":true}
+D2 at /root/rules/0/when/0/not: {"not":{}}
+D2 at /root/rules/0/when/0/not: {"not":{"class":"a","role":"b"}}
+D3 at /root/rules/0/when/0/not: {"not":{"not":{"own":true}}}
+D2 at /root/rules/0/when/0/not/own: {"not":{"own":false}}
+D2 at /root/rules/0/when/0/not/class: {"not":{"class":1}}
+D5 z: {"zone":"z"}
+D5 quay: {"not":{"zone":"quay"}}"#;
+
+const ZONE_TEXTS: &str = r#"D2 at /zones/0: null
+D2 at /zones/0/zone: {"shape":"POINT (1 2)"}
+D2 at /zones/0/shape: {"zone":"z"}
+D2 at /zones/0/shape: {"shape":null,"zone":"z"}
+D3 at /zones/0: {"name":"z","zone":"z"}
+D6 z Syntax(8): {"shape":"POINT (1)","zone":"z"}
+D6 z Bad(SameEnds): {"shape":"LINESTRING (1 1, 1 1)","zone":"z"}
+D4 z: {"shape":"POINT (1 2)","zone":"z"},{"shape":"POINT (3 4)","zone":"z"}
+D3 at /zones/0: {"shape":1,"zone":1,"x":1}
+D2 at /zones/0/zone: {"shape":1,"zone":1}
+D6 z Syntax(5): {"shape":"POINT (1 2)","zone":"z"},{"shape":"POINT","zone":"z"}
+D2 at /zones/1: {"shape":"POINT (1 2)","zone":"z"},[]"#;
+
+// Of equal keys the last one counts; an object with the key `set` is a set, whatever stands there; escapes spell the
+// same text (RFC 8259, section 7), and an unpaired surrogate none; a number is within a double's range.
+const JSON_TEXTS: &str =
+    r#"read: {"root":1,"root":{"combine":"deny-overrides","policy":"p","rules":[]}}
+D2 at /root: {"root":{"combine":"deny-overrides","policy":"p","rules":[]},"root":1}
+read: {"root":{"combine":"deny-overrides","of":[],"set":1,"set":"s"}}
+D2 at /root/set: {"root":{"combine":"deny-overrides","of":[],"set":"s","set":1}}
+D2 at /root/set: {"root":{"combine":"deny-overrides","of":[],"set":null}}
+D3 at /root: {"root":{"combine":"deny-overrides","policy":"p","rules":[],"set":null}}
+read: {"\u0072oot":{"combine":"deny-overrides","policy":"\u0070","rules":[]}}
+D1: {"root":"\ud800"}
+D1: {"root":"\udc00"}
+D2 at /root: {"root":"\ud83d\ude00"}
+D1: {"root":1e400}
+D1: {"root":-1e400}
+D2 at /root: {"root":1e300}
+D1: {"root":1,}
+D1: {'root':1}"#;
+
+// A fault in words: its code, with its path, its name, or its name and what is wrong with the shape.
+fn told(heap: Global, fault: TextFault) -> Result<String, AllocError> {
+    match fault {
+        TextFault::Form(path) => format!(in heap; "{fault} at {path}"),
+        TextFault::UnknownKey(path) => format!(in heap; "{fault} at {path}"),
+        TextFault::NameTwice(name) => format!(in heap; "{fault} {name}"),
+        TextFault::NoZone(name) => format!(in heap; "{fault} {name}"),
+        TextFault::BadZone(name, shape) => format!(in heap; "{fault} {name} {shape:?}"),
+        _ => format!(in heap; "{fault}"),
+    }
+}
+
+// What reading a text gives, in words.
+fn answer(heap: Global, text: &[u8]) -> Result<String, AllocError> {
+    match read_document(heap, heap, text) {
+        Ok(_) => String::from_str(heap, "read"),
+        Err(fault) => told(heap, fault),
+    }
+}
+
+// Each text of a table, put between two others, is read or refused as its line says.
+fn check_answers(
+    rt: &impl Abort,
+    heap: Global,
+    around: (&str, &str),
+    table: &str,
+) -> Result<(), AllocError> {
+    for line in table.lines() {
+        let parts = line.split_once(": ");
+        assert!(rt; parts.is_some(), "{line}");
+        let (want, text) = parts.unwrap();
+        let whole = format!(in heap; "{}{text}{}", around.0, around.1)?;
+        let told = answer(heap, whole.as_bytes())?;
+        assert_eq!(rt; told.as_str(), want, "{text}");
+    }
+    Ok(())
+}
+
+fn read_whole(rt: &impl Abort, heap: Global, text: &str) -> Document<Global> {
+    let read = read_document(heap, heap, text.as_bytes());
+    assert!(rt; read.is_ok(), "{text}");
+    read.unwrap()
+}
+
+fn name(rt: &impl Abort, text: &str) -> Name {
+    let name = Name::new(text.as_bytes());
+    assert!(rt; name.is_some());
+    name.unwrap()
+}
+
+// Of several faults the first is told, by the order of the grammar and not of the text.
+#[test]
+fn first_faults(rt: HostRuntime) -> Result<(), Fail> {
+    for (around, table) in [
+        (("", ""), TEXTS),
+        (NODE, NODE_TEXTS),
+        (CHILDREN, CHILD_TEXTS),
+        (TARGET, TARGET_TEXTS),
+        (RULES, RULE_TEXTS),
+        (MATCHES, MATCH_TEXTS),
+        (ATOMS, ATOM_TEXTS),
+        (ZONES, ZONE_TEXTS),
+    ] {
+        check_answers(&rt, rt.alloc(), around, table)?;
+    }
+    Ok(())
+}
+
+// Arrays within one another, between two texts.
+fn nested_arrays(
+    heap: Global,
+    before: &str,
+    levels: usize,
+    after: &str,
+) -> Result<String, AllocError> {
+    let mut text = String::from_str(heap, before)?;
+    for _ in 0..levels {
+        text.push_str("[")?;
+    }
+    for _ in 0..levels {
+        text.push_str("]")?;
+    }
+    text.push_str(after)?;
+    Ok(text)
+}
+
+#[test]
+fn what_json_is(rt: HostRuntime) -> Result<(), Fail> {
+    let heap = rt.alloc();
+    check_answers(&rt, heap, ("", ""), JSON_TEXTS)?;
+    for (text, want) in [
+        ("", "D1"),
+        (" ", "D1"),
+        ("{\"root\":\"\n\"}", "D1"),
+        ("\u{feff}{\"root\":1}", "D1"),
+        ("\u{a0}{\"root\":1}", "D1"),
+        (" \t\r\n{\"root\":1}\n", "D2 at /root"),
+    ] {
+        assert_eq!(rt; answer(heap, text.as_bytes())?.as_str(), want, "{text}");
+    }
+    for bytes in [
+        &b"{\"root\":\"\xff\"}"[..],
+        &b"{\"root\":\"\xc0\xaf\"}"[..],
+        &b"{\"root\":1}\xff"[..],
+        &b"\xff\xfe"[..],
+    ] {
+        assert_eq!(rt; answer(heap, bytes)?.as_str(), "D1");
+    }
+    // At most 127 arrays and objects within one another are read as JSON.
+    for (levels, want, below_root) in [
+        (126, "D2 at ", "D2 at /root"),
+        (127, "D2 at ", "D1"),
+        (128, "D1", "D1"),
+        (200, "D1", "D1"),
+    ] {
+        let text = nested_arrays(heap, "", levels, "")?;
+        assert_eq!(rt; answer(heap, text.as_bytes())?.as_str(), want, "{levels}");
+        let text = nested_arrays(heap, NODE.0, levels, NODE.1)?;
+        assert_eq!(rt;
+            answer(heap, text.as_bytes())?.as_str(),
+            below_root,
+            "{levels}"
+        );
+    }
+    Ok(())
+}
+
+// A number of items, each with its own number in it, in what stands around them.
+fn numbered(
+    heap: Global,
+    around: (&str, &str),
+    count: usize,
+    item: (&str, &str),
+    last: &str,
+) -> Result<String, AllocError> {
+    let mut text = String::from_str(heap, around.0)?;
+    for number in 0..count {
+        if number > 0 {
+            text.push_str(",")?;
+        }
+        text.push_str(format!(in heap; "{}{number}{}", item.0, item.1)?.as_str())?;
+    }
+    text.push_str(last)?;
+    text.push_str(around.1)?;
+    Ok(text)
+}
+
+#[test]
+fn limits_of_documents(rt: HostRuntime) -> Result<(), Fail> {
+    let heap = rt.alloc();
+    let rule = (r#"{"effect":"deny","rule":"r"#, r#""}"#);
+    let node = (
+        r#"{"combine":"deny-overrides","rules":[],"policy":"n"#,
+        r#""}"#,
+    );
+    let set = (r#"{"combine":"deny-overrides","of":[],"set":"n"#, r#""}"#);
+    let zone = (r#"{"shape":"POINT (1 2)","zone":"z"#, r#""}"#);
+    let class = (r#"{"class":"c"#, r#""}"#);
+    let negated = (r#"{"not":{"class":"c"#, r#""}}"#);
+    let bad_part = r#",{"effect":"deny","rule":"x","target":[1]}"#;
+    for (around, count, item, last, want) in [
+        (RULES, 512, rule, "", "read"),
+        (RULES, 513, rule, "", "D8"),
+        (
+            RULES,
+            512,
+            rule,
+            r#",{"effect":"deny","rule":"r7"}"#,
+            "D4 r7",
+        ),
+        (RULES, 512, rule, ",1", "D2 at /root/rules/512"),
+        (RULES, 512, rule, bad_part, "D8"),
+        (CHILDREN, 511, node, "", "read"),
+        (CHILDREN, 512, node, "", "D8"),
+        (CHILDREN, 511, set, "", "read"),
+        (CHILDREN, 512, set, "", "D8"),
+        (
+            CHILDREN,
+            511,
+            node,
+            r#",{"combine":"deny-overrides","rules":[],"policy":"s"}"#,
+            "D4 s",
+        ),
+        (ZONES, 64, zone, "", "read"),
+        (ZONES, 65, zone, "", "D8"),
+        (
+            ZONES,
+            64,
+            zone,
+            r#",{"shape":"POINT (1 2)","zone":"z7"}"#,
+            "D4 z7",
+        ),
+        (MATCHES, 4_096, class, "", "read"),
+        (MATCHES, 4_097, class, "", "D8"),
+        (MATCHES, 4_096, class, r#",{"zone":"z"}"#, "D5 z"),
+        (ATOMS, 4_096, class, "", "read"),
+        (ATOMS, 4_096, class, r#",{"own":true}"#, "D8"),
+        (ATOMS, 2_048, negated, "", "read"),
+        (ATOMS, 2_049, negated, "", "D8"),
+        (ATOMS, 4_094, class, r#",{"not":{"own":true}}"#, "read"),
+        (ATOMS, 4_095, class, r#",{"not":{"own":true}}"#, "D8"),
+        // What stands in a `not` comes before the count of its own match, and behind that of the `not`.
+        (
+            ATOMS,
+            4_095,
+            class,
+            r#",{"not":1}"#,
+            "D2 at /root/rules/0/when/4095/not",
+        ),
+        (ATOMS, 4_096, class, r#",{"not":1}"#, "D8"),
+    ] {
+        let text = numbered(heap, around, count, item, last)?;
+        assert_eq!(rt;
+            answer(heap, text.as_bytes())?.as_str(),
+            want,
+            "{count} {last}"
+        );
+    }
+    Ok(())
+}
+
+// Sets within one another, between a root and what stands in the innermost.
+fn nested_sets(heap: Global, levels: usize, innermost: &str) -> Result<String, AllocError> {
+    let mut text = String::from_str(heap, NODE.0)?;
+    for level in 0..levels {
+        text.push_str(format!(in heap;
+            "{{\"combine\":\"deny-overrides\",\"set\":\"s{level}\",\"of\":["
+        )?.as_str())?;
+    }
+    text.push_str(innermost)?;
+    for _ in 0..levels {
+        text.push_str("]}")?;
+    }
+    text.push_str(NODE.1)?;
+    Ok(text)
+}
+
+#[test]
+fn depth_of_documents(rt: HostRuntime) -> Result<(), Fail> {
+    let heap = rt.alloc();
+    let policy = r#"{"combine":"deny-overrides","policy":"p","rules":[]}"#;
+    let no_name =
+        r#"{"combine":"deny-overrides","policy":"p","rules":[{"effect":"deny","rule":"r","target":[[[{"class":1}]]]}]}"#;
+    for (levels, innermost, want) in [
+        (8, "", "read"),
+        (9, "", "D7"),
+        (7, policy, "read"),
+        (8, policy, "D7"),
+        (7, "1", "D2 at /root/of/0/of/0/of/0/of/0/of/0/of/0/of/0"),
+        (8, "1", "D7"),
+        (
+            7,
+            no_name,
+            "D2 at /root/of/0/of/0/of/0/of/0/of/0/of/0/of/0/rules/0/target/0/0/0/class",
+        ),
+        (8, no_name, "D7"),
+    ] {
+        let text = nested_sets(heap, levels, innermost)?;
+        assert_eq!(rt;
+            answer(heap, text.as_bytes())?.as_str(),
+            want,
+            "{levels} {innermost}"
+        );
+    }
+    Ok(())
+}
+
+// A text is read, printed so, and this read and printed again; a copy is printed so too.
+fn check_printed(rt: &impl Abort, heap: Global, text: &str, want: &str) -> Result<(), AllocError> {
+    let document = read_whole(rt, heap, text);
+    let printed = print_document(heap, &document)?;
+    assert_eq!(rt; printed.as_str(), want);
+    let again = read_whole(rt, heap, printed.as_str());
+    assert_eq!(rt; print_document(heap, &again)?.as_str(), want);
+    let copy = document.copy(heap)?;
+    assert_eq!(rt; print_document(heap, &copy)?.as_str(), want);
+    Ok(())
+}
+
+#[test]
+fn printed_forms(rt: HostRuntime) -> Result<(), Fail> {
+    let heap = rt.alloc();
+    for (text, printed) in [
+        (TWO_POLICIES, TWO_POLICIES),
+        (NO_PARCEL, NO_PARCEL),
+        (ROADS, ROADS),
+        (EACH_KIND, EACH_KIND_PRINTED),
+        (
+            r#"{"zones":[],"root":{"set":"s","target":[],"of":[{"policy":"p","rules":[{"when":[],"target":[],"rule":"r","effect":"deny"}],"combine":"deny-overrides","target":[]}],"combine":"first-applicable"}}"#,
+            r#"{"root":{"combine":"first-applicable","of":[{"combine":"deny-overrides","policy":"p","rules":[{"effect":"deny","rule":"r"}]}],"set":"s"}}"#,
+        ),
+    ] {
+        check_printed(&rt, heap, text, printed)?;
+    }
+    Ok(())
+}
+
+#[test]
+fn parts_of_documents(rt: HostRuntime) -> Result<(), Fail> {
+    let heap = rt.alloc();
+    let document = read_whole(&rt, heap, TWO_POLICIES);
+    for (number, want) in [(1, "early"), (2, "grant"), (3, "late")] {
+        assert_eq!(rt;
+            document.rule_name(number),
+            Some(name(&rt, want)),
+            "{number}"
+        );
+    }
+    for number in [0, 4, u32::MAX] {
+        assert_eq!(rt; document.rule_name(number), None, "{number}");
+    }
+    assert_eq!(rt; document.zone_count(), 0);
+    assert!(rt; document.zone_at(0).is_none());
+    assert!(rt; document.zone(name(&rt, "post")).is_none());
+    let document = read_whole(&rt, heap, EACH_KIND);
+    assert!(rt; matches!(document.root(), Node::Set { .. }));
+    assert_eq!(rt; document.zone_count(), 3);
+    let post = Shape::point(Point { x: 1, y: 2 });
+    assert!(rt; post.is_ok());
+    let post = post.unwrap();
+    assert_eq!(rt; document.zone(name(&rt, "post")).copied(), Some(post));
+    assert_eq!(rt; document.zone(name(&rt, "quay")).copied(), None);
+    for (index, want) in [(0, "harbour"), (1, "post"), (2, "road")] {
+        let zone = document.zone_at(index);
+        assert_eq!(rt;
+            zone.map(|zone| zone.name),
+            Some(name(&rt, want)),
+            "{index}"
+        );
+        assert_eq!(rt;
+            zone.is_some_and(|zone| zone.shape == post),
+            index == 1,
+            "{index}"
+        );
+    }
+    assert!(rt; document.zone_at(3).is_none());
+    Ok(())
+}
+
+#[test]
+fn reads_under_refusals(rt: HostRuntime) -> Result<(), Fail> {
+    let heap = rt.alloc();
+    let memory = Refusing::new(heap, 0);
+    let mut refused = 0;
+    for at in 1..200 {
+        memory.refuse(at);
+        let read = read_document(&memory, heap, EACH_KIND.as_bytes());
+        if !memory.has_refused() {
+            assert!(rt; read.is_ok());
+            break;
+        }
+        refused = at;
+        assert!(rt; matches!(read, Err(TextFault::Memory)), "{at}");
+    }
+    assert!(rt; refused > 10 && refused < 199, "{refused}");
+    Ok(())
+}
+
+#[test]
+fn copies_under_refusals(rt: HostRuntime) -> Result<(), Fail> {
+    let heap = rt.alloc();
+    let memory = Refusing::new(heap, 0);
+    let document = read_whole(&rt, heap, EACH_KIND);
+    let mut refused = 0;
+    for at in 1..200 {
+        memory.refuse(at);
+        let copy = document.copy(&memory);
+        if !memory.has_refused() {
+            assert!(rt; copy.is_ok());
+            break;
+        }
+        refused = at;
+        assert!(rt; copy.is_err(), "{at}");
+    }
+    assert!(rt; refused > 10 && refused < 199, "{refused}");
+    assert_eq!(rt;
+        print_document(heap, &document)?.as_str(),
+        EACH_KIND_PRINTED
+    );
+    Ok(())
+}
