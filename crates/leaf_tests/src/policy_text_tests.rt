@@ -233,9 +233,9 @@ fn told(heap: Global, fault: TextFault) -> Result<String, AllocError> {
 
 // What reading a text gives, in words.
 fn answer(heap: Global, text: &[u8]) -> Result<String, AllocError> {
-    match read_document(heap, heap, text) {
-        Ok(_) => String::from_str(heap, "read"),
-        Err(fault) => told(heap, fault),
+    match read_document(heap, heap, text).err() {
+        None => String::from_str(heap, "read"),
+        Some(fault) => told(heap, fault),
     }
 }
 
