@@ -416,6 +416,7 @@ fn limits_of_documents(rt: HostRuntime) -> Result<(), Fail> {
         (MATCHES, 4_096, class, r#",{"zone":"z"}"#, "D5 z"),
         (ATOMS, 4_096, class, "", "read"),
         (ATOMS, 4_096, class, r#",{"own":true}"#, "D8"),
+        (ATOMS, 4_096, class, r#",{"zone":"z"}"#, "D5 z"),
         (ATOMS, 2_048, negated, "", "read"),
         (ATOMS, 2_049, negated, "", "D8"),
         (ATOMS, 4_094, class, r#",{"not":{"own":true}}"#, "read"),
