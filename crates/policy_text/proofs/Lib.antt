@@ -6,3 +6,5 @@ pub mod MemberLemmas
 pub mod EachLemmas
 pub mod NodeReadLemmas
 pub mod ZoneReadLemmas
+pub mod PrintLemmas
+pub mod Shallow
