@@ -5,7 +5,8 @@ ghost use Rattle.serde_json.specs.Data.{object};
 ghost use Rattle.serde_json.specs.View.{view, items_view};
 ghost use Rattle.policy_text.specs.Documents.{IsDocument};
 ghost use Rattle.policy_text.specs.Printed.{rule_data, node_data, zone_data, zones_items, document_data, document_text};
-ghost use Rattle.policy_text.specs.PrintedSteps.{put_node};
+ghost use Rattle.policy_text.specs.Reading.{document_of};
+ghost use Rattle.policy_text.specs.PrintedMembers.{put_node};
 ghost use Rattle.policy_text.specs.Views.{node_view, zone_of};
 
 use crate::algorithms::Algorithm;
@@ -157,12 +158,13 @@ fn document_value<A: Allocator>(heap: Global, document: &Document<A>) -> Result<
 }
 
 /// The printed form of a document: JSON (RFC 8259) without spaces, the keys of each object in order, and zones, targets and
-/// conditions left out where there are none. The only error is want of memory.
+/// conditions left out where there are none. It is read as the same document. The only error is want of memory.
 pub fn print_document<A: Allocator>(
     heap: Global,
     document: &Document<A>,
 ) -> Result<String, AllocError>
-    ensures { IfOk result (λ text. string_bytes text ≡ document_text document.now) }
+    ensures text { IfOk result (λ text. string_bytes text ≡ document_text document.now) }
+    ensures read { IfOk result (λ text. document_of (string_bytes text) ≡ Ok document.now) }
 {
     document_value(heap, document)?.to_string(heap)
 }

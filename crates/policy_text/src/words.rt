@@ -4,7 +4,7 @@ ghost use Rattle.std.specs.Prelude.{◌≡◌, IfOk, OnOk, string_bytes};
 ghost use Rattle.serde_json.specs.Data.{string};
 ghost use Rattle.serde_json.specs.View.{view, items_view, members_view};
 ghost use Rattle.policy_text.specs.Printed.{algorithm_text, effect_text, action_text, single};
-ghost use Rattle.policy_text.specs.PrintedSteps.{put_items};
+ghost use Rattle.policy_text.specs.PrintedMembers.{put_items};
 
 use crate::algorithms::{Algorithm, Effect};
 use crate::paths::Key;

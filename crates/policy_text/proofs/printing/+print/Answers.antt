@@ -3,8 +3,8 @@ use Rattle.std.proofs.lemmas.Result.{IfOk-weaker}
 use Rattle.serde_json.specs.View.{view}
 use Rattle.policy_text.specs.Printed.{node_data, rule_data}
 use Rattle.policy_text.specs.Views.{node_view}
-use Rattle.policy_text.proofs.NodeLemmas.{node_view-Set, node_view-Policy}
-use Rattle.policy_text.proofs.PrintLemmas.{set-put, policy-put}
+use Rattle.policy_text.proofs.NodeLemmas.{node_view-Set, node_view-Policy, mapped_more}
+use Rattle.policy_text.proofs.PutMembers.{set-put, policy-put}
 use Rattle.policy_text.proofs.printing.+print.Goals as goal
 
 pub node_value-returns-in_ok-children-in-Set : goal.node_value-returns-in_ok-children-in-Set
@@ -21,3 +21,8 @@ node_value-returns-in_ok-children-in-Policy g t c =
     IfOk-weaker c.form_value-in-Policy.result _ _ (λ v told. told
     ∙ policy-put (record { name = n.name; combine = n.combine; target = n.target }) n.rules.items (map view c.in_ok-children-in-Policy.children.items) rules
     ∙ ap node_data (sym (ap node_view n.is ∙ node_view-Policy _ n.name n.combine n.target n.rules))) c.form_value-in-Policy.ensures
+
+pub node_values-loop-node-preserved : goal.node_values-loop-node-preserved
+node_values-loop-node-preserved g t c =
+    mapped_more view (λ n. node_data (node_view n)) _ _ _ _ _ _ c.in_ok-push.ensures.items c.loop-node-test.true c.loop-node.invariant
+    (c.in_ok-node_value.ensures ∙ ap (λ n. node_data (node_view n)) c.node-item.is)

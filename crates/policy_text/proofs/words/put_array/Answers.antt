@@ -5,7 +5,7 @@ use Rattle.serde_json.specs.View.{view, members_view}
 use Rattle.serde_json.specs.declared.value.Value.{Array}
 use Rattle.serde_json.proofs.Views.{view-Array}
 use Rattle.policy_text.specs.Keys.{key_text}
-use Rattle.policy_text.proofs.PrintLemmas.{put_items-filled}
+use Rattle.policy_text.proofs.PutMembers.{put_items-filled}
 use Rattle.policy_text.proofs.words.put_array.Goals as goal
 
 pub returns : goal.returns

@@ -6,7 +6,7 @@ use Rattle.serde_json.specs.declared.value.Value.{Value}
 use Rattle.policy_text.specs.Documents.{RuleData, Head, NodeData, set, policy, children_of}
 use Rattle.policy_text.specs.Keys.{key_text}
 use Rattle.policy_text.specs.Printed.{keyed, keyed_items, target_items, algorithm_text, rule_data, node_data, nodes_items}
-use Rattle.policy_text.specs.PrintedSteps.{put_items, put_node}
+use Rattle.policy_text.specs.PrintedMembers.{put_items, put_node}
 use Rattle.policy_text.specs.declared.paths.Key.{Key}
 use Rattle.policy_text.specs.declared.paths.Key.TheVariants as keys
 

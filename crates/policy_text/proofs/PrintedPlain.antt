@@ -1,11 +1,11 @@
 -- A printed document has no float, and does not nest deep.
-use Rattle.std.proofs.Common.{◌≡◌, ℕ, suc, ◌+◌, ◌*◌, ◌≤◌, Bool, true, false, ◌||◌, List, [], ◌∷◌, map, refl, ap, ◌∙◌, arith}
+use Rattle.std.proofs.Common.{◌≡◌, ℕ, suc, ◌+◌, ◌*◌, ◌≤◌, Bool, true, false, ◌||◌, List, [], ◌∷◌, map, refl, arith}
 use Rattle.serde_json.specs.Data.{Data, string, array, object, depth, items_depth, members_depth, Items, no_items, item, Members, no_members}
 use Rattle.serde_json.specs.View.{items_of}
-use Rattle.serde_json.specs.Written.{has_float, items_have_float, members_have_float, compact_text}
+use Rattle.serde_json.specs.Written.{has_float, items_have_float, members_have_float}
 use Rattle.wkt.specs.Printing.{printed}
 use Rattle.policy_text.specs.Documents.{DocumentData, IsDocument, RuleData, Head, NodeData, set, policy, Children, no_children, child, depth_of, depth_of_all}
-use Rattle.policy_text.specs.Printed.{action_text, effect_text, algorithm_text, keyed, keyed_items, single, match_data, term_data, atom_data, all_of_data, any_of_data, target_items, when_items, rule_data, node_data, nodes_items, zone_data, zones_items, document_data, document_text}
+use Rattle.policy_text.specs.Printed.{action_text, effect_text, algorithm_text, keyed, keyed_items, single, match_data, term_data, atom_data, all_of_data, any_of_data, target_items, when_items, rule_data, node_data, nodes_items, zone_data, zones_items, document_data}
 use Rattle.policy_text.specs.declared.zones.Zone.{Zone}
 use Rattle.policy_text.specs.declared.paths.Key.{Key}
 use Rattle.policy_text.specs.declared.paths.Key.TheVariants as keys
@@ -142,7 +142,3 @@ document-plain d h =
     let zones = items_of-plain zone_data 1 zone-plain d.zones in
     object-plain 126 _ (keyed-plain 126 keys.Root _ _ (IsPlain-more _ _ _ (omega arith) (node-plain d.root))
     (keyed_items-plain 125 keys.Zones (zones_items d.zones) no_members (ArePlain-more 1 125 _ (omega arith) zones) (no_members-plain 126)))
-
--- the text of a printed document
-pub plain-text : (d : DocumentData) (e : Data) (text : List ℕ) → IsDocument d → e ≡ document_data d → (has_float e ≡ false → text ≡ compact_text e) → text ≡ document_text d
-plain-text d e text h is told = told (ap has_float is ∙ (document-plain d h).whole) ∙ ap compact_text is
