@@ -6,3 +6,16 @@ pub mod MemberLemmas
 pub mod EachLemmas
 pub mod NodeReadLemmas
 pub mod ZoneReadLemmas
+pub mod PutMembers
+pub mod PrintedPlain
+pub mod PrintedSteps
+pub mod PrintedLists
+pub mod PrintedMatches
+pub mod PrintedTargets
+pub mod PrintedRules
+pub mod PrintedHeads
+pub mod PrintedPremises
+pub mod PrintedNodes
+pub mod PrintedZones
+pub mod PrintedDocuments
+pub mod PrintedTexts
