@@ -6,3 +6,14 @@ pub mod MemberLemmas
 pub mod EachLemmas
 pub mod NodeReadLemmas
 pub mod ZoneReadLemmas
+pub mod ChainLemmas
+pub mod TestLaws
+pub mod AtomLaws
+pub mod TargetLaws
+pub mod DistinctLemmas
+pub mod PartLaws
+pub mod ContentLemmas
+pub mod NodeLaws
+pub mod ZoneLaws
+pub mod DocumentLaws
+pub mod BytesLemmas

@@ -8,3 +8,4 @@ pub mod Reading
 pub mod SeenViews
 pub mod SeenAfter
 pub mod Printed
+pub mod Bytes
