@@ -19,3 +19,14 @@ pub mod PrintedNodes
 pub mod PrintedZones
 pub mod PrintedDocuments
 pub mod PrintedTexts
+pub mod ChainLemmas
+pub mod TestLaws
+pub mod AtomLaws
+pub mod TargetLaws
+pub mod DistinctLemmas
+pub mod PartLaws
+pub mod ContentLemmas
+pub mod NodeLaws
+pub mod ZoneLaws
+pub mod DocumentLaws
+pub mod BytesLemmas

@@ -9,3 +9,4 @@ pub mod SeenViews
 pub mod SeenAfter
 pub mod Printed
 pub mod PrintedMembers
+pub mod Bytes
