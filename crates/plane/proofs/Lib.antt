@@ -1,3 +1,4 @@
+pub mod CanonicalShapes
 pub mod CornersKept
 pub mod Covering
 pub mod Frames

@@ -8,3 +8,5 @@ pub mod Reading
 pub mod SeenViews
 pub mod SeenAfter
 pub mod Printed
+pub mod PrintedMembers
+pub mod Bytes

@@ -3,7 +3,7 @@
 ghost use Rattle.std.specs.Prelude.{◌≡◌, IfOk, length, map, slice_get};
 ghost use Rattle.std.specs.Option.{option_copied};
 ghost use Rattle.policy_text.specs.Documents.{zone_shape, rule_named, IsDocument, rules_of, rules_of_all, children_of, found_rule};
-ghost use Rattle.policy_text.specs.Views.{node_view};
+ghost use Rattle.policy_text.specs.Views.{node_view, zone_of, document_view};
 
 use crate::nodes::{Node, copy_node};
 use crate::rules::Rule;
@@ -48,12 +48,27 @@ impl<A: Allocator> Model for Document<A> {
 }
 
 impl<A: Allocator> Document<A> {
+    /// The document of these zones and this root.
+    pub(crate) fn new(zones: Zones<A>, root: Node<A>) -> Self
+        requires { IsDocument (document_view zones.entries root) }
+        ensures { result ≡ document_view zones.entries root }
+    {
+        Document { zones, root }
+    }
+
     /// The set or policy at the root.
     pub fn root(&self) -> &Node<A>
         ensures root { node_view result.now ≡ self.now.root }
         ensures sound { IsDocument self.now }
     {
         &self.root
+    }
+
+    /// The zones, in written order.
+    pub(crate) fn zones(&self) -> &Zones<A>
+        ensures { map zone_of result.now.entries ≡ self.now.zones }
+    {
+        &self.zones
     }
 
     /// How many zones there are.

@@ -2,6 +2,7 @@
 
 use crate::paths::Path;
 use features::Name;
+use serde_json::{Category, Error};
 use std::alloc::{AllocError, AllocFailed};
 use std::fmt;
 use wkt::WktFault;
@@ -71,5 +72,19 @@ impl<T: Drop> From<AllocFailed<T>> for TextFault {
 
     fn from(_: AllocFailed<T>) -> Self {
         TextFault::Memory
+    }
+}
+
+impl From<Error> for TextFault {
+    ghost use Rattle.std.specs.Prelude.{◌≡◌};
+    ghost use Rattle.policy_text.specs.Bytes.{json_fault};
+
+    ghost from_gives = { λ error fault. fault ≡ json_fault error };
+
+    fn from(error: Error) -> Self {
+        match error.classify() {
+            Category::Memory => TextFault::Memory,
+            _ => TextFault::NotJson,
+        }
     }
 }

@@ -8,3 +8,4 @@ pub mod PrintedShapes
 pub mod NumberGrammar
 pub mod SpellingFound
 pub mod SpellingOnly
+pub mod CanonicalShapes

@@ -7,11 +7,13 @@ ghost use Rattle.wkt.specs.Reading.{shape_of};
 ghost use Rattle.wkt.specs.Spelling.{Spells};
 ghost use Rattle.wkt.specs.Printing.{printed};
 
-/// The texts that `read_shape` reads as a shape are those that spell it, by cases, and no text spells two.
+/// The texts that `read_shape` reads as a shape are those that spell it, by cases, and no text spells two. What is read
+/// is canonical: 1 to 16 corners in range, from the least one on, which are listed again as that very shape.
 pub fn read_is_spelled()
     ensures found { (text : List ℕ) (corners : List Point) → shape_of text ≡ Ok corners → Spells text corners }
     ensures only { (text : List ℕ) (corners : List Point) → Spells text corners → shape_of text ≡ Ok corners }
     ensures one { (text : List ℕ) (a b : List Point) → Spells text a → Spells text b → a ≡ b }
+    ensures canonical { (text : List ℕ) (corners : List Point) → shape_of text ≡ Ok corners → IsCanonical corners }
 {}
 
 /// The text that `shape_text` prints of a shape is read as that shape, and spells it.
