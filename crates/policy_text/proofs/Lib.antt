@@ -6,3 +6,5 @@ pub mod MemberLemmas
 pub mod EachLemmas
 pub mod NodeReadLemmas
 pub mod ZoneReadLemmas
+pub mod EqualLemmas
+pub mod RowLemmas

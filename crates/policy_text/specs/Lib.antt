@@ -1,6 +1,7 @@
 pub mod Names
 pub mod Documents
 pub mod Views
+pub mod Equality
 pub mod Coding
 pub mod Keys
 pub mod Paths
