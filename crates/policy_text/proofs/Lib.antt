@@ -8,3 +8,4 @@ pub mod NodeReadLemmas
 pub mod ZoneReadLemmas
 pub mod EqualLemmas
 pub mod RowLemmas
+pub mod PlaceLemmas

@@ -1,5 +1,6 @@
 -- Comparing two rows, one element after another.
-use Rattle.std.proofs.Common.{◌≡◌, ℕ, ◌+◌, ◌<◌, ◌≤◌, Bool, true, false, ◌&&◌, ◌≢◌, List, [], ◌∷◌, length, get_or, drop, map, refl, sym, ap, ◌∙◌, add-one, drop-cons}
+use Rattle.std.proofs.Common.{◌≡◌, ℕ, zero, suc, ◌+◌, ◌<◌, ◌≤◌, Bool, true, false, ◌&&◌, ◌≢◌, List, [], ◌∷◌, length, get_or, drop, map, slice_get, refl, sym, ap, ◌∙◌, arith, add-one, drop-cons}
+use Rattle.std.specs.Option.{option_eq}
 use Rattle.std.specs.Cmp.Lexicographic.{pointwise, unequal}
 use Rattle.std.proofs.lemmas.List.{drop_all}
 use Rattle.policy_text.specs.Documents.{NodeData, children_of}
@@ -28,6 +29,23 @@ module _ {X Y : Type 0} (test : X → Y → Bool) where
 
   pub same_from-long : (xs : List X) (ys : List Y) → (length xs ≢ length ys) → false ≡ pointwise test xs ys
   same_from-long xs ys other = sym (unequal test xs ys other)
+
+module _ {X : Type 0} (test : X → X → Bool) where
+  same_from-at : (i : ℕ) (xs ys : List X) → i < length xs → i < length ys →
+      same_from test i xs ys ≡ (option_eq test (slice_get xs i) (slice_get ys i) && same_from test (suc i) xs ys)
+  same_from-at i [] ys in_xs in_ys = absurd (omega arith)
+  same_from-at i (x ∷ xs) [] in_xs in_ys = absurd (omega arith)
+  same_from-at zero (x ∷ xs) (y ∷ ys) in_xs in_ys = refl
+  same_from-at (suc i) (x ∷ xs) (y ∷ ys) in_xs in_ys = same_from-at i xs ys (omega arith) (omega arith)
+
+  pub same_from-more_at : (i : ℕ) (xs ys : List X) → i < length xs → i < length ys →
+      option_eq test (slice_get xs i) (slice_get ys i) ≡ true → same_from test (i + 1) xs ys ≡ same_from test i xs ys
+  same_from-more_at i xs ys in_xs in_ys told =
+      rw add-one (sym (same_from-at i xs ys in_xs in_ys ∙ ap (λ b. b && same_from test (suc i) xs ys) told))
+
+  pub same_from-other_at : (i : ℕ) (xs ys : List X) → i < length xs → i < length ys →
+      option_eq test (slice_get xs i) (slice_get ys i) ≡ false → false ≡ same_from test i xs ys
+  same_from-other_at i xs ys in_xs in_ys told = sym (same_from-at i xs ys in_xs in_ys ∙ ap (λ b. b && same_from test (suc i) xs ys) told)
 
 -- the children are compared as a row of nodes
 pub same_children-row : {X Y : Type 0} (f : X → NodeData) (g : Y → NodeData) (xs : List X) (ys : List Y) →

@@ -24,7 +24,7 @@ use Rattle.policy_text.specs.declared.matches.Atom.TheVariants as atoms
 use Rattle.policy_text.specs.declared.zones.Zone.{Zone}
 
 -- a test that answers true of each value and itself, and of no two that are not one, decides `≡`
-decides_by : {X : Type 0} (test : X → X → Bool) → ((a : X) → test a a ≡ true) → ((a b : X) → test a b ≡ true → a ≡ b) → (a b : X) → Decides (test a b) (a ≡ b)
+pub decides_by : {X : Type 0} (test : X → X → Bool) → ((a : X) → test a a ≡ true) → ((a b : X) → test a b ≡ true → a ≡ b) → (a b : X) → Decides (test a b) (a ≡ b)
 decides_by test itself told a b = (told a b, λ e. subst (λ c. test a c ≡ true) e (itself a))
 
 both_so : (p q : Bool) → p ≡ true → q ≡ true → (p && q) ≡ true
