@@ -78,12 +78,12 @@ pub exact_node : (r : Bool) (a b : NodeData) → r ≡ same_node a b → IsTrue 
 exact_node r a b e = Decides-at r (same_node a b) e (same_node_decides a b)
 
 -- where the zones are the same, the roots decide
-pub exact_document-roots : (r s : Bool) (a b p q : DocumentData) → s ≡ same_zones a.zones b.zones → s ≡ true → p ≡ a → q ≡ b → r ≡ same_node p.root q.root → IsTrue r ↔ (a ≡ b)
-exact_document-roots r s a b p q zones same at_a at_b told =
+pub exact_document_roots : (r s : Bool) (a b p q : DocumentData) → s ≡ same_zones a.zones b.zones → s ≡ true → p ≡ a → q ≡ b → r ≡ same_node p.root q.root → IsTrue r ↔ (a ≡ b)
+exact_document_roots r s a b p q zones same at_a at_b told =
     Decides-at r (same_document a b) (told ∙ (λ i. same_node (at_a i).root (at_b i).root) ∙ ap (λ v. v && same_node a.root b.root) (sym same ∙ zones)) (same_document_decides a b)
 
-pub exact_document-zones : (s : Bool) (a b : DocumentData) → s ≡ same_zones a.zones b.zones → s ≡ false → IsTrue s ↔ (a ≡ b)
-exact_document-zones s a b zones other =
+pub exact_document_zones : (s : Bool) (a b : DocumentData) → s ≡ same_zones a.zones b.zones → s ≡ false → IsTrue s ↔ (a ≡ b)
+exact_document_zones s a b zones other =
     Decides-at s (same_document a b) (other ∙ ap (λ v. v && same_node a.root b.root) (sym other ∙ zones)) (same_document_decides a b)
 
 same_point_derived : (a b : Point) → pointing.eq-value.it a b ≡ same_point a b

@@ -9,3 +9,4 @@ pub mod ZoneReadLemmas
 pub mod EqualLemmas
 pub mod RowLemmas
 pub mod PlaceLemmas
+pub mod FaultLemmas

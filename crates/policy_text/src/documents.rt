@@ -165,6 +165,7 @@ impl<A: Allocator> PartialEq for Document<A> {
 
     ghost laws = { partial_equiv_from_equiv (decided same_document same_document_decides) };
 
+    #[tactic(auto, using(crate::proofs::EqualLemmas::exact_document_roots, crate::proofs::EqualLemmas::exact_document_zones))]
     fn eq(&self, other: &Self) -> bool
         ensures tested { result ≡ same_document self.now other.now }
         ensures exact { IsTrue result ↔ (self.now ≡ other.now) }
