@@ -23,10 +23,14 @@ document_of-read : (bytes : List ℕ) (o : Option Data) → read bytes ≡ o →
 unfolding document_of of_read
 document_of-read bytes o told = ap (λ x. ok_or x faults.NotJson >>= document_in) told
 
+-- of a text, the bytes spell what it spells
+pub document_of_bytes-utf8 : (bytes : List ℕ) → IsUtf8 bytes → document_of_bytes bytes ≡ document_of bytes
+document_of_bytes-utf8 bytes utf8 = rw (is_utf8-from_IsUtf8 bytes utf8) refl
+
 -- the JSON value of the bytes spells the document
 pub document_of_bytes-read : (bytes : List ℕ) (d : Data) → IsUtf8 bytes → read bytes ≡ Some d → document_of_bytes bytes ≡ document_in d
 unfolding of_read
-document_of_bytes-read bytes d utf8 told = rw (is_utf8-from_IsUtf8 bytes utf8) (document_of-read bytes (Some d) told)
+document_of_bytes-read bytes d utf8 told = document_of_bytes-utf8 bytes utf8 ∙ document_of-read bytes (Some d) told
 
 unread : (bytes : List ℕ) → (IsUtf8 bytes → read bytes ≡ None) → document_of_bytes bytes ≡ Err faults.NotJson
 unfolding of_read

@@ -30,3 +30,7 @@ pub mod NodeLaws
 pub mod ZoneLaws
 pub mod DocumentLaws
 pub mod BytesLemmas
+pub mod EqualLemmas
+pub mod RowLemmas
+pub mod PlaceLemmas
+pub mod FaultLemmas

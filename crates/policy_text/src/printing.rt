@@ -5,7 +5,7 @@ ghost use Rattle.serde_json.specs.Data.{object};
 ghost use Rattle.serde_json.specs.View.{view, items_view};
 ghost use Rattle.policy_text.specs.Documents.{IsDocument};
 ghost use Rattle.policy_text.specs.Printed.{rule_data, node_data, zone_data, zones_items, document_data, document_text};
-ghost use Rattle.policy_text.specs.Reading.{document_of};
+ghost use Rattle.policy_text.specs.Bytes.{document_of_bytes};
 ghost use Rattle.policy_text.specs.PrintedMembers.{put_node};
 ghost use Rattle.policy_text.specs.Views.{node_view, zone_of};
 
@@ -14,7 +14,7 @@ use crate::documents::{Document, Zones};
 use crate::matches::Target;
 use crate::nodes::Node;
 use crate::paths::Key;
-use crate::printed::{condition_values, target_values};
+use crate::values::{condition_values, target_values};
 use crate::reading::{NodeForm, POLICY, SET};
 use crate::rules::Rule;
 use crate::words::{algorithm_word, effect_word, name_value, put_array};
@@ -164,7 +164,7 @@ pub fn print_document<A: Allocator>(
     document: &Document<A>,
 ) -> Result<String, AllocError>
     ensures text { IfOk result (λ text. string_bytes text ≡ document_text document.now) }
-    ensures read { IfOk result (λ text. document_of (string_bytes text) ≡ Ok document.now) }
+    ensures read { IfOk result (λ text. document_of_bytes (string_bytes text) ≡ Ok document.now) }
 {
     document_value(heap, document)?.to_string(heap)
 }

@@ -1,5 +1,6 @@
 use Rattle.std.proofs.Common.{string_bytes}
 use Rattle.std.proofs.lemmas.Result.{IfOk-weaker}
+use Rattle.std.proofs.lemmas.Str.{IsUtf8-string_bytes}
 use Rattle.policy_text.proofs.PrintedTexts.{printed-text, printed-read}
 use Rattle.policy_text.proofs.printing.print_document.Goals as goal
 
@@ -9,4 +10,4 @@ returns-clause-text g c =
 
 pub returns-clause-read : goal.returns-clause-read
 returns-clause-read g c =
-    IfOk-weaker c.to_string.result _ _ (λ s told. printed-read c.args.document.now _ (string_bytes s) c.document_value.ensures.sound c.in_ok-document_value.ensures.value told) c.to_string.ensures.reads_back
+    IfOk-weaker c.to_string.result _ _ (λ s told. printed-read c.args.document.now _ (string_bytes s) c.document_value.ensures.sound c.in_ok-document_value.ensures.value (IsUtf8-string_bytes s) told) c.to_string.ensures.reads_back

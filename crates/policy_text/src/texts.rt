@@ -22,10 +22,11 @@ use std::alloc::{Allocator, Global};
 ///
 /// - Of an object: that it is none (D2), then that a key is not listed (D3), then what stands under each key (D2).
 /// - Of a zone, behind that: its shape (D6), its name again (D4), more than 64 zones (D8).
-/// - Of a set, policy or rule: more than 8 sets and policies within one another (D7) before all else; behind its
-///   values its name again (D4), more than 512 sets and policies, or 512 rules (D8), then its target and conditions.
-/// - Of a match or an atom, behind its value: that its zone is not there (D5), then more than 4096 of them (D8), where
-///   an object that negates counts too.
+/// - Of a set, policy or rule: more than 8 sets and policies within one another (D7) before all else; behind what
+///   stands under its keys its name again (D4), more than 512 sets and policies, or 512 rules (D8), then the parts of
+///   its target, and its conditions.
+/// - Of a match or an atom: that it has not one key (D2) behind D3; behind what stands under it that its zone is not
+///   there (D5), then more than 4096 of them (D8). An object that negates counts too, before what it negates.
 ///
 /// What the text says lies in `heap` while it is read, and nothing of it afterwards. The document is made in `alloc`,
 /// and with it, for a while, a list of its names. A refusal by either is D9, at whatever place.
