@@ -487,14 +487,16 @@ fn depth_of_documents(rt: HostRuntime) -> Result<(), Fail> {
     Ok(())
 }
 
-// A text is read, printed so, and this read and printed again; a copy is printed so too.
+// A text is read and printed so; what is read from this, and a copy, are equal and printed so again.
 fn check_printed(rt: &impl Abort, heap: Global, text: &str, want: &str) -> Result<(), AllocError> {
     let document = read_whole(rt, heap, text);
     let printed = print_document(heap, &document)?;
     assert_eq!(rt; printed.as_str(), want);
     let again = read_whole(rt, heap, printed.as_str());
+    assert!(rt; again == document, "{want}");
     assert_eq!(rt; print_document(heap, &again)?.as_str(), want);
     let copy = document.copy(heap)?;
+    assert!(rt; copy == document, "{want}");
     assert_eq!(rt; print_document(heap, &copy)?.as_str(), want);
     Ok(())
 }
@@ -514,6 +516,7 @@ fn printed_forms(rt: HostRuntime) -> Result<(), Fail> {
     ] {
         check_printed(&rt, heap, text, printed)?;
     }
+    assert!(rt; read_whole(&rt, heap, NO_PARCEL) != read_whole(&rt, heap, ROADS));
     Ok(())
 }
 
