@@ -1,10 +1,10 @@
 use features::Name;
-use plane::{Point, Shape};
 use policy_text::{Document, Node, TextFault, print_document, read_document};
 use refusing::Refusing;
 use std::alloc::{AllocError, Global};
 use std::process::Abort;
 use std::test::Fail;
+use wkt::shape_text;
 
 // A set of two policies, with three rules.
 const TWO_POLICIES: &str =
@@ -263,12 +263,6 @@ fn read_whole(rt: &impl Abort, heap: Global, text: &str) -> Document<Global> {
     read.unwrap()
 }
 
-fn name(rt: &impl Abort, text: &str) -> Name {
-    let name = Name::new(text.as_bytes());
-    assert!(rt; name.is_some());
-    name.unwrap()
-}
-
 // Of several faults the first is told, by the order of the grammar and not of the text.
 #[test]
 fn first_faults(rt: HostRuntime) -> Result<(), Fail> {
@@ -520,45 +514,49 @@ fn printed_forms(rt: HostRuntime) -> Result<(), Fail> {
     Ok(())
 }
 
+// The name of the zone at this place, and its shape by its name, are these; an empty text stands for none.
+fn check_zone(rt: &impl Abort, document: &Document<Global>, index: usize, name: &str, shape: &str) {
+    let want = Name::new(name.as_bytes());
+    let Some(zone) = document.zone_at(index) else {
+        assert_eq!(rt; want, None, "{index}");
+        return;
+    };
+    assert_eq!(rt; Some(zone.name), want, "{index}");
+    assert_eq!(rt; shape_text(&zone.shape).as_str(), shape, "{index}");
+    assert_eq!(rt;
+        document.zone(zone.name).copied(),
+        Some(zone.shape),
+        "{index}"
+    );
+}
+
 #[test]
 fn parts_of_documents(rt: HostRuntime) -> Result<(), Fail> {
-    let heap = rt.alloc();
-    let document = read_whole(&rt, heap, TWO_POLICIES);
-    for (number, want) in [(1, "early"), (2, "grant"), (3, "late")] {
-        assert_eq!(rt;
-            document.rule_name(number),
-            Some(name(&rt, want)),
-            "{number}"
-        );
+    let document = read_whole(&rt, rt.alloc(), TWO_POLICIES);
+    for (number, want) in [(0, ""), (1, "early"), (2, "grant"), (3, "late"), (4, "")] {
+        let want = Name::new(want.as_bytes());
+        assert_eq!(rt; document.rule_name(number), want, "{number}");
     }
-    for number in [0, 4, u32::MAX] {
-        assert_eq!(rt; document.rule_name(number), None, "{number}");
-    }
-    assert_eq!(rt; document.zone_count(), 0);
-    assert!(rt; document.zone_at(0).is_none());
-    assert!(rt; document.zone(name(&rt, "post")).is_none());
-    let document = read_whole(&rt, heap, EACH_KIND);
+    check_zone(&rt, &document, 0, "", "");
+    Ok(())
+}
+
+#[test]
+fn zones_of_documents(rt: HostRuntime) -> Result<(), Fail> {
+    let document = read_whole(&rt, rt.alloc(), EACH_KIND);
     assert!(rt; matches!(document.root(), Node::Set { .. }));
     assert_eq!(rt; document.zone_count(), 3);
-    let post = Shape::point(Point { x: 1, y: 2 });
-    assert!(rt; post.is_ok());
-    let post = post.unwrap();
-    assert_eq!(rt; document.zone(name(&rt, "post")).copied(), Some(post));
-    assert_eq!(rt; document.zone(name(&rt, "quay")).copied(), None);
-    for (index, want) in [(0, "harbour"), (1, "post"), (2, "road")] {
-        let zone = document.zone_at(index);
-        assert_eq!(rt;
-            zone.map(|zone| zone.name),
-            Some(name(&rt, want)),
-            "{index}"
-        );
-        assert_eq!(rt;
-            zone.is_some_and(|zone| zone.shape == post),
-            index == 1,
-            "{index}"
-        );
+    for (index, want, shape) in [
+        (0, "harbour", "POLYGON ((0 0, 4 0, 4 4, 0 4, 0 0))"),
+        (1, "post", "POINT (1 2)"),
+        (2, "road", "LINESTRING (0 0, 3 1)"),
+        (3, "", ""),
+    ] {
+        check_zone(&rt, &document, index, want, shape);
     }
-    assert!(rt; document.zone_at(3).is_none());
+    if let Some(name) = Name::new(b"quay") {
+        assert!(rt; document.zone(name).is_none());
+    }
     Ok(())
 }
 
