@@ -23,7 +23,7 @@ mod zones;
 pub use algorithms::{Algorithm, Effect};
 pub use documents::{Document, ZONE_LIMIT};
 pub use faults::TextFault;
-pub use laws::printed_is_read;
+pub use laws::{faults_compare_exactly, printed_is_read, read_is_document};
 pub use matches::{AllOf, AnyOf, Atom, Conditions, Match, Target, Term};
 pub use nodes::Node;
 pub use paths::{Key, Path, STEP_LIMIT, Step};
