@@ -3,3 +3,9 @@ pub mod MetLemmas
 pub mod DecisionLemmas
 pub mod NumberLemmas
 pub mod PlacedLemmas
+pub mod FirstMarks
+pub mod OlderDecisions
+pub mod OlderMarks
+pub mod OlderParts
+pub mod OlderRules
+pub mod OneAnswer

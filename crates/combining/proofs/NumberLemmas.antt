@@ -56,11 +56,11 @@ true_either b false = and_true b
 pub is_open-first : (a : Algorithm) (d e : Decision) (counts : Bool) → (counts && is_decision d e) ≡ (counts && is_open d (around a e []))
 is_open-first a d e counts = ap (λ b. counts && b) (sym (true_either (is_decision d e) (is_first_applicable a)))
 
-and_and : (a b c : Bool) → (a && b && c) ≡ (a && (b && c))
+pub and_and : (a b c : Bool) → (a && b && c) ≡ (a && (b && c))
 and_and true b c = refl
 and_and false b c = refl
 
-list_all-push : (ds : List Decision) (d : Decision) → list_all is_not_applicable (ds ++ d ∷ []) ≡ (list_all is_not_applicable ds && is_not_applicable d)
+pub list_all-push : (ds : List Decision) (d : Decision) → list_all is_not_applicable (ds ++ d ∷ []) ≡ (list_all is_not_applicable ds && is_not_applicable d)
 list_all-push [] d = and_true (is_not_applicable d)
   where
     and_true : (b : Bool) → (b && true) ≡ b

@@ -36,7 +36,7 @@ abbrev pub sizes_of : List (Decision × List Placed) → ℕ
 sizes_of [] = 0
 sizes_of (part ∷ parts) = length part.1 + sizes_of parts
 
-length-placed_parts : (q : Question) (met : List (List ℕ)) (a : Algorithm) (d : Decision) (parts : List (Decision × List Placed)) (earlier : List Decision) →
+pub length-placed_parts : (q : Question) (met : List (List ℕ)) (a : Algorithm) (d : Decision) (parts : List (Decision × List Placed)) (earlier : List Decision) →
     length (placed_within q met a d earlier parts) ≡ sizes_of parts
 length-placed_parts q met a d [] earlier = refl
 length-placed_parts q met a d (part ∷ parts) earlier =

@@ -1,5 +1,6 @@
 pub mod Holding
 pub mod Decisions
 pub mod Deciding
+pub mod ThreeAlgorithms
 pub mod Tallies
 pub mod Numbering

@@ -6,6 +6,19 @@ pub mod MemberLemmas
 pub mod EachLemmas
 pub mod NodeReadLemmas
 pub mod ZoneReadLemmas
+pub mod PutMembers
+pub mod PrintedPlain
+pub mod PrintedSteps
+pub mod PrintedLists
+pub mod PrintedMatches
+pub mod PrintedTargets
+pub mod PrintedRules
+pub mod PrintedHeads
+pub mod PrintedPremises
+pub mod PrintedNodes
+pub mod PrintedZones
+pub mod PrintedDocuments
+pub mod PrintedTexts
 pub mod ChainLemmas
 pub mod TestLaws
 pub mod AtomLaws
@@ -17,3 +30,7 @@ pub mod NodeLaws
 pub mod ZoneLaws
 pub mod DocumentLaws
 pub mod BytesLemmas
+pub mod EqualLemmas
+pub mod RowLemmas
+pub mod PlaceLemmas
+pub mod FaultLemmas

@@ -1,11 +1,16 @@
 pub mod Names
 pub mod Documents
 pub mod Views
+pub mod Equality
 pub mod Coding
 pub mod Keys
 pub mod Paths
+pub mod Places
+pub mod Pointers
+pub mod FaultCodes
 pub mod Reading
 pub mod SeenViews
 pub mod SeenAfter
 pub mod Printed
+pub mod PrintedMembers
 pub mod Bytes

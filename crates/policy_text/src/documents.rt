@@ -1,9 +1,10 @@
 //! Whole documents.
 
-ghost use Rattle.std.specs.Prelude.{◌≡◌, IfOk, length, map, slice_get};
+ghost use Rattle.std.specs.Prelude.{◌≡◌, ◌↔◌, IfOk, IsTrue, length, map, slice_get};
 ghost use Rattle.std.specs.Option.{option_copied};
 ghost use Rattle.policy_text.specs.Documents.{zone_shape, rule_named, IsDocument, rules_of, rules_of_all, children_of, found_rule};
-ghost use Rattle.policy_text.specs.Views.{node_view, document_view};
+ghost use Rattle.policy_text.specs.Equality.{same_zones, same_document};
+ghost use Rattle.policy_text.specs.Views.{node_view, zone_of, document_view};
 
 use crate::nodes::{Node, copy_node};
 use crate::rules::Rule;
@@ -62,6 +63,13 @@ impl<A: Allocator> Document<A> {
         ensures sound { IsDocument self.now }
     {
         &self.root
+    }
+
+    /// The zones, in written order.
+    pub(crate) fn zones(&self) -> &Zones<A>
+        ensures { map zone_of result.now.entries ≡ self.now.zones }
+    {
+        &self.zones
     }
 
     /// How many zones there are.
@@ -162,4 +170,43 @@ fn copy_zones<A: Allocator, B: Allocator + Copy>(
         copies.insert(*key, *shape)?;
     }
     Ok(copies)
+}
+
+impl<A: Allocator> PartialEq for Document<A> {
+    ghost use Rattle.std.specs.Cmp.{decided, partial_equiv_from_equiv};
+    ghost use Rattle.policy_text.specs.Equality.{same_document, same_document_decides};
+
+    ghost eq = { same_document };
+
+    ghost laws = { partial_equiv_from_equiv (decided same_document same_document_decides) };
+
+    #[tactic(auto, using(crate::proofs::EqualLemmas::exact_document_roots, crate::proofs::EqualLemmas::exact_document_zones))]
+    fn eq(&self, other: &Self) -> bool
+        ensures tested { result ≡ same_document self.now other.now }
+        ensures exact { IsTrue result ↔ (self.now ≡ other.now) }
+    {
+        same_zones(self, other) && self.root == other.root
+    }
+}
+
+impl<A: Allocator> Eq for Document<A> {
+    ghost use Rattle.std.specs.Cmp.{decided};
+    ghost use Rattle.policy_text.specs.Equality.{same_document, same_document_decides};
+
+    ghost laws = { decided same_document same_document_decides };
+}
+
+/// Whether two documents have the same zones, in the same order.
+fn same_zones<A: Allocator>(document: &Document<A>, other: &Document<A>) -> bool
+    ensures { result ≡ same_zones document.now.zones other.now.zones }
+{
+    if document.zone_count() != other.zone_count() {
+        return false;
+    }
+    for index in 0..document.zone_count() {
+        if document.zone_at(index) != other.zone_at(index) {
+            return false;
+        }
+    }
+    true
 }

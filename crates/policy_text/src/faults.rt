@@ -1,5 +1,7 @@
 //! Why a text is no document.
 
+ghost use Rattle.std.specs.Prelude.{◌≡◌};
+
 use crate::paths::Path;
 use features::Name;
 use serde_json::{Category, Error};
@@ -8,7 +10,7 @@ use std::fmt;
 use wkt::WktFault;
 
 /// Why a text is no document: the first fault in the order of the documents' grammar.
-#[derive(Clone, Copy, Debug)]
+#[derive(Clone, Copy, Debug, PartialEq, Eq)]
 pub enum TextFault {
     /// D1: the text is no JSON.
     NotJson,
@@ -31,8 +33,12 @@ pub enum TextFault {
 }
 
 impl TextFault {
+    ghost use Rattle.policy_text.specs.FaultCodes.{code_of};
+
     /// The code by which users know the fault.
-    pub fn code(self) -> &'static str {
+    pub fn code(self) -> &'static str
+        ensures { result.now ≡ code_of self }
+    {
         match self {
             TextFault::NotJson => "D1",
             TextFault::Form(_) => "D2",
@@ -48,6 +54,11 @@ impl TextFault {
 }
 
 impl fmt::Display for TextFault {
+    ghost use Rattle.std.specs.Prelude.{Some};
+    ghost use Rattle.policy_text.specs.FaultCodes.{code_of};
+
+    ghost output = { λ fault. Some (code_of fault) };
+
     fn fmt<W: fmt::Write>(&self, f: &mut fmt::Formatter<W>) -> fmt::Result {
         f.write_str(self.code())
     }

@@ -1,6 +1,7 @@
 //! What a rule, a policy or a set asks of a question before it applies.
 
-ghost use Rattle.std.specs.Prelude.{◌≡◌, IfOk};
+ghost use Rattle.std.specs.Prelude.{◌≡◌, ◌↔◌, IfOk, IsTrue};
+ghost use Rattle.policy_text.specs.Equality.{same_all_of, same_any_of, same_target, same_conditions};
 
 use features::{Action, Name};
 use std::alloc::{AllocError, Allocator};
@@ -68,6 +69,29 @@ impl<A: Allocator> AllOf<A> {
     }
 }
 
+impl<A: Allocator> PartialEq for AllOf<A> {
+    ghost use Rattle.std.specs.Cmp.{decided, partial_equiv_from_equiv};
+    ghost use Rattle.policy_text.specs.Equality.{same_all_of, same_all_of_decides};
+
+    ghost eq = { same_all_of };
+
+    ghost laws = { partial_equiv_from_equiv (decided same_all_of same_all_of_decides) };
+
+    fn eq(&self, other: &Self) -> bool
+        ensures tested { result ≡ same_all_of self.now other.now }
+        ensures exact { IsTrue result ↔ (self.now ≡ other.now) }
+    {
+        self.as_slice() == other.as_slice()
+    }
+}
+
+impl<A: Allocator> Eq for AllOf<A> {
+    ghost use Rattle.std.specs.Cmp.{decided};
+    ghost use Rattle.policy_text.specs.Equality.{same_all_of, same_all_of_decides};
+
+    ghost laws = { decided same_all_of same_all_of_decides };
+}
+
 /// Alternatives, of which one has to hold. A contract sees their list.
 #[derive(Debug, Drop)]
 pub struct AnyOf<A: Allocator> {
@@ -97,6 +121,30 @@ impl<A: Allocator> AnyOf<A> {
     {
         &self.alternatives
     }
+}
+
+impl<A: Allocator> PartialEq for AnyOf<A> {
+    ghost use Rattle.std.specs.Cmp.{decided, partial_equiv_from_equiv};
+    ghost use Rattle.policy_text.specs.Equality.{same_any_of, same_any_of_decides};
+
+    ghost eq = { same_any_of };
+
+    ghost laws = { partial_equiv_from_equiv (decided same_any_of same_any_of_decides) };
+
+    #[tactic(auto, using(crate::proofs::EqualLemmas::exact_any_of))]
+    fn eq(&self, other: &Self) -> bool
+        ensures tested { result ≡ same_any_of self.now other.now }
+        ensures exact { IsTrue result ↔ (self.now ≡ other.now) }
+    {
+        self.as_slice() == other.as_slice()
+    }
+}
+
+impl<A: Allocator> Eq for AnyOf<A> {
+    ghost use Rattle.std.specs.Cmp.{decided};
+    ghost use Rattle.policy_text.specs.Equality.{same_any_of, same_any_of_decides};
+
+    ghost laws = { decided same_any_of same_any_of_decides };
 }
 
 /// What a set, a policy or a rule is about: each of its parts has to hold. A contract sees their list.
@@ -130,6 +178,30 @@ impl<A: Allocator> Target<A> {
     }
 }
 
+impl<A: Allocator> PartialEq for Target<A> {
+    ghost use Rattle.std.specs.Cmp.{decided, partial_equiv_from_equiv};
+    ghost use Rattle.policy_text.specs.Equality.{same_target, same_target_decides};
+
+    ghost eq = { same_target };
+
+    ghost laws = { partial_equiv_from_equiv (decided same_target same_target_decides) };
+
+    #[tactic(auto, using(crate::proofs::EqualLemmas::exact_target))]
+    fn eq(&self, other: &Self) -> bool
+        ensures tested { result ≡ same_target self.now other.now }
+        ensures exact { IsTrue result ↔ (self.now ≡ other.now) }
+    {
+        self.as_slice() == other.as_slice()
+    }
+}
+
+impl<A: Allocator> Eq for Target<A> {
+    ghost use Rattle.std.specs.Cmp.{decided};
+    ghost use Rattle.policy_text.specs.Equality.{same_target, same_target_decides};
+
+    ghost laws = { decided same_target same_target_decides };
+}
+
 /// The conditions of a rule, all of which have to hold. A contract sees their list.
 #[derive(Debug, Drop)]
 pub struct Conditions<A: Allocator> {
@@ -159,6 +231,30 @@ impl<A: Allocator> Conditions<A> {
     {
         &self.atoms
     }
+}
+
+impl<A: Allocator> PartialEq for Conditions<A> {
+    ghost use Rattle.std.specs.Cmp.{decided, partial_equiv_from_equiv};
+    ghost use Rattle.policy_text.specs.Equality.{same_conditions, same_conditions_decides};
+
+    ghost eq = { same_conditions };
+
+    ghost laws = { partial_equiv_from_equiv (decided same_conditions same_conditions_decides) };
+
+    #[tactic(auto, using(crate::proofs::EqualLemmas::same_conditions_derived))]
+    fn eq(&self, other: &Self) -> bool
+        ensures tested { result ≡ same_conditions self.now other.now }
+        ensures exact { IsTrue result ↔ (self.now ≡ other.now) }
+    {
+        self.as_slice() == other.as_slice()
+    }
+}
+
+impl<A: Allocator> Eq for Conditions<A> {
+    ghost use Rattle.std.specs.Cmp.{decided};
+    ghost use Rattle.policy_text.specs.Equality.{same_conditions, same_conditions_decides};
+
+    ghost laws = { decided same_conditions same_conditions_decides };
 }
 
 /// A copy of these matches. The only error is want of memory.

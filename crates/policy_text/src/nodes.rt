@@ -1,6 +1,8 @@
 //! Sets and policies.
 
-ghost use Rattle.std.specs.Prelude.{◌≡◌, IfOk, map};
+ghost use Rattle.std.specs.Prelude.{◌≡◌, ◌↔◌, IfOk, IsTrue, map};
+ghost use Rattle.policy_text.specs.Documents.{children_of};
+ghost use Rattle.policy_text.specs.Equality.{head_of, same_head, same_node, same_children};
 ghost use Rattle.policy_text.specs.Views.{node_view};
 
 use crate::algorithms::Algorithm;
@@ -88,4 +90,99 @@ fn copy_rules<A: Allocator, B: Allocator + Copy>(
         copies.push(rule.copy(alloc)?)?;
     }
     Ok(copies)
+}
+
+impl<A: Allocator> PartialEq for Node<A> {
+    ghost use Rattle.std.specs.Cmp.{decided, on_equiv, partial_equiv_from_equiv};
+    ghost use Rattle.policy_text.specs.Equality.{same_node, same_node_decides};
+    ghost use Rattle.policy_text.specs.Views.{node_view};
+
+    ghost eq = { λ a b. same_node (node_view a) (node_view b) };
+
+    ghost laws = { partial_equiv_from_equiv (on_equiv node_view (decided same_node same_node_decides)) };
+
+    #[tactic(auto, using(crate::proofs::EqualLemmas::exact_node))]
+    fn eq(&self, other: &Self) -> bool
+        ensures tested { result ≡ same_node (node_view self.now) (node_view other.now) }
+        ensures exact { IsTrue result ↔ (node_view self.now ≡ node_view other.now) }
+    {
+        same_node(self, other)
+    }
+}
+
+impl<A: Allocator> Eq for Node<A> {
+    ghost use Rattle.std.specs.Cmp.{decided, on_equiv};
+    ghost use Rattle.policy_text.specs.Equality.{same_node, same_node_decides};
+    ghost use Rattle.policy_text.specs.Views.{node_view};
+
+    ghost laws = { on_equiv node_view (decided same_node same_node_decides) };
+}
+
+/// Whether two nodes are one.
+#[cycle(same)]
+fn same_node<A: Allocator>(node: &Node<A>, other: &Node<A>) -> bool
+    ensures { result ≡ same_node (node_view node.now) (node_view other.now) }
+{
+    match node {
+        Node::Set { of, .. } => match other {
+            Node::Set { of: others, .. } => same_head(node, other) && same_nodes(of, others),
+            Node::Policy { .. } => false,
+        },
+        Node::Policy { rules, .. } => match other {
+            Node::Policy { rules: others, .. } => same_head(node, other) && *rules == *others,
+            Node::Set { .. } => false,
+        },
+    }
+}
+
+/// Whether two nodes have one name, one algorithm and one target.
+fn same_head<A: Allocator>(node: &Node<A>, other: &Node<A>) -> bool
+    ensures { result ≡ same_head (head_of (node_view node.now)) (head_of (node_view other.now)) }
+{
+    name_of(node) == name_of(other)
+        && combine_of(node) == combine_of(other)
+        && *target_of(node) == *target_of(other)
+}
+
+/// The node's name.
+fn name_of<A: Allocator>(node: &Node<A>) -> Name
+    ensures { result ≡ (head_of (node_view node.now)).name }
+{
+    match node {
+        Node::Set { name, .. } | Node::Policy { name, .. } => *name,
+    }
+}
+
+/// How the node's decision is made of those of its children.
+fn combine_of<A: Allocator>(node: &Node<A>) -> Algorithm
+    ensures { result ≡ (head_of (node_view node.now)).combine }
+{
+    match node {
+        Node::Set { combine, .. } | Node::Policy { combine, .. } => *combine,
+    }
+}
+
+/// The node's target.
+fn target_of<A: Allocator>(node: &Node<A>) -> &Target<A>
+    ensures { result.now ≡ (head_of (node_view node.now)).target }
+{
+    match node {
+        Node::Set { target, .. } | Node::Policy { target, .. } => target,
+    }
+}
+
+/// Whether two rows of nodes are one.
+#[cycle(same)]
+fn same_nodes<A: Allocator>(nodes: &[Node<A>], others: &[Node<A>]) -> bool
+    ensures { result ≡ same_children (children_of (map node_view nodes.now)) (children_of (map node_view others.now)) }
+{
+    if nodes.len() != others.len() {
+        return false;
+    }
+    for (index, node) in nodes.iter().enumerate() {
+        if !same_node(node, &others[index]) {
+            return false;
+        }
+    }
+    true
 }

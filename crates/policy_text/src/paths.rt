@@ -1,7 +1,8 @@
 //! Where a fault stands in a document.
 
-ghost use Rattle.std.specs.Prelude.{◌≡◌, ◌<◌, [], ◌∷◌, ◌++◌, length};
+ghost use Rattle.std.specs.Prelude.{◌≡◌, ◌↔◌, ◌<◌, [], ◌∷◌, ◌++◌, length, IsTrue};
 ghost use Rattle.policy_text.specs.Keys.{key_text};
+ghost use Rattle.policy_text.specs.Places.{same_path};
 
 use std::fmt;
 use std::marker::Model;
@@ -130,19 +131,64 @@ impl Path {
     }
 }
 
+impl PartialEq for Path {
+    ghost use Rattle.std.specs.Cmp.{decided, partial_equiv_from_equiv};
+    ghost use Rattle.policy_text.specs.Places.{same_path, same_path_decides};
+
+    ghost eq = { same_path };
+
+    ghost laws = { partial_equiv_from_equiv (decided same_path same_path_decides) };
+
+    #[tactic(auto, using(crate::proofs::PlaceLemmas::same_path_derived))]
+    fn eq(&self, other: &Self) -> bool
+        ensures tested { result ≡ same_path self.now other.now }
+        ensures exact { IsTrue result ↔ (self.now ≡ other.now) }
+    {
+        self.as_slice() == other.as_slice()
+    }
+}
+
+impl Eq for Path {
+    ghost use Rattle.std.specs.Cmp.{decided};
+    ghost use Rattle.policy_text.specs.Places.{same_path, same_path_decides};
+
+    ghost laws = { decided same_path same_path_decides };
+}
+
+impl fmt::Display for Step {
+    ghost use Rattle.std.specs.Prelude.{Some};
+    ghost use Rattle.policy_text.specs.Pointers.{step_text};
+
+    ghost output = { λ step. Some (step_text step) };
+
+    fn fmt<W: fmt::Write>(&self, f: &mut fmt::Formatter<W>) -> fmt::Result {
+        match self {
+            Step::Key(key) => write!(f, "/{}", key.text()),
+            Step::Item(index) => write!(f, "/{}", *index),
+        }
+    }
+}
+
 impl fmt::Display for Path {
+    ghost use Rattle.std.specs.Prelude.{Some};
+    ghost use Rattle.policy_text.specs.Pointers.{path_text};
+
+    ghost output = { λ path. Some (path_text path) };
+
     fn fmt<W: fmt::Write>(&self, f: &mut fmt::Formatter<W>) -> fmt::Result {
         for step in self.as_slice() {
-            match step {
-                Step::Key(key) => write!(f, "/{}", key.text())?,
-                Step::Item(index) => write!(f, "/{}", *index)?,
-            }
+            fmt::Display::fmt(step, f)?;
         }
         Ok(())
     }
 }
 
 impl fmt::Debug for Path {
+    ghost use Rattle.std.specs.Prelude.{Some};
+    ghost use Rattle.policy_text.specs.Pointers.{path_text};
+
+    ghost debug_output = { λ path. Some (path_text path) };
+
     fn fmt<W: fmt::Write>(&self, f: &mut fmt::Formatter<W>) -> fmt::Result {
         fmt::Display::fmt(self, f)
     }

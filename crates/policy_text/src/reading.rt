@@ -36,19 +36,19 @@ const RULE_KEYS: [Key; 4] = [Key::Rule, Key::Effect, Key::Target, Key::When];
 
 /// What an object of a kind of node may have as keys: its name, its children and two more.
 #[derive(Clone, Copy)]
-struct NodeForm {
-    listed: [Key; 4],
-    name: Key,
-    children: Key,
+pub(crate) struct NodeForm {
+    pub listed: [Key; 4],
+    pub name: Key,
+    pub children: Key,
 }
 
-const SET: NodeForm = NodeForm {
+pub(crate) const SET: NodeForm = NodeForm {
     listed: [Key::Set, Key::Combine, Key::Target, Key::Of],
     name: Key::Set,
     children: Key::Of,
 };
 
-const POLICY: NodeForm = NodeForm {
+pub(crate) const POLICY: NodeForm = NodeForm {
     listed: [Key::Policy, Key::Combine, Key::Target, Key::Rules],
     name: Key::Policy,
     children: Key::Rules,

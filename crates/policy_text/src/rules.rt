@@ -1,6 +1,7 @@
 //! Rules.
 
-ghost use Rattle.std.specs.Prelude.{◌≡◌, IfOk};
+ghost use Rattle.std.specs.Prelude.{◌≡◌, ◌↔◌, IfOk, IsTrue};
+ghost use Rattle.policy_text.specs.Equality.{same_rule};
 
 use crate::algorithms::Effect;
 use crate::matches::{Conditions, Target, copy_conditions, copy_target};
@@ -37,4 +38,31 @@ impl<A: Allocator> Rule<A> {
             when: copy_conditions(alloc, &self.when)?,
         })
     }
+}
+
+impl<A: Allocator> PartialEq for Rule<A> {
+    ghost use Rattle.std.specs.Cmp.{decided, partial_equiv_from_equiv};
+    ghost use Rattle.policy_text.specs.Equality.{same_rule, same_rule_decides};
+
+    ghost eq = { same_rule };
+
+    ghost laws = { partial_equiv_from_equiv (decided same_rule same_rule_decides) };
+
+    #[tactic(auto, using(crate::proofs::EqualLemmas::exact_rule))]
+    fn eq(&self, other: &Self) -> bool
+        ensures tested { result ≡ same_rule self.now other.now }
+        ensures exact { IsTrue result ↔ (self.now ≡ other.now) }
+    {
+        self.name == other.name
+            && self.effect == other.effect
+            && self.target == other.target
+            && self.when == other.when
+    }
+}
+
+impl<A: Allocator> Eq for Rule<A> {
+    ghost use Rattle.std.specs.Cmp.{decided};
+    ghost use Rattle.policy_text.specs.Equality.{same_rule, same_rule_decides};
+
+    ghost laws = { decided same_rule same_rule_decides };
 }

@@ -3,7 +3,7 @@ use Rattle.policy_text.specs.Reading.{Fails}
 use Rattle.policy_text.proofs.EachLemmas.{Gives-residual}
 use Rattle.policy_text.proofs.BytesLemmas.{document_of_bytes-read, json_fault-fails, read-filled}
 use Rattle.policy_text.proofs.DocumentLaws.{document_in-IsDocument}
-use Rattle.policy_text.proofs.read.read_document.Goals as goal
+use Rattle.policy_text.proofs.texts.read_document.Goals as goal
 
 pub returns-in_err-value-clause-value : goal.returns-in_err-value-clause-value
 returns-in_err-value-clause-value g c =

@@ -1,0 +1,30 @@
+//! Laws of the definitions that documents are decided by. The functions do nothing: each is its contract.
+
+ghost use Rattle.std.specs.Prelude.{◌≡◌, ℕ, true, false, List, is_some};
+ghost use Rattle.plane.specs.declared.point.Point.{Point};
+ghost use Rattle.policy_text.specs.Documents.{NodeData, DocumentData};
+ghost use Rattle.policy_text.specs.declared.zones.Zone.{Zone};
+ghost use Rattle.combining.specs.Holding.{AreMet};
+ghost use Rattle.combining.specs.Decisions.{is_not_applicable, decision_of};
+ghost use Rattle.combining.specs.Deciding.{first_deciding, Answers};
+ghost use Rattle.combining.specs.ThreeAlgorithms.{uses_older, older_decision, older_first_deciding};
+
+use crate::decisions::Verdict;
+use crate::questions::Question;
+
+/// A document that uses neither deny-unless-permit nor permit-unless-deny is decided, and names its first deciding
+/// rule, as the definitions say that have three algorithms. It gives no Permit and no Deny by default: a rule made it.
+pub fn older_documents_decide_as_before()
+    ensures decision { (question : Question) (met : List (List ℕ)) (root : NodeData) → uses_older root ≡ true →
+        decision_of question met root ≡ older_decision question met root }
+    ensures rule { (question : Question) (met : List (List ℕ)) (root : NodeData) → uses_older root ≡ true →
+        first_deciding question met root ≡ older_first_deciding question met root }
+    ensures made { (question : Question) (met : List (List ℕ)) (root : NodeData) → uses_older root ≡ true →
+        is_not_applicable (decision_of question met root) ≡ false → is_some (first_deciding question met root) ≡ true }
+{}
+
+/// A shape meets the zones of one list of names, and so a document gives one verdict.
+pub fn answers_are_one()
+    ensures met { (shape : List Point) (zones : List Zone) (a b : List (List ℕ)) → AreMet shape zones a → AreMet shape zones b → a ≡ b }
+    ensures verdict { (document : DocumentData) (question : Question) (a b : Verdict) → Answers document question a → Answers document question b → a ≡ b }
+{}

@@ -1,0 +1,170 @@
+//! Printing documents.
+
+ghost use Rattle.std.specs.Prelude.{◌≡◌, IfOk, map, string_bytes};
+ghost use Rattle.serde_json.specs.Data.{object};
+ghost use Rattle.serde_json.specs.View.{view, items_view};
+ghost use Rattle.policy_text.specs.Documents.{IsDocument};
+ghost use Rattle.policy_text.specs.Printed.{rule_data, node_data, zone_data, zones_items, document_data, document_text};
+ghost use Rattle.policy_text.specs.Bytes.{document_of_bytes};
+ghost use Rattle.policy_text.specs.PrintedMembers.{put_node};
+ghost use Rattle.policy_text.specs.Views.{node_view, zone_of};
+
+use crate::algorithms::Algorithm;
+use crate::documents::{Document, Zones};
+use crate::matches::Target;
+use crate::nodes::Node;
+use crate::paths::Key;
+use crate::values::{condition_values, target_values};
+use crate::reading::{NodeForm, POLICY, SET};
+use crate::rules::Rule;
+use crate::words::{algorithm_word, effect_word, name_value, put_array};
+use features::Name;
+use plane::Shape;
+use serde_json::{Map, Value, put};
+use std::alloc::{AllocError, Allocator, Global};
+use wkt::print_shape;
+
+/// A rule, its target and its conditions left out where there are none. The only error is want of memory.
+fn rule_value<A: Allocator>(heap: Global, rule: &Rule<A>) -> Result<Value, AllocError>
+    ensures { IfOk result (λ v. view v ≡ rule_data rule.now) }
+{
+    let effect = Value::try_from_str(heap, effect_word(rule.effect))?;
+    let name = name_value(heap, &rule.name)?;
+    let target = target_values(heap, &rule.target)?;
+    let when = condition_values(heap, &rule.when)?;
+    let mut members = Map::new(heap);
+    put(&mut members, heap, Key::Effect.text(), effect)?;
+    put(&mut members, heap, Key::Rule.text(), name)?;
+    put_array(&mut members, heap, Key::Target, target)?;
+    put_array(&mut members, heap, Key::When, when)?;
+    Ok(Value::Object(members))
+}
+
+/// The rules of a policy. The only error is want of memory.
+fn rule_values<A: Allocator>(heap: Global, rules: &[Rule<A>]) -> Result<Vec<Value>, AllocError>
+    ensures { IfOk result (λ values. map view values.items ≡ map rule_data rules.now) }
+{
+    let mut values = Vec::with_capacity(heap, rules.len())?;
+    for rule in rules {
+        values.push(rule_value(heap, rule)?)?;
+    }
+    Ok(values)
+}
+
+/// A set or a policy with these children, its target left out where there is none. The only error is want of memory.
+fn form_value<A: Allocator>(
+    heap: Global,
+    form: NodeForm,
+    name: &Name,
+    combine: Algorithm,
+    target: &Target<A>,
+    children: Vec<Value>,
+) -> Result<Value, AllocError>
+    ensures { IfOk result (λ v. view v ≡ object
+        (put_node form.name form.children (record { name = name.now; combine = combine; target = target.now }) (items_view children.items))) }
+{
+    let combine = Value::try_from_str(heap, algorithm_word(combine))?;
+    let name = name_value(heap, name)?;
+    let target = target_values(heap, target)?;
+    let mut members = Map::new(heap);
+    put(&mut members, heap, Key::Combine.text(), combine)?;
+    put(&mut members, heap, form.name.text(), name)?;
+    put(
+        &mut members,
+        heap,
+        form.children.text(),
+        Value::Array(children),
+    )?;
+    put_array(&mut members, heap, Key::Target, target)?;
+    Ok(Value::Object(members))
+}
+
+/// A set or a policy. The only error is want of memory.
+#[cycle(print)]
+fn node_value<A: Allocator>(heap: Global, node: &Node<A>) -> Result<Value, AllocError>
+    ensures { IfOk result (λ v. view v ≡ node_data (node_view node.now)) }
+{
+    match node {
+        Node::Set {
+            name,
+            combine,
+            target,
+            of,
+        } => {
+            let children = node_values(heap, of)?;
+            form_value(heap, SET, name, *combine, target, children)
+        }
+        Node::Policy {
+            name,
+            combine,
+            target,
+            rules,
+        } => {
+            let children = rule_values(heap, rules)?;
+            form_value(heap, POLICY, name, *combine, target, children)
+        }
+    }
+}
+
+/// The sets and policies of a set. The only error is want of memory.
+#[cycle(print)]
+fn node_values<A: Allocator>(
+    heap: Global,
+    nodes: &Vec<Node<A>, A>,
+) -> Result<Vec<Value>, AllocError>
+    ensures { IfOk result (λ values. map view values.items ≡ map (λ n. node_data (node_view n)) nodes.now.items) }
+{
+    let mut values = Vec::with_capacity(heap, nodes.len())?;
+    for node in nodes {
+        values.push(node_value(heap, node)?)?;
+    }
+    Ok(values)
+}
+
+/// A zone. The only error is want of memory.
+fn zone_value(heap: Global, name: &Name, shape: &Shape) -> Result<Value, AllocError>
+    ensures { IfOk result (λ v. view v ≡ zone_data (record { name = name.now; shape = shape.now })) }
+{
+    let shape = Value::from(print_shape(heap, shape)?);
+    let name = name_value(heap, name)?;
+    let mut members = Map::new(heap);
+    put(&mut members, heap, Key::Shape.text(), shape)?;
+    put(&mut members, heap, Key::Zone.text(), name)?;
+    Ok(Value::Object(members))
+}
+
+/// The zones, in their order. The only error is want of memory.
+fn zone_values<A: Allocator>(heap: Global, zones: &Zones<A>) -> Result<Vec<Value>, AllocError>
+    ensures { IfOk result (λ values. items_view values.items ≡ zones_items (map zone_of zones.now.entries)) }
+{
+    let mut values = Vec::with_capacity(heap, zones.len())?;
+    for (key, shape) in zones.iter() {
+        values.push(zone_value(heap, &key.name, shape)?)?;
+    }
+    Ok(values)
+}
+
+/// A document, its zones left out where there are none. The only error is want of memory.
+fn document_value<A: Allocator>(heap: Global, document: &Document<A>) -> Result<Value, AllocError>
+    ensures value { IfOk result (λ v. view v ≡ document_data document.now) }
+    ensures sound { IsDocument document.now }
+{
+    let root = node_value(heap, document.root())?;
+    let zones = zone_values(heap, document.zones())?;
+    let mut members = Map::new(heap);
+    put(&mut members, heap, Key::Root.text(), root)?;
+    put_array(&mut members, heap, Key::Zones, zones)?;
+    Ok(Value::Object(members))
+}
+
+/// The printed form of a document: JSON (RFC 8259) without spaces, the keys of each object in order, and zones, targets and
+/// conditions left out where there are none. It is read as the same document. The only error is want of memory.
+pub fn print_document<A: Allocator>(
+    heap: Global,
+    document: &Document<A>,
+) -> Result<String, AllocError>
+    ensures text { IfOk result (λ text. string_bytes text ≡ document_text document.now) }
+    ensures read { IfOk result (λ text. document_of_bytes (string_bytes text) ≡ Ok document.now) }
+{
+    document_value(heap, document)?.to_string(heap)
+}

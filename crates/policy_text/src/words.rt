@@ -1,0 +1,79 @@
+//! The words and the members of printed documents.
+
+ghost use Rattle.std.specs.Prelude.{◌≡◌, IfOk, OnOk, string_bytes};
+ghost use Rattle.serde_json.specs.Data.{string};
+ghost use Rattle.serde_json.specs.View.{view, items_view, members_view};
+ghost use Rattle.policy_text.specs.Printed.{algorithm_text, effect_text, action_text, single};
+ghost use Rattle.policy_text.specs.PrintedMembers.{put_items};
+
+use crate::algorithms::{Algorithm, Effect};
+use crate::paths::Key;
+use features::{Action, Name};
+use serde_json::{Map, Value, put};
+use std::alloc::{AllocError, Global};
+
+/// The word for an algorithm.
+pub(crate) fn algorithm_word(algorithm: Algorithm) -> &'static str
+    ensures { result.now ≡ algorithm_text algorithm }
+{
+    match algorithm {
+        Algorithm::DenyOverrides => "deny-overrides",
+        Algorithm::PermitOverrides => "permit-overrides",
+        Algorithm::DenyUnlessPermit => "deny-unless-permit",
+        Algorithm::PermitUnlessDeny => "permit-unless-deny",
+        Algorithm::FirstApplicable => "first-applicable",
+    }
+}
+
+/// The word for an effect.
+pub(crate) fn effect_word(effect: Effect) -> &'static str
+    ensures { result.now ≡ effect_text effect }
+{
+    match effect {
+        Effect::Permit => "permit",
+        Effect::Deny => "deny",
+    }
+}
+
+/// The word for an action.
+pub(crate) fn action_word(action: Action) -> &'static str
+    ensures { result.now ≡ action_text action }
+{
+    match action {
+        Action::Read => "read",
+        Action::Add => "add",
+        Action::Reshape => "reshape",
+        Action::Delete => "delete",
+    }
+}
+
+/// A name as a JSON text. The only error is want of memory.
+pub(crate) fn name_value(heap: Global, name: &Name) -> Result<Value, AllocError>
+    ensures { IfOk result (λ v. view v ≡ string name.now) }
+{
+    Ok(Value::from(name.to_string(heap)?))
+}
+
+/// An object with one member. The only error is want of memory.
+pub(crate) fn single_value(heap: Global, key: Key, value: Value) -> Result<Value, AllocError>
+    ensures { IfOk result (λ v. view v ≡ single key (view value)) }
+{
+    let mut members = Map::new(heap);
+    put(&mut members, heap, key.text(), value)?;
+    Ok(Value::Object(members))
+}
+
+/// Puts an array under a key, unless it is empty. The only error is want of memory.
+pub(crate) fn put_array(
+    members: &mut Map<String, Value>,
+    heap: Global,
+    key: Key,
+    items: Vec<Value>,
+) -> Result<(), AllocError>
+    ensures { OnOk result (members_view members.new.entries ≡ put_items key (items_view items.items) (members_view members.old.entries)) }
+{
+    if items.is_empty() {
+        return Ok(());
+    }
+    put(members, heap, key.text(), Value::Array(items))
+}
