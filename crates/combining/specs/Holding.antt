@@ -1,13 +1,12 @@
 -- When a match, an atom, a target, a rule hold for a question. Whether two shapes meet is a fact of geometry, and no
 -- test in specs: so these tests take the names of the zones that the question's shape meets, and `AreMet` says which these are.
-use Rattle.std.specs.Prelude.{ℕ, Bool, true, false, not, ◌&&◌, List, [], ◌∷◌}
+use Rattle.std.specs.Prelude.{ℕ, Bool, not, ◌&&◌, List, [], ◌∷◌}
 use Rattle.std.specs.List.{list_all, list_any}
 use Rattle.plane.specs.Rows.{Meet}
 use Rattle.plane.specs.declared.point.Point.{Point}
-use Rattle.features.specs.declared.actors.Action.{Action}
-use Rattle.features.specs.declared.actors.Action.TheVariants as actions
 use Rattle.policy_text.specs.Names.{is_name}
 use Rattle.policy_text.specs.Documents.{RuleData}
+use Rattle.policy_text.specs.Equality.{same_action}
 use Rattle.policy_text.specs.declared.matches.Match.{Match}
 use Rattle.policy_text.specs.declared.matches.Match.TheVariants as matches
 use Rattle.policy_text.specs.declared.matches.Term.{Term}
@@ -23,13 +22,6 @@ pub data AreMet (shape : List Point) : List Zone → List (List ℕ) → Type 0 
   meets : (zone : Zone) → {zones : List Zone} → {names : List (List ℕ)} → Meet shape zone.shape → AreMet shape zones names → AreMet shape (zone ∷ zones) (zone.name ∷ names)
   apart : (zone : Zone) → {zones : List Zone} → {names : List (List ℕ)} → (Meet shape zone.shape → ⊥) → AreMet shape zones names → AreMet shape (zone ∷ zones) names
 
-abbrev pub is_action : Action → Action → Bool
-is_action actions.Read actions.Read = true
-is_action actions.Add actions.Add = true
-is_action actions.Reshape actions.Reshape = true
-is_action actions.Delete actions.Delete = true
-is_action _ _ = false
-
 -- role and office are the subject's, owner and class the question's
 abbrev pub match_holds : Question → List (List ℕ) → Match → Bool
 match_holds q met (matches.Role name) = is_name q.subject.role name
@@ -37,7 +29,7 @@ match_holds q met (matches.Office name) = is_name q.subject.office name
 match_holds q met (matches.Class name) = is_name q.class name
 match_holds q met (matches.Owner name) = is_name q.owner name
 match_holds q met (matches.Zone name) = list_any (is_name name) met
-match_holds q met (matches.Action action) = is_action q.action action
+match_holds q met (matches.Action action) = same_action q.action action
 
 abbrev pub term_holds : Question → List (List ℕ) → Term → Bool
 term_holds q met (terms.Match m) = match_holds q met m

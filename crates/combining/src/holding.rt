@@ -3,15 +3,16 @@
 ghost use Rattle.std.specs.Prelude.{◌≡◌};
 ghost use Rattle.std.specs.List.{list_all, list_any};
 ghost use Rattle.policy_text.specs.Names.{is_name};
-ghost use Rattle.combining.specs.Holding.{is_action, match_holds, term_holds, atom_holds, target_holds, rule_applies};
+ghost use Rattle.policy_text.specs.Equality.{same_action};
+ghost use Rattle.combining.specs.Holding.{match_holds, term_holds, atom_holds, target_holds, rule_applies};
 
 use crate::questions::Question;
 use features::{Action, Name};
 use policy_text::{AllOf, AnyOf, Atom, Conditions, Match, Rule, Target, Term};
 use std::alloc::Allocator;
 
-fn is_action(first: Action, second: Action) -> bool
-    ensures { result ≡ is_action first second }
+fn is_same_action(first: Action, second: Action) -> bool
+    ensures { result ≡ same_action first second }
 {
     match (first, second) {
         (Action::Read, Action::Read) => true,
@@ -39,7 +40,7 @@ fn match_holds(question: &Question, met: &[Name], test: &Match) -> bool
         Match::Class(name) => question.class == *name,
         Match::Owner(name) => question.owner == *name,
         Match::Zone(name) => is_met(met, *name),
-        Match::Action(action) => is_action(question.action, *action),
+        Match::Action(action) => is_same_action(question.action, *action),
     }
 }
 

@@ -1,7 +1,7 @@
 -- The corners that listed points have are a canonical shape.
 use Rattle.std.specs.Prelude.{◌≡◌, ◌-◌, ◌≤◌, not, cond, Bool, true, false, List, [], ◌∷◌, All, length, take, reverse, nat_lt, Result, Ok, Err, refl}
 use Rattle.std.specs.List.{list_all}
-use Rattle.std.proofs.Common.{arith, ap, sym, subst, ◌∙◌, ⊎_elim, length-take-le}
+use Rattle.std.proofs.Common.{arith, sym, subst, ◌∙◌, ⊎_elim, length-take-le}
 use Rattle.std.proofs.lemmas.Bool.{true≢false, false≢true, false_from_ne_true, ltb-false}
 use Rattle.std.proofs.lemmas.List.Elements.{All-nil, All-cons, All-head, All-tail, All-take}
 use Rattle.plane.specs.Canonical.{point_of, in_order, segment_of, corners_of, ring_of, polygon_of, IsCanonical}

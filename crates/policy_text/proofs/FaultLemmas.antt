@@ -1,5 +1,5 @@
 -- Comparing faults: the test that is derived decides `≡`.
-use Rattle.std.proofs.Common.{◌≡◌, ◌↔◌, ℕ, Bool, true, ◌&&◌, List, refl, ap, subst, IsTrue}
+use Rattle.std.proofs.Common.{◌≡◌, ◌↔◌, true, ◌&&◌, refl, ap, IsTrue}
 use Rattle.std.proofs.lemmas.Bool.{false≢true}
 use Rattle.std.specs.Cmp.{first_so, second_so, unsigned_Decides}
 use Rattle.std.specs.Cmp.Lexicographic.{bytes_decides}

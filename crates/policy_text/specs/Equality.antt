@@ -1,10 +1,10 @@
 -- When two parts of documents are one: a test for each type of plain data, and that each of these tests decides `≡`.
-use Rattle.std.specs.Prelude.{◌≡◌, ℕ, Bool, true, false, ◌&&◌, List, [], ◌∷◌, refl}
+use Rattle.std.specs.Prelude.{◌≡◌, ℕ, Bool, true, false, ◌&&◌, List, refl}
 use Rattle.std.specs.Bool.{Decides}
 use Rattle.std.specs.Cmp.{first_so, second_so, signed_Decides}
 use Rattle.std.specs.Cmp.Lexicographic.{pointwise, pointwise_decides, bytes_decides}
 use Rattle.std.specs.Ordering.{int_eq}
-use Rattle.std.proofs.Common.{ap, sym, subst, ◌∙◌}
+use Rattle.std.proofs.Common.{ap, subst}
 use Rattle.std.proofs.lemmas.Bool.{false≢true}
 use Rattle.features.specs.declared.actors.Action.{Action}
 use Rattle.features.specs.declared.actors.Action.TheVariants as actions
@@ -286,6 +286,9 @@ mutual
       λ i. child (p i) (q i)
   same_children-told no_children (child b others) e = absurd (false≢true e)
   same_children-told (child a rest) no_children e = absurd (false≢true e)
+
+pub same_children_decides : (a b : Children) → Decides (same_children a b) (a ≡ b)
+same_children_decides = decides_by same_children same_children-itself same_children-told
 
 pub same_node_decides : (a b : NodeData) → Decides (same_node a b) (a ≡ b)
 same_node_decides = decides_by same_node same_node-itself same_node-told

@@ -1,5 +1,5 @@
 -- When two places in a document, or two faults of one, are one: a test for each, and that it decides `≡`.
-use Rattle.std.specs.Prelude.{◌≡◌, ℕ, Bool, true, false, ◌&&◌, nat_eq, List, refl}
+use Rattle.std.specs.Prelude.{◌≡◌, Bool, true, false, nat_eq, List, refl}
 use Rattle.std.specs.Bool.{Decides}
 use Rattle.std.specs.Cmp.{unsigned_Decides}
 use Rattle.std.specs.Cmp.Lexicographic.{pointwise, pointwise_decides}

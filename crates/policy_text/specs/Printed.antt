@@ -7,7 +7,7 @@ use Rattle.serde_json.specs.Written.{compact_text}
 use Rattle.features.specs.declared.actors.Action.{Action}
 use Rattle.features.specs.declared.actors.Action.TheVariants as actions
 use Rattle.wkt.specs.Printing.{printed}
-use Rattle.policy_text.specs.Documents.{DocumentData, RuleData, Head, NodeData, set, policy, Children, no_children, child}
+use Rattle.policy_text.specs.Documents.{DocumentData, RuleData, NodeData, set, policy, Children, no_children, child}
 use Rattle.policy_text.specs.Keys.{key_text}
 use Rattle.policy_text.specs.declared.zones.Zone.{Zone}
 use Rattle.policy_text.specs.declared.paths.Key.{Key}

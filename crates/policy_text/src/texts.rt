@@ -13,9 +13,9 @@ use std::alloc::{Allocator, Global};
 /// Reads the document that a JSON text (RFC 8259) spells.
 ///
 /// The text is read as a JSON value first. It is no JSON (D1) where its bytes are no UTF-8 (section 8.1), where they
-/// do not follow the grammar (section 2), where arrays and objects nest more than 127 deep (section 9), or where a
-/// number is too large for a 64-bit float (section 6). If an object has a key twice, its last value counts
-/// (section 4).
+/// do not follow the grammar (section 2), where an escape is one half of a surrogate pair (section 8.2), where arrays
+/// and objects nest more than 127 deep (section 9), or where a number is too large for a 64-bit float (section 6). If
+/// an object has a key twice, its last value counts (section 4).
 ///
 /// Else the error is the first fault from the top down: of the document, of its zones in written order, then of its
 /// root, and there of each set, policy or rule before what stands below it.

@@ -1,4 +1,4 @@
-use Rattle.std.proofs.Common.{rules, sym, ◌∙◌, arith}
+use Rattle.std.proofs.Common.{sym, ◌∙◌, arith}
 use Rattle.policy_text.specs.Equality.{same_node}
 use Rattle.policy_text.specs.Views.{node_view}
 use Rattle.policy_text.proofs.RowLemmas.{same_from-more, same_from-other, same_from-end, same_from-long, same_children-row}
