@@ -87,6 +87,39 @@ fn decisions_of_documents(rt: HostRuntime) -> Result<(), Fail> {
     Ok(())
 }
 
+// examples/policies/harbour.json: the harbour is the square from (0, 0) to (40, 30).
+const HARBOUR: &str =
+    r#"{"root":{"combine":"deny-overrides","of":[{"combine":"deny-overrides","policy":"harbour","rules":[{"effect":"deny","rule":"harbour-is-closed","target":[[[{"action":"add"}],[{"action":"reshape"}],[{"action":"delete"}]]],"when":[{"not":{"role":"harbour-master"}}]}],"target":[[[{"zone":"harbour"}]]]},{"combine":"first-applicable","policy":"offices","rules":[{"effect":"permit","rule":"own-features","when":[{"own":true}]},{"effect":"permit","rule":"all-may-read","target":[[[{"action":"read"}]]]}]}],"set":"agency"},"zones":[{"shape":"POLYGON ((0 0, 40 0, 40 30, 0 30, 0 0))","zone":"harbour"}]}"#;
+
+#[test]
+fn harbour_example(rt: HostRuntime) -> Result<(), Fail> {
+    for (action, role, owner, x, decision, rule) in [
+        (Action::Add, "editor", "north", 40, DENY, Some(1)),
+        (Action::Delete, "editor", "north", 7, DENY, Some(1)),
+        (
+            Action::Reshape,
+            "harbour-master",
+            "north",
+            7,
+            PERMIT,
+            Some(2),
+        ),
+        (Action::Reshape, "harbour-master", "south", 7, NONE, None),
+        (Action::Read, "editor", "south", 7, PERMIT, Some(3)),
+        (Action::Read, "editor", "north", 7, PERMIT, Some(2)),
+        (Action::Add, "editor", "north", 41, PERMIT, Some(2)),
+        (Action::Add, "editor", "south", 41, NONE, None),
+    ] {
+        let mut asked = question(&rt, owner, "road");
+        asked.subject.role = name(&rt, role);
+        asked.action = action;
+        asked.shape = point(&rt, x, 7);
+        let verdict = decided(&rt, rt.alloc(), HARBOUR, &asked);
+        assert_eq!(rt; verdict, Verdict { decision, rule }, "{role} {owner} {x}");
+    }
+    Ok(())
+}
+
 // Whether a rule with this target and these conditions applies to the question, in a document with one zone, the square
 // from (0, 0) to (4, 4).
 fn applies(
@@ -177,28 +210,35 @@ fn matches_and_conditions(rt: HostRuntime) -> Result<(), Fail> {
     Ok(())
 }
 
-#[test]
-fn actions_and_zones(rt: HostRuntime) -> Result<(), Fail> {
-    let heap = rt.alloc();
-    for (action, word) in [
-        (Action::Read, "read"),
-        (Action::Add, "add"),
-        (Action::Reshape, "reshape"),
-        (Action::Delete, "delete"),
-    ] {
-        let asked = Question {
-            action,
-            ..question(&rt, "north", "road")
-        };
-        for other in ["read", "add", "reshape", "delete"] {
-            let target = format!(in heap; "[[{{\"action\":\"{other}\"}}]]")?;
-            assert_eq!(rt;
-                applies(&rt, heap, target.as_str(), "", &asked)?,
-                word == other
-            );
-        }
+// Whether each match of an action holds where this one is asked.
+fn check_action(
+    rt: &impl Abort,
+    heap: Global,
+    action: Action,
+    word: &str,
+) -> Result<(), AllocError> {
+    let mut asked = question(rt, "north", "road");
+    asked.action = action;
+    for other in ["read", "add", "reshape", "delete"] {
+        let target = format!(in heap; "[[{{\"action\":\"{other}\"}}]]")?;
+        let holds = applies(rt, heap, target.as_str(), "", &asked)?;
+        assert_eq!(rt; holds, word == other, "{word} {other}");
     }
-    // Inside, at an edge, at a corner, and one unit outside.
+    Ok(())
+}
+
+#[test]
+fn actions(rt: HostRuntime) -> Result<(), Fail> {
+    check_action(&rt, rt.alloc(), Action::Read, "read")?;
+    check_action(&rt, rt.alloc(), Action::Add, "add")?;
+    check_action(&rt, rt.alloc(), Action::Reshape, "reshape")?;
+    check_action(&rt, rt.alloc(), Action::Delete, "delete")?;
+    Ok(())
+}
+
+// Inside, at an edge, at a corner, and one unit outside.
+#[test]
+fn zones(rt: HostRuntime) -> Result<(), Fail> {
     for (x, y, holds) in [
         (2, 2, true),
         (4, 2, true),
@@ -208,12 +248,10 @@ fn actions_and_zones(rt: HostRuntime) -> Result<(), Fail> {
         (2, -1, false),
         (5, 5, false),
     ] {
-        let asked = Question {
-            shape: point(&rt, x, y),
-            ..question(&rt, "north", "road")
-        };
-        let target = r#"[[{"zone":"square"}]]"#;
-        assert_eq!(rt; applies(&rt, heap, target, "", &asked)?, holds, "{x} {y}");
+        let mut asked = question(&rt, "north", "road");
+        asked.shape = point(&rt, x, y);
+        let told = applies(&rt, rt.alloc(), r#"[[{"zone":"square"}]]"#, "", &asked)?;
+        assert_eq!(rt; told, holds, "{x} {y}");
     }
     Ok(())
 }
