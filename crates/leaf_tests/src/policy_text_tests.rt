@@ -481,18 +481,48 @@ fn depth_of_documents(rt: HostRuntime) -> Result<(), Fail> {
     Ok(())
 }
 
-// A text is read and printed so; what is read from this, and a copy, are equal and printed so again.
+// A document is printed so.
+fn check_text(
+    rt: &impl Abort,
+    heap: Global,
+    document: &Document<Global>,
+    want: &str,
+) -> Result<(), AllocError> {
+    let printed = print_document(heap, document)?;
+    assert_eq!(rt; printed.as_str(), want);
+    Ok(())
+}
+
+// What is read of a document's printed form is equal to it, and printed so.
+fn check_again(
+    rt: &impl Abort,
+    heap: Global,
+    document: &Document<Global>,
+    printed: &str,
+) -> Result<(), AllocError> {
+    let again = read_whole(rt, heap, printed);
+    assert!(rt; again == *document, "{printed}");
+    check_text(rt, heap, &again, printed)
+}
+
+// A document's copy is equal to it, and printed so.
+fn check_copy(
+    rt: &impl Abort,
+    heap: Global,
+    document: &Document<Global>,
+    printed: &str,
+) -> Result<(), AllocError> {
+    let copy = document.copy(heap)?;
+    assert!(rt; copy == *document, "{printed}");
+    check_text(rt, heap, &copy, printed)
+}
+
+// A text is read and printed so, and so are what is read of this, and a copy.
 fn check_printed(rt: &impl Abort, heap: Global, text: &str, want: &str) -> Result<(), AllocError> {
     let document = read_whole(rt, heap, text);
-    let printed = print_document(heap, &document)?;
-    assert_eq!(rt; printed.as_str(), want);
-    let again = read_whole(rt, heap, printed.as_str());
-    assert!(rt; again == document, "{want}");
-    assert_eq!(rt; print_document(heap, &again)?.as_str(), want);
-    let copy = document.copy(heap)?;
-    assert!(rt; copy == document, "{want}");
-    assert_eq!(rt; print_document(heap, &copy)?.as_str(), want);
-    Ok(())
+    check_text(rt, heap, &document, want)?;
+    check_again(rt, heap, &document, want)?;
+    check_copy(rt, heap, &document, want)
 }
 
 #[test]
