@@ -1,11 +1,14 @@
 pub mod TallyLemmas
 pub mod MetLemmas
 pub mod DecisionLemmas
-pub mod NumberLemmas
+pub mod EnclosingLemmas
 pub mod PlacedLemmas
+pub mod GatherLemmas
 pub mod FirstMarks
 pub mod OlderDecisions
 pub mod OlderMarks
 pub mod OlderParts
 pub mod OlderRules
 pub mod OneAnswer
+pub mod SettledLemmas
+pub mod NamingLemmas

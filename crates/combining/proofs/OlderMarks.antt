@@ -8,7 +8,7 @@ use Rattle.combining.specs.declared.decisions.Decision.{Decision}
 use Rattle.combining.specs.Decisions.{is_not_applicable}
 use Rattle.combining.specs.Deciding.{Placed, Enclosing, within, is_decision, is_first_applicable, is_open, is_deciding, placed_within}
 use Rattle.combining.specs.ThreeAlgorithms.{OlderPlaced, older_within, is_older_deciding}
-use Rattle.combining.proofs.NumberLemmas.{around, and_and}
+use Rattle.combining.proofs.EnclosingLemmas.{around, and_and}
 use Rattle.combining.proofs.PlacedLemmas.{sizes_of, length-placed_parts}
 use Rattle.combining.proofs.FirstMarks.{mark, unmarked, SameFirst, SameFirst-length, SameFirst-unmarked, map-changed, map-unmarked}
 use Rattle.combining.proofs.OlderDecisions.{is_decision-refl}

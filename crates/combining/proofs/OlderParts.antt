@@ -10,7 +10,7 @@ use Rattle.combining.specs.declared.decisions.Decision.TheVariants.{Permit, Deny
 use Rattle.combining.specs.Decisions.{is_not_applicable, first_applicable, combined}
 use Rattle.combining.specs.Deciding.{Placed, is_decision, is_first_applicable, is_open, is_deciding, placed_within}
 use Rattle.combining.specs.ThreeAlgorithms.{OlderPlaced, older_within, is_older, is_older_deciding}
-use Rattle.combining.proofs.NumberLemmas.{around, list_all-push}
+use Rattle.combining.proofs.EnclosingLemmas.{around, list_all-push}
 use Rattle.combining.proofs.PlacedLemmas.{length-placed_parts}
 use Rattle.combining.proofs.FirstMarks.{mark, SameFirst, none, SameFirst-append, SameFirst-found, any_left, any_right}
 use Rattle.combining.proofs.OlderDecisions.{same_decision, combined-among}

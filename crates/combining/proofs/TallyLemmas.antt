@@ -1,7 +1,7 @@
 -- A tally with one decision more.
-use Rattle.std.proofs.Common.{◌≡◌, ℕ, ◌+◌, ◌<◌, Bool, true, false, ◌||◌, List, [], ◌∷◌, ◌++◌, length, get_or, take, map, refl, sym, ap, ◌∙◌}
+use Rattle.std.proofs.Common.{◌≡◌, ℕ, ◌+◌, ◌<◌, Bool, true, false, ◌||◌, List, [], ◌∷◌, ◌++◌, length, get_or, take, refl, sym, ap, ◌∙◌}
 use Rattle.std.specs.List.{list_any}
-use Rattle.std.proofs.lemmas.List.{take_more, map_more}
+use Rattle.std.proofs.lemmas.List.{take_more}
 use Rattle.combining.specs.declared.decisions.Decision.{Decision}
 use Rattle.combining.specs.declared.decisions.Decision.TheVariants.{Permit, Deny, NotApplicable}
 use Rattle.combining.specs.declared.algorithms.Tally.{Tally}
@@ -41,9 +41,3 @@ tally_of-push ds d = same_tally _ _ _ _ _ _ (list_any-push is_permit ds d) (list
 -- one decision more of a list
 pub tally_of-take : (ds : List Decision) (i : ℕ) (d : Decision) → i < length ds → with_decision (tally_of (take i ds)) (get_or ds i d) ≡ tally_of (take (i + 1) ds)
 tally_of-take ds i d in_range = sym (ap tally_of (take_more ds i d in_range) ∙ tally_of-push (take i ds) (get_or ds i d))
-
--- the same, where the decisions are those of other things
-pub tally_of-map_take : {X : Type 0} (f : X → Decision) (xs : List X) (i : ℕ) (x : X) (t : Tally) (d : Decision) → i < length xs →
-    t ≡ tally_of (map f (take i xs)) → d ≡ f (get_or xs i x) → with_decision t d ≡ tally_of (map f (take (i + 1) xs))
-tally_of-map_take f xs i x t d in_range before last =
-    rw (before, last) (sym (ap tally_of (map_more f xs i x in_range) ∙ tally_of-push (map f (take i xs)) (f (get_or xs i x))))

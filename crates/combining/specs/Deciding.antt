@@ -1,7 +1,7 @@
 -- The deciding rules: those that made the document's decision.
-use Rattle.std.specs.Prelude.{◌≡◌, ℕ, Bool, true, false, ◌&&◌, ◌||◌, List, [], ◌∷◌, ◌++◌, map, Option, if◌then◌else◌}
+use Rattle.std.specs.Prelude.{◌≡◌, ℕ, suc, slice_get, Bool, true, false, ◌&&◌, ◌||◌, List, [], ◌∷◌, ◌++◌, map, Option, Some, if◌then◌else◌}
 use Rattle.std.specs.List.{list_all, position_from}
-use Rattle.policy_text.specs.Documents.{DocumentData, RuleData, NodeData, set, policy, Children, no_children, child}
+use Rattle.policy_text.specs.Documents.{DocumentData, RuleData, NodeData, set, policy, Children, no_children, child, rule_named}
 use Rattle.policy_text.specs.declared.algorithms.Algorithm.{Algorithm}
 use Rattle.policy_text.specs.declared.algorithms.Algorithm.TheVariants.{DenyOverrides, PermitOverrides, DenyUnlessPermit, PermitUnlessDeny, FirstApplicable}
 use Rattle.combining.specs.declared.questions.Question.{Question}
@@ -69,6 +69,15 @@ module _ (q : Question) (met : List (List ℕ)) where
 
   abbrev pub verdict_of : NodeData → Verdict
   verdict_of root = record { decision = decision_of q met root; rule = first_deciding root }
+
+-- the rule of this number, counted from 1, made the decision, and the document names it so
+pub record IsMadeBy (q : Question) (met : List (List ℕ)) (root : NodeData) (number : ℕ) : Type 0 where
+  pub index : ℕ
+  pub placed : Placed
+  pub counted : number ≡ suc index
+  pub stands : slice_get (placed_rules q met root) index ≡ Some placed
+  pub deciding : is_deciding q met (decision_of q met root) placed ≡ true
+  pub named : rule_named number root ≡ Some placed.rule.name
 
 -- what a document answers to a question
 pub record Answers (document : DocumentData) (q : Question) (verdict : Verdict) : Type 0 where

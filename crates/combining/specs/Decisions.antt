@@ -1,5 +1,5 @@
 -- Decisions, after XACML 3.0, appendix C: each algorithm's case goes over the whole list of the children's decisions.
-use Rattle.std.specs.Prelude.{ℕ, Bool, true, false, List, [], ◌∷◌, map, if◌then◌else◌}
+use Rattle.std.specs.Prelude.{ℕ, Bool, true, false, not, List, [], ◌∷◌, map, if◌then◌else◌}
 use Rattle.std.specs.List.{list_any}
 use Rattle.policy_text.specs.Documents.{RuleData, NodeData, set, policy, Children, no_children, child}
 use Rattle.policy_text.specs.declared.algorithms.Effect.{Effect}
@@ -40,6 +40,14 @@ combined PermitOverrides ds = if list_any is_permit ds then Permit else if list_
 combined DenyUnlessPermit ds = if list_any is_permit ds then Permit else Deny
 combined PermitUnlessDeny ds = if list_any is_deny ds then Deny else Permit
 combined FirstApplicable ds = first_applicable ds
+
+-- a child with this decision settles what the algorithm makes of all, where no child before it did
+abbrev pub is_settled : Algorithm → Decision → Bool
+is_settled DenyOverrides d = is_deny d
+is_settled PermitOverrides d = is_permit d
+is_settled DenyUnlessPermit d = is_permit d
+is_settled PermitUnlessDeny d = is_deny d
+is_settled FirstApplicable d = not (is_not_applicable d)
 
 abbrev pub effect_decision : Effect → Decision
 effect_decision effects.Permit = Permit

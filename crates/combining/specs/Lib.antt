@@ -3,4 +3,4 @@ pub mod Decisions
 pub mod Deciding
 pub mod ThreeAlgorithms
 pub mod Tallies
-pub mod Numbering
+pub mod Gathering

@@ -1,7 +1,7 @@
 //! The combining algorithms of XACML 3.0.
 
 ghost use Rattle.std.specs.Prelude.{◌≡◌, []};
-ghost use Rattle.combining.specs.Decisions.{combined};
+ghost use Rattle.combining.specs.Decisions.{combined, is_settled};
 
 use crate::decisions::Decision;
 use policy_text::Algorithm;
@@ -71,4 +71,20 @@ pub fn combine(algorithm: Algorithm, decisions: &[Decision]) -> Decision
         tally = tally.with(*decision);
     }
     tally.settle(algorithm)
+}
+
+/// Whether a child with this decision settles what the algorithm makes of all children: where no child before it did,
+/// their decision is this one, whatever those behind it decide.
+pub fn settled(algorithm: Algorithm, decision: Decision) -> bool
+    ensures { result ≡ is_settled algorithm decision }
+{
+    match algorithm {
+        Algorithm::DenyOverrides | Algorithm::PermitUnlessDeny => {
+            matches!(decision, Decision::Deny)
+        }
+        Algorithm::PermitOverrides | Algorithm::DenyUnlessPermit => {
+            matches!(decision, Decision::Permit)
+        }
+        Algorithm::FirstApplicable => !matches!(decision, Decision::NotApplicable),
+    }
 }

@@ -1,53 +1,85 @@
-//! Decisions by recursion over a document.
+//! Decisions, and the rules that made them, by recursion over a document.
 
-ghost use Rattle.std.specs.Prelude.{◌≡◌, map, List};
-ghost use Rattle.combining.specs.Decisions.{rule_decision, decision_of};
-ghost use Rattle.combining.specs.Tallies.{tally_of};
+ghost use Rattle.std.specs.Prelude.{◌≡◌, ◌+◌, ◌≤◌, length, map};
+ghost use Rattle.combining.specs.Decisions.{effect_decision};
+ghost use Rattle.combining.specs.Deciding.{rule_part};
+ghost use Rattle.combining.specs.Gathering.{gathered_of, part_verdict, node_part, last_number};
+ghost use Rattle.policy_text.specs.Documents.{rules_of, rules_of_all, children_of};
 ghost use Rattle.policy_text.specs.Views.{node_view};
 
-use crate::algorithms::Tally;
-use crate::decisions::Decision;
+use crate::decisions::{Decision, Verdict};
+use crate::gathering::Gathered;
 use crate::holding::{rule_applies, target_holds};
 use crate::questions::Question;
 use features::Name;
-use policy_text::{Effect, Node, Rule};
+use policy_text::{Algorithm, Effect, Node, Rule};
 use std::alloc::Allocator;
 
-/// The decision of a rule: its effect, where it applies.
-pub(crate) fn decide_rule<A: Allocator>(
-    question: &Question,
-    met: &[Name],
-    rule: &Rule<A>,
-) -> Decision
-    ensures { result ≡ rule_decision question.now met.now rule.now }
+const NOT_APPLICABLE: Verdict = Verdict {
+    decision: Decision::NotApplicable,
+    rule: None,
+};
+
+/// The decision that a rule makes where it applies.
+fn effect_decision(effect: Effect) -> Decision
+    ensures { result ≡ effect_decision effect }
 {
-    if !rule_applies(question, met, rule) {
-        return Decision::NotApplicable;
-    }
-    match rule.effect {
+    match effect {
         Effect::Permit => Decision::Permit,
         Effect::Deny => Decision::Deny,
     }
 }
 
-fn tally_rules<A: Allocator>(question: &Question, met: &[Name], rules: &[Rule<A>]) -> Tally
-    ensures { result ≡ tally_of (map (rule_decision question.now met.now) rules.now) }
+/// What the rule of this number decides: its effect, where it applies.
+#[tactic(auto, using(crate::proofs::GatherLemmas::rule_applied, crate::proofs::GatherLemmas::rule_left))]
+fn decide_rule<A: Allocator>(
+    question: &Question,
+    met: &[Name],
+    rule: &Rule<A>,
+    number: u32,
+) -> Verdict
+    ensures { result ≡ part_verdict question.now met.now number (rule_part question.now met.now rule.now) }
 {
-    let mut tally = Tally::new();
-    for rule in rules {
-        tally = tally.with(decide_rule(question, met, rule));
+    if !rule_applies(question, met, rule) {
+        return NOT_APPLICABLE;
     }
-    tally
+    Verdict {
+        decision: effect_decision(rule.effect),
+        rule: Some(number),
+    }
 }
 
-/// The decision of a set or a policy.
+/// The rules of a policy, decided one after another. The first has the number `next`.
+fn gather_rules<A: Allocator>(
+    question: &Question,
+    met: &[Name],
+    combine: Algorithm,
+    rules: &[Rule<A>],
+    next: u32,
+) -> Gathered
+    requires { next + length rules.now ≤ last_number }
+    ensures { result ≡ gathered_of question.now met.now combine next (map (rule_part question.now met.now) rules.now) }
+{
+    let mut gathered = Gathered::new();
+    let mut number = next;
+    for rule in rules {
+        let verdict = decide_rule(question, met, rule, number);
+        gathered = gathered.with(combine, verdict);
+        number += 1;
+    }
+    gathered
+}
+
+/// What a set or a policy decides, and the first rule that made the decision. Its first rule has the number `next`.
 #[cycle(decide)]
 pub(crate) fn decide_node<A: Allocator>(
     question: &Question,
     met: &[Name],
     node: &Node<A>,
-) -> Decision
-    ensures { result ≡ decision_of question.now met.now (node_view node.now) }
+    next: u32,
+) -> Verdict
+    requires { next + length (rules_of (node_view node.now)) ≤ last_number }
+    ensures { result ≡ part_verdict question.now met.now next (node_part question.now met.now (node_view node.now)) }
 {
     match node {
         Node::Set {
@@ -57,9 +89,9 @@ pub(crate) fn decide_node<A: Allocator>(
             ..
         } => {
             if !target_holds(question, met, target) {
-                return Decision::NotApplicable;
+                return NOT_APPLICABLE;
             }
-            tally_nodes(question, met, of).settle(*combine)
+            gather_nodes(question, met, *combine, of, next).settle(*combine)
         }
         Node::Policy {
             combine,
@@ -68,20 +100,56 @@ pub(crate) fn decide_node<A: Allocator>(
             ..
         } => {
             if !target_holds(question, met, target) {
-                return Decision::NotApplicable;
+                return NOT_APPLICABLE;
             }
-            tally_rules(question, met, rules).settle(*combine)
+            gather_rules(question, met, *combine, rules, next).settle(*combine)
         }
     }
 }
 
+/// The children of a set, decided one after another. The first rule below them has the number `next`.
 #[cycle(decide)]
-fn tally_nodes<A: Allocator>(question: &Question, met: &[Name], nodes: &[Node<A>]) -> Tally
-    ensures { result ≡ tally_of (map (λ node. decision_of question.now met.now (node_view node)) nodes.now) }
+fn gather_nodes<A: Allocator>(
+    question: &Question,
+    met: &[Name],
+    combine: Algorithm,
+    nodes: &[Node<A>],
+    next: u32,
+) -> Gathered
+    requires { next + length (rules_of_all (children_of (map node_view nodes.now))) ≤ last_number }
+    ensures { result ≡ gathered_of question.now met.now combine next (map (λ node. node_part question.now met.now (node_view node)) nodes.now) }
 {
-    let mut tally = Tally::new();
+    let mut gathered = Gathered::new();
+    let mut next = next;
     for node in nodes {
-        tally = tally.with(decide_node(question, met, node));
+        let verdict = decide_node(question, met, node, next);
+        gathered = gathered.with(combine, verdict);
+        next += rule_count(node);
     }
-    tally
+    gathered
+}
+
+/// How many rules stand below a node.
+#[cycle(count)]
+fn rule_count<A: Allocator>(node: &Node<A>) -> u32
+    requires { length (rules_of (node_view node.now)) ≤ last_number }
+    ensures { result ≡ length (rules_of (node_view node.now)) }
+{
+    match node {
+        Node::Set { of, .. } => rule_count_of_all(of),
+        Node::Policy { rules, .. } => rules.len() as u32,
+    }
+}
+
+/// How many rules stand below these nodes.
+#[cycle(count)]
+fn rule_count_of_all<A: Allocator>(nodes: &[Node<A>]) -> u32
+    requires { length (rules_of_all (children_of (map node_view nodes.now))) ≤ last_number }
+    ensures { result ≡ length (rules_of_all (children_of (map node_view nodes.now))) }
+{
+    let mut count = 0;
+    for node in nodes {
+        count += rule_count(node);
+    }
+    count
 }

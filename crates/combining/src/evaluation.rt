@@ -4,7 +4,6 @@ ghost use Rattle.combining.specs.Deciding.{Answers};
 
 use crate::deciding::decide_node;
 use crate::decisions::Verdict;
-use crate::numbering::number_in_node;
 use crate::questions::Question;
 use crate::zones::met_zones;
 use policy_text::Document;
@@ -19,7 +18,5 @@ pub fn evaluate<A: Allocator>(document: &Document<A>, question: &Question) -> Ve
 {
     let root = document.root();
     let met = met_zones(document, &question.shape, question.class);
-    let decision = decide_node(question, met.as_slice(), root);
-    let rule = number_in_node(question, met.as_slice(), root, decision, true, 1).ok();
-    Verdict { decision, rule }
+    decide_node(question, met.as_slice(), root, 1)
 }

@@ -3,25 +3,12 @@
 ghost use Rattle.std.specs.Prelude.{◌≡◌};
 ghost use Rattle.std.specs.List.{list_all, list_any};
 ghost use Rattle.policy_text.specs.Names.{is_name};
-ghost use Rattle.policy_text.specs.Equality.{same_action};
 ghost use Rattle.combining.specs.Holding.{match_holds, term_holds, atom_holds, target_holds, rule_applies};
 
 use crate::questions::Question;
-use features::{Action, Name};
+use features::Name;
 use policy_text::{AllOf, AnyOf, Atom, Conditions, Match, Rule, Target, Term};
 use std::alloc::Allocator;
-
-fn is_same_action(first: Action, second: Action) -> bool
-    ensures { result ≡ same_action first second }
-{
-    match (first, second) {
-        (Action::Read, Action::Read) => true,
-        (Action::Add, Action::Add) => true,
-        (Action::Reshape, Action::Reshape) => true,
-        (Action::Delete, Action::Delete) => true,
-        _ => false,
-    }
-}
 
 /// Whether the name is one of these.
 fn is_met(met: &[Name], name: Name) -> bool
@@ -40,7 +27,7 @@ fn match_holds(question: &Question, met: &[Name], test: &Match) -> bool
         Match::Class(name) => question.class == *name,
         Match::Owner(name) => question.owner == *name,
         Match::Zone(name) => is_met(met, *name),
-        Match::Action(action) => is_same_action(question.action, *action),
+        Match::Action(action) => question.action == *action,
     }
 }
 

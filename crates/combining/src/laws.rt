@@ -1,15 +1,17 @@
 //! Laws of the definitions that documents are decided by. The functions do nothing: each is its contract.
 
-ghost use Rattle.std.specs.Prelude.{◌≡◌, ℕ, true, false, List, is_some};
+ghost use Rattle.std.specs.Prelude.{◌≡◌, ℕ, true, false, List, ◌∷◌, ◌++◌, map, Some, is_some};
+ghost use Rattle.std.specs.List.{list_any};
 ghost use Rattle.plane.specs.declared.point.Point.{Point};
-ghost use Rattle.policy_text.specs.Documents.{NodeData, DocumentData};
+ghost use Rattle.policy_text.specs.Documents.{NodeData, DocumentData, rules_of};
+ghost use Rattle.policy_text.specs.declared.algorithms.Algorithm.{Algorithm};
 ghost use Rattle.policy_text.specs.declared.zones.Zone.{Zone};
 ghost use Rattle.combining.specs.Holding.{AreMet};
-ghost use Rattle.combining.specs.Decisions.{is_not_applicable, decision_of};
-ghost use Rattle.combining.specs.Deciding.{first_deciding, Answers};
+ghost use Rattle.combining.specs.Decisions.{combined, is_settled, is_not_applicable, decision_of};
+ghost use Rattle.combining.specs.Deciding.{placed_rules, first_deciding, IsMadeBy, Answers};
 ghost use Rattle.combining.specs.ThreeAlgorithms.{uses_older, older_decision, older_first_deciding};
 
-use crate::decisions::Verdict;
+use crate::decisions::{Decision, Verdict};
 use crate::questions::Question;
 
 /// A document that uses neither deny-unless-permit nor permit-unless-deny is decided, and names its first deciding
@@ -27,4 +29,18 @@ pub fn older_documents_decide_as_before()
 pub fn answers_are_one()
     ensures met { (shape : List Point) (zones : List Zone) (a b : List (List ℕ)) → AreMet shape zones a → AreMet shape zones b → a ≡ b }
     ensures verdict { (document : DocumentData) (question : Question) (a b : Verdict) → Answers document question a → Answers document question b → a ≡ b }
+{}
+
+/// Rules are numbered alike where a document is decided and where it names its rules: in document order, from 1. The
+/// number that a verdict has is that of a rule which made the decision, and the document names that rule by it.
+pub fn verdicts_number_as_documents_name()
+    ensures order { (question : Question) (met : List (List ℕ)) (root : NodeData) → map (λ placed. placed.rule) (placed_rules question met root) ≡ rules_of root }
+    ensures named { (question : Question) (met : List (List ℕ)) (root : NodeData) (number : ℕ) → first_deciding question met root ≡ Some number →
+        IsMadeBy question met root number }
+{}
+
+/// The first child that settles an algorithm's decision decides for all children.
+pub fn settled_children_decide()
+    ensures { (algorithm : Algorithm) (before : List Decision) (decision : Decision) (after : List Decision) →
+        list_any (is_settled algorithm) before ≡ false → is_settled algorithm decision ≡ true → combined algorithm (before ++ decision ∷ after) ≡ decision }
 {}

@@ -5,14 +5,17 @@ mod algorithms;
 mod deciding;
 mod decisions;
 mod evaluation;
+mod gathering;
 mod holding;
 mod laws;
-mod numbering;
 mod questions;
 mod zones;
 
-pub use algorithms::combine;
+pub use algorithms::{combine, settled};
 pub use decisions::{Decision, Verdict};
 pub use evaluation::evaluate;
-pub use laws::{answers_are_one, older_documents_decide_as_before};
+pub use laws::{
+    answers_are_one, older_documents_decide_as_before, settled_children_decide,
+    verdicts_number_as_documents_name,
+};
 pub use questions::Question;

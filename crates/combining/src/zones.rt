@@ -24,7 +24,9 @@ impl Model for MetZones {
 
     ghost view = { λ m. take m.count m.names };
 
-    ghost invariant = { λ m. m.count ≤ 64 };
+    ghost use Rattle.policy_text.specs.declared.documents.TheConstants.{ZONE_LIMIT};
+
+    ghost invariant = { λ m. m.count ≤ ZONE_LIMIT };
 }
 
 impl MetZones {
@@ -39,7 +41,7 @@ impl MetZones {
     }
 
     fn push(&mut self, name: Name)
-        requires { length self.old < 64 }
+        requires { length self.old < ZONE_LIMIT }
         ensures { self.new ≡ self.old ++ name ∷ [] }
     {
         self.names[self.count] = name;
@@ -55,7 +57,7 @@ impl MetZones {
 
 /// Adds the zone where the shape meets it.
 fn add_if_met(met: &mut MetZones, shape: &Shape, zone: Zone)
-    requires { length met.old < 64 }
+    requires { length met.old < ZONE_LIMIT }
     ensures met { (zones : List Zone) → AreMet shape.now zones met.old → AreMet shape.now (zones ++ zone ∷ []) met.new }
     ensures count { length met.new ≤ length met.old + 1 }
 {
@@ -70,7 +72,7 @@ pub(crate) fn met_zones<A: Allocator>(
     shape: &Shape,
     filler: Name,
 ) -> MetZones
-    requires { length document.now.zones ≤ 64 }
+    requires { length document.now.zones ≤ ZONE_LIMIT }
     ensures { AreMet shape.now document.now.zones result }
 {
     let mut met = MetZones::new(filler);

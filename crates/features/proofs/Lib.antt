@@ -1,3 +1,5 @@
 pub mod NameLemmas
+pub mod PlaceLemmas
 pub mod RowLemmas
+pub mod TableLemmas
 pub mod ChangeLemmas

@@ -1,74 +1,71 @@
--- What a search finds in a list sorted by id, and what an insertion there makes of it.
-use Rattle.std.proofs.Common.{◌≡◌, ◌≢◌, ℕ, zero, suc, ◌+◌, ◌<◌, ◌≤◌, eqb, ltb, List, [], ◌∷◌, length, get_or, Some, None, Result, Ok, Err, if◌then◌else◌, Bool, true, false, refl, sym, arith}
-use Rattle.std.specs.List.{insert}
-use Rattle.std.specs.List.Sorted.{IsSearchInRange, IsBinarySearchResult, IsNonDecreasingBy}
-use Rattle.std.specs.Ordering.{nat_cmp, ordering_index}
-use Rattle.std.proofs.lemmas.Cmp.{ranked}
+-- What the changes of one feature make of a list sorted by id.
+use Rattle.std.proofs.Common.{◌≡◌, ◌≢◌, ℕ, zero, suc, ◌+◌, ◌<◌, ◌≤◌, eqb, ltb, List, [], ◌∷◌, length, map, set, get_or, Option, Some, None, if◌then◌else◌, Bool, true, false, refl, sym, ap, ◌∙◌, arith}
+use Rattle.std.specs.Option.{IsSome}
+use Rattle.std.specs.List.{All, insert, remove}
 use Rattle.std.proofs.lemmas.Bool.Decides.{nat_tests}
+use Rattle.std.proofs.lemmas.Bool.{false≢true}
 use borrow.Author.Tests.{ltb-true}
+use Rattle.plane.specs.declared.point.Point.{Point}
 use Rattle.features.specs.declared.rows.Feature.{Feature}
-use Rattle.features.specs.Rows.{feature_with, with_row, IsBelowAll, IsSortedById}
-use Rattle.features.specs.Places.{IsAt, IsGapFor, IsPlaceOf}
+use Rattle.features.specs.Places.{IsLess, AreRising, IsAt, IsGapFor}
+use Rattle.features.specs.Rows.{feature_with, with_row, with_shape, without, IsBelowAll, IsSortedById}
+use Rattle.features.specs.Tables.{ids_of}
+use Rattle.features.proofs.PlaceLemmas.{less_at, gap_tail, gap_behind, at_tail}
 
--- an id below all is below each
-below_at : (id : ℕ) (rows : List Feature) (j : ℕ) (d : Feature) → IsBelowAll id rows → j < length rows → id < (get_or rows j d).id
-below_at id [] j d below lt = absurd (omega arith)
-below_at id (row ∷ rows) zero d below lt = below.0
-below_at id (row ∷ rows) (suc j) d below lt = below_at id rows j d below.1 (omega arith)
+less_than_ids : (id : ℕ) (rows : List Feature) → IsBelowAll id rows → IsLess id (ids_of rows)
+less_than_ids id [] below = tt
+less_than_ids id (row ∷ rows) below = (below.0, less_than_ids id rows below.1)
 
--- in a sorted list the ids rise with the places
-rising_at : (rows : List Feature) (i j : ℕ) (d : Feature) → IsSortedById rows → i ≤ j → j < length rows → (get_or rows i d).id ≤ (get_or rows j d).id
-rising_at [] i j d sorted le lt = absurd (omega arith)
-rising_at (row ∷ rows) zero zero d sorted le lt = omega arith
-rising_at (row ∷ rows) zero (suc j) d sorted le lt = omega (arith, below_at row.id rows j d sorted.0 (omega arith))
-rising_at (row ∷ rows) (suc i) zero d sorted le lt = absurd (omega arith)
-rising_at (row ∷ rows) (suc i) (suc j) d sorted le lt = rising_at rows i j d sorted.1 (omega arith) (omega arith)
+pub ids_rising : (rows : List Feature) → IsSortedById rows → AreRising (ids_of rows)
+ids_rising [] sorted = tt
+ids_rising (row ∷ rows) sorted = (less_than_ids row.id rows sorted.0, ids_rising rows sorted.1)
 
--- a binary search by id ends at the place of the id
-pub searched : (id : ℕ) (rows : List Feature) → IsSortedById rows → (r : Result ℕ ℕ) → IsSearchInRange r (length rows) → IsBinarySearchResult (λ row. nat_cmp row.id id) rows r → IsPlaceOf id rows r
-searched id rows sorted (Ok at) in_range equal = record { in_range = in_range; has_id = λ d. ranked _ id _ (sym (equal d)) }
-searched id rows sorted (Err at) in_range parted =
-    let rise : IsNonDecreasingBy (λ row. ordering_index (nat_cmp row.id id)) rows = λ i j d le lt. (let up = rising_at rows i j d sorted le lt in grind (arith, nat_tests, up)) in
-    record {
-      in_range = in_range;
-      smaller_before = λ j d lt. ranked _ id _ (sym ((parted rise).0 j d (omega arith) lt));
-      greater_after = λ j d le lt. ranked _ id _ (sym ((parted rise).1 j d le lt));
-    }
+-- an id that stands behind is not the first one's
+first_differs : (id : ℕ) (row : Feature) (rows : List Feature) (i : ℕ) → IsSortedById (row ∷ rows) → IsAt id (ids_of rows) i → row.id < id
+first_differs id row rows i sorted at = omega (arith, less_at row.id (ids_of rows) i 0 (less_than_ids row.id rows sorted.0) at.in_range, at.has_id 0)
 
--- what is below all of a list is not found in it
-absent_below : (id : ℕ) (rows : List Feature) → IsBelowAll id rows → feature_with id rows ≡ None
-absent_below id [] below = refl
-absent_below id (row ∷ rows) below = grind (arith, nat_tests, below.0, absent_below id rows below.1)
-
-pub found_at : (id : ℕ) (rows : List Feature) (i : ℕ) (d : Feature) → IsSortedById rows → IsAt id rows i → feature_with id rows ≡ Some (get_or rows i d)
+pub found_at : (id : ℕ) (rows : List Feature) (i : ℕ) (d : Feature) → IsSortedById rows → IsAt id (ids_of rows) i → feature_with id rows ≡ Some (get_or rows i d)
 found_at id [] i d sorted at = absurd (omega (arith, at.in_range))
-found_at id (row ∷ rows) zero d sorted at = grind (arith, nat_tests, at.has_id d)
+found_at id (row ∷ rows) zero d sorted at = grind (arith, nat_tests, at.has_id 0)
 found_at id (row ∷ rows) (suc i) d sorted at =
-    let tail : IsAt id rows i = record { in_range = omega (arith, at.in_range); has_id = at.has_id } in
-    grind (arith, nat_tests, below_at row.id rows i d sorted.0 tail.in_range, at.has_id d, found_at id rows i d sorted.1 tail)
-
-gap_tail : (id : ℕ) (row : Feature) (rows : List Feature) (i : ℕ) → IsGapFor id (row ∷ rows) (suc i) → IsGapFor id rows i
-gap_tail id row rows i gap = record {
-  in_range = omega (arith, gap.in_range);
-  smaller_before = λ j d lt. gap.smaller_before (suc j) d (omega arith);
-  greater_after = λ j d le lt. gap.greater_after (suc j) d (omega arith) (omega arith);
-}
+    let tail = at_tail id row.id (ids_of rows) i at in
+    grind (arith, nat_tests, first_differs id row rows i sorted tail, found_at id rows i d sorted.1 tail)
 
 -- an id that has a gap is not found
-pub absent_at_gap : (id : ℕ) (rows : List Feature) (i : ℕ) → IsGapFor id rows i → feature_with id rows ≡ None
+pub absent_at_gap : (id : ℕ) (rows : List Feature) (i : ℕ) → IsGapFor id (ids_of rows) i → feature_with id rows ≡ None
 absent_at_gap id [] i gap = refl
-absent_at_gap id (row ∷ rows) zero gap =
-    let tail : IsGapFor id rows zero = record { in_range = omega arith; smaller_before = λ j d lt. absurd (omega arith); greater_after = λ j d le lt. gap.greater_after (suc j) d (omega arith) (omega arith) } in
-    grind (arith, nat_tests, gap.greater_after zero row (omega arith) (omega arith), absent_at_gap id rows zero tail)
-absent_at_gap id (row ∷ rows) (suc i) gap =
-    grind (arith, nat_tests, gap.smaller_before zero row (omega arith), absent_at_gap id rows i (gap_tail id row rows i gap))
+absent_at_gap id (row ∷ rows) zero gap = grind (arith, nat_tests, gap.greater_after zero 0 (omega arith) (omega arith), absent_at_gap id rows zero (gap_behind id row.id (ids_of rows) gap))
+absent_at_gap id (row ∷ rows) (suc i) gap = grind (arith, nat_tests, gap.smaller_before zero 0 (omega arith), absent_at_gap id rows i (gap_tail id row.id (ids_of rows) i gap))
+
+pub not_both : (o : Option Feature) → o ≡ None → IsSome o → ⊥
+not_both None none some = false≢true some
+not_both (Some row) none some = absurd cc
 
 -- an insertion at its gap puts a feature in at its place
-pub insert_at_gap : (new : Feature) (rows : List Feature) (i : ℕ) → IsGapFor new.id rows i → insert rows i new ≡ with_row new rows
+pub insert_at_gap : (new : Feature) (rows : List Feature) (i : ℕ) → IsGapFor new.id (ids_of rows) i → insert rows i new ≡ with_row new rows
 insert_at_gap new [] zero gap = refl
 insert_at_gap new [] (suc i) gap = absurd (omega (arith, gap.in_range))
-insert_at_gap new (row ∷ rows) zero gap = grind (arith, nat_tests, gap.greater_after zero row (omega arith) (omega arith))
-insert_at_gap new (row ∷ rows) (suc i) gap = grind (arith, nat_tests, gap.smaller_before zero row (omega arith), insert_at_gap new rows i (gap_tail new.id row rows i gap))
+insert_at_gap new (row ∷ rows) zero gap = grind (arith, nat_tests, gap.greater_after zero 0 (omega arith) (omega arith))
+insert_at_gap new (row ∷ rows) (suc i) gap = grind (arith, nat_tests, gap.smaller_before zero 0 (omega arith), insert_at_gap new rows i (gap_tail new.id row.id (ids_of rows) i gap))
+
+-- a removal at its place takes a feature out
+pub remove_at : (id : ℕ) (rows : List Feature) (i : ℕ) → IsSortedById rows → IsAt id (ids_of rows) i → remove rows i ≡ without id rows
+remove_at id [] i sorted at = absurd (omega (arith, at.in_range))
+remove_at id (row ∷ rows) zero sorted at = grind (arith, nat_tests, at.has_id 0)
+remove_at id (row ∷ rows) (suc i) sorted at =
+    let tail = at_tail id row.id (ids_of rows) i at in
+    grind (arith, nat_tests, first_differs id row rows i sorted tail, remove_at id rows i sorted.1 tail)
+
+abbrev pub reshaped : ℕ → List Point → Feature → Feature
+reshaped version shape row = record row { version = version; shape = shape }
+
+-- a write at its place reshapes a feature
+pub set_at : (id version : ℕ) (shape : List Point) (rows : List Feature) (i : ℕ) (d : Feature) → IsSortedById rows → IsAt id (ids_of rows) i → set rows i (reshaped version shape (get_or rows i d)) ≡ with_shape id version shape rows
+set_at id version shape [] i d sorted at = absurd (omega (arith, at.in_range))
+set_at id version shape (row ∷ rows) zero d sorted at = grind (arith, nat_tests, at.has_id 0)
+set_at id version shape (row ∷ rows) (suc i) d sorted at =
+    let tail = at_tail id row.id (ids_of rows) i at in
+    grind (arith, nat_tests, first_differs id row rows i sorted tail, set_at id version shape rows i d sorted.1 tail)
 
 below_with_row : (id : ℕ) (new : Feature) (rows : List Feature) → id < new.id → IsBelowAll id rows → IsBelowAll id (with_row new rows)
 below_with_row id new [] lt below = (lt, tt)
@@ -113,3 +110,82 @@ length-with_row new (row ∷ rows) = go (ltb new.id row.id) (length-with_row new
     go : (v : Bool) → length (with_row new rows) ≡ length rows + 1 → length (if v then new ∷ row ∷ rows else row ∷ with_row new rows) ≡ length (row ∷ rows) + 1
     go true rest = omega arith
     go false rest = omega arith
+
+-- a reshape changes no id
+module _ (id version : ℕ) (shape : List Point) where
+  pub ids-with_shape : (rows : List Feature) → ids_of (with_shape id version shape rows) ≡ ids_of rows
+  ids-with_shape [] = refl
+  ids-with_shape (row ∷ rows) = go (eqb row.id id) (ids-with_shape rows)
+    where
+      go : (v : Bool) → ids_of (with_shape id version shape rows) ≡ ids_of rows
+          → ids_of (if v then reshaped version shape row ∷ rows else row ∷ with_shape id version shape rows) ≡ ids_of (row ∷ rows)
+      go true rest = refl
+      go false rest = ap (λ ids. row.id ∷ ids) rest
+
+  below_with_shape : (other : ℕ) (rows : List Feature) → IsBelowAll other rows → IsBelowAll other (with_shape id version shape rows)
+  below_with_shape other [] below = tt
+  below_with_shape other (row ∷ rows) below = go (eqb row.id id) (below_with_shape other rows below.1)
+    where
+      go : (v : Bool) → IsBelowAll other (with_shape id version shape rows) → IsBelowAll other (if v then reshaped version shape row ∷ rows else row ∷ with_shape id version shape rows)
+      go true rest = (below.0, below.1)
+      go false rest = (below.0, rest)
+
+  pub sorted_with_shape : (rows : List Feature) → IsSortedById rows → IsSortedById (with_shape id version shape rows)
+  sorted_with_shape [] sorted = tt
+  sorted_with_shape (row ∷ rows) sorted = go (eqb row.id id) (sorted_with_shape rows sorted.1)
+    where
+      go : (v : Bool) → IsSortedById (with_shape id version shape rows) → IsSortedById (if v then reshaped version shape row ∷ rows else row ∷ with_shape id version shape rows)
+      go true rest = (sorted.0, sorted.1)
+      go false rest = (below_with_shape row.id rows sorted.0, rest)
+
+  pub feature_with-with_shape : (other : ℕ) (rows : List Feature) → id ≢ other → feature_with other (with_shape id version shape rows) ≡ feature_with other rows
+  feature_with-with_shape other [] apart = refl
+  feature_with-with_shape other (row ∷ rows) apart = go (eqb row.id id) refl (feature_with-with_shape other rows apart)
+    where
+      go : (v : Bool) → eqb row.id id ≡ v → feature_with other (with_shape id version shape rows) ≡ feature_with other rows
+          → feature_with other (if v then reshaped version shape row ∷ rows else row ∷ with_shape id version shape rows) ≡ feature_with other (row ∷ rows)
+      go true is rest = grind (arith, nat_tests, apart, is)
+      go false is rest = grind (arith, nat_tests, rest)
+
+  pub length-with_shape : (rows : List Feature) → length (with_shape id version shape rows) ≡ length rows
+  length-with_shape [] = refl
+  length-with_shape (row ∷ rows) = go (eqb row.id id) (length-with_shape rows)
+    where
+      go : (v : Bool) → length (with_shape id version shape rows) ≡ length rows
+          → length (if v then reshaped version shape row ∷ rows else row ∷ with_shape id version shape rows) ≡ length (row ∷ rows)
+      go true rest = refl
+      go false rest = omega (arith, rest)
+
+module _ (id : ℕ) where
+  below_without : (other : ℕ) (rows : List Feature) → IsBelowAll other rows → IsBelowAll other (without id rows)
+  below_without other [] below = tt
+  below_without other (row ∷ rows) below = go (eqb row.id id) (below_without other rows below.1)
+    where
+      go : (v : Bool) → IsBelowAll other (without id rows) → IsBelowAll other (if v then rows else row ∷ without id rows)
+      go true rest = below.1
+      go false rest = (below.0, rest)
+
+  pub sorted_without : (rows : List Feature) → IsSortedById rows → IsSortedById (without id rows)
+  sorted_without [] sorted = tt
+  sorted_without (row ∷ rows) sorted = go (eqb row.id id) (sorted_without rows sorted.1)
+    where
+      go : (v : Bool) → IsSortedById (without id rows) → IsSortedById (if v then rows else row ∷ without id rows)
+      go true rest = sorted.1
+      go false rest = (below_without row.id rows sorted.0, rest)
+
+  pub feature_with-without : (other : ℕ) (rows : List Feature) → id ≢ other → feature_with other (without id rows) ≡ feature_with other rows
+  feature_with-without other [] apart = refl
+  feature_with-without other (row ∷ rows) apart = go (eqb row.id id) refl (feature_with-without other rows apart)
+    where
+      go : (v : Bool) → eqb row.id id ≡ v → feature_with other (without id rows) ≡ feature_with other rows → feature_with other (if v then rows else row ∷ without id rows) ≡ feature_with other (row ∷ rows)
+      go true is rest = grind (arith, nat_tests, apart, is)
+      go false is rest = grind (arith, nat_tests, rest)
+
+  pub length-without : (rows : List Feature) → IsSome (feature_with id rows) → length (without id rows) + 1 ≡ length rows
+  length-without [] some = absurd cc
+  length-without (row ∷ rows) some = go (eqb row.id id) some (length-without rows)
+    where
+      go : (v : Bool) → IsSome (if v then Some row else feature_with id rows) → (IsSome (feature_with id rows) → length (without id rows) + 1 ≡ length rows)
+          → length (if v then rows else row ∷ without id rows) + 1 ≡ length (row ∷ rows)
+      go true some rest = omega arith
+      go false some rest = omega (arith, rest some)

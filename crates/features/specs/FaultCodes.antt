@@ -12,4 +12,4 @@ subjects_code NameTwice = codes "N3"
 
 abbrev pub store_code : StoreFault → List ℕ
 store_code Full = codes "F1"
-store_code Memory = codes "F2"
+store_code (Memory refused) = codes "F2"

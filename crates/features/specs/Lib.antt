@@ -3,5 +3,7 @@ pub mod Subjects
 pub mod Ticks
 pub mod Rows
 pub mod Changes
+pub mod Equality
 pub mod Places
+pub mod Tables
 pub mod FaultCodes

@@ -1,18 +1,26 @@
--- Where a feature stands in a sorted list, or would be put in.
-use Rattle.std.specs.Prelude.{◌≡◌, ℕ, ◌<◌, ◌≤◌, List, length, slice_index_or, Result, Ok, Err}
-use Rattle.features.specs.declared.rows.Feature.{Feature}
+-- Where an id stands in a rising list of ids, or would be put in.
+use Rattle.std.specs.Prelude.{◌≡◌, ℕ, ◌<◌, ◌≤◌, List, [], ◌∷◌, length, slice_index_or, Result, Ok, Err}
 
--- the feature at place i has the id
-pub record IsAt (id : ℕ) (rows : List Feature) (i : ℕ) : Type 0 where
-  pub in_range : i < length rows
-  pub has_id : (d : Feature) → (slice_index_or rows i d).id ≡ id
+abbrev pub IsLess : ℕ → List ℕ → Type 0
+IsLess id [] = Unit {0}
+IsLess id (other ∷ ids) = (id < other) × IsLess id ids
+
+-- each id is less than those behind it
+abbrev pub AreRising : List ℕ → Type 0
+AreRising [] = Unit {0}
+AreRising (id ∷ ids) = IsLess id ids × AreRising ids
+
+-- the id stands at place i
+pub record IsAt (id : ℕ) (ids : List ℕ) (i : ℕ) : Type 0 where
+  pub in_range : i < length ids
+  pub has_id : (d : ℕ) → slice_index_or ids i d ≡ id
 
 -- the id would go to place i: smaller ids before it, and greater ids from it on
-pub record IsGapFor (id : ℕ) (rows : List Feature) (i : ℕ) : Type 0 where
-  pub in_range : i ≤ length rows
-  pub smaller_before : (j : ℕ) (d : Feature) → j < i → (slice_index_or rows j d).id < id
-  pub greater_after : (j : ℕ) (d : Feature) → i ≤ j → j < length rows → id < (slice_index_or rows j d).id
+pub record IsGapFor (id : ℕ) (ids : List ℕ) (i : ℕ) : Type 0 where
+  pub in_range : i ≤ length ids
+  pub smaller_before : (j d : ℕ) → j < i → slice_index_or ids j d < id
+  pub greater_after : (j d : ℕ) → i ≤ j → j < length ids → id < slice_index_or ids j d
 
-abbrev pub IsPlaceOf : ℕ → List Feature → Result ℕ ℕ → Type 0
-IsPlaceOf id rows (Ok i) = IsAt id rows i
-IsPlaceOf id rows (Err i) = IsGapFor id rows i
+abbrev pub IsPlaceOf : ℕ → List ℕ → Result ℕ ℕ → Type 0
+IsPlaceOf id ids (Ok i) = IsAt id ids i
+IsPlaceOf id ids (Err i) = IsGapFor id ids i

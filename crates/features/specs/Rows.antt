@@ -1,6 +1,7 @@
 -- The features of a store: a list sorted by id.
 use Rattle.std.specs.Prelude.{ℕ, ◌<◌, ◌==◌, List, [], ◌∷◌, Option, None, Some, if◌then◌else◌, nat_lt}
 use Rattle.features.specs.declared.rows.Feature.{Feature}
+use Rattle.plane.specs.declared.point.Point.{Point}
 
 -- the feature of an id
 abbrev pub feature_with : ℕ → List Feature → Option Feature
@@ -20,3 +21,14 @@ IsSortedById (row ∷ rows) = IsBelowAll row.id rows × IsSortedById rows
 abbrev pub with_row : Feature → List Feature → List Feature
 with_row new [] = new ∷ []
 with_row new (row ∷ rows) = if nat_lt new.id row.id then new ∷ row ∷ rows else row ∷ with_row new rows
+
+-- the list with the feature of an id given a shape under a version; it keeps its office and class
+abbrev pub with_shape : ℕ → ℕ → List Point → List Feature → List Feature
+with_shape id version shape [] = []
+with_shape id version shape (row ∷ rows) =
+    if row.id == id then record row { version = version; shape = shape } ∷ rows else row ∷ with_shape id version shape rows
+
+-- the list without the feature of an id
+abbrev pub without : ℕ → List Feature → List Feature
+without id [] = []
+without id (row ∷ rows) = if row.id == id then rows else row ∷ without id rows

@@ -1,4 +1,4 @@
-ghost use Rattle.std.specs.Prelude.{◌≡◌, ◌≤◌, length, IsTrue};
+ghost use Rattle.std.specs.Prelude.{◌≡◌, ◌≤◌, ◌↔◌, length, IsTrue};
 ghost use Rattle.features.specs.Subjects.{subject_named, have_distinct_names, subjects_of};
 
 use crate::names::Name;
@@ -18,12 +18,39 @@ pub enum Action {
 }
 
 /// Who acts: a person or a program of an office. A steward may replace the access policy.
-#[derive(Clone, Copy, Debug, PartialEq, Eq)]
+#[derive(Clone, Copy, Debug)]
 pub struct Subject {
     pub name: Name,
     pub office: Name,
     pub role: Name,
     pub steward: bool,
+}
+
+impl PartialEq for Subject {
+    ghost use Rattle.std.specs.Cmp.{decided, partial_equiv_from_equiv};
+    ghost use Rattle.features.specs.Equality.{same_subject, same_subject_decides};
+
+    ghost eq = { same_subject };
+
+    ghost laws = { partial_equiv_from_equiv (decided same_subject same_subject_decides) };
+
+    /// Whether the two are one, field by field.
+    fn eq(&self, other: &Subject) -> bool
+        ensures tested { result ≡ same_subject self.now other.now }
+        ensures exact { IsTrue result ↔ (self.now ≡ other.now) }
+    {
+        self.name == other.name
+            && self.office == other.office
+            && self.role == other.role
+            && self.steward == other.steward
+    }
+}
+
+impl Eq for Subject {
+    ghost use Rattle.std.specs.Cmp.{decided};
+    ghost use Rattle.features.specs.Equality.{same_subject, same_subject_decides};
+
+    ghost laws = { decided same_subject same_subject_decides };
 }
 
 /// Why a list of subjects is turned away.

@@ -1,38 +1,49 @@
-ghost use Rattle.std.specs.Prelude.{◌≡◌, ◌+◌, ◌<◌, ◌≤◌, ◌↔◌, [], length, vec_len, vec_capacity, IsTrue, IfOk, IfErr, OnOk, OnErr, None};
+ghost use Rattle.std.specs.Prelude.{◌≡◌, ◌+◌, ◌<◌, ◌≤◌, ◌↔◌, ◌++◌, [], ◌∷◌, All, List, ℕ, length, vec_len, vec_capacity, slice_get, IsTrue, IfOk, IfErr, OnOk, OnErr};
 ghost use Rattle.std.specs.Option.{option_copied};
-ghost use Rattle.features.specs.Changes.{CanApply, CanChange, after, after_change};
-ghost use Rattle.features.specs.Rows.{IsSortedById, feature_with, with_row};
+ghost use Rattle.memory.specs.Refused.{refused};
+ghost use Rattle.features.specs.Changes.{CanApply, CanChange, additions, after, after_change, deletions};
+ghost use Rattle.features.specs.Rows.{IsSortedById, feature_with};
+ghost use Rattle.features.specs.Tables.{HasRoom, IsSound, rows_at, rows_of};
 ghost use Rattle.features.specs.Ticks.{ticked_by};
-ghost use Rattle.features.specs.Places.{IsPlaceOf};
 
 use crate::meters::Meter;
 use crate::names::Name;
 use crate::rows::{Change, Feature};
+use crate::tables::{self, FEATURE_LIMIT, Table};
+use memory::{Refused, vec_with_room};
 use std::alloc::Allocator;
 use std::fmt;
 use std::marker::Model;
 
-/// How many features a store holds at most.
-pub const FEATURE_LIMIT: usize = 100_000;
-
 /// Why a store does not take a list of changes, or does not list its features.
-#[derive(Clone, Copy, Debug, PartialEq, Eq)]
+#[derive(Debug, Drop, PartialEq, Eq)]
 pub enum StoreFault {
     Full,
-    Memory,
+    Memory(Refused),
 }
 
 impl StoreFault {
     ghost use Rattle.features.specs.FaultCodes.{store_code};
 
     /// The code by which users know the fault.
-    pub fn code(self) -> &'static str
-        ensures { result.now ≡ store_code self }
+    pub fn code(&self) -> &'static str
+        ensures { result.now ≡ store_code self.now }
     {
         match self {
             StoreFault::Full => "F1",
-            StoreFault::Memory => "F2",
+            StoreFault::Memory(_) => "F2",
         }
+    }
+}
+
+impl From<Refused> for StoreFault {
+    ghost use Rattle.std.specs.Prelude.{◌≡◌};
+    ghost use Rattle.features.specs.declared.stores.StoreFault.TheVariants.{Memory};
+
+    ghost from_gives = { λ refused fault. fault ≡ Memory refused };
+
+    fn from(refused: Refused) -> Self {
+        StoreFault::Memory(refused)
     }
 }
 
@@ -50,43 +61,51 @@ impl fmt::Display for StoreFault {
 /// The features of the map. A contract sees their list, sorted by id.
 #[derive(Debug, Drop)]
 pub struct Store<A: Allocator> {
-    rows: Vec<Feature, A>,
+    table: Table<A>,
 }
 
 impl<A: Allocator> Model for Store<A> {
-    ghost use Rattle.std.specs.Prelude.{List};
+    ghost use Rattle.std.specs.Prelude.{List, ◌≤◌, length};
     ghost use Rattle.features.specs.declared.rows.Feature.{Feature};
-    ghost use Rattle.features.specs.Rows.{IsSortedById};
+    ghost use Rattle.features.specs.declared.tables.TheConstants.{FEATURE_LIMIT};
+    ghost use Rattle.features.specs.Tables.{IsSound, rows_of};
 
     ghost Value = { List Feature };
 
-    ghost view = { λ s. s.rows.items };
+    ghost view = { λ s. rows_of s.table };
 
-    ghost invariant = { λ s. IsSortedById s.rows.items };
+    ghost invariant = { λ s. IsSound s.table × (length (rows_of s.table) ≤ FEATURE_LIMIT) };
 }
 
-impl<A: Allocator> Store<A> {
+impl<A: Allocator + Copy> Store<A> {
     /// A store with no features. It takes no memory.
     pub fn new(alloc: A) -> Self
         ensures { result ≡ [] }
     {
         Store {
-            rows: Vec::new(alloc),
+            table: Table {
+                ids: Vec::new(alloc),
+                places: Vec::new(alloc),
+                features: Vec::new(alloc),
+            },
         }
     }
+}
 
-    /// How many features there are.
+impl<A: Allocator> Store<A> {
+    /// How many features there are, 100,000 at most.
     pub fn len(&self) -> usize
-        ensures { result ≡ length self.now }
+        ensures value { result ≡ length self.now }
+        ensures within { length self.now ≤ FEATURE_LIMIT }
     {
-        self.rows.len()
+        self.table.places.len()
     }
 
     /// Whether there is no feature.
     pub fn is_empty(&self) -> bool
         ensures { IsTrue result ↔ (self.now ≡ []) }
     {
-        self.rows.is_empty()
+        self.table.places.is_empty()
     }
 
     /// The feature of an id. Costs one tick.
@@ -95,18 +114,17 @@ impl<A: Allocator> Store<A> {
         ensures cost { meter.new ≡ ticked_by 1 meter.old }
     {
         meter.tick(1);
-        match place_of(&self.rows, id) {
-            Ok(at) => Some(&self.rows[at]),
-            Err(_) => None,
-        }
+        tables::find(&self.table, id)
     }
 
-    /// All features, by rising id.
-    pub fn rows(&self) -> &[Feature]
-        ensures value { result.now ≡ self.now }
+    /// The feature that stands at this place of the list sorted by id.
+    pub fn row_at(&self, at: usize) -> Option<&Feature>
+        ensures value { option_copied result ≡ slice_get self.now at }
         ensures sorted { IsSortedById self.now }
+        ensures within { length self.now ≤ FEATURE_LIMIT }
     {
-        self.rows.as_slice()
+        let place = self.table.places.get(at)?;
+        Some(&self.table.features[*place as usize])
     }
 
     /// A copy of all features, by rising id. Costs one tick for each; after `Memory`, none.
@@ -118,18 +136,28 @@ impl<A: Allocator> Store<A> {
         ensures ok { IfOk result (λ rows. rows.items ≡ self.now) }
         ensures cost { OnOk result (meter.new ≡ ticked_by (length self.now) meter.old) }
         ensures err { OnErr result (meter.new ≡ meter.old) }
-        ensures memory { IfErr result (λ fault. fault ≡ StoreFault.Memory) }
+        ensures memory { IfErr result (λ fault. fault ≡ StoreFault.Memory refused) }
     {
-        let Ok(rows) = Vec::from_slice(alloc, self.rows.as_slice()) else {
-            return Err(StoreFault::Memory);
-        };
-        meter.tick(self.rows.len() as u64);
+        let mut rows = vec_with_room(alloc, self.table.places.len())?;
+        copy_rows(&mut rows, &self.table.places, &self.table.features);
+        meter.tick(rows.len() as u64);
         Ok(rows)
     }
 
-    /// Makes a list of changes, all or none of them. `Full` where more than 100,000 features would stand;
-    /// `Memory` where room for them is refused. Either leaves the store as it was.
+    /// How many features would stand after a list of changes.
     #[tactic(auto, using(crate::proofs::ChangeLemmas::length_after))]
+    pub fn len_after(&self, changes: &[Change]) -> usize
+        requires { CanApply changes.now self.now }
+        ensures { (version : ℕ) (office : List ℕ) → result ≡ length (after version office changes.now self.now) }
+    {
+        let added = count_additions(changes);
+        let deleted = count_deletions(changes);
+        self.table.places.len() + added - deleted
+    }
+
+    /// Makes a list of changes, all or none of them. `Full` where more than 100,000 features would stand after it;
+    /// `Memory` where room for those that it adds is refused. Either leaves the store as it was. A list that adds
+    /// none takes no memory.
     pub fn apply(
         &mut self,
         version: u64,
@@ -141,54 +169,70 @@ impl<A: Allocator> Store<A> {
         ensures err { OnErr result (self.new ≡ self.old) }
         ensures full { (result ≡ Err StoreFault.Full) ↔ (FEATURE_LIMIT < length (after version office changes.now self.old)) }
     {
-        if self.rows.len() + changes.len() > FEATURE_LIMIT {
+        let added = count_additions(changes);
+        let deleted = count_deletions(changes);
+        if self.table.places.len() + added > FEATURE_LIMIT + deleted {
             return Err(StoreFault::Full);
         }
-        if self.rows.reserve(changes.len()).is_err() {
-            return Err(StoreFault::Memory);
-        }
-        make_all(&mut self.rows, version, office, changes);
+        tables::make_room(&mut self.table, added)?;
+        make_all(&mut self.table, version, office, changes);
         Ok(())
     }
 }
 
-/// Where the feature of an id stands, or where it would be put in.
-fn place_of(rows: &[Feature], id: u64) -> Result<usize, usize>
-    requires { IsSortedById rows.now }
-    ensures { IsPlaceOf id rows.now result }
+/// Appends the features at these places.
+fn copy_rows<A: Allocator>(rows: &mut Vec<Feature, A>, places: &[u32], features: &[Feature])
+    requires in_range { All (λ place. place < length features.now) places.now }
+    requires room { vec_len rows.old + length places.now ≤ vec_capacity rows.old }
+    ensures { rows.new.items ≡ rows.old.items ++ rows_at places.now features.now }
 {
-    rows.binary_search_by_key(&id, |row| row.id)
-}
-
-/// Puts a feature in at its place.
-fn put<A: Allocator>(rows: &mut Vec<Feature, A>, row: Feature)
-    requires sorted { IsSortedById rows.old.items }
-    requires absent { feature_with row.id rows.old.items ≡ None }
-    requires room { vec_len rows.old < vec_capacity rows.old }
-    ensures items { rows.new.items ≡ with_row row rows.old.items }
-    ensures sorted { IsSortedById rows.new.items }
-    ensures len { vec_len rows.new ≡ vec_len rows.old + 1 }
-    ensures capacity { vec_capacity rows.old ≤ vec_capacity rows.new }
-{
-    match place_of(rows, row.id) {
-        Ok(_) => unreachable!(),
-        Err(at) => rows.insert(at, row).unwrap(),
+    for place in places {
+        rows.push_reserved(features[*place as usize]);
     }
 }
 
+/// How many features a list adds.
+#[tactic(auto, using(crate::proofs::ChangeLemmas::additions_few))]
+fn count_additions(changes: &[Change]) -> usize
+    ensures value { result ≡ additions changes.now }
+    ensures few { result ≤ length changes.now }
+{
+    let mut count = 0;
+    for change in changes {
+        if let Change::Add { .. } = change {
+            count += 1;
+        }
+    }
+    count
+}
+
+/// How many features a list deletes.
+#[tactic(auto, using(crate::proofs::ChangeLemmas::deletions_few))]
+fn count_deletions(changes: &[Change]) -> usize
+    ensures value { result ≡ deletions changes.now }
+    ensures few { result ≤ length changes.now }
+{
+    let mut count = 0;
+    for change in changes {
+        if let Change::Delete { .. } = change {
+            count += 1;
+        }
+    }
+    count
+}
+
 /// Makes one change, for which there is room.
-fn make<A: Allocator>(rows: &mut Vec<Feature, A>, version: u64, office: Name, change: Change)
-    requires sorted { IsSortedById rows.old.items }
-    requires can_change { CanChange change rows.old.items }
-    requires room { vec_len rows.old < vec_capacity rows.old }
-    ensures items { rows.new.items ≡ after_change version office change rows.old.items }
-    ensures sorted { IsSortedById rows.new.items }
-    ensures len { vec_len rows.new ≤ vec_len rows.old + 1 }
-    ensures capacity { vec_capacity rows.old ≤ vec_capacity rows.new }
+fn make<A: Allocator>(table: &mut Table<A>, version: u64, office: Name, change: Change)
+    requires sound { IsSound table.old }
+    requires can_change { CanChange change (rows_of table.old) }
+    requires room { HasRoom (additions (change ∷ [])) table.old }
+    ensures rows { rows_of table.new ≡ after_change version office change (rows_of table.old) }
+    ensures sound { IsSound table.new }
+    ensures room { (n : ℕ) → HasRoom (n + additions (change ∷ [])) table.old → HasRoom n table.new }
 {
     match change {
-        Change::Add { id, class, shape } => put(
-            rows,
+        Change::Add { id, class, shape } => tables::put(
+            table,
             Feature {
                 id,
                 version,
@@ -197,23 +241,20 @@ fn make<A: Allocator>(rows: &mut Vec<Feature, A>, version: u64, office: Name, ch
                 shape,
             },
         ),
+        Change::Reshape { id, shape, .. } => tables::reshape(table, id, version, shape),
+        Change::Delete { id, .. } => tables::take_out(table, id),
     }
 }
 
 /// Makes each change of a list, in order.
-fn make_all<A: Allocator>(
-    rows: &mut Vec<Feature, A>,
-    version: u64,
-    office: Name,
-    changes: &[Change],
-)
-    requires sorted { IsSortedById rows.old.items }
-    requires can_apply { CanApply changes.now rows.old.items }
-    requires room { vec_len rows.old + length changes.now ≤ vec_capacity rows.old }
-    ensures items { rows.new.items ≡ after version office changes.now rows.old.items }
-    ensures sorted { IsSortedById rows.new.items }
+fn make_all<A: Allocator>(table: &mut Table<A>, version: u64, office: Name, changes: &[Change])
+    requires sound { IsSound table.old }
+    requires can_apply { CanApply changes.now (rows_of table.old) }
+    requires room { HasRoom (additions changes.now) table.old }
+    ensures rows { rows_of table.new ≡ after version office changes.now (rows_of table.old) }
+    ensures sound { IsSound table.new }
 {
     for change in changes {
-        make(rows, version, office, *change);
+        make(table, version, office, *change);
     }
 }

@@ -1,91 +1,62 @@
-//! The program `landmap`: a map feature server for land agencies.
+//! The program `landmap`: a map feature server for land agencies. What it does stands in the crate `program`.
 #![tactic(auto)]
 
-use clap::{Arg, Command};
-use sessions::{PlainWorld, ServeFault, built_in_subjects, run_script};
-use std::alloc::{AllocError, Global};
+use memory::buffered;
+use program::{Folder, ProgramFault, run_program, tell};
 use std::fs::File;
-use std::io::{BufWriter, Write};
+use std::io::{ErrorKind, Stderr, Write};
 use std::process::ExitCode;
-use std::{env, fmt, io};
+use std::{env, io};
 
-/// Why the program ends with status 1.
+/// The file system of the host.
 #[derive(Drop)]
-enum ProgramFault<'a> {
-    /// A file cannot be opened.
-    CannotRead(&'a str),
-    /// The replies cannot be written.
-    CannotWrite,
-    /// The run ended by a fault of its own.
-    Run(ServeFault),
+struct HostFolder<'a> {
+    rt: &'a HostRuntime,
 }
 
-impl fmt::Display for ProgramFault<'_> {
-    fn fmt<W: fmt::Write>(&self, f: &mut fmt::Formatter<W>) -> fmt::Result {
-        match self {
-            ProgramFault::CannotRead(name) => write!(f, "cannot read {name}"),
-            ProgramFault::CannotWrite => f.write_str("cannot write"),
-            ProgramFault::Run(fault) => write!(f, "{fault}"),
+impl Folder for HostFolder<'_> {
+    type File = File;
+
+    fn open_file(&self, name: &str) -> Option<File> {
+        let file = File::open(self.rt, name).ok()?;
+        match file.metadata() {
+            Ok(metadata) if !metadata.is_dir() => Some(file),
+            _ => None,
         }
     }
 }
 
-/// The command line.
-fn command<'a>(alloc: Global) -> Result<Command<'a>, AllocError> {
-    let file = Arg::new(alloc, "FILE")
-        .help("The script: lines `label: line`")
-        .required(true);
-    let script = Command::new(alloc, "script")
-        .about("Runs the session lines of a file, and writes the replies")
-        .arg(file)?;
-    Command::new(alloc, "landmap")
-        .about("A map feature server for land agencies")
-        .subcommand_required(true)
-        .arg_required_else_help(true)
-        .subcommand(script)
+/// The program ends by a fault before it runs.
+fn fail(fault: &ProgramFault<'_>, errors: &mut Stderr) -> ExitCode {
+    let _ = tell(fault, errors);
+    ExitCode::from(1)
 }
 
-/// Runs the script of this file name over a world with no features and the built-in subjects.
-fn script<'a>(rt: &HostRuntime, name: &'a str) -> Result<(), ProgramFault<'a>> {
-    let Ok(mut file) = File::open(rt, name) else {
-        return Err(ProgramFault::CannotRead(name));
-    };
-    let Ok(mut output) = BufWriter::new(rt.alloc(), io::writer(rt)) else {
-        return Err(ProgramFault::Run(ServeFault::Memory));
-    };
-    let mut world = PlainWorld::open(rt.alloc(), built_in_subjects());
-    let end = run_script(rt.alloc(), &mut world, &mut file, &mut output);
-    if output.flush().is_err() {
-        return Err(ProgramFault::CannotWrite);
-    }
-    match end {
-        Ok(()) => Ok(()),
-        Err(ServeFault::Write) => Err(ProgramFault::CannotWrite),
-        Err(fault) => Err(ProgramFault::Run(fault)),
-    }
-}
-
-fn main(rt: HostRuntime) -> io::Result<ExitCode> {
-    let words: Vec<String> = env::args(&rt)?.collect(rt.alloc())?;
-    let matches = match command(rt.alloc())?.try_get_matches_from(words.as_slice()) {
-        Ok(matches) => matches,
-        Err(error) => {
-            error.print(&rt)?;
-            return Ok(ExitCode::from(if error.use_stderr() { 2 } else { 0 }));
-        }
-    };
-    let end = match matches.subcommand() {
-        Some((_, matches)) => match matches.get_str("FILE") {
-            Some(name) => script(&rt, name),
-            None => Ok(()),
+fn main(rt: HostRuntime) -> ExitCode {
+    let mut errors = rt.stderr();
+    let words: Vec<String> = match env::args(&rt) {
+        Ok(words) => match words.collect(rt.alloc()) {
+            Ok(words) => words,
+            Err(_) => return fail(&ProgramFault::NoMemory, &mut errors),
         },
-        None => Ok(()),
-    };
-    match end {
-        Ok(()) => Ok(ExitCode::from(0)),
-        Err(fault) => {
-            eprintln!(rt; "landmap: {fault}")?;
-            Ok(ExitCode::from(1))
+        Err(error) if error.kind() == ErrorKind::OutOfMemory => {
+            return fail(&ProgramFault::NoMemory, &mut errors);
         }
-    }
+        Err(_) => {
+            let _ = write!(errors, "error: an argument is not UTF-8\n");
+            return ExitCode::from(2);
+        }
+    };
+    let Ok(mut output) = buffered(rt.alloc(), io::writer(&rt)) else {
+        return fail(&ProgramFault::NoMemory, &mut errors);
+    };
+    let folder = HostFolder { rt: &rt };
+    let status = run_program(
+        rt.alloc(),
+        words.as_slice(),
+        &folder,
+        &mut output,
+        &mut errors,
+    );
+    ExitCode::from(status)
 }

@@ -1,4 +1,4 @@
-use combining::{Decision, Question, Verdict, combine, evaluate};
+use combining::{Decision, Question, Verdict, combine, evaluate, settled};
 use features::{Action, Name, Subject};
 use plane::{Point, Shape};
 use policy_text::{Algorithm, read_document};
@@ -83,6 +83,55 @@ fn decisions_of_documents(rt: HostRuntime) -> Result<(), Fail> {
             Verdict { decision, rule },
             "{owner} {class} {text}"
         );
+    }
+    Ok(())
+}
+
+// The name of the rule by which the document of a text decides.
+fn deciding_name(rt: &impl Abort, heap: Global, text: &str, question: &Question) -> Option<Name> {
+    let read = read_document(heap, heap, text.as_bytes());
+    assert!(rt; read.is_ok(), "{text}");
+    let document = read.unwrap();
+    document.rule_name(evaluate(&document, question).rule?)
+}
+
+#[test]
+fn sets_whose_target_does_not_hold(rt: HostRuntime) -> Result<(), Fail> {
+    let roads_first =
+        r#"{"root":{"set":"top","combine":"deny-overrides","of":[{"set":"roads","combine":"deny-overrides","target":[[[{"class":"road"}]]],"of":[{"policy":"a","combine":"deny-overrides","rules":[{"rule":"go","effect":"permit"},{"rule":"stop","effect":"deny"}]},{"policy":"b","combine":"permit-unless-deny","rules":[{"rule":"drive","effect":"permit"}]}]},{"policy":"others","combine":"deny-overrides","rules":[{"rule":"walk","effect":"permit"}]}]}}"#;
+    let default_denial =
+        r#"{"root":{"set":"top","combine":"first-applicable","of":[{"set":"roads","combine":"deny-unless-permit","target":[[[{"class":"road"}]]],"of":[]},{"policy":"others","combine":"deny-overrides","rules":[{"rule":"walk","effect":"permit"}]}]}}"#;
+    let root_alone =
+        r#"{"root":{"set":"top","combine":"permit-unless-deny","target":[[[{"class":"road"}]]],"of":[{"policy":"p","combine":"deny-overrides","rules":[{"rule":"go","effect":"permit"}]}]}}"#;
+    for (text, class, decision, rule, named) in [
+        (roads_first, "road", DENY, Some(2), "stop"),
+        (roads_first, "parcel", PERMIT, Some(4), "walk"),
+        (default_denial, "road", DENY, None, ""),
+        (default_denial, "parcel", PERMIT, Some(1), "walk"),
+        (root_alone, "road", PERMIT, Some(1), "go"),
+        (root_alone, "parcel", NONE, None, ""),
+    ] {
+        let asked = question(&rt, "north", class);
+        let verdict = decided(&rt, rt.alloc(), text, &asked);
+        assert_eq!(rt; verdict, Verdict { decision, rule }, "{class} {text}");
+        let found = deciding_name(&rt, rt.alloc(), text, &asked);
+        assert_eq!(rt; found, Name::new(named.as_bytes()), "{class} {text}");
+    }
+    Ok(())
+}
+
+#[test]
+fn settling_decisions(rt: HostRuntime) -> Result<(), Fail> {
+    for (algorithm, permit, deny) in [
+        (Algorithm::DenyOverrides, false, true),
+        (Algorithm::PermitOverrides, true, false),
+        (Algorithm::DenyUnlessPermit, true, false),
+        (Algorithm::PermitUnlessDeny, false, true),
+        (Algorithm::FirstApplicable, true, true),
+    ] {
+        assert_eq!(rt; settled(algorithm, PERMIT), permit);
+        assert_eq!(rt; settled(algorithm, DENY), deny);
+        assert!(rt; !settled(algorithm, NONE));
     }
     Ok(())
 }

@@ -22,7 +22,7 @@ fn point(rt: &impl Abort, x: i32, y: i32) -> Shape {
     shape.unwrap()
 }
 
-// An addition of this id, at a point of its own.
+// An addition of this id.
 fn addition(rt: &impl Abort, id: u64) -> Change
     ensures { change_id result ≡ id }
 {
@@ -31,6 +31,39 @@ fn addition(rt: &impl Abort, id: u64) -> Change
         class: name(rt, b"mast"),
         shape: point(rt, 1, 2),
     }
+}
+
+// A reshape of this id, to another point.
+fn reshape(rt: &impl Abort, id: u64) -> Change
+    ensures { change_id result ≡ id }
+{
+    Change::Reshape {
+        id,
+        version: 1,
+        shape: point(rt, 3, 4),
+    }
+}
+
+// A deletion of this id.
+fn deletion(id: u64) -> Change
+    ensures { change_id result ≡ id }
+{
+    Change::Delete { id, version: 1 }
+}
+
+// Makes a list of one change, after a look-up that shows that it can be made.
+fn make<A: Allocator>(
+    rt: &impl Abort,
+    store: &mut Store<A>,
+    version: u64,
+    change: Change,
+) -> Result<(), StoreFault> {
+    let found = store.get(change.id(), &mut Meter::new()).is_some();
+    match change {
+        Change::Add { .. } => assert!(rt; !found),
+        Change::Reshape { .. } | Change::Delete { .. } => assert!(rt; found),
+    }
+    store.apply(version, name(rt, b"north"), &[change])
 }
 
 #[test]
@@ -89,75 +122,178 @@ fn subjects(rt: HostRuntime) -> Result<(), Fail> {
     Ok(())
 }
 
+// A store of the ids 3, 5, 7 and 9, which were put in out of order.
+fn four<A: Allocator + Copy>(rt: &impl Abort, alloc: A) -> Store<A> {
+    let mut store = Store::new(alloc);
+    for id in [7, 3, 9, 5] {
+        assert!(rt; make(rt, &mut store, 1, addition(rt, id)).is_ok());
+    }
+    store
+}
+
+fn assert_ids<A: Allocator>(rt: &impl Abort, store: &Store<A>, ids: &[u64]) {
+    assert!(rt; store.len() == ids.len());
+    for (at, id) in ids.iter().enumerate() {
+        let row = store.row_at(at).copied();
+        assert!(rt; row.is_some_and(|row| row.id == *id));
+        assert!(rt; store.get(*id, &mut Meter::new()).copied() == row);
+    }
+    assert!(rt; store.row_at(ids.len()).is_none());
+}
+
 #[test]
 fn store(rt: HostRuntime) -> Result<(), Fail> {
-    let office = name(&rt, b"north");
-    let mut store = Store::new(rt.alloc());
+    let mut store = four(&rt, rt.alloc());
+    assert_ids(&rt, &store, &[3, 5, 7, 9]);
     let mut meter = Meter::new();
-    assert!(rt;
-        store
-            .apply(1, office, &[addition(&rt, 5), addition(&rt, 9)])
-            .is_ok()
-    );
-    assert!(rt; store.apply(2, office, &[addition(&rt, 7)]).is_ok());
-    assert_eq!(rt; store.len(), 3);
     let rows = store.dump(rt.alloc(), &mut meter);
     assert!(rt; rows.is_ok());
     let rows = rows.unwrap();
-    assert_eq!(rt; meter.ticks(), 3);
-    assert_eq!(rt; rows.len(), 3);
-    assert_eq!(rt; (rows[0].id, rows[1].id, rows[2].id), (5, 7, 9));
+    assert_eq!(rt; meter.ticks(), 4);
+    assert_eq!(rt; rows.len(), 4);
     assert_eq!(rt;
-        (rows[0].version, rows[1].version, rows[2].version),
-        (1, 2, 1)
+        (rows[0].id, rows[1].id, rows[2].id, rows[3].id),
+        (3, 5, 7, 9)
     );
-    assert_eq!(rt; store.get(7, &mut meter).copied(), Some(rows[1]));
+    assert_eq!(rt; store.get(7, &mut meter).copied(), Some(rows[2]));
     assert_eq!(rt; store.get(8, &mut meter).copied(), None);
-    assert_eq!(rt; meter.ticks(), 5);
+    assert_eq!(rt; meter.ticks(), 6);
     Ok(())
+}
+
+#[test]
+fn reshaped(rt: HostRuntime) -> Result<(), Fail> {
+    let mut store = four(&rt, rt.alloc());
+    let mut meter = Meter::new();
+    let before = store.get(5, &mut meter).copied();
+    let neighbour = store.get(7, &mut meter).copied();
+    assert!(rt; make(&rt, &mut store, 8, reshape(&rt, 5)).is_ok());
+    assert_ids(&rt, &store, &[3, 5, 7, 9]);
+    let after = store.get(5, &mut meter).copied();
+    assert!(rt; before.is_some() && after.is_some());
+    let before = before.unwrap();
+    let after = after.unwrap();
+    assert_eq!(rt; (before.version, after.version), (1, 8));
+    assert!(rt; before.shape != after.shape && after.shape == point(&rt, 3, 4));
+    assert!(rt; (before.office, before.class) == (after.office, after.class));
+    assert_eq!(rt; store.get(7, &mut meter).copied(), neighbour);
+    Ok(())
+}
+
+#[test]
+fn deleted(rt: HostRuntime) -> Result<(), Fail> {
+    for (id, left) in [
+        (3, [5, 7, 9]),
+        (5, [3, 7, 9]),
+        (7, [3, 5, 9]),
+        (9, [3, 5, 7]),
+    ] {
+        let mut store = four(&rt, rt.alloc());
+        assert!(rt; make(&rt, &mut store, 2, deletion(id)).is_ok());
+        assert_ids(&rt, &store, &left);
+    }
+    let mut store = four(&rt, rt.alloc());
+    for (id, left) in [(7, 3), (3, 2), (9, 1), (5, 0)] {
+        assert!(rt; make(&rt, &mut store, 2, deletion(id)).is_ok());
+        assert_eq!(rt; store.len(), left);
+    }
+    assert!(rt; store.is_empty());
+    assert!(rt; make(&rt, &mut store, 3, addition(&rt, 1)).is_ok());
+    assert_ids(&rt, &store, &[1]);
+    Ok(())
+}
+
+fn next_random(state: &mut u64) -> u64 {
+    *state = state
+        .wrapping_mul(6_364_136_223_846_793_005)
+        .wrapping_add(1_442_695_040_888_963_407);
+    *state >> 33
+}
+
+// Whether the id is in a plain list, which changes as the store does: in at its place, or out.
+fn toggle<A: Allocator>(rt: &impl Abort, plain: &mut Vec<u64, A>, id: u64) -> bool {
+    match plain.binary_search(&id) {
+        Ok(at) => {
+            plain.remove(at);
+            true
+        }
+        Err(at) => {
+            assert!(rt; plain.insert(at, id).is_ok());
+            false
+        }
+    }
+}
+
+// 5,000 lists of one change at random ids: beside a plain sorted list, the store has the same ids.
+#[test]
+fn as_a_plain_list(rt: HostRuntime) -> Result<(), Fail> {
+    let mut store = Store::new(rt.alloc());
+    let mut plain: Vec<u64> = Vec::new(rt.alloc());
+    let mut state = 7;
+    for version in 1..5_001 {
+        let id = next_random(&mut state) % 200;
+        let was_there = toggle(&rt, &mut plain, id);
+        let change = if was_there {
+            deletion(id)
+        } else {
+            addition(&rt, id)
+        };
+        assert!(rt; make(&rt, &mut store, version, change).is_ok());
+        let other = next_random(&mut state) % 200;
+        if plain.binary_search(&other).is_ok() {
+            assert!(rt; make(&rt, &mut store, version, reshape(&rt, other)).is_ok());
+        }
+        if version % 50 == 0 {
+            assert_ids(&rt, &store, plain.as_slice());
+        }
+    }
+    Ok(())
+}
+
+// A store over this memory in which the ids 5, 6, 8 and 9 fill all room.
+fn full_of_four<A: Allocator + Copy>(rt: &impl Abort, alloc: A) -> Store<A> {
+    let mut store = Store::new(alloc);
+    for id in [5, 6, 8, 9] {
+        assert!(rt; make(rt, &mut store, 1, addition(rt, id)).is_ok());
+    }
+    store
 }
 
 #[test]
 fn each_allocation_refused(rt: HostRuntime) -> Result<(), Fail> {
     let memory = Refusing::new(rt.alloc(), 0);
-    let office = name(&rt, b"north");
     for at in 1..8 {
         memory.refuse(0);
-        let mut store = Store::new(&memory);
-        assert!(rt;
-            store
-                .apply(
-                    1,
-                    office,
-                    &[
-                        addition(&rt, 5),
-                        addition(&rt, 6),
-                        addition(&rt, 8),
-                        addition(&rt, 9)
-                    ]
-                )
-                .is_ok()
-        );
+        let mut store = full_of_four(&rt, &memory);
         memory.refuse(at);
-        let answer = store.apply(2, office, &[addition(&rt, 7), addition(&rt, 3)]);
+        let answer = make(&rt, &mut store, 2, addition(&rt, 7));
         if !memory.has_refused() {
-            assert!(rt; answer.is_ok() && at > 1, "nothing was refused");
+            assert!(rt; answer.is_ok() && at > 3, "each list grows");
             break;
         }
-        assert_eq!(rt; answer, Err(StoreFault::Memory), "at {at}");
-        assert_eq!(rt; store.len(), 4, "at {at}");
+        assert!(rt; matches!(answer, Err(StoreFault::Memory(_))), "at {at}");
+        assert_ids(&rt, &store, &[5, 6, 8, 9]);
         assert!(rt; at < 7, "each allocation was refused");
     }
-    let mut store = Store::new(rt.alloc());
-    assert!(rt; store.apply(1, office, &[addition(&rt, 5)]).is_ok());
-    let mut meter = Meter::new();
+    Ok(())
+}
+
+// Where no memory is to be had, what takes none succeeds.
+#[test]
+fn without_memory(rt: HostRuntime) -> Result<(), Fail> {
+    let memory = Refusing::new(rt.alloc(), 0);
+    let mut store = full_of_four(&rt, &memory);
     memory.refuse(1);
+    assert!(rt; make(&rt, &mut store, 2, reshape(&rt, 6)).is_ok());
+    assert!(rt; make(&rt, &mut store, 3, deletion(5)).is_ok());
+    // The room of what was deleted is taken again.
+    assert!(rt; make(&rt, &mut store, 4, addition(&rt, 1)).is_ok());
+    assert_ids(&rt, &store, &[1, 6, 8, 9]);
+    assert!(rt; Store::new(&memory).is_empty() && !memory.has_refused());
+    let mut meter = Meter::new();
     let rows = store.dump(&memory, &mut meter);
     assert!(rt; rows.is_err() && memory.has_refused());
     assert_eq!(rt; meter.ticks(), 0);
-    memory.refuse(2);
-    assert!(rt; store.dump(&memory, &mut meter).is_ok() && !memory.has_refused());
-    assert_eq!(rt; meter.ticks(), 1);
     Ok(())
 }
 
@@ -165,20 +301,17 @@ fn each_allocation_refused(rt: HostRuntime) -> Result<(), Fail> {
 fn as_many_as_fit(rt: HostRuntime) -> Result<(), Fail> {
     let office = name(&rt, b"north");
     let mut store = Store::new(rt.alloc());
-    let mut meter = Meter::new();
     for id in 0..FEATURE_LIMIT as u64 {
-        // A look-up first, since the store takes only what is not there.
-        if store.get(id, &mut meter).is_none() {
-            assert!(rt; store.apply(1, office, &[addition(&rt, id)]).is_ok());
-        }
+        assert!(rt; make(&rt, &mut store, 1, addition(&rt, id)).is_ok());
     }
     assert_eq!(rt; store.len(), FEATURE_LIMIT);
-    if store.get(u64::MAX, &mut meter).is_none() {
-        assert_eq!(rt;
-            store.apply(2, office, &[addition(&rt, u64::MAX)]),
-            Err(StoreFault::Full)
-        );
-    }
+    assert_eq!(rt;
+        make(&rt, &mut store, 2, addition(&rt, u64::MAX)),
+        Err(StoreFault::Full)
+    );
+    assert_eq!(rt; store.len(), FEATURE_LIMIT);
+    assert!(rt; make(&rt, &mut store, 3, deletion(7)).is_ok());
+    assert!(rt; make(&rt, &mut store, 4, addition(&rt, u64::MAX)).is_ok());
     assert_eq!(rt; store.len(), FEATURE_LIMIT);
     Ok(())
 }

@@ -6,8 +6,6 @@ mod combining_tests;
 #[cfg(test)]
 mod features_tests;
 #[cfg(test)]
-mod node_arena_tests;
-#[cfg(test)]
 mod plane_tests;
 #[cfg(test)]
 mod policy_text_tests;

@@ -242,6 +242,46 @@ fn touching_and_missing(rt: HostRuntime) -> Result<(), Fail> {
     Ok(())
 }
 
+// Equal however they were listed, and unequal where one corner differs or is left out.
+#[test]
+fn equal_shapes(rt: HostRuntime) -> Result<(), Fail> {
+    let triangle = three(at(0, 0), at(4, 0), at(0, 4))?;
+    assert!(rt; triangle == three(at(0, 4), at(0, 0), at(4, 0))?);
+    assert!(rt; triangle == three(at(0, 4), at(4, 0), at(0, 0))?);
+    assert!(rt; triangle != three(at(0, 0), at(4, 0), at(0, 5))?);
+    assert!(rt; triangle != four(at(0, 0), at(4, 0), at(4, 4), at(0, 4))?);
+    let segment = Shape::segment(at(0, 0), at(4, 0))?;
+    assert!(rt; segment == Shape::segment(at(4, 0), at(0, 0))? && segment != triangle);
+    assert!(rt;
+        Shape::point(at(0, 0))? != segment && Shape::point(at(0, 0))? == Shape::point(at(0, 0))?
+    );
+    assert!(rt; frame_of(&triangle) == frame_of(&four(at(0, 0), at(4, 0), at(4, 4), at(0, 4))?));
+    assert!(rt; frame_of(&triangle) != frame_of(&segment) && at(0, 1) != at(1, 0));
+    Ok(())
+}
+
+// A corner of one lies in the other, a side parts them, or neither, at the same frames.
+#[test]
+fn corners_and_sides(rt: HostRuntime) -> Result<(), Fail> {
+    let tilted = four(at(0, -6), at(6, 0), at(0, 6), at(-6, 0))?;
+    let near = four(at(3, 3), at(7, 3), at(7, 7), at(3, 7))?;
+    let far = four(at(4, 3), at(7, 3), at(7, 7), at(4, 7))?;
+    let band = four(at(-9, -1), at(9, -1), at(9, 1), at(-9, 1))?;
+    check_meeting(&rt, &tilted, &near, true);
+    check_meeting(&rt, &tilted, &far, false);
+    check_meeting(&rt, &tilted, &band, true);
+    check_meeting(&rt, &tilted, &Shape::point(at(3, 3))?, true);
+    check_meeting(&rt, &tilted, &Shape::point(at(4, 3))?, false);
+    check_meeting(&rt, &tilted, &Shape::segment(at(0, 7), at(7, 0))?, false);
+    check_meeting(&rt, &tilted, &Shape::segment(at(0, 6), at(7, 0))?, true);
+    // A common point is a corner of the first shape that lies in the second, where there is one.
+    let Some(p) = common_point(&near, &tilted) else {
+        return Err("they meet".into());
+    };
+    assert_eq!(rt; (p.x, p.y, p.w), (3, 3, 1));
+    Ok(())
+}
+
 #[test]
 fn frames(rt: HostRuntime) -> Result<(), Fail> {
     let triangle = frame_of(&three(at(1, 2), at(5, 3), at(2, 7))?);

@@ -11,10 +11,20 @@ same_handle one other slot generation =
     ap (λ a. make a other.generation) slot ∙ ap (make one.slot) generation
 
 -- two handles differ in their slot, or only in their generation
-pub handle_cases : (one other : Handle) → other ≢ one → (other.slot ≢ one.slot) ⊎ ((other.slot ≡ one.slot) × (other.generation ≢ one.generation))
-handle_cases one other differs = elim (cases_eq other.slot one.slot) [
+pub handles_apart : (one other : Handle) → other ≢ one → (other.slot ≢ one.slot) ⊎ ((other.slot ≡ one.slot) × (other.generation ≢ one.generation))
+handles_apart one other differs = elim (cases_eq other.slot one.slot) [
   | inl same ↦ inr (same, λ e. differs (same_handle one other same e))
   | inr apart ↦ inl apart
+]
+
+-- two handles are the same, or differ
+pub handle_cases : (one other : Handle) → (one ≡ other) ⊎ (one ≢ other)
+handle_cases one other = elim (cases_eq one.slot other.slot) [
+  | inl slot ↦ elim (cases_eq one.generation other.generation) [
+    | inl generation ↦ inl (same_handle other one slot generation)
+    | inr differs ↦ inr (λ e. differs (ap (λ (h : Handle). h.generation) e))
+  ]
+  | inr differs ↦ inr (λ e. differs (ap (λ (h : Handle). h.slot) e))
 ]
 
 module _ {T : Type 0} where
@@ -73,7 +83,7 @@ module _ {T : Type 0} where
         had_no_value = held_under-other (slot_at old handle.slot) handle.generation (λ e. omega arith);
         is_used = (omega arith, omega arith);
         has_value = held_under-last (slot_at new handle.slot) handle.generation is ∙ ap (λ slot. slot.1) after;
-        other_values = λ other differs. elim (handle_cases handle other differs) [
+        other_values = λ other differs. elim (handles_apart handle other differs) [
           | inl apart ↦ ap (λ slot. held_under slot other.generation) (others other.slot apart)
           | inr later ↦
               let now : next_generation new other.slot ≡ handle.generation + 1 = ap (next_generation new) later.0 ∙ is in
@@ -88,7 +98,7 @@ module _ {T : Type 0} where
           | inr apart ↦ let same = ap (λ slot. slot.0) (others other.slot apart) in (omega (arith, used.0), omega (arith, used.1))
         ];
         same_first = first;
-        no_others = λ other differs used. elim (handle_cases handle other differs) [
+        no_others = λ other differs used. elim (handles_apart handle other differs) [
           | inl apart ↦ let same = ap (λ slot. slot.0) (others other.slot apart) in (omega (arith, used.0), omega (arith, used.1))
           | inr later ↦
               let was_there = ap (next_generation old) later.0 in
@@ -128,7 +138,7 @@ module _ {T : Type 0} where
       ] in
       record {
         here = held_under-last (slot_at new handle.slot) handle.generation is ∙ ap (λ slot. slot.1) after;
-        other_values = λ other differs. elim (handle_cases handle other differs) [
+        other_values = λ other differs. elim (handles_apart handle other differs) [
           | inl apart ↦ ap (λ slot. held_under slot other.generation) (with_slot-other s handle held other.slot apart)
           | inr later ↦
               let was : next_generation s other.slot ≡ handle.generation + 1 = ap (next_generation s) later.0 ∙ last.0 in

@@ -103,8 +103,8 @@ module _ {T : Type 0} where
             (suc found.0, omega (arith, found.1), found.2)
       ]
 
-  pub IsSize-value_count : (first : ℕ) (slots : List (Slot T)) → let s : Slots T = record { first = first; slots = map seen slots } in IsSize s (value_count s)
-  IsSize-value_count first slots =
+  pub IsSize-value_count : (first places : ℕ) (slots : List (Slot T)) → let s : Slots T = record { first = first; slots = map seen slots; places = places } in IsSize s (value_count s)
+  IsSize-value_count first places slots =
       record {
         handles = handles_from 0 (map seen slots);
         counted = length-handles_from 0 slots;

@@ -9,10 +9,14 @@ use Rattle.std.proofs.lemmas.Option.{slice_get_within, slice_get-get_or, slice_g
 use Rattle.node_arena.specs.declared.handle.Handle.{Handle}
 use Rattle.node_arena.specs.declared.slot.Slot.{Slot}
 use Rattle.node_arena.specs.declared.slot.Slot.TheVariants.{Live, Free, WornOut}
-use Rattle.node_arena.specs.Slots.{last_generation, held_under, is_taken, value_at, IsUsed}
+use Rattle.node_arena.specs.Slots.{Slots, last_generation, held_under, is_taken, value_at, IsUsed}
 use Rattle.node_arena.specs.Slot.{seen, is_free, IsInRange, IsLink, IsChain, IsSound}
 
 module _ {T : Type 0} where
+  -- what a caller sees of slots, apart from room
+  abbrev seen_from : ℕ → List (Slot T) → Slots T
+  seen_from first slots = record { first = first; slots = map seen slots; places = 0 }
+
   -- a link starts one chain at most
   pub IsChain-count_unique : (slots : List (Slot T)) (m n : ℕ) (next : Option ℕ) → IsChain slots m next → IsChain slots n next → m ≡ n
   IsChain-count_unique slots zero zero next p q = refl
@@ -170,7 +174,7 @@ module _ {T : Type 0} where
       }
 
   -- a handle that has a value names a slot with that value
-  pub live_at : (first : ℕ) (slots : List (Slot T)) (handle : Handle) → IsSome (value_at (record { first = first; slots = map seen slots }) handle) → (value : T) × (slice_get slots handle.slot ≡ Some (Live handle.generation value))
+  pub live_at : (first : ℕ) (slots : List (Slot T)) (handle : Handle) → IsSome (value_at (seen_from first slots) handle) → (value : T) × (slice_get slots handle.slot ≡ Some (Live handle.generation value))
   live_at first slots handle present = by_place (cases_lt handle.slot (length slots))
     where
       by_slot : (e : Slot T) → slice_get slots handle.slot ≡ Some e → IsSome (held_under (seen e) handle.generation) → (value : T) × (slice_get slots handle.slot ≡ Some (Live handle.generation value))
@@ -188,7 +192,7 @@ module _ {T : Type 0} where
       by_place (inr past) = absurd (grind (arith, nat_tests, get_or_past (map seen slots) handle.slot (first, None) (omega (arith, length-map slots seen))))
 
   -- and it is used
-  pub used_from_value : (first : ℕ) (slots : List (Slot T)) (live free : ℕ) (next : Option ℕ) → IsSound first slots live free next → (handle : Handle) → IsSome (value_at (record { first = first; slots = map seen slots }) handle) → IsUsed (record { first = first; slots = map seen slots }) handle
+  pub used_from_value : (first : ℕ) (slots : List (Slot T)) (live free : ℕ) (next : Option ℕ) → IsSound first slots live free next → (handle : Handle) → IsSome (value_at (seen_from first slots) handle) → IsUsed (seen_from first slots) handle
   used_from_value first slots live free next sound handle present =
       let found = live_at first slots handle present in
       let range = in_range_at first slots handle.slot _ live free next sound found.1 in

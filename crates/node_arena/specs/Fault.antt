@@ -5,4 +5,4 @@ use Rattle.node_arena.specs.declared.fault.ArenaFault.TheVariants.{Full, Memory}
 -- the code that stands for a fault
 abbrev pub code_of : ArenaFault → List ℕ
 code_of Full = codes "A1"
-code_of Memory = codes "A2"
+code_of (Memory refused) = codes "A2"

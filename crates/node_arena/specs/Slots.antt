@@ -3,20 +3,21 @@ use Rattle.std.specs.Prelude.{◌≡◌, ◌≢◌, ◌↔◌, ℕ, Bool, ◌+�
 use Rattle.std.specs.Coded.{Coded, code_by, coded×, coded_ℕ, coded_list, coded_option}
 use Rattle.node_arena.specs.declared.handle.Handle.{Handle}
 
--- each slot that was ever given out, with the generation that it gives out next and its value, and the
--- generation at which a slot starts
+-- each slot that was ever given out, with the generation that it gives out next and its value, the
+-- generation at which a slot starts, and how many slots there is memory for
 pub record Slots (T : Type 0) : Type 0 where
   pub first : ℕ
   pub slots : List (ℕ × Option T)
+  pub places : ℕ
 
--- the slots are stored as the pair of the fields
+-- the slots are stored as the tuple of the fields
 abbrev pub slots_code : {T : Type 0} → Coded T → Coded (Slots T)
 slots_code {T} code =
     code_by
-    (ℕ × List (ℕ × Option T))
-    (coded× coded_ℕ (coded_list (coded× coded_ℕ (coded_option code))))
-    (λ s. (s.first, s.slots))
-    (λ p. record { first = p.0; slots = p.1 })
+    (ℕ × (List (ℕ × Option T) × ℕ))
+    (coded× coded_ℕ (coded× (coded_list (coded× coded_ℕ (coded_option code))) coded_ℕ))
+    (λ s. (s.first, (s.slots, s.places)))
+    (λ p. record { first = p.0; slots = p.1.0; places = p.1.1 })
     (λ _. refl)
 
 -- the highest generation
@@ -68,9 +69,17 @@ module _ {T : Type 0} where
   abbrev pub taken_count : Slots T → ℕ
   taken_count s = count_by is_taken s.slots
 
+  -- so many more values find a slot with no more memory, and before `MAX_SLOTS` are taken
+  abbrev pub HasRoomFor : Slots T → ℕ → Type 0
+  HasRoomFor s more = taken_count s + more ≤ s.places
+
+  -- the same values, used handles and counts. There may be memory for another number of slots
+  abbrev pub SameButRoom : Slots T → Slots T → Type 0
+  SameButRoom old new = new ≡ record old { places = new.places }
+
   -- nothing was given out yet, and each slot starts at this generation
   abbrev pub empty_from : ℕ → Slots T
-  empty_from generation = record { first = generation; slots = [] }
+  empty_from generation = record { first = generation; slots = []; places = 0 }
 
   -- the slot of a handle has this value or none, and was given out up to the handle
   abbrev pub with_slot : Slots T → Handle → Option T → Slots T

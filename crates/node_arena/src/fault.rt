@@ -1,26 +1,37 @@
 ghost use Rattle.std.specs.Prelude.{◌≡◌, Some};
 ghost use Rattle.node_arena.specs.Fault.{code_of};
 
+use memory::Refused;
 use std::error::Error;
 use std::fmt;
 
 /// Why an arena took no value.
-#[derive(Clone, Copy, Debug, PartialEq, Eq)]
+#[derive(Debug, Drop, PartialEq, Eq)]
 pub enum ArenaFault {
     /// A1: each slot that an arena may have holds a value or is worn out.
     Full,
     /// A2: no slot was free, and there was no memory for one more.
-    Memory,
+    Memory(Refused),
+}
+
+impl From<Refused> for ArenaFault {
+    ghost use Rattle.node_arena.specs.declared.fault.ArenaFault.TheVariants.{Memory};
+
+    ghost from_gives = { λ refused fault. fault ≡ Memory refused };
+
+    fn from(refused: Refused) -> ArenaFault {
+        ArenaFault::Memory(refused)
+    }
 }
 
 impl ArenaFault {
     /// The code that stands for the fault: `A1` or `A2`.
-    pub fn code(self) -> &'static str
-        ensures { result.now ≡ code_of self }
+    pub fn code(&self) -> &'static str
+        ensures { result.now ≡ code_of self.now }
     {
         match self {
             ArenaFault::Full => "A1",
-            ArenaFault::Memory => "A2",
+            ArenaFault::Memory(_) => "A2",
         }
     }
 }

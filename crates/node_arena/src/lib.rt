@@ -1,24 +1,31 @@
 //! Values under handles that are never given twice.
 #![tactic(auto)]
 
-ghost use Rattle.std.specs.Prelude.{◌≡◌, ◌↔◌, ℕ, ◌+◌, ◌<◌, ◌≤◌, ◌==◌, IsTrue, IsSome, OnErr, OnSome, IfOk, IfErr, IfNone, None, Some, option_copied, if◌then◌else◌};
+ghost use Rattle.std.specs.Prelude.{◌≡◌, ◌↔◌, ℕ, ◌+◌, ◌<◌, ◌≤◌, ◌==◌, IsTrue, IsSome, IsOk, OnOk, OnErr, OnSome, IfOk, IfErr, IfNone, None, Some, option_copied, if◌then◌else◌};
 ghost use Rattle.std.specs.Option.{option_copied_mut};
 ghost use Rattle.std.specs.Borrow.{sem};
-ghost use Rattle.node_arena.specs.Slots.{last_generation, slot_at, next_generation, value_at, IsUsed, value_count, IsSize, slot_count, taken_count, empty_from, with_slot, with_value, IsEmpty, IsGiven, CountsGiven, IsChangedAt, SameCounts};
+ghost use Rattle.node_arena.specs.Slots.{last_generation, slot_at, next_generation, value_at, IsUsed, value_count, IsSize, slot_count, taken_count, HasRoomFor, SameButRoom, empty_from, with_slot, with_value, IsEmpty, IsGiven, CountsGiven, IsChangedAt, SameCounts};
+ghost use Rattle.memory.specs.Refused.{refused};
 
+use memory::GrowVec;
 use slot::Slot;
 use std::alloc::Allocator;
 use std::marker::Model;
 
 mod fault;
 mod handle;
+mod laws;
 mod slot;
 
 pub use fault::ArenaFault;
 pub use handle::Handle;
+pub use laws::map_laws;
 
 /// How many slots an arena has at most.
 pub const MAX_SLOTS: u32 = 1_048_576;
+
+/// How many values `reserve` makes room for at most.
+pub const MOST_RESERVED: u32 = 4_096;
 
 /// A map from handles to values. `insert` picks the handle, and gives no handle twice in the life of the arena.
 ///
@@ -36,8 +43,9 @@ pub struct Arena<T, A: Allocator> {
 }
 
 impl<T, A: Allocator> Model for Arena<T, A> {
-    ghost use Rattle.std.specs.Prelude.{map};
+    ghost use Rattle.std.specs.Prelude.{map, min, vec_capacity};
     ghost use Rattle.node_arena.specs.Slots.{Slots, slots_code};
+    ghost use Rattle.node_arena.specs.declared.TheConstants.{MAX_SLOTS};
 
     ghost Value = { Slots T };
 
@@ -45,7 +53,11 @@ impl<T, A: Allocator> Model for Arena<T, A> {
 
     ghost use Rattle.node_arena.specs.Slot.{seen, IsSound};
 
-    ghost view = { λ a. record { first = a.first; slots = map seen a.slots.items } };
+    ghost view = { λ a. record {
+      first = a.first;
+      slots = map seen a.slots.items;
+      places = min (vec_capacity a.slots) MAX_SLOTS;
+    } };
 
     ghost invariant = { λ a. IsSound a.first a.slots.items a.live a.free a.next_free };
 }
@@ -55,7 +67,7 @@ impl<T, A: Allocator> Arena<T, A> {
 
     /// An arena with no value, which takes no memory until the first `insert`.
     pub fn new(alloc: A) -> Self
-        ensures value { result ≡ empty_from 0 }
+        ensures value { SameButRoom (empty_from 0) result }
         ensures empty { IsEmpty result }
     {
         Self::starting_at(alloc, 0)
@@ -63,7 +75,7 @@ impl<T, A: Allocator> Arena<T, A> {
 
     /// The same, where each slot begins at `generation` in place of 0. It is for tests of what comes at the last generations.
     pub fn starting_at(alloc: A, generation: u32) -> Self
-        ensures value { result ≡ empty_from generation }
+        ensures value { SameButRoom (empty_from generation) result }
         ensures empty { IsEmpty result }
     {
         Arena {
@@ -147,7 +159,28 @@ impl<T, A: Allocator> Arena<T, A> {
         }
     }
 
-    /// Puts `value` under a handle that was not used. It takes memory only where no slot is free.
+    /// Makes room for `more` values, so that so many calls of `insert` take no memory and cannot fail.
+    ///
+    /// Where that is not possible nothing changes: it answers A1 where fewer than `more` values fit below `MAX_SLOTS`, and A2 where there was no memory for the slots.
+    pub fn reserve(&mut self, more: u32) -> Result<(), ArenaFault>
+        requires { more ≤ MOST_RESERVED }
+        ensures ok { OnOk result (HasRoomFor self.new more) }
+        ensures rest_kept { SameButRoom self.old self.new }
+        ensures places { self.old.places ≤ self.new.places }
+        ensures full { (result ≡ Err ArenaFault.Full) ↔ (MAX_SLOTS < taken_count self.old + more) }
+        ensures memory_only_where_room_was_missing { result ≡ Err (ArenaFault.Memory refused) → self.old.places < taken_count self.old + more }
+        ensures err { OnErr result (self.new ≡ self.old) }
+    {
+        if !self.has_room(more) {
+            return Err(ArenaFault::Full);
+        }
+        if more > self.free {
+            self.slots.make_places((more - self.free) as usize)?;
+        }
+        Ok(())
+    }
+
+    /// Puts `value` under a handle that was not used. It takes memory only where no slot is free, and none where `reserve` made room.
     ///
     /// Where that is not possible it hands the value back: with A1 where `MAX_SLOTS` slots hold a value or are worn out, and with A2 where no slot is free and there was no memory for one more.
     pub fn insert(&mut self, value: T) -> Result<Handle, (T, ArenaFault)>
@@ -157,9 +190,14 @@ impl<T, A: Allocator> Arena<T, A> {
         // A free slot comes before one that was never given out.
         ensures reuses { taken_count self.old < slot_count self.old → IfOk result (λ handle. handle.slot < slot_count self.old) }
         ensures full { (result ≡ Err (value, ArenaFault.Full)) ↔ (taken_count self.old ≡ MAX_SLOTS) }
-        ensures memory_only_where_none_is_free { result ≡ Err (value, ArenaFault.Memory) → taken_count self.old ≡ slot_count self.old }
+        ensures memory_only_where_none_is_free { result ≡ Err (value, ArenaFault.Memory refused) → taken_count self.old ≡ slot_count self.old }
         ensures value_returned { IfErr result (λ refused. refused.0 ≡ value) }
         ensures err { OnErr result (self.new ≡ self.old) }
+
+        // Where there is room it cannot fail, and takes no memory.
+        ensures certain { HasRoomFor self.old 1 → IsOk result }
+        ensures room_kept { HasRoomFor self.old 1 → self.new.places ≡ self.old.places }
+        ensures places { self.old.places ≤ self.new.places }
     {
         if self.free > 0 {
             return Ok(self.fill(value));
@@ -167,8 +205,10 @@ impl<T, A: Allocator> Arena<T, A> {
         if self.slots.len() == MAX_SLOTS as usize {
             return Err((value, ArenaFault::Full));
         }
-        if self.slots.reserve(1).is_err() {
-            return Err((value, ArenaFault::Memory));
+        if self.slots.len() == self.slots.capacity() {
+            if let Err(refused) = self.slots.make_place() {
+                return Err((value, ArenaFault::Memory(refused)));
+            }
         }
         let handle = Handle {
             slot: self.slots.len() as u32,
@@ -191,6 +231,7 @@ impl<T, A: Allocator> Arena<T, A> {
         // The slot is free from then on, or worn out where that was its last generation.
         ensures taken { OnSome result (taken_count self.new + (if handle.generation == last_generation then 0 else 1) ≡ taken_count self.old) }
         ensures slots { slot_count self.new ≡ slot_count self.old }
+        ensures places { self.new.places ≡ self.old.places }
         ensures none { IfNone result (self.new ≡ self.old) }
     {
         if !self.contains(handle) {

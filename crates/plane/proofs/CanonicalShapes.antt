@@ -1,5 +1,5 @@
 -- The corners that listed points have are a canonical shape.
-use Rattle.std.specs.Prelude.{◌≡◌, ◌-◌, ◌≤◌, not, cond, Bool, true, false, List, [], ◌∷◌, All, length, take, reverse, nat_lt, Result, Ok, Err, refl}
+use Rattle.std.specs.Prelude.{◌≡◌, ◌-◌, ◌≤◌, not, cond, Bool, true, false, List, [], ◌∷◌, All, length, take, reverse, nat_lt, Result, Ok, Err, pos, ℤ, ◌≤ℤ◌, refl}
 use Rattle.std.specs.List.{list_all}
 use Rattle.std.proofs.Common.{arith, sym, subst, ◌∙◌, ⊎_elim, length-take-le}
 use Rattle.std.proofs.lemmas.Bool.{true≢false, false≢true, false_from_ne_true, ltb-false}
@@ -7,11 +7,13 @@ use Rattle.std.proofs.lemmas.List.Elements.{All-nil, All-cons, All-head, All-tai
 use Rattle.plane.specs.Canonical.{point_of, in_order, segment_of, corners_of, ring_of, polygon_of, IsCanonical}
 use Rattle.plane.specs.Convex.{IsConvexRing}
 use Rattle.plane.specs.Points.{IsInRange, is_in_range, is_same, is_before}
-use Rattle.plane.specs.Rings.{first_of, last_of, has_repeat, is_flat, goes_left, from_least, turning_points}
+use Rattle.plane.specs.Rings.{turn, first_of, last_of, has_repeat, is_flat, goes_left, from_least, turning_points}
 use Rattle.plane.proofs.Least.{not_before, one_precedes}
 use Rattle.plane.proofs.RingTests.{decides_all, decides_in_range, decides_same, convex_if}
 use Rattle.plane.proofs.Rings.{convex_canonical}
 use Rattle.plane.proofs.Rotations.{reversed_if}
+use Rattle.std.proofs.lemmas.Int.{ints}
+use Rattle.plane.proofs.Turns.{turn-cycle, turn_back, turn_nowhere}
 use Rattle.plane.specs.declared.point.Point.{Point}
 use Rattle.plane.specs.declared.fault.ShapeFault.{ShapeFault}
 use Rattle.plane.specs.declared.fault.ShapeFault.TheVariants.{OutOfRange, SameEnds, TooManyPoints, TooFew, NotClosed, Repeated, Flat, NotConvex, TooManyCorners}
@@ -56,6 +58,9 @@ point_canonical p corners h =
     let inside = if_ok (is_in_range p) (done (p ∷ [])) OutOfRange corners h in
     subst IsCanonical (done_is (p ∷ []) corners inside.1) (alone inside.0)
   where
+    none : (a : ℤ) → a ≡ pos 0 → pos 0 ≤ℤ a
+    none a e = omega (arith, ints)
+
     alone : is_in_range p ≡ true → IsCanonical (p ∷ [])
     alone e = record {
       in_range = All-cons IsInRange p [] ((decides_in_range p).0 e) (All-nil IsInRange);
@@ -63,12 +68,14 @@ point_canonical p corners h =
       at_most = omega arith;
       first_least = All-nil _;
       listed = passes_point (is_in_range p) (done (p ∷ [])) OutOfRange e;
+      left = All-cons (λ side. All (λ r. pos 0 ≤ℤ turn side.0 side.1 r) (p ∷ [])) (p, p) [] (All-cons (λ r. pos 0 ≤ℤ turn p p r) p [] (none _ (turn_nowhere p p)) (All-nil _)) (All-nil _);
+      turn_left = λ three. absurd (omega (arith, three));
     }
 
 -- ---- segments
 
 -- two points that differ, the second of which is not before the first
-ordered_canonical : (p q : Point) → IsInRange p → IsInRange q → is_same p q ≡ false → is_before q p ≡ false → IsCanonical (p ∷ q ∷ [])
+pub ordered_canonical : (p q : Point) → IsInRange p → IsInRange q → is_same p q ≡ false → is_before q p ≡ false → IsCanonical (p ∷ q ∷ [])
 ordered_canonical p q p_in q_in differ order = record {
   in_range = both;
   not_empty = omega arith;
@@ -76,10 +83,22 @@ ordered_canonical p q p_in q_in differ order = record {
   first_least = All-cons (λ r. is_before r p ≡ false) q [] order (All-nil _);
   listed = passes_segment (list_all is_in_range (p ∷ q ∷ [])) (is_same p q) (is_before q p) (q ∷ p ∷ []) (p ∷ q ∷ []) SameEnds OutOfRange
       ((decides_all is_in_range IsInRange decides_in_range (p ∷ q ∷ [])).1 both) differ order;
+  left = All-cons (λ side. All (λ r. pos 0 ≤ℤ turn side.0 side.1 r) (p ∷ q ∷ [])) (p, q) ((q, p) ∷ []) (ends p q (none _ (turn_back p q)) (none _ (turn_end p q)))
+      (All-cons (λ side. All (λ r. pos 0 ≤ℤ turn side.0 side.1 r) (p ∷ q ∷ [])) (q, p) [] (ends q p (none _ (turn_end q p)) (none _ (turn_back q p))) (All-nil _));
+  turn_left = λ three. absurd (omega (arith, three));
 }
   where
     both : All IsInRange (p ∷ q ∷ [])
     both = All-cons IsInRange p (q ∷ []) p_in (All-cons IsInRange q [] q_in (All-nil IsInRange))
+
+    none : (a : ℤ) → a ≡ pos 0 → pos 0 ≤ℤ a
+    none a e = omega (arith, ints)
+
+    turn_end : (a b : Point) → turn a b b ≡ pos 0
+    turn_end a b = turn-cycle a b b ∙ turn-cycle b b a ∙ turn_back b a
+
+    ends : (a b : Point) → pos 0 ≤ℤ turn a b p → pos 0 ≤ℤ turn a b q → All (λ r. pos 0 ≤ℤ turn a b r) (p ∷ q ∷ [])
+    ends a b h k = All-cons (λ r. pos 0 ≤ℤ turn a b r) p (q ∷ []) h (All-cons (λ r. pos 0 ≤ℤ turn a b r) q [] k (All-nil _))
 
 same_either_way : (p q : Point) → is_same p q ≡ false → is_same q p ≡ false
 same_either_way p q e = false_from_ne_true _ (λ f. false≢true (sym e ∙ (decides_same p q).1 (sym ((decides_same q p).0 f))))
@@ -87,6 +106,9 @@ same_either_way p q e = false_from_ne_true _ (λ f. false≢true (sym e ∙ (dec
 -- of two points one is not before the other
 after_first : (p q : Point) → is_before q p ≡ true → is_before p q ≡ false
 after_first p q e = ⊎_elim (λ h. absurd (true≢false (sym e ∙ not_before p q h))) (λ h. not_before q p h) (one_precedes p q)
+
+pub reordered_canonical : (p q : Point) → IsInRange p → IsInRange q → is_same p q ≡ false → is_before q p ≡ true → IsCanonical (q ∷ p ∷ [])
+reordered_canonical p q p_in q_in differ order = ordered_canonical q p q_in p_in (same_either_way p q differ) (after_first p q order)
 
 ordered : (p q : Point) → IsInRange p → IsInRange q → is_same p q ≡ false → IsCanonical (in_order p q)
 ordered p q p_in q_in differ = go (is_before q p) refl

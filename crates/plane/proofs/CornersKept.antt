@@ -69,7 +69,7 @@ first_differs : (end p : Point) (rest : List Point) → StepsDiffer end p rest �
 first_differs end p [] h e = h e
 first_differs end p (q ∷ rest) h e = h.0 e
 
-next_among : (points rest : List Point) (end : Point) → ((P : Point → Type 0) → All P points → All P rest) → ((P : Point → Type 0) → All P points → P end)
+pub next_among : (points rest : List Point) (end : Point) → ((P : Point → Type 0) → All P points → All P rest) → ((P : Point → Type 0) → All P points → P end)
     → (P : Point → Type 0) → All P points → P (next rest end)
 next_among points [] end among end_among P all = end_among P all
 next_among points (q ∷ rest) end among end_among P all = All-head P q rest (among P all)

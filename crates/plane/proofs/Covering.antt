@@ -49,7 +49,7 @@ bottom_row x y w c h = omega (arith, ints, flipped c w)
 row_bottom : (x y w c : ℤ) → (w *ℤ c) ≤ℤ y → (pos 0 *ℤ x +ℤ negsuc 0 *ℤ y) ≤ℤ (neg_ℤ c *ℤ w)
 row_bottom x y w c h = omega (arith, ints, flipped c w)
 
-rows_between : (x y w : ℤ) (e : Extent) → All (Satisfies x y w) (frame_rows e) → LiesBetween x y w e
+pub rows_between : (x y w : ℤ) (e : Extent) → All (Satisfies x y w) (frame_rows e) → LiesBetween x y w e
 rows_between x y w e all = record {
   right = right_row x y w e.x1 (all 0 (row_of e) (omega arith));
   left = left_row x y w e.x0 (all 1 (row_of e) (omega arith));
@@ -63,7 +63,7 @@ rows_between x y w e all = record {
 four : (P : Row → Type 0) (a b c d : Row) → P a → P b → P c → P d → All P (a ∷ b ∷ c ∷ d ∷ [])
 four P a b c d h k l m = All-cons P a (b ∷ c ∷ d ∷ []) h (All-cons P b (c ∷ d ∷ []) k (All-cons P c (d ∷ []) l (All-cons P d [] m (All-nil P))))
 
-between_rows : (x y w : ℤ) (e : Extent) → LiesBetween x y w e → All (Satisfies x y w) (frame_rows e)
+pub between_rows : (x y w : ℤ) (e : Extent) → LiesBetween x y w e → All (Satisfies x y w) (frame_rows e)
 between_rows x y w e h = four (Satisfies x y w) _ _ _ _ (row_right x y w e.x1 h.right) (row_left x y w e.x0 h.left) (row_top x y w e.y1 h.top) (row_bottom x y w e.y0 h.bottom)
 
 weak : (w : ℤ) → pos 0 <ℤ w → pos 0 ≤ℤ w
@@ -83,7 +83,7 @@ covers_if e f xs ys = λ x y w above all. between_rows x y w e (wider x y w abov
     }
 
 -- a whole point of the extent
-at_point : (x y : ℤ) (e : Extent) → e.x0 ≤ℤ x → x ≤ℤ e.x1 → e.y0 ≤ℤ y → y ≤ℤ e.y1 → LiesBetween x y (pos 1) e
+pub at_point : (x y : ℤ) (e : Extent) → e.x0 ≤ℤ x → x ≤ℤ e.x1 → e.y0 ≤ℤ y → y ≤ℤ e.y1 → LiesBetween x y (pos 1) e
 at_point x y e a b c d = record { right = one_high x e.x1 b; left = one_low x e.x0 a; top = one_high y e.y1 d; bottom = one_low y e.y0 c }
   where
     one_high : (x c : ℤ) → x ≤ℤ c → x ≤ℤ (pos 1 *ℤ c)

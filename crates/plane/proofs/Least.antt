@@ -20,7 +20,7 @@ use Rattle.plane.proofs.Turns.{order_cases, from_middle, on_one_line, same_point
 use Rattle.plane.specs.declared.point.Point.{Point}
 
 -- p is q, or has the lesser x, or at the same x the lesser y
-pub Precedes : Point → Point → Type 0
+unfoldable pub Precedes : Point → Point → Type 0
 Precedes p q = (p.x <ℤ q.x) ⊎ ((p.x ≡ q.x) × (p.y ≤ℤ q.y))
 
 pub precedes_itself : (p : Point) → Precedes p p

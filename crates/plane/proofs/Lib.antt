@@ -2,6 +2,7 @@ pub mod CanonicalShapes
 pub mod CornersKept
 pub mod Covering
 pub mod Frames
+pub mod Hulls
 pub mod Least
 pub mod Narrowing
 pub mod Orders

@@ -10,15 +10,15 @@ use Rattle.std.proofs.lemmas.List.Folds.{list_all_at}
 use Rattle.std.proofs.lemmas.List.Sums.{position_or_len_is}
 use Rattle.std.proofs.Math.Seq.{take-append_seam, drop-append_seam}
 use Rattle.plane.specs.Canonical.{IsCanonical, ring_of, corners_of}
-use Rattle.plane.specs.Convex.{Differ, AreOnOrLeft, IsConvexRing}
+use Rattle.plane.specs.Convex.{Differ, AreOnOrLeft, TurnsLeft, IsConvexRing}
 use Rattle.plane.specs.Places.{IsKept}
 use Rattle.plane.specs.Points.{IsInRange, is_in_range, is_same, is_before, origin}
 use Rattle.plane.specs.Rings.{turn, last_of, sides_to, is_on_line, is_least, is_flat, from_least, turning, turning_points}
-use Rattle.plane.proofs.CornersKept.{AreCorners, StepsDiffer, TurnsAtEach, last, next, last_of-last, turning_all, corners_after, at_once, left_of_way}
+use Rattle.plane.proofs.CornersKept.{next_among, AreCorners, StepsDiffer, TurnsAtEach, last, next, last_of-last, turning_all, corners_after, at_once, left_of_way}
 use Rattle.plane.proofs.Least.{Precedes, not_before, StartsLeast, decides_least, from_least-starts, turns_at_least}
 use Rattle.plane.proofs.RingTests.{decides_all, decides_in_range, decides_same, decides_line, decides_goes_left, repeats_not}
 use Rattle.plane.proofs.Rotations.{from_least_convex}
-use Rattle.plane.proofs.Turns.{turn-cycle, turn_back, turn_nowhere}
+use Rattle.plane.proofs.Turns.{order_cases, turn-cycle, turn_back, turn_nowhere}
 use Rattle.plane.specs.declared.point.Point.{Point}
 use Rattle.plane.specs.declared.fault.ShapeFault.{ShapeFault}
 use Rattle.plane.specs.declared.fault.ShapeFault.TheVariants.{TooManyCorners}
@@ -101,6 +101,28 @@ record IsCornerRing (p x y : Point) (more : List Point) : Type 0 where
   left : AreOnOrLeft (sides_to p (p ∷ x ∷ y ∷ more)) (p ∷ x ∷ y ∷ more)
   turns : TurnsAtEach (last p (x ∷ y ∷ more)) p (p ∷ x ∷ y ∷ more)
 
+-- a way of points that turns at each of them, each of which is on or left of every side, turns left at each
+turns_left : (points : List Point) (end before : Point) (rest : List Point) → TurnsAtEach before end rest → AreOnOrLeft (sides_to end (before ∷ rest)) points
+    → ((P : Point → Type 0) → All P points → All P rest) → ((P : Point → Type 0) → All P points → P end) → TurnsLeft before end rest
+turns_left points end before [] turns left among end_among = tt
+turns_left points end before (p ∷ rest) turns left among end_among = (
+  above _ (next_among points rest end (λ P all. All-tail P p rest (among P all)) end_among (λ r. pos 0 ≤ℤ turn before p r) (All-head (λ side. All (λ r. pos 0 ≤ℤ turn side.0 side.1 r) points) (before, p) (sides_to end (p ∷ rest)) left)) turns.0,
+  turns_left points end p rest turns.1 (All-tail (λ side. All (λ r. pos 0 ≤ℤ turn side.0 side.1 r) points) (before, p) (sides_to end (p ∷ rest)) left) (λ P all. All-tail P p rest (among P all)) end_among,
+)
+  where
+    above : (a : ℤ) → pos 0 ≤ℤ a → (a ≡ pos 0 → ⊥) → pos 0 <ℤ a
+    above a h apart = order_cases a (pos 0) _ (λ low. absurd (apart (even low))) (λ gt. gt)
+      where
+        even : a ≤ℤ pos 0 → a ≡ pos 0
+        even low = omega (arith, ints)
+
+corners_turn_left : (p x y : Point) (more : List Point) → IsCornerRing p x y more → TurnsLeft (last p (x ∷ y ∷ more)) p (p ∷ x ∷ y ∷ more)
+corners_turn_left p x y more h =
+    turns_left (p ∷ x ∷ y ∷ more) p (last p (x ∷ y ∷ more)) (p ∷ x ∷ y ∷ more) h.turns
+    (All-cons (λ side. All (λ r. pos 0 ≤ℤ turn side.0 side.1 r) (p ∷ x ∷ y ∷ more)) (last p (x ∷ y ∷ more), p) (sides_to p (p ∷ x ∷ y ∷ more))
+    (last_side (λ side. All (λ r. pos 0 ≤ℤ turn side.0 side.1 r) (p ∷ x ∷ y ∷ more)) p p (x ∷ y ∷ more) h.left) h.left)
+    (λ P all. all) (λ P all. All-head P p (x ∷ y ∷ more) all)
+
 starts_least : (p x y : Point) (more : List Point) → IsCornerRing p x y more → from_least (p ∷ x ∷ y ∷ more) ≡ p ∷ x ∷ y ∷ more
 starts_least p x y more h =
     ap (λ n. drop n (p ∷ x ∷ y ∷ more) ++ take n (p ∷ x ∷ y ∷ more))
@@ -144,6 +166,8 @@ corner_ring_canonical p x y more h = record {
       ∙ ap ring_of (without_last (p ∷ x ∷ y ∷ more) p)
       ∙ passes_ring _ _ _ _ _ _ _ (repeats_not (p ∷ x ∷ y ∷ more) h.differ) (not_flat p x y more h) ((decides_goes_left (p ∷ x ∷ y ∷ more)).1 h.left)
       ∙ same_corners p x y more h;
+  left = h.left;
+  turn_left = λ _. subst (λ before. TurnsLeft before p (p ∷ x ∷ y ∷ more)) (sym (last_of-last p (x ∷ y ∷ more))) (corners_turn_left p x y more h);
 }
 
 -- ---- the corners of a ring that starts with its least point

@@ -16,7 +16,7 @@ pub turn-along : (c p q r : Point) → turn c q r ≡ turn c p r +ℤ turn p q r
 turn-along c p q r =
     rw (parts c.x, parts c.y, parts p.x, parts p.y, parts q.x, parts q.y, parts r.x, parts r.y) (simp (diff-mul, diff-sub, diff-add) (same-diff _ _ _ _ (omega arith)))
 
-cross-products : (a b c d e f g h : ℤ)
+pub cross-products : (a b c d e f g h : ℤ)
     → (c *ℤ f -ℤ d *ℤ e) *ℤ (a *ℤ h -ℤ b *ℤ g) +ℤ (a *ℤ d -ℤ b *ℤ c) *ℤ (e *ℤ h -ℤ f *ℤ g) ≡ (a *ℤ f -ℤ b *ℤ e) *ℤ (c *ℤ h -ℤ d *ℤ g)
 cross-products a b c d e f g h =
     rw (parts a, parts b, parts c, parts d, parts e, parts f, parts g, parts h) (simp (diff-mul, diff-sub, diff-add) (same-diff _ _ _ _ (omega arith)))

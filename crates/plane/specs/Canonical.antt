@@ -1,8 +1,9 @@
 -- The canonical shape of a list of listed points, or its first fault.
 use Rattle.std.specs.Prelude.{◌≡◌, ◌-◌, ◌≤◌, not, List, [], ◌∷◌, ◌++◌, length, take, reverse, All, if◌then◌else◌, nat_lt, Result, Ok, Err}
 use Rattle.std.specs.List.{list_all}
+use Rattle.plane.specs.Convex.{AreOnOrLeft, TurnsLeft}
 use Rattle.plane.specs.Points.{IsInRange, IsFirstLeast, is_in_range, is_same, is_before}
-use Rattle.plane.specs.Rings.{first_of, last_of, has_repeat, is_flat, goes_left, from_least, turning_points}
+use Rattle.plane.specs.Rings.{first_of, last_of, sides, has_repeat, is_flat, goes_left, from_least, turning_points}
 use Rattle.plane.specs.declared.point.Point.{Point}
 use Rattle.plane.specs.declared.fault.ShapeFault.{ShapeFault}
 use Rattle.plane.specs.declared.fault.ShapeFault.TheVariants.{OutOfRange, SameEnds, TooManyPoints, TooFew, NotClosed, Repeated, Flat, NotConvex, TooManyCorners}
@@ -52,10 +53,13 @@ listed_shape (p ∷ []) = point_of p
 listed_shape (p ∷ q ∷ []) = segment_of p q
 listed_shape (p ∷ q ∷ r ∷ rest) = polygon_of ((p ∷ q ∷ r ∷ rest) ++ p ∷ [])
 
--- what every shape's corners are: 1 to 16 in range, from the least one on, and the canonical shape of the points by which they are listed
+-- what every shape's corners are: 1 to 16 in range, from the least one on, the canonical shape of the points by which they are listed,
+-- each on or left of every side, and, where they are three or more, turning left at each of them
 pub record IsCanonical (corners : List Point) : Type 0 where
   pub in_range : All IsInRange corners
   pub not_empty : 1 ≤ length corners
   pub at_most : length corners ≤ 16
   pub first_least : IsFirstLeast corners
   pub listed : listed_shape corners ≡ Ok corners
+  pub left : AreOnOrLeft (sides corners) corners
+  pub turn_left : 3 ≤ length corners → TurnsLeft (last_of corners) (first_of corners) corners

@@ -1,5 +1,5 @@
 -- Rings that go round a convex polygon.
-use Rattle.std.specs.Prelude.{◌≡◌, ◌≤◌, List, [], ◌∷◌, length, All, pos, ◌≤ℤ◌}
+use Rattle.std.specs.Prelude.{◌≡◌, ◌≤◌, List, [], ◌∷◌, length, All, slice_index_or, pos, ◌≤ℤ◌, ◌<ℤ◌}
 use Rattle.plane.specs.Points.{IsInRange}
 use Rattle.plane.specs.Rings.{turn, sides}
 use Rattle.plane.specs.declared.point.Point.{Point}
@@ -16,6 +16,11 @@ AreOnOneLine points = All (λ p. All (λ q. All (λ r. turn p q r ≡ pos 0) poi
 -- each of the points is on or left of each of the sides
 abbrev pub AreOnOrLeft : List (Point × Point) → List Point → Type 0
 AreOnOrLeft ways points = All (λ side. All (λ r. pos 0 ≤ℤ turn side.0 side.1 r) points) ways
+
+-- at each point the way turns left; it comes to the first point from `before`, and goes on from the last one to `after`
+abbrev pub TurnsLeft : Point → Point → List Point → Type 0
+TurnsLeft before after [] = Unit {0}
+TurnsLeft before after (p ∷ rest) = (pos 0 <ℤ turn before p (slice_index_or rest 0 after)) × TurnsLeft p after rest
 
 -- 3 to 63 points in range, no two alike, not all on one line, each on or left of every side
 pub record IsConvexRing (ring : List Point) : Type 0 where

@@ -3,6 +3,7 @@ pub mod Canonical
 pub mod Convex
 pub mod Coordinates
 pub mod Elimination
+pub mod Equality
 pub mod Extents
 pub mod FaultCodes
 pub mod Places

@@ -40,6 +40,10 @@ goes_left ring = list_all (λ side. list_all (is_on_or_left side) ring) (sides r
 abbrev pub is_flat : List Point → Bool
 is_flat ring = list_all (λ side. list_all (is_on_line side) ring) (sides ring)
 
+-- some side of the ring has all the points strictly on its right
+abbrev pub is_apart : List Point → List Point → Bool
+is_apart ring points = list_any (λ side. list_all (λ r. not (is_on_or_left side r)) points) (sides ring)
+
 -- some point of the list stands in it again
 abbrev pub has_repeat : List Point → Bool
 has_repeat [] = false

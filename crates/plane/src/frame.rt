@@ -10,7 +10,7 @@ use crate::shape::{Shape, corners};
 use std::marker::Model;
 
 /// A rectangle from `x0` to `x1` and from `y0` to `y1`, both ends included, in the range of coordinates.
-#[derive(Clone, Copy, Debug, PartialEq, Eq)]
+#[derive(Clone, Copy, Debug)]
 pub struct Frame {
     x0: i32,
     y0: i32,
@@ -29,6 +29,30 @@ impl Model for Frame {
     ghost invariant = { λ f. IsFrame (record { x0 = f.x0; y0 = f.y0; x1 = f.x1; y1 = f.y1 }) };
 
     ghost inverse = { λ e. record { x0 = e.x0; y0 = e.y0; x1 = e.x1; y1 = e.y1 } };
+}
+
+impl PartialEq for Frame {
+    ghost use Rattle.std.specs.Cmp.{decided, partial_equiv_from_equiv};
+    ghost use Rattle.plane.specs.Equality.{same_frame, same_frame_decides};
+
+    ghost eq = { same_frame };
+
+    ghost laws = { partial_equiv_from_equiv (decided same_frame same_frame_decides) };
+
+    /// Whether the two frames are one: whether they have the same ends.
+    fn eq(&self, other: &Frame) -> bool
+        ensures tested { result ≡ same_frame self.now other.now }
+        ensures exact { IsTrue result ↔ (self.now ≡ other.now) }
+    {
+        self.x0 == other.x0 && self.y0 == other.y0 && self.x1 == other.x1 && self.y1 == other.y1
+    }
+}
+
+impl Eq for Frame {
+    ghost use Rattle.std.specs.Cmp.{decided};
+    ghost use Rattle.plane.specs.Equality.{same_frame, same_frame_decides};
+
+    ghost laws = { decided same_frame same_frame_decides };
 }
 
 impl Frame {
@@ -76,7 +100,7 @@ impl Frame {
 }
 
 /// The frame of one point.
-fn point_frame(p: Point) -> Frame
+pub fn point_frame(p: Point) -> Frame
     requires { IsInRange p }
     ensures { result ≡ point_extent p }
 {

@@ -1,9 +1,9 @@
 //! Rings of points: lists of the points in turn, each once. From the last point a ring goes back to the first.
 
-ghost use Rattle.std.specs.Prelude.{◌≡◌, ◌+◌, ◌<◌, ◌≤◌, ◌↔◌, pos, ◌≤ℤ◌, All, IsTrue, length, drop, reverse, slice_index_or};
+ghost use Rattle.std.specs.Prelude.{◌≡◌, ◌+◌, ◌<◌, ◌≤◌, ◌↔◌, pos, ◌≤ℤ◌, All, IsTrue, length, not, drop, reverse, slice_index_or};
 ghost use Rattle.std.specs.List.{list_all, list_any, position_or_len};
 ghost use Rattle.plane.specs.Points.{IsInRange, is_in_range, is_same};
-ghost use Rattle.plane.specs.Rings.{first_of, last_of, turn, is_on_or_left, is_on_line, goes_left, is_flat, has_repeat, is_least, from_least, turning_points};
+ghost use Rattle.plane.specs.Rings.{first_of, last_of, turn, sides, is_on_or_left, is_on_line, goes_left, is_flat, is_apart, has_repeat, is_least, from_least, turning_points};
 
 use crate::point::Point;
 use crate::products::{cross, difference};
@@ -14,12 +14,7 @@ pub fn all_in_range(points: &[Point]) -> bool
     ensures test { result ≡ list_all is_in_range points.now }
     ensures range { IsTrue result → All IsInRange points.now }
 {
-    for point in points {
-        if !point.is_in_range() {
-            return false;
-        }
-    }
-    true
+    points.iter().all(|point| point.is_in_range())
 }
 
 /// The point of a ring after the one at an index: after the last one comes the first.
@@ -77,12 +72,7 @@ fn all_on_or_left(from: Point, to: Point, ring: &[Point]) -> bool
     requires ring { All IsInRange ring.now }
     ensures { result ≡ list_all (is_on_or_left (from, to)) ring.now }
 {
-    for point in ring {
-        if !is_on_or_left(from, to, *point) {
-            return false;
-        }
-    }
-    true
+    ring.iter().all(|point| is_on_or_left(from, to, *point))
 }
 
 /// Whether every point of a ring is on the line of a side.
@@ -92,12 +82,7 @@ fn all_on_line(from: Point, to: Point, ring: &[Point]) -> bool
     requires ring { All IsInRange ring.now }
     ensures { result ≡ list_all (is_on_line (from, to)) ring.now }
 {
-    for point in ring {
-        if !is_on_line(from, to, *point) {
-            return false;
-        }
-    }
-    true
+    ring.iter().all(|point| is_on_line(from, to, *point))
 }
 
 /// Whether every point of a ring is on or left of every side.
@@ -126,11 +111,49 @@ pub fn is_flat(ring: &[Point]) -> bool
     true
 }
 
+/// Whether a point is on or left of every side of a ring.
+pub fn is_left_of_sides(point: Point, ring: &[Point]) -> bool
+    requires point { IsInRange point }
+    requires ring { All IsInRange ring.now }
+    ensures { result ≡ list_all (λ side. is_on_or_left side point) (sides ring.now) }
+{
+    for (index, from) in ring.iter().enumerate() {
+        if !is_on_or_left(*from, next_point(ring, index), point) {
+            return false;
+        }
+    }
+    true
+}
+
+/// Whether all of some points are strictly right of the way from one point to another.
+fn all_right(from: Point, to: Point, points: &[Point]) -> bool
+    requires from { IsInRange from }
+    requires to { IsInRange to }
+    requires points { All IsInRange points.now }
+    ensures { result ≡ list_all (λ r. not (is_on_or_left (from, to) r)) points.now }
+{
+    points.iter().all(|point| !is_on_or_left(from, to, *point))
+}
+
+/// Whether some side of a ring has all of some points strictly on its right.
+pub fn is_apart(ring: &[Point], points: &[Point]) -> bool
+    requires ring { All IsInRange ring.now }
+    requires points { All IsInRange points.now }
+    ensures { result ≡ is_apart ring.now points.now }
+{
+    for (index, from) in ring.iter().enumerate() {
+        if all_right(*from, next_point(ring, index), points) {
+            return true;
+        }
+    }
+    false
+}
+
 /// Whether a point is among others.
 fn is_among(point: Point, others: &[Point]) -> bool
     ensures { result ≡ list_any (is_same point) others.now }
 {
-    others.iter().any(|other| point == *other)
+    others.contains(&point)
 }
 
 /// Whether some point stands twice in a list.

@@ -1,6 +1,6 @@
 //! Shapes: a point, a segment or a convex polygon, as a fixed row of corners.
 
-ghost use Rattle.std.specs.Prelude.{◌≡◌, ◌-◌, ◌≤◌, ◌++◌, All, List, length, replicate};
+ghost use Rattle.std.specs.Prelude.{◌≡◌, ◌↔◌, ◌-◌, ◌≤◌, ◌++◌, All, IsTrue, List, length, replicate};
 ghost use Rattle.plane.specs.Points.{IsInRange};
 ghost use Rattle.plane.specs.Canonical.{point_of, segment_of, polygon_of, ring_of, corners_of, IsCanonical};
 ghost use Rattle.plane.specs.Convex.{IsConvexRing};
@@ -20,7 +20,7 @@ const ORIGIN: Point = Point { x: 0, y: 0 };
 
 /// A point, a segment or a convex polygon. Contracts see it as the list of its corners in canonical order: a
 /// segment's lesser end first, a polygon's corners counter-clockwise from the one of least x, then least y.
-#[derive(Clone, Copy, Debug, PartialEq, Eq)]
+#[derive(Clone, Copy, Debug)]
 pub struct Shape {
     places: [Point; 16],
     count: u8,
@@ -42,6 +42,30 @@ impl Model for Shape {
     ghost inverse = { λ corners. places_of corners };
 
     ghost inverse_ok = { λ s kept. places_of-take s kept };
+}
+
+impl PartialEq for Shape {
+    ghost use Rattle.std.specs.Cmp.{decided, partial_equiv_from_equiv};
+    ghost use Rattle.plane.specs.Equality.{same_shape, same_shape_decides};
+
+    ghost eq = { same_shape };
+
+    ghost laws = { partial_equiv_from_equiv (decided same_shape same_shape_decides) };
+
+    /// Whether the two shapes are one: whether they have the same corners.
+    fn eq(&self, other: &Shape) -> bool
+        ensures tested { result ≡ same_shape self.now other.now }
+        ensures exact { IsTrue result ↔ (self.now ≡ other.now) }
+    {
+        corners(self) == corners(other)
+    }
+}
+
+impl Eq for Shape {
+    ghost use Rattle.std.specs.Cmp.{decided};
+    ghost use Rattle.plane.specs.Equality.{same_shape, same_shape_decides};
+
+    ghost laws = { decided same_shape same_shape_decides };
 }
 
 impl Shape {

@@ -1,15 +1,14 @@
 -- The document of the JSON value that bytes were read as, and the fault where there was none.
-use Rattle.std.proofs.Common.{◌≡◌, ℕ, Bool, true, false, List, [], ◌∷◌, length, arith, IsUtf8, refl, ap, sym, ◌∙◌, Option, Some, None, Result, Err}
+use Rattle.std.proofs.Common.{◌≡◌, ℕ, Bool, true, false, List, [], ◌∷◌, length, arith, IsUtf8, refl, ap, ◌∙◌, Option, Some, None, Result, Err}
 use Rattle.std.specs.Str.{is_utf8}
 use Rattle.std.specs.Option.{ok_or}
 use Rattle.std.proofs.lemmas.Str.{IsUtf8-from_is_utf8, is_utf8-from_IsUtf8}
 use Rattle.serde_json.specs.Data.{Data}
 use Rattle.serde_json.specs.Read.{read}
 use Rattle.serde_json.proofs.OnLiterals.{serde_json_on_literals}
-use Rattle.serde_json.specs.Errors.{IsMemory, category}
-use Rattle.serde_json.specs.declared.error.Error.{Error}
-use Rattle.serde_json.specs.declared.error.Category.{Category}
-use Rattle.serde_json.specs.declared.error.Category.TheVariants as categories
+use Rattle.memory.specs.JsonFault.{IsTextFault}
+use Rattle.memory.specs.declared.json.JsonFault.{JsonFault}
+use Rattle.memory.specs.declared.json.JsonFault.TheVariants as reasons
 use Rattle.policy_text.specs.Documents.{DocumentData}
 use Rattle.policy_text.specs.Reading.{◌>>=◌, Fails, document_in, document_of}
 use Rattle.policy_text.specs.Bytes.{document_of_bytes, json_fault}
@@ -41,18 +40,9 @@ unread bytes told = by_test (is_utf8 bytes) refl
     by_test false test = rw test refl
 
 -- where no JSON value was read, memory ran out or the bytes are no JSON text
-pub json_fault-fails : (bytes : List ℕ) (e : Error) → ((IsMemory e → ⊥) → IsUtf8 bytes → read bytes ≡ None) → Fails (json_fault e) (document_of_bytes bytes)
-json_fault-fails bytes e told = by_category (category e) refl
-  where
-    other : (c : Category) → category e ≡ c → (c ≡ categories.Memory → ⊥) → document_of_bytes bytes ≡ Err faults.NotJson
-    other c is_c no_memory = unread bytes (told (λ memory. no_memory (sym is_c ∙ rw memory refl)))
-
-    by_category : (c : Category) → category e ≡ c → Fails (json_fault e) (document_of_bytes bytes)
-    by_category categories.Memory is_c = rw is_c tt
-    by_category categories.Io is_c = rw is_c (other categories.Io is_c (λ same. cc))
-    by_category categories.Syntax is_c = rw is_c (other categories.Syntax is_c (λ same. cc))
-    by_category categories.Data is_c = rw is_c (other categories.Data is_c (λ same. cc))
-    by_category categories.Eof is_c = rw is_c (other categories.Eof is_c (λ same. cc))
+pub json_fault-fails : (bytes : List ℕ) (e : JsonFault) → (IsTextFault e → IsUtf8 bytes → read bytes ≡ None) → Fails (json_fault e) (document_of_bytes bytes)
+json_fault-fails bytes (reasons.Text error) told = unread bytes (told tt)
+json_fault-fails bytes (reasons.Memory m) told = tt
 
 -- no bytes are no JSON value
 read-empty : (d : Data) → read [] ≡ Some d → ⊥

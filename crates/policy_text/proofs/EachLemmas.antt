@@ -13,7 +13,7 @@ use Rattle.policy_text.specs.declared.faults.TextFault.{TextFault}
 use Rattle.policy_text.specs.declared.faults.TextFault.TheVariants as faults
 
 pub Fails-bind : {X Y : Type 0} (e : TextFault) (r : Result X TextFault) (k : X → Result Y TextFault) → Fails e r → Fails e (r >>= k)
-Fails-bind faults.Memory r k h = tt
+Fails-bind (faults.Memory m) r k h = tt
 Fails-bind faults.NotJson r k h = ap (λ s. s >>= k) h
 Fails-bind (faults.Form p) r k h = ap (λ s. s >>= k) h
 Fails-bind (faults.UnknownKey p) r k h = ap (λ s. s >>= k) h
@@ -24,7 +24,7 @@ Fails-bind faults.TooDeep r k h = ap (λ s. s >>= k) h
 Fails-bind faults.TooMany r k h = ap (λ s. s >>= k) h
 
 pub Fails-from : {X : Type 0} (e : TextFault) (r : Result X TextFault) → r ≡ Err e → Fails e r
-Fails-from faults.Memory r h = tt
+Fails-from (faults.Memory m) r h = tt
 Fails-from faults.NotJson r h = h
 Fails-from (faults.Form p) r h = h
 Fails-from (faults.UnknownKey p) r h = h

@@ -1,14 +1,11 @@
 -- Comparing the parts of documents: what the tests that are derived answer, and that `==` is exact.
-use Rattle.std.proofs.Common.{◌≡◌, ◌↔◌, ℕ, ◌+◌, ◌-◌, ◌<◌, Bool, true, false, not, ◌&&◌, nat_eq, pos, List, ◌++◌, length, take, replicate, slice_get, Option, refl, sym, ap, subst, ◌∙◌, IsTrue}
-use Rattle.std.proofs.Math.Seq.{take-append_seam}
+use Rattle.std.proofs.Common.{◌≡◌, ◌↔◌, ℕ, ◌+◌, ◌<◌, Bool, true, false, not, ◌&&◌, List, length, slice_get, Option, refl, sym, ap, ◌∙◌, IsTrue}
 use Rattle.std.proofs.lemmas.Bool.Decides.{Decides-at}
-use Rattle.std.specs.Bool.{one_answer}
-use Rattle.std.specs.Cmp.{first_so, second_so, unsigned_Decides}
 use Rattle.std.specs.Cmp.Lexicographic.{pointwise}
 use Rattle.std.specs.Option.{option_eq}
 use Rattle.policy_text.specs.Names.{is_name}
 use Rattle.policy_text.proofs.RowLemmas.{same_from, same_from-more_at, same_from-other_at}
-use Rattle.policy_text.specs.Equality.{same_action, same_match, same_term, same_all_of, same_all_of_decides, same_any_of, same_any_of_decides, same_target, same_target_decides, same_atom, same_conditions, same_conditions_decides, same_rule, same_rule_decides, same_node, same_node_decides, same_point, same_shape, same_shape_decides, same_zone, same_zones, same_document, same_document_decides}
+use Rattle.policy_text.specs.Equality.{same_action, same_match, same_term, same_all_of, same_all_of_decides, same_any_of, same_any_of_decides, same_target, same_target_decides, same_atom, same_conditions, same_conditions_decides, same_rule, same_rule_decides, same_node, same_node_decides, same_point, same_shape, same_zone, same_zones, same_document, same_document_decides}
 use Rattle.features.specs.contracts.actors.ActionPartialEq.TheImpl as acting
 use Rattle.features.specs.declared.actors.Action.{Action}
 use Rattle.features.specs.declared.actors.Action.TheVariants as actions
@@ -89,27 +86,8 @@ exact_document_zones s a b zones other =
 same_point_derived : (a b : Point) → pointing.eq-value.it a b ≡ same_point a b
 same_point_derived a b = refl
 
-abbrev padding : List Point → List Point
-padding corners = replicate (16 - length corners) (record { x = pos 0; y = pos 0 })
-
-abbrev same_places : List Point → List Point → Bool
-same_places a b = pointwise same_point (a ++ padding a) (b ++ padding b) && nat_eq (length a) (length b)
-
-same_places-itself : (a : List Point) → same_places a a ≡ true
-same_places-itself a = λ i. (same_shape_decides (a ++ padding a) (a ++ padding a)).1 refl i && (unsigned_Decides (length a) (length a)).1 refl i
-
-same_places-told : (a b : List Point) → same_places a b ≡ true → a ≡ b
-same_places-told a b e =
-    let places = (same_shape_decides (a ++ padding a) (b ++ padding b)).0 (first_so _ (nat_eq (length a) (length b)) e) in
-    let count = (unsigned_Decides (length a) (length b)).0 (second_so (pointwise same_point (a ++ padding a) (b ++ padding b)) _ e) in
-    sym (take-append_seam a (padding a)) ∙ (λ i. take (count i) (places i)) ∙ take-append_seam b (padding b)
-
--- the places past the corners say no more than the corners do
-same_places-corners : (a b : List Point) → same_places a b ≡ same_shape a b
-same_places-corners a b = one_answer (same_places a b) (same_shape a b) (same_places-told a b, λ e. subst (λ c. same_places a c ≡ true) e (same_places-itself a)) (same_shape_decides a b)
-
 same_shape_derived : (a b : List Point) → shaping.eq-value.it a b ≡ same_shape a b
-same_shape_derived a b = same_places-corners a b
+same_shape_derived a b = refl
 
 same_zone_derived : (a b : Zone) → zoning.eq-value.it a b ≡ same_zone a b
 same_zone_derived a b = ap (λ s. is_name a.name b.name && s) (same_shape_derived a.shape b.shape)

@@ -60,7 +60,7 @@ text_fault-itself : (a : TextFault) → comparing.eq-value.it a a ≡ true
 text_fault-itself faults.NotJson = refl
 text_fault-itself faults.TooDeep = refl
 text_fault-itself faults.TooMany = refl
-text_fault-itself faults.Memory = refl
+text_fault-itself (faults.Memory m) = refl
 text_fault-itself (faults.Form path) = (same_path_decides path path).1 refl
 text_fault-itself (faults.UnknownKey path) = (same_path_decides path path).1 refl
 text_fault-itself (faults.NameTwice name) = (bytes_decides name name).1 refl
@@ -71,7 +71,7 @@ text_fault-told : (a b : TextFault) → comparing.eq-value.it a b ≡ true → a
 text_fault-told faults.NotJson faults.NotJson e = refl
 text_fault-told faults.TooDeep faults.TooDeep e = refl
 text_fault-told faults.TooMany faults.TooMany e = refl
-text_fault-told faults.Memory faults.Memory e = refl
+text_fault-told (faults.Memory m) (faults.Memory n) e = refl
 text_fault-told (faults.Form a) (faults.Form b) e = ap faults.Form ((same_path_decides a b).0 e)
 text_fault-told (faults.UnknownKey a) (faults.UnknownKey b) e = ap faults.UnknownKey ((same_path_decides a b).0 e)
 text_fault-told (faults.NameTwice a) (faults.NameTwice b) e = ap faults.NameTwice ((bytes_decides a b).0 e)

@@ -1,3 +1,5 @@
+pub mod SeenAfter
+pub mod NameBytes
 pub mod NodeLemmas
 pub mod RuleLemmas
 pub mod ZoneLemmas

@@ -6,7 +6,7 @@ use Rattle.std.proofs.lemmas.List.Folds.{list_all-append}
 use Rattle.features.specs.Names as spelling
 use Rattle.policy_text.specs.Documents.{Head, NodeData, set, Children, child, depth_of, depth_of_all, node_count, node_count_of_all, rules_of, rules_of_all, test_count, test_count_of_all, names_of, names_of_all, targets_of, targets_of_all, matches_of, matches_of_all, target_matches, is_target, are_distinct}
 use Rattle.policy_text.specs.Reading.{Seen}
-use Rattle.policy_text.specs.SeenAfter.{after_node}
+use Rattle.policy_text.proofs.SeenAfter.{after_node}
 use Rattle.policy_text.specs.declared.zones.Zone.{Zone}
 use Rattle.policy_text.proofs.PrintedSteps.{distinct_behind, distinct_front}
 use Rattle.policy_text.proofs.PrintedMatches.{is_readable}

@@ -9,7 +9,7 @@ use Rattle.features.specs.Names as spelling
 use Rattle.policy_text.specs.Names.{is_name}
 use Rattle.policy_text.specs.Documents.{RuleData, is_target, are_distinct, target_matches, atom_term, term_matches, atom_sizes, rule_sizes, rule_matches}
 use Rattle.policy_text.specs.Reading.{at_key, at_item, object_in, optional_array_in, rule_keys, each_at, rule_at, Seen}
-use Rattle.policy_text.specs.SeenAfter.{after_rules}
+use Rattle.policy_text.proofs.SeenAfter.{after_rules}
 use Rattle.policy_text.specs.Printed.{effect_text, keyed, keyed_items, target_items, when_items, rule_data}
 use Rattle.policy_text.specs.declared.paths.Key.TheVariants as keys
 use Rattle.policy_text.specs.declared.paths.Step.{Step}

@@ -12,6 +12,9 @@ use Rattle.policy_text.specs.declared.matches.Term.{Term}
 use Rattle.policy_text.specs.declared.matches.Term.TheVariants as terms
 use Rattle.policy_text.specs.declared.matches.Atom.{Atom}
 use Rattle.policy_text.specs.declared.matches.Atom.TheVariants as atoms
+use Rattle.policy_text.specs.declared.documents.TheConstants.{ZONE_LIMIT}
+use Rattle.policy_text.specs.declared.reading.TheConstants.{DEPTH_LIMIT, NODE_LIMIT, RULE_LIMIT}
+use Rattle.policy_text.specs.declared.terms.TheConstants.{TEST_LIMIT}
 use Rattle.policy_text.specs.declared.zones.Zone.{Zone}
 use Rattle.plane.specs.declared.point.Point.{Point}
 
@@ -200,11 +203,11 @@ pub record IsZone (z : Zone) : Type 0 where
 -- what every document keeps: its limits, one name for each, the zones of which it speaks, and that nothing stands in it
 -- that no text can spell
 pub record IsDocument (d : DocumentData) : Type 0 where
-  pub depth : depth_of d.root ≤ 8
-  pub rules : length (rules_of d.root) ≤ 512
-  pub nodes : node_count d.root ≤ 512
-  pub zones : length d.zones ≤ 64
-  pub tests : test_count d.root ≤ 4096
+  pub depth : depth_of d.root ≤ DEPTH_LIMIT
+  pub rules : length (rules_of d.root) ≤ RULE_LIMIT
+  pub nodes : node_count d.root ≤ NODE_LIMIT
+  pub zones : length d.zones ≤ ZONE_LIMIT
+  pub tests : test_count d.root ≤ TEST_LIMIT
   pub names : IsTrue (are_distinct (names_of d.root))
   pub zone_names : IsTrue (are_distinct (map (λ z. z.name) d.zones))
   pub zones_known : IsTrue (list_all (is_zone_known d.zones) (matches_of d.root))

@@ -10,7 +10,6 @@ pub mod Pointers
 pub mod FaultCodes
 pub mod Reading
 pub mod SeenViews
-pub mod SeenAfter
 pub mod Printed
 pub mod PrintedMembers
 pub mod Bytes

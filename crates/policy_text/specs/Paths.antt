@@ -1,18 +1,19 @@
--- How a path keeps its steps: in the first of 24 places, the others being filled.
+-- How a path keeps its steps: in the first of `STEP_LIMIT` places, the others being filled.
 use Rattle.std.specs.Prelude.{◌≡◌, ℕ, ◌-◌, ◌≤◌, List, ◌++◌, length, take, drop, replicate}
 use Rattle.std.proofs.Common.{arith, ◌∙◌, ap, sym, take-append-drop, length-take-le}
+use Rattle.policy_text.specs.declared.paths.TheConstants.{STEP_LIMIT}
 use Rattle.policy_text.specs.declared.paths.Step.{Step}
 use Rattle.policy_text.specs.declared.paths.Step.TheVariants.{Item}
 
 abbrev pub fillers : ℕ → List Step
-fillers len = replicate (24 - len) (Item 0)
+fillers len = replicate (STEP_LIMIT - len) (Item 0)
 
 abbrev pub padded : List Step → List Step
 padded steps = steps ++ fillers (length steps)
 
 pub record HoldsSteps (steps : List Step) (len : ℕ) : Type 0 where
-  pub whole : length steps ≡ 24
-  pub within : len ≤ 24
+  pub whole : length steps ≡ STEP_LIMIT
+  pub within : len ≤ STEP_LIMIT
   pub filled : drop len steps ≡ fillers len
 
 pub length_again : (steps : List Step) (len : ℕ) → HoldsSteps steps len → length (take len steps) ≡ len

@@ -15,6 +15,9 @@ use Rattle.serde_json.specs.Read.{read}
 use Rattle.policy_text.specs.Documents.{DocumentData, RuleData, Head, NodeData, set, policy, children_of}
 use Rattle.policy_text.specs.Names.{is_name}
 use Rattle.policy_text.specs.Keys.{key_text}
+use Rattle.policy_text.specs.declared.documents.TheConstants.{ZONE_LIMIT}
+use Rattle.policy_text.specs.declared.reading.TheConstants.{DEPTH_LIMIT, NODE_LIMIT, RULE_LIMIT}
+use Rattle.policy_text.specs.declared.terms.TheConstants.{TEST_LIMIT}
 use Rattle.policy_text.specs.declared.zones.Zone.{Zone}
 use Rattle.policy_text.specs.declared.paths.Key.{Key}
 use Rattle.policy_text.specs.declared.paths.Key.TheVariants as keys
@@ -40,7 +43,7 @@ abbrev pub ◌>>=◌ : {A B : Type 0} → Result A TextFault → (A → Result B
 
 -- a fault is what reading gives, unless memory ran out
 abbrev pub Fails : {Y : Type 0} → TextFault → Result Y TextFault → Type 0
-Fails faults.Memory reading = Unit {0}
+Fails (faults.Memory refused) reading = Unit {0}
 Fails faults.NotJson reading = reading ≡ Err faults.NotJson
 Fails (faults.Form path) reading = reading ≡ Err (faults.Form path)
 Fails (faults.UnknownKey path) reading = reading ≡ Err (faults.UnknownKey path)
@@ -54,6 +57,16 @@ Fails faults.TooMany reading = reading ≡ Err faults.TooMany
 abbrev pub Gives : {X Y : Type 0} → (X → Y) → Result X TextFault → Result Y TextFault → Type 0
 Gives view (Ok x) reading = reading ≡ Ok (view x)
 Gives view (Err e) reading = Fails e reading
+
+-- what a function that takes no memory returned, seen by `view`, is what reading gives
+abbrev pub Shows : {X Y : Type 0} → (X → Y) → Result X TextFault → Result Y TextFault → Type 0
+Shows view (Ok x) reading = reading ≡ Ok (view x)
+Shows view (Err e) reading = reading ≡ Err e
+
+-- a fault that reading gives is told, whatever memory there is
+abbrev pub Tells : {X Y : Type 0} → Result X TextFault → Result Y TextFault → Type 0
+Tells result (Ok y) = Unit {0}
+Tells result (Err e) = result ≡ Err e
 
 -- the place of the value of a key
 abbrev pub at_key : List Step → Key → List Step
@@ -163,7 +176,7 @@ known_in zones (matches.Action action) = Ok tt
 
 -- one match or atom more
 abbrev pub counted : ℕ → Result ℕ TextFault
-counted tests = if nat_lt tests 4096 then Ok (tests + 1) else Err faults.TooMany
+counted tests = if nat_lt tests TEST_LIMIT then Ok (tests + 1) else Err faults.TooMany
 
 abbrev pub match_keys : List Key
 match_keys = keys.Role ∷ keys.Office ∷ keys.Class ∷ keys.Owner ∷ keys.Zone ∷ keys.Action ∷ []
@@ -259,7 +272,7 @@ unfoldable pub rule_at : List Zone → List Step → Seen → Data → Result (R
 rule_at zones path seen d =
     object_in rule_keys path d >>= λ _. name_in keys.Rule path d >>= λ name. effect_in path d >>= λ effect.
     optional_array_in keys.Target path d >>= λ target. optional_array_in keys.When path d >>= λ when.
-    fresh name seen.names >>= λ names. within 512 seen.rules >>= λ rules.
+    fresh name seen.names >>= λ names. within RULE_LIMIT seen.rules >>= λ rules.
     target_at zones (at_key path keys.Target) seen.tests target >>= λ t. when_at zones (at_key path keys.When) t.1 when >>= λ w.
     Ok (record { name = name; effect = effect; target = t.0; when = w.0 }, record { names = names; nodes = seen.nodes; rules = rules; tests = w.1 })
 
@@ -274,7 +287,7 @@ unfoldable pub head_at : List Zone → List Key → Key → Key → List Step �
 head_at zones listed name_key children path seen d =
     object_in listed path d >>= λ _. name_in name_key path d >>= λ name. algorithm_in path d >>= λ combine.
     optional_array_in keys.Target path d >>= λ target. array_in children path d >>= λ items.
-    fresh name seen.names >>= λ names. within 512 seen.nodes >>= λ nodes.
+    fresh name seen.names >>= λ names. within NODE_LIMIT seen.nodes >>= λ nodes.
     target_at zones (at_key path keys.Target) seen.tests target >>= λ t.
     Ok (record { name = name; combine = combine; target = t.0 }, (record { names = names; nodes = nodes; rules = seen.rules; tests = t.1 }, items))
 
@@ -315,7 +328,7 @@ unseen name zones = if list_any (λ z. is_name name z.name) zones then Err (faul
 
 -- the zones with one more, whose name is new
 unfoldable pub with_zone : List ℕ → List Point → List Zone → Result (List Zone) TextFault
-with_zone name shape zones = unseen name zones >>= λ _. within 64 (length zones) >>= λ _. Ok (zones ++ record { name = name; shape = shape } ∷ [])
+with_zone name shape zones = unseen name zones >>= λ _. within ZONE_LIMIT (length zones) >>= λ _. Ok (zones ++ record { name = name; shape = shape } ∷ [])
 
 -- a zone, with those before it
 unfoldable pub zone_at : List Step → List Zone → Data → Result (List Zone) TextFault
@@ -338,7 +351,7 @@ unfoldable pub document_in : Data → Result DocumentData TextFault
 document_in d =
     object_in document_keys [] d >>= λ _. optional_array_in keys.Zones [] d >>= λ items.
     ok_or (value_of keys.Root d) (faults.Form (at_key [] keys.Root)) >>= λ root. zones_at 0 [] items >>= λ zones.
-    node_at zones 8 (at_key [] keys.Root) nothing_seen root >>= λ r. Ok (record { zones = zones; root = r.0 })
+    node_at zones DEPTH_LIMIT (at_key [] keys.Root) nothing_seen root >>= λ r. Ok (record { zones = zones; root = r.0 })
 
 -- the document that a text spells, by the JSON value that `serde_json` reads, or its first fault
 unfoldable pub document_of : List ℕ → Result DocumentData TextFault

@@ -1,4 +1,4 @@
--- What a reader of documents keeps, as plain data.
+-- What a reader of documents keeps, as plain data. Clauses of private functions alone cite it.
 use Rattle.policy_text.specs.Documents.{Head}
 use Rattle.policy_text.specs.Reading.{Seen}
 use Rattle.policy_text.specs.declared.reading.SoFar.{SoFar}

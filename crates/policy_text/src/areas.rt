@@ -3,18 +3,19 @@
 ghost use Rattle.std.specs.Prelude.{◌≡◌, ◌<◌, [], length, map};
 ghost use Rattle.serde_json.specs.View.{view, items_view};
 ghost use Rattle.policy_text.specs.Views.{zone_of, document_view};
-ghost use Rattle.policy_text.specs.Reading.{Gives, shape_in, with_zone, zone_at, zones_at, document_in};
+ghost use Rattle.policy_text.specs.Reading.{Gives, Tells, shape_in, with_zone, zone_at, zones_at, document_in};
 
 use crate::documents::{ZONE_LIMIT, Zones};
 use crate::faults::TextFault;
 use crate::fields::{name_in, object_in, optional_array_in, text_in, value_in};
 use crate::nodes::Node;
-use crate::paths::{Key, Path, Step};
+use crate::paths::{Key, Path, STEP_LIMIT, Step};
 use crate::reading::{DEPTH_LIMIT, SoFar, node_at};
 use crate::terms::has_zone;
 use crate::zones::ZoneName;
 use features::Name;
 use indexmap::IndexMap;
+use memory::put;
 use plane::Shape;
 use serde_json::Value;
 use std::alloc::Allocator;
@@ -41,7 +42,8 @@ fn with_zone<A: Allocator + Copy>(
     shape: Shape,
     zones: Zones<A>,
 ) -> Result<Zones<A>, TextFault>
-    ensures { Gives (λ z. map zone_of z.entries) result (with_zone name shape (map zone_of zones.entries)) }
+    ensures value { Gives (λ z. map zone_of z.entries) result (with_zone name shape (map zone_of zones.entries)) }
+    ensures told { Tells result (with_zone name shape (map zone_of zones.entries)) }
 {
     if has_zone(&zones, name) {
         return Err(TextFault::NameTwice(name));
@@ -50,7 +52,7 @@ fn with_zone<A: Allocator + Copy>(
         return Err(TextFault::TooMany);
     }
     let mut zones = zones;
-    zones.insert(ZoneName { name }, shape)?;
+    put(&mut zones, ZoneName { name }, shape)?;
     Ok(zones)
 }
 
@@ -61,8 +63,9 @@ fn zone_at<A: Allocator + Copy>(
     path: Path,
     zones: Zones<A>,
 ) -> Result<Zones<A>, TextFault>
-    requires { length path < 24 }
-    ensures { Gives (λ z. map zone_of z.entries) result (zone_at path (map zone_of zones.entries) (view value.now)) }
+    requires { length path < STEP_LIMIT }
+    ensures value { Gives (λ z. map zone_of z.entries) result (zone_at path (map zone_of zones.entries) (view value.now)) }
+    ensures told { Tells result (zone_at path (map zone_of zones.entries) (view value.now)) }
 {
     object_in(value, &ZONE_KEYS, path)?;
     let name = name_in(value, Key::Zone, path)?;

@@ -11,8 +11,9 @@ use crate::rules::Rule;
 use crate::zones::{Zone, ZoneName};
 use features::Name;
 use indexmap::IndexMap;
+use memory::{Refused, put};
 use plane::Shape;
-use std::alloc::{AllocError, Allocator};
+use std::alloc::Allocator;
 use std::hash::{BuildHasherDefault, FoldHasher};
 use std::marker::Model;
 
@@ -148,7 +149,7 @@ fn rule_in_nodes<A: Allocator>(nodes: &[Node<A>], index: usize) -> Result<Name, 
 
 impl<A: Allocator> Document<A> {
     /// A copy of the document, made by another allocator. The only error is want of memory.
-    pub fn copy<B: Allocator + Copy>(&self, alloc: B) -> Result<Document<B>, AllocError>
+    pub fn copy<B: Allocator + Copy>(&self, alloc: B) -> Result<Document<B>, Refused>
         ensures { IfOk result (λ copy. copy ≡ self.now) }
     {
         Ok(Document {
@@ -162,12 +163,12 @@ impl<A: Allocator> Document<A> {
 fn copy_zones<A: Allocator, B: Allocator + Copy>(
     alloc: B,
     zones: &Zones<A>,
-) -> Result<Zones<B>, AllocError>
+) -> Result<Zones<B>, Refused>
     ensures { IfOk result (λ copy. copy.entries ≡ zones.now.entries) }
 {
-    let mut copies = IndexMap::with_capacity(alloc, zones.len())?;
+    let mut copies = IndexMap::new(alloc);
     for (key, shape) in zones.iter() {
-        copies.insert(*key, *shape)?;
+        put(&mut copies, *key, *shape)?;
     }
     Ok(copies)
 }

@@ -4,13 +4,12 @@ ghost use Rattle.std.specs.Prelude.{◌≡◌};
 
 use crate::paths::Path;
 use features::Name;
-use serde_json::{Category, Error};
-use std::alloc::{AllocError, AllocFailed};
+use memory::{JsonFault, NotStored, Refused};
 use std::fmt;
 use wkt::WktFault;
 
 /// Why a text is no document: the first fault in the order of the documents' grammar.
-#[derive(Clone, Copy, Debug, PartialEq, Eq)]
+#[derive(Debug, Drop, PartialEq, Eq)]
 pub enum TextFault {
     /// D1: the text is no JSON.
     NotJson,
@@ -29,15 +28,15 @@ pub enum TextFault {
     /// D8: more rules, sets and policies, zones, or matches and atoms than a document may have.
     TooMany,
     /// D9: a growth was refused.
-    Memory,
+    Memory(Refused),
 }
 
 impl TextFault {
     ghost use Rattle.policy_text.specs.FaultCodes.{code_of};
 
     /// The code by which users know the fault.
-    pub fn code(self) -> &'static str
-        ensures { result.now ≡ code_of self }
+    pub fn code(&self) -> &'static str
+        ensures { result.now ≡ code_of self.now }
     {
         match self {
             TextFault::NotJson => "D1",
@@ -48,7 +47,7 @@ impl TextFault {
             TextFault::BadZone(_, _) => "D6",
             TextFault::TooDeep => "D7",
             TextFault::TooMany => "D8",
-            TextFault::Memory => "D9",
+            TextFault::Memory(_) => "D9",
         }
     }
 }
@@ -64,38 +63,38 @@ impl fmt::Display for TextFault {
     }
 }
 
-impl From<AllocError> for TextFault {
+impl From<Refused> for TextFault {
     ghost use Rattle.std.specs.Prelude.{◌≡◌};
     ghost use Rattle.policy_text.specs.declared.faults.TextFault.TheVariants.{Memory};
 
-    ghost from_gives = { λ _ e. e ≡ Memory };
+    ghost from_gives = { λ refused fault. fault ≡ Memory refused };
 
-    fn from(_: AllocError) -> Self {
-        TextFault::Memory
+    fn from(refused: Refused) -> Self {
+        TextFault::Memory(refused)
     }
 }
 
-impl<T: Drop> From<AllocFailed<T>> for TextFault {
+impl<T: Drop> From<NotStored<T>> for TextFault {
     ghost use Rattle.std.specs.Prelude.{◌≡◌};
     ghost use Rattle.policy_text.specs.declared.faults.TextFault.TheVariants.{Memory};
 
-    ghost from_gives = { λ _ e. e ≡ Memory };
+    ghost from_gives = { λ failed fault. fault ≡ Memory failed.refusal };
 
-    fn from(_: AllocFailed<T>) -> Self {
-        TextFault::Memory
+    fn from(failed: NotStored<T>) -> Self {
+        TextFault::Memory(failed.refusal)
     }
 }
 
-impl From<Error> for TextFault {
+impl From<JsonFault> for TextFault {
     ghost use Rattle.std.specs.Prelude.{◌≡◌};
     ghost use Rattle.policy_text.specs.Bytes.{json_fault};
 
-    ghost from_gives = { λ error fault. fault ≡ json_fault error };
+    ghost from_gives = { λ unread fault. fault ≡ json_fault unread };
 
-    fn from(error: Error) -> Self {
-        match error.classify() {
-            Category::Memory => TextFault::Memory,
-            _ => TextFault::NotJson,
+    fn from(unread: JsonFault) -> Self {
+        match unread {
+            JsonFault::Text(_) => TextFault::NotJson,
+            JsonFault::Memory(refused) => TextFault::Memory(refused),
         }
     }
 }

@@ -5,12 +5,12 @@ ghost use Rattle.serde_json.specs.View.{view, items_view, members_view};
 ghost use Rattle.serde_json.specs.Find.{as_str};
 ghost use Rattle.std.specs.Option.{ok_or};
 ghost use Rattle.policy_text.specs.Keys.{key_text};
-ghost use Rattle.policy_text.specs.Reading.{Gives, is_listed, has_key, has_only, has_one, object_in, name_in, text_in, array_in, optional_array_in, algorithm_named, algorithm_in, effect_named, effect_in, action_named, action_in, value_of, at_key, single_in};
+ghost use Rattle.policy_text.specs.Reading.{Shows, is_listed, has_key, has_only, has_one, object_in, name_in, text_in, array_in, optional_array_in, algorithm_named, algorithm_in, effect_named, effect_in, action_named, action_in, value_of, at_key, single_in};
 ghost use Rattle.policy_text.specs.declared.faults.TextFault.TheVariants.{Form};
 
 use crate::algorithms::{Algorithm, Effect};
 use crate::faults::TextFault;
-use crate::paths::{Key, Path, Step};
+use crate::paths::{Key, Path, STEP_LIMIT, Step};
 use features::{Action, Name};
 use serde_json::{Map, Value};
 
@@ -65,7 +65,7 @@ fn action_named(text: &str) -> Option<Action>
 
 /// A missing or wrong value under a key.
 fn form_at(path: Path, key: Key) -> TextFault
-    requires { length path < 24 }
+    requires { length path < STEP_LIMIT }
     ensures { result ≡ Form (at_key path key) }
 {
     TextFault::Form(path.with(Step::Key(key)))
@@ -73,7 +73,7 @@ fn form_at(path: Path, key: Key) -> TextFault
 
 /// The name that stands under a key.
 pub(crate) fn name_in(value: &Value, key: Key, path: Path) -> Result<Name, TextFault>
-    requires { length path < 24 }
+    requires { length path < STEP_LIMIT }
     ensures { result ≡ name_in key path (view value.now) }
 {
     let Some(text) = text_at(value, key) else {
@@ -87,8 +87,8 @@ pub(crate) fn name_in(value: &Value, key: Key, path: Path) -> Result<Name, TextF
 
 /// The text that stands under a key.
 pub(crate) fn text_in(value: &Value, key: Key, path: Path) -> Result<&str, TextFault>
-    requires { length path < 24 }
-    ensures { Gives (λ text. text.now) result (text_in key path (view value.now)) }
+    requires { length path < STEP_LIMIT }
+    ensures { Shows (λ text. text.now) result (text_in key path (view value.now)) }
 {
     let Some(text) = text_at(value, key) else {
         return Err(form_at(path, key));
@@ -98,8 +98,8 @@ pub(crate) fn text_in(value: &Value, key: Key, path: Path) -> Result<&str, TextF
 
 /// The value that stands under a key.
 pub(crate) fn value_in(value: &Value, key: Key, path: Path) -> Result<&Value, TextFault>
-    requires { length path < 24 }
-    ensures { Gives (λ v. view v.now) result (ok_or (value_of key (view value.now)) (Form (at_key path key))) }
+    requires { length path < STEP_LIMIT }
+    ensures { Shows (λ v. view v.now) result (ok_or (value_of key (view value.now)) (Form (at_key path key))) }
 {
     match value.get(key.text()) {
         Some(value) => Ok(value),
@@ -109,7 +109,7 @@ pub(crate) fn value_in(value: &Value, key: Key, path: Path) -> Result<&Value, Te
 
 /// The word for an algorithm that stands under its key.
 pub(crate) fn algorithm_in(value: &Value, path: Path) -> Result<Algorithm, TextFault>
-    requires { length path < 24 }
+    requires { length path < STEP_LIMIT }
     ensures { result ≡ algorithm_in path (view value.now) }
 {
     let Some(text) = text_at(value, Key::Combine) else {
@@ -123,7 +123,7 @@ pub(crate) fn algorithm_in(value: &Value, path: Path) -> Result<Algorithm, TextF
 
 /// The word for an effect that stands under its key.
 pub(crate) fn effect_in(value: &Value, path: Path) -> Result<Effect, TextFault>
-    requires { length path < 24 }
+    requires { length path < STEP_LIMIT }
     ensures { result ≡ effect_in path (view value.now) }
 {
     let Some(text) = text_at(value, Key::Effect) else {
@@ -137,7 +137,7 @@ pub(crate) fn effect_in(value: &Value, path: Path) -> Result<Effect, TextFault>
 
 /// The word for an action that stands under its key.
 pub(crate) fn action_in(value: &Value, path: Path) -> Result<Action, TextFault>
-    requires { length path < 24 }
+    requires { length path < STEP_LIMIT }
     ensures { result ≡ action_in path (view value.now) }
 {
     let Some(text) = text_at(value, Key::Action) else {
@@ -208,8 +208,8 @@ pub(crate) fn single_in(value: &Value, listed: &[Key], path: Path) -> Result<(),
 
 /// The array that stands under a key.
 pub(crate) fn array_in(value: &Value, key: Key, path: Path) -> Result<&[Value], TextFault>
-    requires { length path < 24 }
-    ensures { Gives (λ items. items_view items.now) result (array_in key path (view value.now)) }
+    requires { length path < STEP_LIMIT }
+    ensures { Shows (λ items. items_view items.now) result (array_in key path (view value.now)) }
 {
     let Some(items) = value.get(key.text()) else {
         return Err(form_at(path, key));
@@ -223,8 +223,8 @@ pub(crate) fn array_in(value: &Value, key: Key, path: Path) -> Result<&[Value], 
 /// The array that stands under a key, empty where it is left out.
 #[tactic(auto, unfolding(crate::specs::Reading::optional_array_in))]
 pub(crate) fn optional_array_in(value: &Value, key: Key, path: Path) -> Result<&[Value], TextFault>
-    requires { length path < 24 }
-    ensures { Gives (λ items. items_view items.now) result (optional_array_in key path (view value.now)) }
+    requires { length path < STEP_LIMIT }
+    ensures { Shows (λ items. items_view items.now) result (optional_array_in key path (view value.now)) }
 {
     let Some(items) = value.get(key.text()) else {
         return Ok(&[]);

@@ -27,7 +27,7 @@ pub use laws::{faults_compare_exactly, printed_is_read, read_is_document};
 pub use matches::{AllOf, AnyOf, Atom, Conditions, Match, Target, Term};
 pub use nodes::Node;
 pub use paths::{Key, Path, STEP_LIMIT, Step};
-pub use printing::print_document;
+pub use printing::{document_value, print_document};
 pub use rules::Rule;
 pub use texts::read_document;
 pub use zones::Zone;

@@ -4,7 +4,8 @@ ghost use Rattle.std.specs.Prelude.{◌≡◌, ◌↔◌, IfOk, IsTrue};
 ghost use Rattle.policy_text.specs.Equality.{same_all_of, same_any_of, same_target, same_conditions};
 
 use features::{Action, Name};
-use std::alloc::{AllocError, Allocator};
+use memory::{GrowVec, Refused, copied};
+use std::alloc::Allocator;
 use std::marker::Model;
 
 /// A test of one part of a question.
@@ -261,24 +262,22 @@ impl<A: Allocator> Eq for Conditions<A> {
 pub(crate) fn copy_matches<A: Allocator, B: Allocator + Copy>(
     alloc: B,
     matches: &AllOf<A>,
-) -> Result<AllOf<B>, AllocError>
+) -> Result<AllOf<B>, Refused>
     ensures { IfOk result (λ copy. copy ≡ matches.now) }
 {
-    let mut copies = Vec::with_capacity(alloc, matches.as_slice().len())?;
-    copies.extend_from_slice(matches.as_slice())?;
-    Ok(AllOf::from_vec(copies))
+    Ok(AllOf::from_vec(copied(alloc, matches.as_slice())?))
 }
 
 /// A copy of these alternatives. The only error is want of memory.
 pub(crate) fn copy_alternatives<A: Allocator, B: Allocator + Copy>(
     alloc: B,
     alternatives: &AnyOf<A>,
-) -> Result<AnyOf<B>, AllocError>
+) -> Result<AnyOf<B>, Refused>
     ensures { IfOk result (λ copy. copy ≡ alternatives.now) }
 {
-    let mut copies = Vec::with_capacity(alloc, alternatives.as_slice().len())?;
+    let mut copies = Vec::new(alloc);
     for matches in alternatives.as_slice() {
-        copies.push(copy_matches(alloc, matches)?)?;
+        copies.try_push(copy_matches(alloc, matches)?)?;
     }
     Ok(AnyOf::from_vec(copies))
 }
@@ -287,12 +286,12 @@ pub(crate) fn copy_alternatives<A: Allocator, B: Allocator + Copy>(
 pub(crate) fn copy_target<A: Allocator, B: Allocator + Copy>(
     alloc: B,
     target: &Target<A>,
-) -> Result<Target<B>, AllocError>
+) -> Result<Target<B>, Refused>
     ensures { IfOk result (λ copy. copy ≡ target.now) }
 {
-    let mut copies = Vec::with_capacity(alloc, target.as_slice().len())?;
+    let mut copies = Vec::new(alloc);
     for part in target.as_slice() {
-        copies.push(copy_alternatives(alloc, part)?)?;
+        copies.try_push(copy_alternatives(alloc, part)?)?;
     }
     Ok(Target::from_vec(copies))
 }
@@ -301,10 +300,8 @@ pub(crate) fn copy_target<A: Allocator, B: Allocator + Copy>(
 pub(crate) fn copy_conditions<A: Allocator, B: Allocator + Copy>(
     alloc: B,
     conditions: &Conditions<A>,
-) -> Result<Conditions<B>, AllocError>
+) -> Result<Conditions<B>, Refused>
     ensures { IfOk result (λ copy. copy ≡ conditions.now) }
 {
-    let mut copies = Vec::with_capacity(alloc, conditions.as_slice().len())?;
-    copies.extend_from_slice(conditions.as_slice())?;
-    Ok(Conditions::from_vec(copies))
+    Ok(Conditions::from_vec(copied(alloc, conditions.as_slice())?))
 }

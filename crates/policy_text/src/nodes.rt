@@ -9,7 +9,8 @@ use crate::algorithms::Algorithm;
 use crate::matches::{Target, copy_target};
 use crate::rules::Rule;
 use features::Name;
-use std::alloc::{AllocError, Allocator};
+use memory::{GrowVec, Refused};
+use std::alloc::Allocator;
 
 /// A set of sets and policies, or a policy, which has rules. Its decision is that of its children, combined, where
 /// its target holds.
@@ -34,7 +35,7 @@ pub enum Node<A: Allocator> {
 pub(crate) fn copy_node<A: Allocator, B: Allocator + Copy>(
     alloc: B,
     node: &Node<A>,
-) -> Result<Node<B>, AllocError>
+) -> Result<Node<B>, Refused>
     ensures { IfOk result (λ copy. node_view copy ≡ node_view node.now) }
 {
     match node {
@@ -68,12 +69,12 @@ pub(crate) fn copy_node<A: Allocator, B: Allocator + Copy>(
 fn copy_nodes<A: Allocator, B: Allocator + Copy>(
     alloc: B,
     nodes: &Vec<Node<A>, A>,
-) -> Result<Vec<Node<B>, B>, AllocError>
+) -> Result<Vec<Node<B>, B>, Refused>
     ensures { IfOk result (λ copies. map node_view copies.items ≡ map node_view nodes.now.items) }
 {
-    let mut copies = Vec::with_capacity(alloc, nodes.len())?;
+    let mut copies = Vec::new(alloc);
     for node in nodes {
-        copies.push(copy_node(alloc, node)?)?;
+        copies.try_push(copy_node(alloc, node)?)?;
     }
     Ok(copies)
 }
@@ -82,12 +83,12 @@ fn copy_nodes<A: Allocator, B: Allocator + Copy>(
 fn copy_rules<A: Allocator, B: Allocator + Copy>(
     alloc: B,
     rules: &Vec<Rule<A>, A>,
-) -> Result<Vec<Rule<B>, B>, AllocError>
+) -> Result<Vec<Rule<B>, B>, Refused>
     ensures { IfOk result (λ copies. copies.items ≡ rules.now.items) }
 {
-    let mut copies = Vec::with_capacity(alloc, rules.len())?;
+    let mut copies = Vec::new(alloc);
     for rule in rules {
-        copies.push(rule.copy(alloc)?)?;
+        copies.try_push(rule.copy(alloc)?)?;
     }
     Ok(copies)
 }

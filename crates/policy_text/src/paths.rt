@@ -7,7 +7,8 @@ ghost use Rattle.policy_text.specs.Places.{same_path};
 use std::fmt;
 use std::marker::Model;
 
-/// How many steps a path has at most. The longest lead through eight nested sets and policies to a key of a match.
+/// How many steps a path has room for. The longest path of a fault has 22: the root, seven sets within one another, the
+/// policy's rule, and in its target the key of a match.
 pub const STEP_LIMIT: usize = 24;
 
 /// A key of an object of a document.
@@ -112,7 +113,7 @@ impl Path {
 
     /// The place that one step more leads to.
     pub(crate) fn with(self, step: Step) -> Path
-        requires { length self < 24 }
+        requires { length self < STEP_LIMIT }
         ensures { result ≡ self ++ step ∷ [] }
     {
         let mut steps = self.steps;

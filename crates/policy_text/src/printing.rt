@@ -19,34 +19,35 @@ use crate::rules::Rule;
 use crate::values::{condition_values, target_values};
 use crate::words::{algorithm_word, effect_word, name_value, put_array};
 use features::Name;
+use memory::{GrowVec, Refused, json_string, json_text, put_member};
 use plane::Shape;
-use serde_json::{Map, Value, put};
-use std::alloc::{AllocError, Allocator, Global};
+use serde_json::{Map, Value};
+use std::alloc::{Allocator, Global};
 use wkt::print_shape;
 
 /// A rule, its target and its conditions left out where there are none. The only error is want of memory.
-fn rule_value<A: Allocator>(heap: Global, rule: &Rule<A>) -> Result<Value, AllocError>
+fn rule_value<A: Allocator>(heap: Global, rule: &Rule<A>) -> Result<Value, Refused>
     ensures { IfOk result (λ v. view v ≡ rule_data rule.now) }
 {
-    let effect = Value::try_from_str(heap, effect_word(rule.effect))?;
+    let effect = json_string(heap, effect_word(rule.effect))?;
     let name = name_value(heap, &rule.name)?;
     let target = target_values(heap, &rule.target)?;
     let when = condition_values(heap, &rule.when)?;
     let mut members = Map::new(heap);
-    put(&mut members, heap, Key::Effect.text(), effect)?;
-    put(&mut members, heap, Key::Rule.text(), name)?;
+    put_member(&mut members, heap, Key::Effect.text(), effect)?;
+    put_member(&mut members, heap, Key::Rule.text(), name)?;
     put_array(&mut members, heap, Key::Target, target)?;
     put_array(&mut members, heap, Key::When, when)?;
     Ok(Value::Object(members))
 }
 
 /// The rules of a policy. The only error is want of memory.
-fn rule_values<A: Allocator>(heap: Global, rules: &[Rule<A>]) -> Result<Vec<Value>, AllocError>
+fn rule_values<A: Allocator>(heap: Global, rules: &[Rule<A>]) -> Result<Vec<Value>, Refused>
     ensures { IfOk result (λ values. map view values.items ≡ map rule_data rules.now) }
 {
-    let mut values = Vec::with_capacity(heap, rules.len())?;
+    let mut values = Vec::new(heap);
     for rule in rules {
-        values.push(rule_value(heap, rule)?)?;
+        values.try_push(rule_value(heap, rule)?)?;
     }
     Ok(values)
 }
@@ -59,17 +60,17 @@ fn form_value<A: Allocator>(
     combine: Algorithm,
     target: &Target<A>,
     children: Vec<Value>,
-) -> Result<Value, AllocError>
+) -> Result<Value, Refused>
     ensures { IfOk result (λ v. view v ≡ object
         (put_node form.name form.children (record { name = name.now; combine = combine; target = target.now }) (items_view children.items))) }
 {
-    let combine = Value::try_from_str(heap, algorithm_word(combine))?;
+    let combine = json_string(heap, algorithm_word(combine))?;
     let name = name_value(heap, name)?;
     let target = target_values(heap, target)?;
     let mut members = Map::new(heap);
-    put(&mut members, heap, Key::Combine.text(), combine)?;
-    put(&mut members, heap, form.name.text(), name)?;
-    put(
+    put_member(&mut members, heap, Key::Combine.text(), combine)?;
+    put_member(&mut members, heap, form.name.text(), name)?;
+    put_member(
         &mut members,
         heap,
         form.children.text(),
@@ -81,7 +82,7 @@ fn form_value<A: Allocator>(
 
 /// A set or a policy. The only error is want of memory.
 #[cycle(print)]
-fn node_value<A: Allocator>(heap: Global, node: &Node<A>) -> Result<Value, AllocError>
+fn node_value<A: Allocator>(heap: Global, node: &Node<A>) -> Result<Value, Refused>
     ensures { IfOk result (λ v. view v ≡ node_data (node_view node.now)) }
 {
     match node {
@@ -108,63 +109,57 @@ fn node_value<A: Allocator>(heap: Global, node: &Node<A>) -> Result<Value, Alloc
 
 /// The sets and policies of a set. The only error is want of memory.
 #[cycle(print)]
-fn node_values<A: Allocator>(
-    heap: Global,
-    nodes: &Vec<Node<A>, A>,
-) -> Result<Vec<Value>, AllocError>
+fn node_values<A: Allocator>(heap: Global, nodes: &Vec<Node<A>, A>) -> Result<Vec<Value>, Refused>
     ensures { IfOk result (λ values. map view values.items ≡ map (λ n. node_data (node_view n)) nodes.now.items) }
 {
-    let mut values = Vec::with_capacity(heap, nodes.len())?;
+    let mut values = Vec::new(heap);
     for node in nodes {
-        values.push(node_value(heap, node)?)?;
+        values.try_push(node_value(heap, node)?)?;
     }
     Ok(values)
 }
 
 /// A zone. The only error is want of memory.
-fn zone_value(heap: Global, name: &Name, shape: &Shape) -> Result<Value, AllocError>
+fn zone_value(heap: Global, name: &Name, shape: &Shape) -> Result<Value, Refused>
     ensures { IfOk result (λ v. view v ≡ zone_data (record { name = name.now; shape = shape.now })) }
 {
     let shape = Value::from(print_shape(heap, shape)?);
     let name = name_value(heap, name)?;
     let mut members = Map::new(heap);
-    put(&mut members, heap, Key::Shape.text(), shape)?;
-    put(&mut members, heap, Key::Zone.text(), name)?;
+    put_member(&mut members, heap, Key::Shape.text(), shape)?;
+    put_member(&mut members, heap, Key::Zone.text(), name)?;
     Ok(Value::Object(members))
 }
 
 /// The zones, in their order. The only error is want of memory.
-fn zone_values<A: Allocator>(heap: Global, zones: &Zones<A>) -> Result<Vec<Value>, AllocError>
+fn zone_values<A: Allocator>(heap: Global, zones: &Zones<A>) -> Result<Vec<Value>, Refused>
     ensures { IfOk result (λ values. items_view values.items ≡ zones_items (map zone_of zones.now.entries)) }
 {
-    let mut values = Vec::with_capacity(heap, zones.len())?;
+    let mut values = Vec::new(heap);
     for (key, shape) in zones.iter() {
-        values.push(zone_value(heap, &key.name, shape)?)?;
+        values.try_push(zone_value(heap, &key.name, shape)?)?;
     }
     Ok(values)
 }
 
-/// A document, its zones left out where there are none. The only error is want of memory.
-fn document_value<A: Allocator>(heap: Global, document: &Document<A>) -> Result<Value, AllocError>
+/// A document as a JSON value, its zones left out where there are none. The only error is want of memory.
+pub fn document_value<A: Allocator>(heap: Global, document: &Document<A>) -> Result<Value, Refused>
     ensures value { IfOk result (λ v. view v ≡ document_data document.now) }
     ensures sound { IsDocument document.now }
 {
     let root = node_value(heap, document.root())?;
     let zones = zone_values(heap, document.zones())?;
     let mut members = Map::new(heap);
-    put(&mut members, heap, Key::Root.text(), root)?;
+    put_member(&mut members, heap, Key::Root.text(), root)?;
     put_array(&mut members, heap, Key::Zones, zones)?;
     Ok(Value::Object(members))
 }
 
 /// The printed form of a document: JSON (RFC 8259) without spaces, the keys of each object in order, and zones, targets and
 /// conditions left out where there are none. It is read as the same document. The only error is want of memory.
-pub fn print_document<A: Allocator>(
-    heap: Global,
-    document: &Document<A>,
-) -> Result<String, AllocError>
+pub fn print_document<A: Allocator>(heap: Global, document: &Document<A>) -> Result<String, Refused>
     ensures text { IfOk result (λ text. string_bytes text ≡ document_text document.now) }
     ensures read { IfOk result (λ text. document_of_bytes (string_bytes text) ≡ Ok document.now) }
 {
-    document_value(heap, document)?.to_string(heap)
+    json_text(heap, &document_value(heap, document)?)
 }

@@ -6,7 +6,7 @@ ghost use Rattle.serde_json.specs.View.{view, items_view};
 ghost use Rattle.policy_text.specs.Names.{is_name};
 ghost use Rattle.policy_text.specs.SeenViews.{seen_view, head_view};
 ghost use Rattle.policy_text.specs.Views.{zone_of, node_view};
-ghost use Rattle.policy_text.specs.Reading.{Gives, fresh, within, each_at, rule_at, head_at, policy_at, set_at, node_at};
+ghost use Rattle.policy_text.specs.Reading.{Gives, Tells, fresh, within, each_at, rule_at, head_at, policy_at, set_at, node_at};
 
 use crate::algorithms::Algorithm;
 use crate::documents::Zones;
@@ -20,6 +20,7 @@ use crate::paths::{Key, Path, Step};
 use crate::rules::Rule;
 use crate::targets::{conditions_at, target_at};
 use features::Name;
+use memory::GrowVec;
 use serde_json::Value;
 use std::alloc::Allocator;
 
@@ -83,13 +84,14 @@ pub(crate) fn fresh<A: Allocator>(
     name: Name,
     names: Vec<Name, A>,
 ) -> Result<Vec<Name, A>, TextFault>
-    ensures { Gives (λ v. v.items) result (fresh name names.items) }
+    ensures value { Gives (λ v. v.items) result (fresh name names.items) }
+    ensures told { Tells result (fresh name names.items) }
 {
     if has_name(&names, name) {
         return Err(TextFault::NameTwice(name));
     }
     let mut names = names;
-    names.push(name)?;
+    names.try_push(name)?;
     Ok(names)
 }
 
@@ -163,7 +165,7 @@ fn rules_at<A: Allocator + Copy, B: Allocator>(
     let mut seen = seen;
     for (index, value) in items.iter().enumerate() {
         let (rule, after) = rule_at(alloc, zones, value, path.with(Step::Item(index)), seen)?;
-        rules.push(rule)?;
+        rules.try_push(rule)?;
         seen = after;
     }
     Ok((rules, seen))
@@ -348,7 +350,7 @@ fn nodes_at<A: Allocator + Copy, B: Allocator>(
             path.with(Step::Item(index)),
             seen,
         )?;
-        nodes.push(node)?;
+        nodes.try_push(node)?;
         seen = after;
     }
     Ok((nodes, seen))

@@ -6,7 +6,8 @@ ghost use Rattle.policy_text.specs.Equality.{same_rule};
 use crate::algorithms::Effect;
 use crate::matches::{Conditions, Target, copy_conditions, copy_target};
 use features::Name;
-use std::alloc::{AllocError, Allocator};
+use memory::Refused;
+use std::alloc::Allocator;
 use std::marker::Model;
 
 /// A rule: it gives its effect where its target and all its conditions hold.
@@ -28,7 +29,7 @@ impl<A: Allocator> Model for Rule<A> {
 
 impl<A: Allocator> Rule<A> {
     /// A copy of the rule. The only error is want of memory.
-    pub fn copy<B: Allocator + Copy>(&self, alloc: B) -> Result<Rule<B>, AllocError>
+    pub fn copy<B: Allocator + Copy>(&self, alloc: B) -> Result<Rule<B>, Refused>
         ensures { IfOk result (λ copy. copy ≡ self.now) }
     {
         Ok(Rule {

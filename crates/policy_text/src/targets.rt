@@ -3,19 +3,20 @@
 ghost use Rattle.std.specs.Prelude.{◌≡◌, ◌<◌, length, map};
 ghost use Rattle.serde_json.specs.View.{view, items_view};
 ghost use Rattle.policy_text.specs.Views.{zone_of};
-ghost use Rattle.policy_text.specs.Reading.{Gives, items_in, each_at, match_at, all_of_at, any_of_at, atom_at};
+ghost use Rattle.policy_text.specs.Reading.{Gives, Shows, items_in, each_at, match_at, all_of_at, any_of_at, atom_at};
 
 use crate::documents::Zones;
 use crate::faults::TextFault;
 use crate::matches::{AllOf, AnyOf, Conditions, Target};
 use crate::paths::{Path, Step};
 use crate::terms::{atom_at, match_at};
+use memory::GrowVec;
 use serde_json::Value;
 use std::alloc::Allocator;
 
 /// The items of an array that is not empty.
 fn items_in(value: &Value, path: Path) -> Result<&[Value], TextFault>
-    ensures { Gives (λ items. items_view items.now) result (items_in path (view value.now)) }
+    ensures { Shows (λ items. items_view items.now) result (items_in path (view value.now)) }
 {
     let Some(items) = value.as_array() else {
         return Err(TextFault::Form(path));
@@ -41,7 +42,7 @@ fn matches_at<A: Allocator + Copy, B: Allocator>(
     let mut tests = tests;
     for (index, value) in items.iter().enumerate() {
         let (test, after) = match_at(zones, value, path.with(Step::Item(index)), tests)?;
-        matches.push(test)?;
+        matches.try_push(test)?;
         tests = after;
     }
     Ok((AllOf::from_vec(matches), tests))
@@ -78,7 +79,7 @@ fn alternatives_at<A: Allocator + Copy, B: Allocator>(
     let mut tests = tests;
     for (index, value) in items.iter().enumerate() {
         let (matches, after) = all_of_at(alloc, zones, value, path.with(Step::Item(index)), tests)?;
-        alternatives.push(matches)?;
+        alternatives.try_push(matches)?;
         tests = after;
     }
     Ok((AnyOf::from_vec(alternatives), tests))
@@ -115,7 +116,7 @@ pub(crate) fn target_at<A: Allocator + Copy, B: Allocator>(
     let mut tests = tests;
     for (index, value) in items.iter().enumerate() {
         let (part, after) = any_of_at(alloc, zones, value, path.with(Step::Item(index)), tests)?;
-        parts.push(part)?;
+        parts.try_push(part)?;
         tests = after;
     }
     Ok((Target::from_vec(parts), tests))
@@ -136,7 +137,7 @@ pub(crate) fn conditions_at<A: Allocator + Copy, B: Allocator>(
     let mut tests = tests;
     for (index, value) in items.iter().enumerate() {
         let (atom, after) = atom_at(zones, value, path.with(Step::Item(index)), tests)?;
-        atoms.push(atom)?;
+        atoms.try_push(atom)?;
         tests = after;
     }
     Ok((Conditions::from_vec(atoms), tests))

@@ -11,7 +11,7 @@ use crate::documents::Zones;
 use crate::faults::TextFault;
 use crate::fields::{action_in, name_in, single_in};
 use crate::matches::{Atom, Match, Term};
-use crate::paths::{Key, Path, Step};
+use crate::paths::{Key, Path, STEP_LIMIT, Step};
 use crate::zones::ZoneName;
 use features::Name;
 use serde_json::Value;
@@ -53,7 +53,7 @@ const ATOM_KEYS: [Key; 8] = [
 /// The match of an object that has one key, a match's.
 #[tactic(auto, unfolding(crate::specs::Reading::match_in))]
 fn match_in(value: &Value, path: Path) -> Result<Match, TextFault>
-    requires { length path < 24 }
+    requires { length path < STEP_LIMIT }
     ensures { result ≡ match_in path (view value.now) }
 {
     if value.get(Key::Role.text()).is_some() {
@@ -116,7 +116,7 @@ pub(crate) fn match_at<A: Allocator>(
     path: Path,
     tests: u32,
 ) -> Result<(Match, u32), TextFault>
-    requires { length path < 24 }
+    requires { length path < STEP_LIMIT }
     ensures { result ≡ match_at (map zone_of zones.now.entries) path tests (view value.now) }
 {
     single_in(value, &MATCH_KEYS, path)?;
@@ -129,7 +129,7 @@ pub(crate) fn match_at<A: Allocator>(
 /// The term of an object that has one key, a term's.
 #[tactic(auto, unfolding(crate::specs::Reading::term_in))]
 fn term_in(value: &Value, path: Path) -> Result<Term, TextFault>
-    requires { length path < 24 }
+    requires { length path < STEP_LIMIT }
     ensures { result ≡ term_in path (view value.now) }
 {
     let Some(own) = value.get(Key::Own.text()) else {
@@ -157,7 +157,7 @@ fn term_of<A: Allocator>(
     path: Path,
     tests: u32,
 ) -> Result<(Term, u32), TextFault>
-    requires { length path < 24 }
+    requires { length path < STEP_LIMIT }
     ensures { result ≡ term_of (map zone_of zones.now.entries) path tests (view value.now) }
 {
     let term = term_in(value, path)?;
@@ -174,7 +174,7 @@ fn term_at<A: Allocator>(
     path: Path,
     tests: u32,
 ) -> Result<(Term, u32), TextFault>
-    requires { length path < 24 }
+    requires { length path < STEP_LIMIT }
     ensures { result ≡ term_at (map zone_of zones.now.entries) path tests (view value.now) }
 {
     single_in(value, &TERM_KEYS, path)?;

@@ -7,7 +7,7 @@ ghost use Rattle.policy_text.specs.Bytes.{document_of_bytes};
 use crate::areas::document_in;
 use crate::documents::Document;
 use crate::faults::TextFault;
-use serde_json::Value;
+use memory::json_value;
 use std::alloc::{Allocator, Global};
 
 /// Reads the document that a JSON text (RFC 8259) spells.
@@ -38,7 +38,7 @@ pub fn read_document<A: Allocator + Copy>(
     ensures value { Gives (λ document. document) result (document_of_bytes text.now) }
     ensures empty { length text.now ≡ 0 → result ≡ Err TextFault.NotJson }
 {
-    let value = Value::from_slice(heap, text)?;
+    let value = json_value(heap, text)?;
     let (zones, root) = document_in(alloc, &value)?;
     Ok(Document::new(zones, root))
 }

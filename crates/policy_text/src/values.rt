@@ -9,18 +9,19 @@ use crate::matches::{AllOf, AnyOf, Atom, Conditions, Match, Target, Term};
 use crate::paths::Key;
 use crate::words::{action_word, name_value, single_value};
 use features::Name;
+use memory::{GrowVec, Refused, json_string};
 use serde_json::Value;
-use std::alloc::{AllocError, Allocator, Global};
+use std::alloc::{Allocator, Global};
 
 /// An object with one member, a name. The only error is want of memory.
-fn named_value(heap: Global, key: Key, name: &Name) -> Result<Value, AllocError>
+fn named_value(heap: Global, key: Key, name: &Name) -> Result<Value, Refused>
     ensures { IfOk result (λ v. view v ≡ single key (string name.now)) }
 {
     single_value(heap, key, name_value(heap, name)?)
 }
 
 /// A match. The only error is want of memory.
-fn match_value(heap: Global, test: &Match) -> Result<Value, AllocError>
+fn match_value(heap: Global, test: &Match) -> Result<Value, Refused>
     ensures { IfOk result (λ v. view v ≡ match_data test.now) }
 {
     match test {
@@ -30,14 +31,14 @@ fn match_value(heap: Global, test: &Match) -> Result<Value, AllocError>
         Match::Owner(name) => named_value(heap, Key::Owner, name),
         Match::Zone(name) => named_value(heap, Key::Zone, name),
         Match::Action(action) => {
-            let word = Value::try_from_str(heap, action_word(*action))?;
+            let word = json_string(heap, action_word(*action))?;
             single_value(heap, Key::Action, word)
         }
     }
 }
 
 /// A term. The only error is want of memory.
-fn term_value(heap: Global, term: &Term) -> Result<Value, AllocError>
+fn term_value(heap: Global, term: &Term) -> Result<Value, Refused>
     ensures { IfOk result (λ v. view v ≡ term_data term.now) }
 {
     match term {
@@ -47,7 +48,7 @@ fn term_value(heap: Global, term: &Term) -> Result<Value, AllocError>
 }
 
 /// A condition. The only error is want of memory.
-fn atom_value(heap: Global, atom: &Atom) -> Result<Value, AllocError>
+fn atom_value(heap: Global, atom: &Atom) -> Result<Value, Refused>
     ensures { IfOk result (λ v. view v ≡ atom_data atom.now) }
 {
     match atom {
@@ -57,23 +58,23 @@ fn atom_value(heap: Global, atom: &Atom) -> Result<Value, AllocError>
 }
 
 /// Matches of which each has to hold, as an array. The only error is want of memory.
-fn all_of_value<A: Allocator>(heap: Global, matches: &AllOf<A>) -> Result<Value, AllocError>
+fn all_of_value<A: Allocator>(heap: Global, matches: &AllOf<A>) -> Result<Value, Refused>
     ensures { IfOk result (λ v. view v ≡ all_of_data matches.now) }
 {
-    let mut values = Vec::with_capacity(heap, matches.as_slice().len())?;
+    let mut values = Vec::new(heap);
     for test in matches.as_slice() {
-        values.push(match_value(heap, test)?)?;
+        values.try_push(match_value(heap, test)?)?;
     }
     Ok(Value::Array(values))
 }
 
 /// Alternatives, as an array. The only error is want of memory.
-fn any_of_value<A: Allocator>(heap: Global, alternatives: &AnyOf<A>) -> Result<Value, AllocError>
+fn any_of_value<A: Allocator>(heap: Global, alternatives: &AnyOf<A>) -> Result<Value, Refused>
     ensures { IfOk result (λ v. view v ≡ any_of_data alternatives.now) }
 {
-    let mut values = Vec::with_capacity(heap, alternatives.as_slice().len())?;
+    let mut values = Vec::new(heap);
     for matches in alternatives.as_slice() {
-        values.push(all_of_value(heap, matches)?)?;
+        values.try_push(all_of_value(heap, matches)?)?;
     }
     Ok(Value::Array(values))
 }
@@ -82,12 +83,12 @@ fn any_of_value<A: Allocator>(heap: Global, alternatives: &AnyOf<A>) -> Result<V
 pub(crate) fn target_values<A: Allocator>(
     heap: Global,
     target: &Target<A>,
-) -> Result<Vec<Value>, AllocError>
+) -> Result<Vec<Value>, Refused>
     ensures { IfOk result (λ values. items_view values.items ≡ target_items target.now) }
 {
-    let mut values = Vec::with_capacity(heap, target.as_slice().len())?;
+    let mut values = Vec::new(heap);
     for part in target.as_slice() {
-        values.push(any_of_value(heap, part)?)?;
+        values.try_push(any_of_value(heap, part)?)?;
     }
     Ok(values)
 }
@@ -96,12 +97,12 @@ pub(crate) fn target_values<A: Allocator>(
 pub(crate) fn condition_values<A: Allocator>(
     heap: Global,
     conditions: &Conditions<A>,
-) -> Result<Vec<Value>, AllocError>
+) -> Result<Vec<Value>, Refused>
     ensures { IfOk result (λ values. items_view values.items ≡ when_items conditions.now) }
 {
-    let mut values = Vec::with_capacity(heap, conditions.as_slice().len())?;
+    let mut values = Vec::new(heap);
     for atom in conditions.as_slice() {
-        values.push(atom_value(heap, atom)?)?;
+        values.try_push(atom_value(heap, atom)?)?;
     }
     Ok(values)
 }

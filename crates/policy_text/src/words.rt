@@ -9,8 +9,9 @@ ghost use Rattle.policy_text.specs.PrintedMembers.{put_items};
 use crate::algorithms::{Algorithm, Effect};
 use crate::paths::Key;
 use features::{Action, Name};
-use serde_json::{Map, Value, put};
-use std::alloc::{AllocError, Global};
+use memory::{Refused, json_string, put_member};
+use serde_json::{Map, Value};
+use std::alloc::Global;
 
 /// The word for an algorithm.
 pub(crate) fn algorithm_word(algorithm: Algorithm) -> &'static str
@@ -47,19 +48,26 @@ pub(crate) fn action_word(action: Action) -> &'static str
     }
 }
 
+/// The text of a name.
+fn name_text(name: &Name) -> &str
+    ensures { result.now ≡ name.now }
+{
+    str::from_utf8(name.as_bytes()).unwrap()
+}
+
 /// A name as a JSON text. The only error is want of memory.
-pub(crate) fn name_value(heap: Global, name: &Name) -> Result<Value, AllocError>
+pub(crate) fn name_value(heap: Global, name: &Name) -> Result<Value, Refused>
     ensures { IfOk result (λ v. view v ≡ string name.now) }
 {
-    Ok(Value::from(name.to_string(heap)?))
+    json_string(heap, name_text(name))
 }
 
 /// An object with one member. The only error is want of memory.
-pub(crate) fn single_value(heap: Global, key: Key, value: Value) -> Result<Value, AllocError>
+pub(crate) fn single_value(heap: Global, key: Key, value: Value) -> Result<Value, Refused>
     ensures { IfOk result (λ v. view v ≡ single key (view value)) }
 {
     let mut members = Map::new(heap);
-    put(&mut members, heap, key.text(), value)?;
+    put_member(&mut members, heap, key.text(), value)?;
     Ok(Value::Object(members))
 }
 
@@ -69,11 +77,11 @@ pub(crate) fn put_array(
     heap: Global,
     key: Key,
     items: Vec<Value>,
-) -> Result<(), AllocError>
+) -> Result<(), Refused>
     ensures { OnOk result (members_view members.new.entries ≡ put_items key (items_view items.items) (members_view members.old.entries)) }
 {
     if items.is_empty() {
         return Ok(());
     }
-    put(members, heap, key.text(), Value::Array(items))
+    put_member(members, heap, key.text(), Value::Array(items))
 }

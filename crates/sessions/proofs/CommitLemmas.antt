@@ -1,27 +1,42 @@
 -- The ends of a commit, as plain states.
-use Rattle.std.proofs.Common.{◌≡◌, ◌≢◌, ℕ, ◌+◌, ◌-◌, ◌^◌, ◌<◌, ltb, false, List, [], ◌∷◌, length, Option, None, Some, is_some, if◌then◌else◌, refl, inl, inr, sym, ap, ◌∙◌, eq-eqb, subst}
+use Rattle.std.proofs.Common.{◌≡◌, ◌≢◌, ℕ, ◌+◌, ◌-◌, ◌^◌, ◌<◌, ltb, Bool, true, false, not, List, [], ◌∷◌, length, Option, None, Some, is_some, if◌then◌else◌, refl, inl, inr, sym, ap, ◌∙◌, eq-eqb, subst}
 use Rattle.std.proofs.lemmas.Bool.{ne_eqb, cases_lt}
 use borrow.Author.Tests.{lt-ltb, le-ltb}
 use Rattle.features.specs.declared.rows.Feature.{Feature}
 use Rattle.features.specs.declared.rows.Change.{Change}
-use Rattle.features.specs.declared.rows.Change.TheVariants.{Add}
-use Rattle.features.specs.Changes.{after, CanApply}
+use Rattle.features.specs.declared.rows.Change.TheVariants.{Add, Reshape, Delete}
+use Rattle.features.specs.Changes.{change_id, after, CanApply, CanChange}
 use Rattle.features.specs.Rows.{feature_with}
+use Rattle.std.specs.Option.{IsSome}
 use Rattle.sessions.specs.declared.faults.Fault.TheVariants.{Spent, StoreFull}
 use Rattle.sessions.specs.declared.replies.Reply.{Reply}
 use Rattle.sessions.specs.declared.replies.Reply.TheVariants.{Applied, Exists, Error}
 use Rattle.sessions.specs.States.{PlainState}
-use Rattle.sessions.specs.Worlds.{AreDistinct, IsApplied, applied, committed, first_present, judged}
+use Rattle.sessions.specs.Worlds.{AreDistinct, IsApplied, applied, committed, first_present, is_refused, judged}
 
--- where no change's feature is there already, and no two name one, all can be made
+found_some : (o : Option Feature) → not (is_some o) ≡ false → IsSome o
+found_some (Some row) e = refl
+found_some None e = sym e
+
+-- a change that is not refused can be made
+makeable : (change : Change) (rows : List Feature) → is_refused change (is_some (feature_with (change_id change) rows)) ≡ false → CanChange change rows
+makeable (Add id class shape) rows e = go (feature_with id rows) e
+  where
+    go : (found : Option Feature) → is_some found ≡ false → found ≡ None
+    go None e = refl
+    go (Some row) e = absurd cc
+makeable (Reshape id known shape) rows e = found_some (feature_with id rows) e
+makeable (Delete id known) rows e = found_some (feature_with id rows) e
+
+-- where no change is refused, and no two name one feature, all can be made
 pub can_apply : (number : ℕ) (changes : List Change) (rows : List Feature) → AreDistinct changes → first_present number changes rows ≡ None → CanApply changes rows
 can_apply number [] rows distinct none = tt
-can_apply number (Add id class shape ∷ changes) rows distinct none = go (feature_with id rows) refl none (can_apply (number + 1) changes rows distinct.1)
+can_apply number (change ∷ changes) rows distinct none = go (is_refused change (is_some (feature_with (change_id change) rows))) refl none (can_apply (number + 1) changes rows distinct.1)
   where
-    go : (found : Option Feature) → feature_with id rows ≡ found → (if is_some found then Some number else first_present (number + 1) changes rows) ≡ None
-        → (first_present (number + 1) changes rows ≡ None → CanApply changes rows) → CanApply (Add id class shape ∷ changes) rows
-    go None e h rest = (e, distinct.0, rest h)
-    go (Some row) e h rest = absurd cc
+    go : (refused : Bool) → is_refused change (is_some (feature_with (change_id change) rows)) ≡ refused → (if refused then Some number else first_present (number + 1) changes rows) ≡ None
+        → (first_present (number + 1) changes rows ≡ None → CanApply changes rows) → CanApply (change ∷ changes) rows
+    go false e h rest = (makeable change rows e, distinct.0, rest h)
+    go true e h rest = absurd cc
 
 pub not_more : (a b : ℕ) → (a < b → ⊥) → ltb a b ≡ false
 not_more a b not = elim (cases_lt a b) [ inl lt ↦ absurd (not lt) | inr le ↦ le-ltb a b le ]

@@ -1,7 +1,6 @@
 -- Writing replies.
-use Rattle.std.proofs.Common.{◌≡◌, ℕ, ◌≤◌, List, [], ◌∷◌, ◌++◌, length, Option, Some, None, Result, Ok, Err, OnOk, refl, sym, ap, ◌∙◌, append_assoc, append-nil, lit≤, subst}
+use Rattle.std.proofs.Common.{◌≡◌, ℕ, ◌≤◌, List, [], ◌++◌, length, Option, Some, None, Result, Ok, Err, refl, sym, ap, ◌∙◌, append_assoc, append-nil, lit≤, subst, take, drop, take-append-drop}
 use Rattle.std.specs.List.{flat_map}
-use Rattle.std.proofs.lemmas.List.{flat_map_more}
 use Rattle.std.specs.Io.KnownBytes.{Appends}
 use Rattle.plane.specs.declared.fault.ShapeFault.{ShapeFault}
 use Rattle.plane.specs.declared.fault.ShapeFault.TheVariants.{OutOfRange as RangeFault, SameEnds, TooManyPoints, TooFew, NotClosed, Repeated, Flat, NotConvex, TooManyCorners}
@@ -18,6 +17,8 @@ use Rattle.sessions.specs.Faults.{code_of}
 use Rattle.sessions.specs.Printed.{Shows, led, reply_text, row_text, rows_head, rows_text}
 use Rattle.plane.specs.declared.point.Point.{Point}
 use Rattle.sessions.specs.Listing.{IsListed}
+use Rattle.std.specs.Result.{IsErr}
+use Rattle.sessions.specs.Streams.{Took}
 use Rattle.sessions.proofs.ListingLemmas.{listed_once}
 
 -- no code is longer than three bytes
@@ -65,7 +66,7 @@ shows_line lead (Rows window) features not_rows = absurd (not_rows window refl)
 shows_line lead (Applied version) features not_rows = refl
 shows_line lead (Exists number) features not_rows = refl
 shows_line lead Bye features not_rows = refl
-shows_line lead Memory features not_rows = refl
+shows_line lead (Memory refused) features not_rows = refl
 shows_line lead (Error fault) features not_rows = refl
 
 -- two writes, one after the other
@@ -84,18 +85,44 @@ pub fields_joined : (x₀ x₁ x₂ x₃ x₄ x₅ a b c d e space : List ℕ) �
     → x₅ ≡ x₀ ++ (a ++ space ++ b ++ space ++ c ++ space ++ d ++ space ++ e)
 fields_joined x₀ x₁ x₂ x₃ x₄ x₅ a b c d e space h₁ h₂ h₃ h₄ h₅ = rw (h₅, h₄, h₃, h₂, h₁) (simp append_assoc)
 
--- one more row behind those that are written
-pub appends_row : (text : Feature → List ℕ) (a b c : Option (List ℕ)) (front : List Feature) (row : Feature) → Appends a b (flat_map text front) → Appends b c (text row) → Appends a c (flat_map text (front ++ row ∷ []))
-appends_row text a b c front row first second =
-    subst (λ (zs : List ℕ). Appends a c zs) (flat_map_more text [] front row) (appends_then a b c (flat_map text front) (text row) first second)
+-- ---- what a writer took
+
+-- a write that was taken whole, and another behind it
+pub took_then : {E : Type 0} (r : Result (Unit {0}) E) (a b c : Option (List ℕ)) (xs ys : List ℕ) → Appends a b xs → Took r b c ys → Took r a c (xs ++ ys)
+took_then (Ok u) a b c xs ys first second = appends_then a b c xs ys first second
+took_then (Err e) a b c xs ys first second =
+    (xs ++ second.0, second.1, ap (λ (zs : List ℕ). xs ++ zs) second.2 ∙ sym (append_assoc xs second.0 second.1), appends_then a b c xs second.0 first second.3)
+
+-- a write that failed, before another that did not come
+pub failed_before : (a b : Option (List ℕ)) (xs ys : List ℕ) → ((front : List ℕ) × (left : List ℕ) × (xs ≡ front ++ left) × Appends a b front)
+    → ((front : List ℕ) × (left : List ℕ) × (xs ++ ys ≡ front ++ left) × Appends a b front)
+failed_before a b xs ys failed = (failed.0, failed.1 ++ ys, ap (λ (zs : List ℕ). zs ++ ys) failed.2 ∙ append_assoc failed.0 failed.1 ys, failed.3)
+
+-- a call of the writer took more of what was left
+pub wrote_more : (all rest rest_then : List ℕ) (n : ℕ) (a b c : Option (List ℕ)) → ((f : List ℕ) × (all ≡ f ++ rest) × Appends a b f) → Appends b c (take n rest) → rest_then ≡ drop n rest
+    → ((f : List ℕ) × (all ≡ f ++ rest_then) × Appends a c f)
+wrote_more all rest rest_then n a b c so_far taken left = (
+  so_far.0 ++ take n rest,
+  so_far.1 ∙ ap (λ (t : List ℕ). so_far.0 ++ t) (sym (take-append-drop n rest) ∙ ap (λ (t : List ℕ). take n rest ++ t) (sym left)) ∙ sym (append_assoc so_far.0 (take n rest) rest_then),
+  appends_then a b c so_far.0 (take n rest) so_far.2 taken,
+)
+
+-- the head of a listing could not be written
+pub rows_failed : {E : Type 0} (r : Result (Unit {0}) E) → IsErr r → (lead : List ℕ) (window : List Point) (features : List Feature) (count : ℕ) (a b : Option (List ℕ))
+    → ((rows : List Feature) × IsListed window features rows × (count ≡ length rows))
+    → ((front : List ℕ) × (left : List ℕ) × (led lead (rows_head count) ≡ front ++ left) × Appends a b front)
+    → ((rows : List Feature) × IsListed window features rows × Took r a b (rows_text lead rows))
+rows_failed (Ok u) failed lead window features count a b counted head = absurd cc
+rows_failed (Err e) failed lead window features count a b counted head =
+    let here = subst (λ (n : ℕ). (front : List ℕ) × (left : List ℕ) × (led lead (rows_head n) ≡ front ++ left) × Appends a b front) counted.2 head in
+    (counted.0, counted.1, failed_before a b (led lead (rows_head (length counted.0))) (flat_map (λ row. led lead (row_text row)) counted.0) here)
 
 -- a head that counts as many rows as there are, and the rows behind it
 pub rows_written : {E : Type 0} (r : Result (Unit {0}) E) (lead : List ℕ) (window : List Point) (features : List Feature) (count : ℕ) (a b c : Option (List ℕ))
     → ((rows : List Feature) × IsListed window features rows × (count ≡ length rows)) → Appends a b (led lead (rows_head count))
-    → OnOk r ((rows : List Feature) × IsListed window features rows × Appends b c (flat_map (λ row. led lead (row_text row)) rows))
-    → OnOk r ((rows : List Feature) × IsListed window features rows × Appends a c (rows_text lead rows))
-rows_written (Err e) lead window features count a b c counted head each = tt
-rows_written (Ok u) lead window features count a b c counted head each =
+    → ((rows : List Feature) × IsListed window features rows × Took r b c (flat_map (λ row. led lead (row_text row)) rows))
+    → ((rows : List Feature) × IsListed window features rows × Took r a c (rows_text lead rows))
+rows_written r lead window features count a b c counted head each =
     let same = listed_once window features counted.0 each.0 counted.1 each.1 in
     let first = subst (λ (n : ℕ). Appends a b (led lead (rows_head n))) (counted.2 ∙ ap length same) head in
-    (each.0, each.1, appends_then a b c (led lead (rows_head (length each.0))) (flat_map (λ row. led lead (row_text row)) each.0) first each.2)
+    (each.0, each.1, took_then r a b c (led lead (rows_head (length each.0))) (flat_map (λ row. led lead (row_text row)) each.0) first each.2)

@@ -8,6 +8,7 @@ use Rattle.features.specs.declared.rows.Change.TheVariants.{Add}
 use Rattle.features.specs.Changes.{change_id}
 use Rattle.sessions.specs.declared.commands.Command.{Command}
 use Rattle.sessions.specs.declared.commands.Command.TheVariants.{Hello as HelloCommand, Add as AddCommand, Search as SearchCommand, Commit as CommitCommand, Bye as ByeCommand}
+use Rattle.sessions.specs.declared.lists.TheConstants.{CHANGE_LIMIT}
 use Rattle.sessions.specs.declared.faults.Fault.{Fault}
 use Rattle.sessions.specs.declared.faults.Fault.TheVariants.{BeforeHello, NothingStaged, NamedTwice, TooManyChanges}
 use Rattle.sessions.specs.declared.replies.Reply.{Reply}
@@ -34,22 +35,14 @@ names id changes = list_any (λ change. change_id change == id) changes
 -- one more change staged
 abbrev pub staged_with : Change → SessionState → SessionState × Reply
 staged_with change session =
-    if nat_le 16 (length session.staged) then (session, Error TooManyChanges)
+    if nat_le CHANGE_LIMIT (length session.staged) then (session, Error TooManyChanges)
     else if names (change_id change) session.staged then (session, Error NamedTwice)
     else (record session { staged = session.staged ++ change ∷ [] }, Staged)
 
--- a reply that says that something was changed, before which memory may be wanted
+-- a reply that says that the store was changed, for which memory may be wanted
 abbrev pub IsChange : Reply → Type 0
-IsChange Staged = Unit {0}
 IsChange (Applied version) = Unit {0}
 IsChange _ = ⊥
-
--- A change staged with this reply. Want of memory comes only where it would be staged, and changes nothing.
-abbrev pub Stages : Change → SessionState → SessionState → Reply → Type 0
-Stages change old new reply =
-    MatchBool (is_memory reply)
-    ((new ≡ old) × IsChange (staged_with change old).1)
-    ((new, reply) ≡ staged_with change old)
 
 -- a session after its list was committed with this reply
 abbrev pub without_list : Reply → SessionState → SessionState

@@ -3,6 +3,8 @@ use Rattle.std.specs.Prelude.{ℕ, List, codes}
 use Rattle.wkt.specs.Faults.{code_of as wkt_code_of}
 use Rattle.sessions.specs.declared.faults.Fault.{Fault}
 use Rattle.sessions.specs.declared.faults.Fault.TheVariants.{LineTooLong, Command, Number, Name, BeforeHello, HelloAgain, NothingStaged, NoLabel, NoSubject, NoPlace, NamedTwice, TooManyChanges, Spent, StoreFull, Shape}
+use Rattle.sessions.specs.declared.streams.ServeFault.{ServeFault}
+use Rattle.sessions.specs.declared.streams.ServeFault.TheVariants.{Read, Write, TooManyTurns, Memory}
 
 abbrev pub code_of : Fault → List ℕ
 code_of LineTooLong = codes "E1"
@@ -20,3 +22,10 @@ code_of TooManyChanges = codes "X6"
 code_of Spent = codes "X8"
 code_of StoreFull = codes "X11"
 code_of (Shape fault) = wkt_code_of fault
+
+-- the codes of the faults by which a run ends before its input does
+abbrev pub serve_code_of : ServeFault → List ℕ
+serve_code_of Read = codes "V1"
+serve_code_of Write = codes "V2"
+serve_code_of TooManyTurns = codes "V3"
+serve_code_of (Memory refused) = codes "V4"

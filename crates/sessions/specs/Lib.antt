@@ -8,6 +8,6 @@ pub mod Desks
 pub mod Listing
 pub mod Printed
 pub mod Lines
-pub mod Scripts
 pub mod Streams
+pub mod Scripts
 pub mod BuiltIn

@@ -20,7 +20,7 @@ reply_text (Rows window) = []
 reply_text (Applied version) = codes "applied " ++ decimal version
 reply_text (Exists number) = codes "exists change " ++ decimal number
 reply_text Bye = codes "bye"
-reply_text Memory = codes "memory"
+reply_text (Memory refused) = codes "memory"
 reply_text (Error fault) = codes "error " ++ code_of fault
 
 -- the first line of a listing

@@ -4,7 +4,7 @@ use Rattle.sessions.specs.declared.replies.Reply.{Reply}
 use Rattle.sessions.specs.declared.replies.Reply.TheVariants.{Applied, Exists, Memory}
 
 abbrev pub is_memory : Reply → Bool
-is_memory Memory = true
+is_memory (Memory refused) = true
 is_memory _ = false
 
 -- after this reply a session's staged list is dropped

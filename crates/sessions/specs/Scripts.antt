@@ -8,9 +8,11 @@ use Rattle.sessions.specs.declared.faults.Fault.TheVariants.{LineTooLong, NoLabe
 use Rattle.sessions.specs.declared.replies.Reply.{Reply}
 use Rattle.sessions.specs.declared.replies.Reply.TheVariants.{Error}
 use Rattle.sessions.specs.Desks.{Answers, fresh}
-use Rattle.sessions.specs.Lines.{lines_of}
+use Rattle.sessions.specs.Lines.{is_too_long, lines_of}
 use Rattle.sessions.specs.Printed.{Shows, led, reply_text}
 use Rattle.sessions.specs.States.{PlainState, SessionState}
+use Rattle.sessions.specs.Streams.{LinesTell}
+use Rattle.sessions.specs.declared.scripts.TheConstants.{LABEL_LIMIT}
 
 -- a world, and the sessions of the labels that have come, in their order
 pub record Script : Type 0 where
@@ -19,9 +21,6 @@ pub record Script : Type 0 where
 
 abbrev pub script : PlainState → List SessionState → Script
 script world sessions = record { world = world; sessions = sessions }
-
-abbrev pub is_too_long : List ℕ → Bool
-is_too_long line = nat_lt 65536 (length line)
 
 -- an empty line, or a comment
 abbrev pub is_skipped : List ℕ → Bool
@@ -61,7 +60,7 @@ pub record SessionTells (label text : List ℕ) (old new : Script) (said : List 
 -- a script has 64 labels at most
 abbrev pub LabelTells : List ℕ → List ℕ → Script → Script → List ℕ → Type 0
 LabelTells label text old new said =
-    MatchBool (nat_lt (place label old.sessions) 64) (SessionTells label text old new said) (IsRefused (reply_text (Error NoLabel)) old new said)
+    MatchBool (nat_lt (place label old.sessions) LABEL_LIMIT) (SessionTells label text old new said) (IsRefused (reply_text (Error NoLabel)) old new said)
 
 -- what a line is answered, and what it leaves
 abbrev pub LineTells : List ℕ → Script → Script → List ℕ → Type 0
@@ -74,9 +73,7 @@ LineTells line old new said =
 
 -- what lines are answered, one after another
 abbrev pub Tells : Script → List (List ℕ) → Script → List ℕ → Type 0
-Tells old [] new text = (new ≡ old) × (text ≡ [])
-Tells old (line ∷ lines) new text =
-    (mid : Script) × (said : List ℕ) × (more : List ℕ) × LineTells line old mid said × (text ≡ said ++ more) × Tells mid lines new more
+Tells old lines new text = LinesTell LineTells old lines new text
 
 -- the script text of an input, from one world to another
 pub record IsScriptText (world : PlainState) (input : List ℕ) (end : PlainState) (text : List ℕ) : Type 0 where

@@ -17,6 +17,7 @@ pub fn built_in_subjects() -> Subjects
     Subjects::new(&subjects).unwrap()
 }
 
+/// A subject of these names.
 fn subject(name: &[u8], office: &[u8], role: &[u8], steward: bool) -> Subject
     requires name { is_name name.now ≡ true }
     requires office { is_name office.now ≡ true }

@@ -107,6 +107,7 @@ fn alone(command: Command, rest: &[u8]) -> Result<Command, Fault>
     Ok(command)
 }
 
+/// The words of HELLO: a name.
 #[tactic(auto, unfolding(crate::specs::Commands::hello_at))]
 fn hello(rest: &[u8]) -> Result<Command, Fault>
     ensures { result ≡ hello_at rest.now }
@@ -117,6 +118,7 @@ fn hello(rest: &[u8]) -> Result<Command, Fault>
     Ok(Command::Hello(name))
 }
 
+/// The words of ADD: the id, the class, and the shape.
 #[tactic(auto, unfolding(crate::specs::Commands::add_at))]
 fn add(rest: &[u8]) -> Result<Command, Fault>
     ensures { result ≡ add_at rest.now }
@@ -136,18 +138,21 @@ fn due_word(text: &[u8]) -> Result<(&[u8], &[u8]), Fault>
     next_word(text).ok_or(Fault::Command)
 }
 
+/// The number that a word spells, or `Number`.
 fn as_number(word: &[u8]) -> Result<u64, Fault>
     ensures { result ≡ or_fault Fault.Number (number_of word.now) }
 {
     read_number(word).ok_or(Fault::Number)
 }
 
+/// The name that a word is, or `Name`.
 fn as_name(word: &[u8]) -> Result<Name, Fault>
     ensures { result ≡ or_fault Fault.Name (name_of word.now) }
 {
     Name::new(word).ok_or(Fault::Name)
 }
 
+/// The shape that all the rest of a line spells, or its fault.
 #[tactic(auto, unfolding(crate::specs::Commands::shape_at))]
 fn as_shape(text: &[u8]) -> Result<Shape, Fault>
     ensures { result ≡ shape_at text.now }

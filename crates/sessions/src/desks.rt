@@ -1,50 +1,50 @@
 ghost use Rattle.std.specs.Prelude.{◌≡◌, ◌==◌, is_some, length};
 ghost use Rattle.std.specs.List.{list_any};
 ghost use Rattle.features.specs.Changes.{change_id};
-ghost use Rattle.sessions.specs.Desks.{Answers, Closes, Obeys, Stages, begun, ended, fresh, names};
+ghost use Rattle.sessions.specs.Desks.{Answers, Closes, Obeys, begun, ended, fresh, names, staged_with};
 
 use crate::commands::{Command, read_command};
 use crate::faults::Fault;
+use crate::lists::{CHANGE_LIMIT, ChangeList};
 use crate::replies::Reply;
 use crate::worlds::PlainWorld;
 use features::{Change, Name, Subject};
 use std::alloc::Allocator;
 use std::marker::Model;
 
-/// How many changes a list has at most.
-pub const CHANGE_LIMIT: usize = 16;
-
-/// A session of a script. A contract sees its label, its subject and the changes that it has staged.
+/// A session of a script. A contract sees its label, its subject and the changes that it has staged. Its list stands in
+/// itself, so staging takes no memory.
 #[derive(Debug, Drop)]
-pub(crate) struct Session<A: Allocator> {
+pub(crate) struct Session {
     label: Name,
     subject: Option<Subject>,
-    staged: Vec<Change, A>,
+    staged: ChangeList,
 }
 
-impl<A: Allocator> Model for Session<A> {
+impl Model for Session {
     ghost use Rattle.sessions.specs.States.{SessionState};
     ghost use Rattle.sessions.specs.Worlds.{AreDistinct};
 
     ghost Value = { SessionState };
 
-    ghost view = { λ s. record { label = s.label; subject = s.subject; staged = s.staged.items } };
+    ghost view = { λ s. record { label = s.label; subject = s.subject; staged = s.staged } };
 
-    ghost invariant = { λ s. AreDistinct s.staged.items };
+    ghost invariant = { λ s. AreDistinct s.staged };
 }
 
-impl<A: Allocator> Session<A> {
-    /// A session that has not begun. It takes no memory.
-    pub fn new(alloc: A, label: Name) -> Self
+impl Session {
+    /// A session that has not begun.
+    pub fn new(label: Name) -> Self
         ensures { result ≡ fresh label }
     {
         Session {
             label,
             subject: None,
-            staged: Vec::new(alloc),
+            staged: ChangeList::new(),
         }
     }
 
+    /// The label that stands for the session.
     pub fn label(&self) -> Name
         ensures { result ≡ self.now.label }
     {
@@ -74,31 +74,28 @@ impl<A: Allocator> Session<A> {
     }
 
     /// Stages a change. `TooManyChanges` where 16 are staged, then `NamedTwice` where one of them names the same
-    /// feature, `Memory` where room is refused.
+    /// feature.
     fn stage(&mut self, change: Change) -> Reply
-        ensures { Stages change self.old self.new result }
+        ensures { (self.new, result) ≡ staged_with change self.old }
     {
         if self.staged.len() >= CHANGE_LIMIT {
             return Reply::Error(Fault::TooManyChanges);
         }
-        if is_named(&self.staged, change.id()) {
+        if is_named(self.staged.as_slice(), change.id()) {
             return Reply::Error(Fault::NamedTwice);
         }
-        if self.staged.reserve(1).is_err() {
-            return Reply::Memory;
-        }
-        self.staged.push_reserved(change);
+        self.staged.push(change);
         Reply::Staged
     }
 
     /// Commits the staged list. It is dropped once it is applied, or found to add what is there already.
-    fn commit(&mut self, world: &mut PlainWorld<A>) -> Reply
+    fn commit<A: Allocator>(&mut self, world: &mut PlainWorld<A>) -> Reply
         ensures { Closes self.old world.old self.new world.new result }
     {
         let Some(subject) = self.subject else {
             return Reply::Error(Fault::BeforeHello);
         };
-        if self.staged.is_empty() {
+        if self.staged.len() == 0 {
             return Reply::Error(Fault::NothingStaged);
         }
         let reply = world.commit(subject.office, self.staged.as_slice());
@@ -120,7 +117,7 @@ fn is_named(changes: &[Change], id: u64) -> bool
 #[tactic(auto, unfolding(crate::specs::Desks::answered))]
 pub(crate) fn answer<A: Allocator>(
     world: &mut PlainWorld<A>,
-    session: &mut Session<A>,
+    session: &mut Session,
     text: &[u8],
 ) -> Reply
     ensures { Answers text.now session.old world.old session.new world.new result }
@@ -133,11 +130,7 @@ pub(crate) fn answer<A: Allocator>(
 
 /// Does what a line asks.
 #[tactic(auto, unfolding(crate::specs::Desks::obeyed))]
-fn obey<A: Allocator>(
-    world: &mut PlainWorld<A>,
-    session: &mut Session<A>,
-    command: Command,
-) -> Reply
+fn obey<A: Allocator>(world: &mut PlainWorld<A>, session: &mut Session, command: Command) -> Reply
     ensures { Obeys command session.old world.old session.new world.new result }
 {
     match command {

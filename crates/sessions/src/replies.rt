@@ -1,12 +1,13 @@
 ghost use Rattle.std.specs.Prelude.{◌≡◌};
-ghost use Rattle.sessions.specs.Replies.{is_memory as reply_is_memory, ends_list as reply_ends_list};
+ghost use Rattle.sessions.specs.Replies.{ends_list as reply_ends_list};
 
 use crate::faults::Fault;
 use features::Name;
+use memory::Refused;
 use plane::Shape;
 
 /// What a line is answered.
-#[derive(Clone, Copy, Debug, PartialEq, Eq)]
+#[derive(Debug, Drop, PartialEq, Eq)]
 pub enum Reply {
     /// `hello NAME`
     Hello(Name),
@@ -21,19 +22,12 @@ pub enum Reply {
     /// `bye`
     Bye,
     /// `memory`: an allocation was refused.
-    Memory,
+    Memory(Refused),
     /// `error CODE`
     Error(Fault),
 }
 
 impl Reply {
-    /// Whether the line is answered that an allocation was refused.
-    pub fn is_memory(&self) -> bool
-        ensures { result ≡ reply_is_memory self.now }
-    {
-        matches!(self, Reply::Memory)
-    }
-
     /// Whether the session's staged list is dropped: it was applied, or adds what is there already.
     pub fn ends_list(&self) -> bool
         ensures { result ≡ reply_ends_list self.now }

@@ -66,6 +66,7 @@ pub(crate) fn read_number(word: &[u8]) -> Option<u64>
     Some(value as u64)
 }
 
+/// Whether each byte is a digit.
 fn are_digits(word: &[u8]) -> bool
     ensures { result ≡ list_all is_ascii_digit word.now }
 {

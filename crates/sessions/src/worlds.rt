@@ -1,11 +1,10 @@
 ghost use Rattle.std.specs.Prelude.{◌≡◌, ◌+◌, ◌≤◌, [], length, option_map, is_ok, if◌then◌else◌};
 ghost use Rattle.features.specs.Changes.{change_id};
-ghost use Rattle.features.specs.Rows.{IsSortedById};
-ghost use Rattle.sessions.specs.Worlds.{AreDistinct, Commits, first_present, opened, seat_of, seated};
+ghost use Rattle.sessions.specs.Worlds.{AreDistinct, Commits, first_present, is_refused, opened, seat_of, seated};
 
 use crate::faults::Fault;
 use crate::replies::Reply;
-use features::{Change, Feature, Meter, Name, Store, StoreFault, Subject, Subjects};
+use features::{Change, Meter, Name, Store, StoreFault, Subject, Subjects};
 use std::alloc::Allocator;
 use std::marker::Model;
 
@@ -30,7 +29,7 @@ impl<A: Allocator> Model for PlainWorld<A> {
     ghost view = { λ w. record { subjects = w.subjects; features = w.store; version = w.version; seats = w.seats } };
 }
 
-impl<A: Allocator> PlainWorld<A> {
+impl<A: Allocator + Copy> PlainWorld<A> {
     /// A world with these subjects, no features and no seats given. It takes no memory.
     pub fn open(alloc: A, subjects: Subjects) -> Self
         ensures { result ≡ opened subjects }
@@ -42,13 +41,14 @@ impl<A: Allocator> PlainWorld<A> {
             seats: 0,
         }
     }
+}
 
+impl<A: Allocator> PlainWorld<A> {
     /// The features, by rising id.
-    pub fn features(&self) -> &[Feature]
+    pub fn features(&self) -> &Store<A>
         ensures value { result.now ≡ self.now.features }
-        ensures sorted { IsSortedById self.now.features }
     {
-        self.store.rows()
+        &self.store
     }
 
     /// Gives a seat to the subject of a name. `NoSubject` where there is none, then `NoPlace` where all 1,024
@@ -82,7 +82,7 @@ impl<A: Allocator> PlainWorld<A> {
         }
         match self.store.apply(self.version + 1, office, changes) {
             Err(StoreFault::Full) => Reply::Error(Fault::StoreFull),
-            Err(StoreFault::Memory) => Reply::Memory,
+            Err(StoreFault::Memory(refused)) => Reply::Memory(refused),
             Ok(()) => {
                 self.version += 1;
                 Reply::Applied(self.version)
@@ -91,14 +91,25 @@ impl<A: Allocator> PlainWorld<A> {
     }
 }
 
-/// The number, from 1, of the first change that adds a feature that is there already.
+/// Whether a change cannot be made, where its feature was found or not.
+fn is_refused(change: &Change, found: bool) -> bool
+    ensures { result ≡ is_refused change.now found }
+{
+    match change {
+        Change::Add { .. } => found,
+        Change::Reshape { .. } | Change::Delete { .. } => !found,
+    }
+}
+
+/// The number, from 1, of the first change that cannot be made.
 fn first_that_exists<A: Allocator>(store: &Store<A>, changes: &[Change]) -> Option<u64>
     ensures { result ≡ first_present 1 changes.now store.now }
 {
     let mut meter = Meter::new();
     let mut number = 1;
     for change in changes {
-        if store.get(change.id(), &mut meter).is_some() {
+        let found = store.get(change.id(), &mut meter).is_some();
+        if is_refused(change, found) {
             return Some(number);
         }
         number += 1;

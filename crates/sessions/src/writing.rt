@@ -1,19 +1,20 @@
-ghost use Rattle.std.specs.Prelude.{◌≡◌, ◌+◌, ◌≤◌, ◌++◌, List, OnOk, codes, decimal, length, ℕ};
-ghost use Rattle.std.specs.Io.KnownBytes.{Appends};
+ghost use Rattle.std.specs.Prelude.{◌≡◌, ◌+◌, ◌≤◌, ◌++◌, List, codes, decimal, length, ℕ};
 ghost use Rattle.std.specs.List.{flat_map};
 ghost use Rattle.arrayvec.specs.ArrayVec.{array_vec_len};
 ghost use Rattle.features.specs.declared.rows.Feature.{Feature};
 ghost use Rattle.sessions.specs.Listing.{IsListed};
+ghost use Rattle.sessions.specs.Streams.{Took, WriteTook};
 ghost use Rattle.sessions.specs.Printed.{Shows, led, reply_text, row_text, rows_head, rows_text};
 
 use crate::faults::Fault;
 use crate::replies::Reply;
 use arrayvec::ArrayVec;
-use features::Feature;
+use features::{Feature, Store};
 use itoa::Buffer;
 use plane::{Shape, meets};
+use std::alloc::Allocator;
 use std::io;
-use std::io::Write;
+use std::io::{ErrorKind, Write};
 use wkt::shape_text;
 
 /// The longest line of a reply has 510 bytes: a label, a row's two numbers, its two names and a polygon's text.
@@ -25,6 +26,7 @@ const LEAD_LIMIT: usize = 32;
 /// A line of a reply while it grows.
 type Line = ArrayVec<u8, LINE_ROOM>;
 
+/// Some bytes, for which there is room.
 fn push_bytes(line: &mut Line, bytes: &[u8])
     requires room { array_vec_len line.old + length bytes.now ≤ 512 }
     ensures items { line.new.items ≡ line.old.items ++ bytes.now }
@@ -66,6 +68,7 @@ fn begin(lead: &[u8]) -> Line
     line
 }
 
+/// `error`, and the code of a fault.
 fn push_fault(line: &mut Line, fault: Fault)
     requires room { array_vec_len line.old ≤ 34 }
     ensures items { line.new.items ≡ line.old.items ++ reply_text (Reply.Error fault) }
@@ -91,7 +94,7 @@ fn push_reply(line: &mut Line, reply: Reply)
         Reply::Applied(version) => push_numbered(line, b"applied ", version),
         Reply::Exists(number) => push_numbered(line, b"exists change ", number),
         Reply::Bye => push_bytes(line, b"bye"),
-        Reply::Memory => push_bytes(line, b"memory"),
+        Reply::Memory(_) => push_bytes(line, b"memory"),
         Reply::Error(fault) => push_fault(line, fault),
     }
 }
@@ -132,21 +135,49 @@ fn push_number_field(line: &mut Line, number: u64)
 /// Writes a line with its end, by one call of the writer.
 fn finish<W: Write>(mut line: Line, writer: &mut W) -> io::Result<()>
     requires { array_vec_len line ≤ 511 }
-    ensures { OnOk result (Appends (W.contents writer.old) (W.contents writer.new) (line.items ++ codes "\n")) }
+    ensures { Took result (W.contents writer.old) (W.contents writer.new) (line.items ++ codes "\n") }
 {
     push_bytes(&mut line, b"\n");
-    writer.write_all(line.as_slice())
+    write_whole(line.as_slice(), writer)
+}
+
+/// One call of the writer, and how many of the bytes it took: none where it was interrupted.
+fn write_some<W: Write>(bytes: &[u8], writer: &mut W) -> io::Result<usize>
+    ensures { WriteTook result (W.contents writer.old) (W.contents writer.new) bytes.now }
+{
+    match writer.write(bytes) {
+        Ok(0) => Err(ErrorKind::WriteZero.into()),
+        Ok(count) => Ok(count),
+        Err(error) if error.kind() == ErrorKind::Interrupted => Ok(0),
+        Err(error) => Err(error),
+    }
+}
+
+/// Writes all these bytes, by as many calls as the writer wants. It is `Write::write_all`, and says beside what the
+/// writer took where a call fails.
+fn write_whole<W: Write>(bytes: &[u8], writer: &mut W) -> io::Result<()>
+    ensures { Took result (W.contents writer.old) (W.contents writer.new) bytes.now }
+{
+    let mut rest = bytes;
+    for _ in 0..u64::MAX {
+        if rest.is_empty() {
+            return Ok(());
+        }
+        let count = write_some(rest, writer)?;
+        rest = rest.split_at(count).1;
+    }
+    Err(ErrorKind::TimedOut.into())
 }
 
 /// Writes a reply, each line led by the session's label. Takes no memory. An error is the writer's.
-pub(crate) fn write_reply<W: Write>(
+pub(crate) fn write_reply<A: Allocator, W: Write>(
     lead: &[u8],
     reply: Reply,
-    features: &[Feature],
+    features: &Store<A>,
     writer: &mut W,
 ) -> io::Result<()>
     requires { length lead.now ≤ LEAD_LIMIT }
-    ensures { OnOk result ((said : List ℕ) × Appends (W.contents writer.old) (W.contents writer.new) said × Shows lead.now reply features.now said) }
+    ensures { (said : List ℕ) × Took result (W.contents writer.old) (W.contents writer.new) said × Shows lead.now reply features.now said }
 {
     match reply {
         Reply::Rows(window) => write_rows(lead, &window, features, writer),
@@ -157,7 +188,7 @@ pub(crate) fn write_reply<W: Write>(
 /// Writes a reply of one line.
 pub(crate) fn write_line<W: Write>(lead: &[u8], reply: Reply, writer: &mut W) -> io::Result<()>
     requires { length lead.now ≤ LEAD_LIMIT }
-    ensures { OnOk result (Appends (W.contents writer.old) (W.contents writer.new) (led lead.now (reply_text reply))) }
+    ensures { Took result (W.contents writer.old) (W.contents writer.new) (led lead.now (reply_text reply)) }
 {
     let mut line = begin(lead);
     push_reply(&mut line, reply);
@@ -165,14 +196,14 @@ pub(crate) fn write_line<W: Write>(lead: &[u8], reply: Reply, writer: &mut W) ->
 }
 
 /// Writes the features that meet a window, and before them how many they are.
-fn write_rows<W: Write>(
+fn write_rows<A: Allocator, W: Write>(
     lead: &[u8],
     window: &Shape,
-    features: &[Feature],
+    features: &Store<A>,
     writer: &mut W,
 ) -> io::Result<()>
     requires { length lead.now ≤ LEAD_LIMIT }
-    ensures { OnOk result ((rows : List Feature) × IsListed window.now features.now rows × Appends (W.contents writer.old) (W.contents writer.new) (rows_text lead.now rows)) }
+    ensures { (rows : List Feature) × IsListed window.now features.now rows × Took result (W.contents writer.old) (W.contents writer.new) (rows_text lead.now rows) }
 {
     let mut line = begin(lead);
     push_numbered(&mut line, b"rows ", count_rows(window, features));
@@ -181,32 +212,37 @@ fn write_rows<W: Write>(
 }
 
 /// How many features meet a window.
-fn count_rows(window: &Shape, features: &[Feature]) -> u64
+fn count_rows<A: Allocator>(window: &Shape, features: &Store<A>) -> u64
     ensures { (rows : List Feature) × IsListed window.now features.now rows × (result ≡ length rows) }
 {
     let mut count = 0;
-    for feature in features {
+    let mut at = 0;
+    while let Some(feature) = features.row_at(at) {
         if meets(&feature.shape, window) {
             count += 1;
         }
+        at += 1;
     }
     count
 }
 
 /// Writes a line for each feature that meets a window.
-fn write_each<W: Write>(
+fn write_each<A: Allocator, W: Write>(
     lead: &[u8],
     window: &Shape,
-    features: &[Feature],
+    features: &Store<A>,
     writer: &mut W,
 ) -> io::Result<()>
-    requires { length lead.now ≤ LEAD_LIMIT }
-    ensures { OnOk result ((rows : List Feature) × IsListed window.now features.now rows × Appends (W.contents writer.old) (W.contents writer.new) (flat_map (λ row. led lead.now (row_text row)) rows)) }
+    requires lead { length lead.now ≤ LEAD_LIMIT }
+    requires listed { (rows : List Feature) × IsListed window.now features.now rows }
+    ensures { (rows : List Feature) × IsListed window.now features.now rows × Took result (W.contents writer.old) (W.contents writer.new) (flat_map (λ row. led lead.now (row_text row)) rows) }
 {
-    for feature in features {
+    let mut at = 0;
+    while let Some(feature) = features.row_at(at) {
         if meets(&feature.shape, window) {
             write_row(lead, feature, writer)?;
         }
+        at += 1;
     }
     Ok(())
 }
@@ -214,7 +250,7 @@ fn write_each<W: Write>(
 /// Writes the line of a feature.
 fn write_row<W: Write>(lead: &[u8], feature: &Feature, writer: &mut W) -> io::Result<()>
     requires { length lead.now ≤ LEAD_LIMIT }
-    ensures { OnOk result (Appends (W.contents writer.old) (W.contents writer.new) (led lead.now (row_text feature.now))) }
+    ensures { Took result (W.contents writer.old) (W.contents writer.new) (led lead.now (row_text feature.now)) }
 {
     let mut line = begin(lead);
     push_row(&mut line, feature);

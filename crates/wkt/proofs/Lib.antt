@@ -1,3 +1,5 @@
+pub mod Machine
+pub mod DigitsLemmas
 pub mod TokensLemmas
 pub mod NumbersLemmas
 pub mod PrintingLemmas
@@ -9,3 +11,4 @@ pub mod NumberGrammar
 pub mod SpellingFound
 pub mod SpellingOnly
 pub mod CanonicalShapes
+pub mod FaultPlaces

@@ -15,7 +15,7 @@ use Rattle.plane.specs.Coordinates.{IsCoordinate, is_coordinate}
 use Rattle.wkt.specs.Tokens.{tokens, is_space, is_mark, is_word_byte}
 use Rattle.wkt.specs.Numbers.{sign_of, magnitude_of, number_of, coordinate_of}
 use Rattle.wkt.specs.Reading.{number_of_token, number_at}
-use Rattle.wkt.proofs.NumbersLemmas.{own}
+use Rattle.wkt.proofs.DigitsLemmas.{own}
 use Rattle.wkt.proofs.PrintingLemmas.{mag_of_coordinate}
 use Rattle.wkt.proofs.TokensLemmas.{tokens-word}
 

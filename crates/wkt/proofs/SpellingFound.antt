@@ -7,16 +7,16 @@ use Rattle.std.proofs.lemmas.Int.{ints}
 use Rattle.plane.specs.declared.point.Point.{Point}
 use Rattle.plane.specs.declared.fault.ShapeFault.{ShapeFault}
 use Rattle.plane.specs.Coordinates.{IsCoordinate, is_coordinate}
-use Rattle.plane.specs.Canonical.{point_of, segment_of, polygon_of}
 use Rattle.wkt.specs.declared.fault.WktFault.{WktFault}
 use Rattle.wkt.specs.declared.fault.WktFault.TheVariants.{OutOfRange, Syntax}
 use Rattle.wkt.specs.declared.keyword.Kind.{Kind}
 use Rattle.wkt.specs.declared.keyword.Kind.TheVariants as kinds
 use Rattle.wkt.specs.Tokens.{Token, tokens, OPENING, CLOSING, COMMA}
 use Rattle.wkt.specs.Numbers.{in_limits, number_of, coordinate_of}
-use Rattle.wkt.specs.Reading.{◌>>=◌, with_rest, pair_of, is_word, is_the_mark, is_left_out_kind, is_left_out_form, begins_with_mark, kind_of, keyword_at, opening_at, mark_at, closing_at, end_at, number_of_token, number_at, pair_at, is_more, more_at, ring_at, made, point_at, line_string_at, polygon_at, body_at, shape_of}
+use Rattle.wkt.specs.Reading.{◌>>=◌, with_rest, pair_of, is_word, is_the_mark, is_left_out_kind, is_left_out_form, begins_with_mark, kind_of, keyword_at, opening_at, mark_at, closing_at, end_at, number_of_token, number_at, pair_at, is_more, more_at, ring_at, made, shape_of}
 use Rattle.wkt.specs.Spelling.{Word, words, mark_word, SpellsNumber, SpellsPair, SpellsPairs, Listed, one_point, two_points, ring, IsKeyword, SpellsListed, canonical_of, Spells}
 use Rattle.wkt.proofs.NumberGrammar.{number_found}
+use Rattle.wkt.proofs.Machine.{start, run, judged, listing, keyword_listing, reading_run, point_inside, point_pair, point_after, point_listing, line_inside, line_pair, line_next, line_second, line_after, line_listing, ring_inside, ring_first, ring_behind, ring_end, ring_listing}
 use Rattle.wkt.proofs.RingLemmas.{behind_pair, after_pair, ring_step}
 
 -- ---- results
@@ -251,80 +251,74 @@ keyword_found end (t ∷ ts) k h =
     let kind = bind_ok (kind_of t) (λ x. Ok (x, ts)) k word.1 in
     subst (KeywordFound (t ∷ ts)) (ok_is (kind.0, ts) k kind.2) (t.1, refl, kind_found t kind.0 kind.1)
 
--- the words list points that have this shape
-abbrev ListedBehind : List Token → List Point → Type 0
-ListedBehind all corners = (listed : Listed) × SpellsListed (words all) listed × (canonical_of listed ≡ Ok corners)
+-- the words list what is read
+abbrev Lists : List Token → Listed → Type 0
+Lists all listed = SpellsListed (words all) listed
 
 point_words : (all ts inside p after : List Token) (keyword x y : Word) → Takes all keyword ts → Takes ts (mark_word OPENING) inside → words inside ≡ x ∷ y ∷ words p → Takes p (mark_word CLOSING) after → words after ≡ []
     → words all ≡ keyword ∷ mark_word OPENING ∷ x ∷ y ∷ mark_word CLOSING ∷ []
 point_words all ts inside p after keyword x y front opening pair closing none = rw (front, opening, pair, closing, none) refl
 
-point_found : (end : ℕ) (all : List Token) (keyword : Word) (ts : List Token) (corners : List Point) → Takes all keyword ts → IsKind kinds.Point keyword → point_at end ts ≡ Ok corners → ListedBehind all corners
-unfolding point_at
-point_found end all keyword ts corners front kind h =
-    let inside = bind_ok (opening_at end ts) _ corners h in
-    let p = bind_ok (pair_at end inside.0) _ corners inside.2 in
-    let after = bind_ok (mark_at CLOSING end p.0.1) _ corners p.2 in
-    let u = bind_ok (end_at after.0) _ corners after.2 in
+point_found : (end : ℕ) (all : List Token) (keyword : Word) (ts : List Token) (listed : Listed) → Takes all keyword ts → IsKind kinds.Point keyword → point_listing end ts ≡ Ok listed → Lists all listed
+point_found end all keyword ts listed front kind h =
+    let inside = bind_ok (opening_at end ts) (point_inside end) listed h in
+    let p = bind_ok (pair_at end inside.0) (point_pair end) listed inside.2 in
+    let after = bind_ok (mark_at CLOSING end p.0.1) (point_after p.0.0) listed p.2 in
+    let u = bind_ok (end_at after.0) (λ u. Ok (one_point p.0.0)) listed after.2 in
     let pair = pair_found end inside.0 p.0 p.1 in
-    let whole = point_words all ts inside.0 p.0.1 after.0 keyword pair.0 pair.1 front (opening_found end ts inside.0 inside.1) pair.2 (mark_found CLOSING end p.0.1 after.0 after.1) (end_found after.0 u.0 u.1) in (
-      one_point p.0.0,
-      record { keyword = keyword; x = pair.0; y = pair.1; whole = whole; is_keyword = kind; pair = pair.3 },
-      made_ok (point_of p.0.0) corners u.2,
-    )
+    let whole = point_words all ts inside.0 p.0.1 after.0 keyword pair.0 pair.1 front (opening_found end ts inside.0 inside.1) pair.2 (mark_found CLOSING end p.0.1 after.0 after.1) (end_found after.0 u.0 u.1) in
+    subst (Lists all) (ok_is (one_point p.0.0) listed u.2) (record { keyword = keyword; x = pair.0; y = pair.1; whole = whole; is_keyword = kind; pair = pair.3 })
 
 line_string_words : (all ts inside p next q after : List Token) (keyword x y u v : Word) → Takes all keyword ts → Takes ts (mark_word OPENING) inside → words inside ≡ x ∷ y ∷ words p → Takes p (mark_word COMMA) next
     → words next ≡ u ∷ v ∷ words q → Takes q (mark_word CLOSING) after → words after ≡ [] → words all ≡ keyword ∷ mark_word OPENING ∷ x ∷ y ∷ mark_word COMMA ∷ u ∷ v ∷ mark_word CLOSING ∷ []
 line_string_words all ts inside p next q after keyword x y u v front opening one comma two closing none = rw (front, opening, one, comma, two, closing, none) refl
 
-line_string_found : (end : ℕ) (all : List Token) (keyword : Word) (ts : List Token) (corners : List Point) → Takes all keyword ts → IsKind kinds.LineString keyword → line_string_at end ts ≡ Ok corners → ListedBehind all corners
-unfolding line_string_at
-line_string_found end all keyword ts corners front kind h =
-    let inside = bind_ok (opening_at end ts) _ corners h in
-    let p = bind_ok (pair_at end inside.0) _ corners inside.2 in
-    let next = bind_ok (mark_at COMMA end p.0.1) _ corners p.2 in
-    let q = bind_ok (pair_at end next.0) _ corners next.2 in
-    let after = bind_ok (closing_at end q.0.1) _ corners q.2 in
-    let u = bind_ok (end_at after.0) _ corners after.2 in
+line_string_found : (end : ℕ) (all : List Token) (keyword : Word) (ts : List Token) (listed : Listed) → Takes all keyword ts → IsKind kinds.LineString keyword → line_listing end ts ≡ Ok listed → Lists all listed
+line_string_found end all keyword ts listed front kind h =
+    let inside = bind_ok (opening_at end ts) (line_inside end) listed h in
+    let p = bind_ok (pair_at end inside.0) (line_pair end) listed inside.2 in
+    let next = bind_ok (mark_at COMMA end p.0.1) (line_next end p.0.0) listed p.2 in
+    let q = bind_ok (pair_at end next.0) (line_second end p.0.0) listed next.2 in
+    let after = bind_ok (closing_at end q.0.1) (line_after p.0.0 q.0.0) listed q.2 in
+    let u = bind_ok (end_at after.0) (λ u. Ok (two_points p.0.0 q.0.0)) listed after.2 in
     let one = pair_found end inside.0 p.0 p.1 in
     let two = pair_found end next.0 q.0 q.1 in
     let whole = line_string_words all ts inside.0 p.0.1 next.0 q.0.1 after.0 keyword one.0 one.1 two.0 two.1 front (opening_found end ts inside.0 inside.1) one.2 (mark_found COMMA end p.0.1 next.0 next.1) two.2
-    (closing_found end q.0.1 after.0 after.1) (end_found after.0 u.0 u.1) in (
-      two_points p.0.0 q.0.0,
-      record { keyword = keyword; x = one.0; y = one.1; u = two.0; v = two.1; whole = whole; is_keyword = kind; first = one.3; second = two.3 },
-      made_ok (segment_of p.0.0 q.0.0) corners u.2,
-    )
+    (closing_found end q.0.1 after.0 after.1) (end_found after.0 u.0 u.1) in
+    subst (Lists all) (ok_is (two_points p.0.0 q.0.0) listed u.2)
+    (record { keyword = keyword; x = one.0; y = one.1; u = two.0; v = two.1; whole = whole; is_keyword = kind; first = one.3; second = two.3 })
 
 ring_words : (all ts inside first behind after : List Token) (keyword : Word) (pairs : List Word) → Takes all keyword ts → Takes ts (mark_word OPENING) inside → Takes inside (mark_word OPENING) first
     → words first ≡ pairs ++ mark_word CLOSING ∷ words behind → Takes behind (mark_word CLOSING) after → words after ≡ []
     → words all ≡ keyword ∷ mark_word OPENING ∷ mark_word OPENING ∷ (pairs ++ mark_word CLOSING ∷ mark_word CLOSING ∷ [])
 ring_words all ts inside first behind after keyword pairs front opening second listed closing none = rw (front, opening, second, listed, closing, none) refl
 
-polygon_found : (end : ℕ) (all : List Token) (keyword : Word) (ts : List Token) (corners : List Point) → Takes all keyword ts → IsKind kinds.Polygon keyword → polygon_at end ts ≡ Ok corners → ListedBehind all corners
-unfolding polygon_at
-polygon_found end all keyword ts corners front kind h =
-    let inside = bind_ok (opening_at end ts) _ corners h in
-    let first = bind_ok (mark_at OPENING end inside.0) _ corners inside.2 in
-    let listed = bind_ok (ring_at end first.0) _ corners first.2 in
-    let after = bind_ok (closing_at end listed.0.1) _ corners listed.2 in
-    let u = bind_ok (end_at after.0) _ corners after.2 in
-    let pairs = ring_found end first.0 listed.0 listed.1 in
-    let whole = ring_words all ts inside.0 first.0 listed.0.1 after.0 keyword pairs.0 front (opening_found end ts inside.0 inside.1) (mark_found OPENING end inside.0 first.0 first.1) pairs.1
-    (closing_found end listed.0.1 after.0 after.1) (end_found after.0 u.0 u.1) in (
-      ring listed.0.0,
-      record { keyword = keyword; pairs = pairs.0; whole = whole; is_keyword = kind; are_pairs = pairs.2 },
-      made_ok (polygon_of listed.0.0) corners u.2,
-    )
+polygon_found : (end : ℕ) (all : List Token) (keyword : Word) (ts : List Token) (listed : Listed) → Takes all keyword ts → IsKind kinds.Polygon keyword → ring_listing end ts ≡ Ok listed → Lists all listed
+polygon_found end all keyword ts listed front kind h =
+    let inside = bind_ok (opening_at end ts) (ring_inside end) listed h in
+    let first = bind_ok (mark_at OPENING end inside.0) (ring_first end) listed inside.2 in
+    let found = bind_ok (ring_at end first.0) (ring_behind end) listed first.2 in
+    let after = bind_ok (closing_at end found.0.1) (ring_end found.0.0) listed found.2 in
+    let u = bind_ok (end_at after.0) (λ u. Ok (ring found.0.0)) listed after.2 in
+    let pairs = ring_found end first.0 found.0 found.1 in
+    let whole = ring_words all ts inside.0 first.0 found.0.1 after.0 keyword pairs.0 front (opening_found end ts inside.0 inside.1) (mark_found OPENING end inside.0 first.0 first.1) pairs.1
+    (closing_found end found.0.1 after.0 after.1) (end_found after.0 u.0 u.1) in
+    subst (Lists all) (ok_is (ring found.0.0) listed u.2) (record { keyword = keyword; pairs = pairs.0; whole = whole; is_keyword = kind; are_pairs = pairs.2 })
 
-body_found : (kind : Kind) (end : ℕ) (all : List Token) (keyword : Word) (ts : List Token) (corners : List Point) → Takes all keyword ts → IsKind kind keyword → body_at kind end ts ≡ Ok corners → ListedBehind all corners
-body_found kinds.Point end all keyword ts corners front kind h = point_found end all keyword ts corners front kind h
-body_found kinds.LineString end all keyword ts corners front kind h = line_string_found end all keyword ts corners front kind h
-body_found kinds.Polygon end all keyword ts corners front kind h = polygon_found end all keyword ts corners front kind h
+listing_found : (kind : Kind) (end : ℕ) (all : List Token) (keyword : Word) (ts : List Token) (listed : Listed) → Takes all keyword ts → IsKind kind keyword → listing kind end ts ≡ Ok listed → Lists all listed
+listing_found kinds.Point end all keyword ts listed front kind h = point_found end all keyword ts listed front kind h
+listing_found kinds.LineString end all keyword ts listed front kind h = line_string_found end all keyword ts listed front kind h
+listing_found kinds.Polygon end all keyword ts listed front kind h = polygon_found end all keyword ts listed front kind h
+
+-- what a run lists is spelled
+pub run_found : (end : ℕ) (ts : List Token) (listed : Listed) → run start end ts ≡ Ok listed → SpellsListed (words ts) listed
+run_found end ts listed h =
+    let k = bind_ok (keyword_at end ts) (λ k. listing k.0 end k.1) listed (sym (keyword_listing end ts) ∙ h) in
+    let first = keyword_found end ts k.0 k.1 in
+    listing_found k.0.0 end ts first.0 k.0.1 listed first.1 first.2 k.2
 
 pub found : (text : List ℕ) (corners : List Point) → shape_of text ≡ Ok corners → Spells text corners
 unfolding shape_of
 found text corners h =
-    let k = bind_ok (keyword_at (length text) (tokens 0 text)) (λ k. body_at k.0 (length text) k.1) corners h in
-    let first = keyword_found (length text) (tokens 0 text) k.0 k.1 in
-    let list = body_found k.0.0 (length text) (tokens 0 text) first.0 k.0.1 corners first.1 first.2 k.2 in
-    record { listed = list.0; spelled = list.1; canonical = list.2 }
+    let l = bind_ok (run start (length text) (tokens 0 text)) judged corners (reading_run (length text) (tokens 0 text) ∙ h) in
+    record { listed = l.0; spelled = run_found (length text) (tokens 0 text) l.0 l.1; canonical = made_ok (canonical_of l.0) corners l.2 }

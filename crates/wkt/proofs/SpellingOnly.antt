@@ -165,7 +165,7 @@ keyword_only end ts word kind ws h is =
 
 -- ---- the three kinds
 
-abbrev IsRead : ℕ → List Token → Listed → Type 0
+abbrev pub IsRead : ℕ → List Token → Listed → Type 0
 IsRead end ts listed = (keyword_at end ts >>= λ k. body_at k.0 end k.1) ≡ made (canonical_of listed)
 
 point_only : (end : ℕ) (ts : List Token) (p : Point) → SpellsPoint (words ts) p → IsRead end ts (one_point p)
@@ -198,7 +198,7 @@ polygon_only end ts ps h =
     let after = closing_only end pairs.0 _ pairs.2 in
     rw (keyword.1, inside.1, first.1, pairs.1, after.1, end_only after.0 after.2) refl
 
-listed_only : (end : ℕ) (ts : List Token) (listed : Listed) → SpellsListed (words ts) listed → IsRead end ts listed
+pub listed_only : (end : ℕ) (ts : List Token) (listed : Listed) → SpellsListed (words ts) listed → IsRead end ts listed
 listed_only end ts (one_point p) h = point_only end ts p h
 listed_only end ts (two_points p q) h = line_string_only end ts p q h
 listed_only end ts (ring ps) h = polygon_only end ts ps h

@@ -1,11 +1,7 @@
 -- What the first token is, and what follows it.
-use Rattle.std.proofs.Common.{◌≡◌, ℕ, suc, ◌+◌, ◌<◌, ◌≤◌, Bool, true, false, take_while, List, [], ◌∷◌, length, take, drop, refl, sym, ap, ◌∙◌, arith, one-add, add-zero}
+use Rattle.std.proofs.Common.{◌≡◌, ℕ, suc, ◌+◌, ◌<◌, Bool, true, false, take_while, List, [], ◌∷◌, length, take, drop, refl, sym, ap, ◌∙◌, arith, one-add, add-zero}
 use Rattle.std.specs.List.{prefix_len}
-use Rattle.std.proofs.lemmas.List.Sums.{prefix_len-le-length}
 use Rattle.wkt.specs.Tokens.{token_len, Token, tokens, tokens_from, is_space, is_mark, is_word_byte}
-
-pub prefix_fits : (p : ℕ → Bool) (xs : List ℕ) → prefix_len p xs ≤ length xs
-prefix_fits p xs = prefix_len-le-length p xs
 
 pub tokens-space : (at b : ℕ) (bs : List ℕ) → is_space b ≡ true → tokens at (b ∷ bs) ≡ tokens (at + 1) bs
 unfolding tokens_from

@@ -5,3 +5,4 @@ pub mod Reading
 pub mod Kept
 pub mod Spelling
 pub mod Printing
+pub mod FirstFaults

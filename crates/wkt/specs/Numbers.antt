@@ -1,5 +1,5 @@
 -- The number that a word spells.
-use Rattle.std.specs.Prelude.{ℕ, ℤ, pos, neg_ℤ, ◌==◌, ◌&&◌, Bool, true, false, List, [], ◌∷◌, take, drop, Option, Some, None, option_map, Result, Ok, Err, if◌then◌else◌}
+use Rattle.std.specs.Prelude.{ℕ, ℤ, pos, neg_ℤ, ◌==◌, ◌&&◌, Bool, true, false, List, [], ◌∷◌, min, take, drop, Option, Some, None, option_map, Result, Ok, Err, if◌then◌else◌}
 use Rattle.std.specs.Char.{is_ascii_digit}
 use Rattle.std.specs.List.{list_all, prefix_len}
 use Rattle.std.specs.Str.Parse.{digits_value}
@@ -24,6 +24,10 @@ magnitude_of word =
     if len == 0 then None
     else if is_zero_fraction (drop len word) then Some (digits_value 10 (take len word))
     else None
+
+-- the number that digits spell, or `cap` where it is larger
+abbrev pub capped_value : ℕ → List ℕ → ℕ
+capped_value cap digits = min (digits_value 10 digits) cap
 
 abbrev pub signed : Bool → ℕ → ℤ
 signed negative n = if negative then neg_ℤ (pos n) else pos n

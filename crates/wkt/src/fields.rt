@@ -1,4 +1,4 @@
-//! The parts of a text: each reader takes what stands at the front of the bytes from `at` on, and hands back the rest.
+//! The parts of a text: each reader takes what stands at the front of what is left of it, and hands back the rest.
 
 ghost use Rattle.std.specs.Prelude.{◌≡◌, ◌+◌, ◌<◌, ◌^◌, Ok, IfOk, length};
 ghost use Rattle.wkt.specs.Tokens.{tokens};
@@ -7,12 +7,10 @@ ghost use Rattle.wkt.specs.Reading.{Gives, begins_with_mark as mark_first, is_th
 use crate::fault::WktFault;
 use crate::keyword::{Kind, is_left_out_form, kind_of};
 use crate::number::coordinate;
-use crate::tokens::{first_token, is_mark};
+use crate::tokens::{Rest, first_token, is_mark};
 use plane::Point;
 
-/// What is left of a text: its place, and its bytes.
-pub(crate) type Rest<'a> = (usize, &'a [u8]);
-
+/// Whether a token is this bracket or comma.
 fn is_the_mark(mark: u8, bytes: &[u8]) -> bool
     ensures { result ≡ mark_test mark bytes.now }
 {
@@ -22,6 +20,7 @@ fn is_the_mark(mark: u8, bytes: &[u8]) -> bool
     }
 }
 
+/// Whether a token is a bracket or a comma, and no word.
 fn begins_with_mark(bytes: &[u8]) -> bool
     ensures { result ≡ mark_first bytes.now }
 {
@@ -33,33 +32,31 @@ fn begins_with_mark(bytes: &[u8]) -> bool
 
 /// The keyword.
 #[tactic(auto, unfolding(crate::specs::Reading::keyword_at))]
-pub(crate) fn keyword(at: usize, bytes: &[u8]) -> Result<(Kind, Rest<'_>), WktFault>
-    requires { at + length bytes.now < 2 ^ 64 }
-    ensures gives { Gives (λ r. (r.0, tokens r.1.0 r.1.1.now)) result (keyword_at (at + length bytes.now) (tokens at bytes.now)) }
-    ensures rest { IfOk result (λ r. r.1.0 + length r.1.1.now ≡ at + length bytes.now) }
+pub(crate) fn keyword(text: Rest<'_>) -> Result<(Kind, Rest<'_>), WktFault>
+    ensures gives { Gives (λ r. (r.0, tokens r.1.at r.1.bytes.now)) result (keyword_at (text.entry.at + length text.entry.bytes.now) (tokens text.entry.at text.entry.bytes.now)) }
+    ensures rest { IfOk result (λ r. r.1.at + length r.1.bytes.now ≡ text.entry.at + length text.entry.bytes.now) }
 {
-    let Some(token) = first_token(at, bytes) else {
-        return Err(WktFault::Syntax(at + bytes.len()));
+    let Some(token) = first_token(text) else {
+        return Err(WktFault::Syntax(text.at + text.bytes.len()));
     };
     if begins_with_mark(token.bytes) {
         return Err(WktFault::Syntax(token.at));
     }
     let kind = kind_of(token.at, token.bytes)?;
-    Ok((kind, (token.at + token.bytes.len(), token.rest)))
+    Ok((kind, token.rest))
 }
 
 /// The opening bracket after a keyword.
 #[tactic(auto, unfolding(crate::specs::Reading::opening_at))]
-pub(crate) fn opening(at: usize, bytes: &[u8]) -> Result<Rest<'_>, WktFault>
-    requires { at + length bytes.now < 2 ^ 64 }
-    ensures gives { Gives (λ r. tokens r.0 r.1.now) result (opening_at (at + length bytes.now) (tokens at bytes.now)) }
-    ensures rest { IfOk result (λ r. r.0 + length r.1.now ≡ at + length bytes.now) }
+pub(crate) fn opening(text: Rest<'_>) -> Result<Rest<'_>, WktFault>
+    ensures gives { Gives (λ r. tokens r.at r.bytes.now) result (opening_at (text.entry.at + length text.entry.bytes.now) (tokens text.entry.at text.entry.bytes.now)) }
+    ensures rest { IfOk result (λ r. r.at + length r.bytes.now ≡ text.entry.at + length text.entry.bytes.now) }
 {
-    let Some(token) = first_token(at, bytes) else {
-        return Err(WktFault::Syntax(at + bytes.len()));
+    let Some(token) = first_token(text) else {
+        return Err(WktFault::Syntax(text.at + text.bytes.len()));
     };
     if is_the_mark(b'(', token.bytes) {
-        return Ok((token.at + token.bytes.len(), token.rest));
+        return Ok(token.rest);
     }
     Err(if is_left_out_form(token.bytes) {
         WktFault::LeftOut(token.at)
@@ -70,32 +67,30 @@ pub(crate) fn opening(at: usize, bytes: &[u8]) -> Result<Rest<'_>, WktFault>
 
 /// One bracket or comma.
 #[tactic(auto, unfolding(crate::specs::Reading::mark_at))]
-pub(crate) fn mark(mark: u8, at: usize, bytes: &[u8]) -> Result<Rest<'_>, WktFault>
-    requires { at + length bytes.now < 2 ^ 64 }
-    ensures gives { Gives (λ r. tokens r.0 r.1.now) result (mark_at mark (at + length bytes.now) (tokens at bytes.now)) }
-    ensures rest { IfOk result (λ r. r.0 + length r.1.now ≡ at + length bytes.now) }
+pub(crate) fn mark(mark: u8, text: Rest<'_>) -> Result<Rest<'_>, WktFault>
+    ensures gives { Gives (λ r. tokens r.at r.bytes.now) result (mark_at mark (text.entry.at + length text.entry.bytes.now) (tokens text.entry.at text.entry.bytes.now)) }
+    ensures rest { IfOk result (λ r. r.at + length r.bytes.now ≡ text.entry.at + length text.entry.bytes.now) }
 {
-    let Some(token) = first_token(at, bytes) else {
-        return Err(WktFault::Syntax(at + bytes.len()));
+    let Some(token) = first_token(text) else {
+        return Err(WktFault::Syntax(text.at + text.bytes.len()));
     };
     if !is_the_mark(mark, token.bytes) {
         return Err(WktFault::Syntax(token.at));
     }
-    Ok((token.at + token.bytes.len(), token.rest))
+    Ok(token.rest)
 }
 
 /// The bracket that closes a list of fixed length.
 #[tactic(auto, unfolding(crate::specs::Reading::closing_at))]
-pub(crate) fn closing(at: usize, bytes: &[u8]) -> Result<Rest<'_>, WktFault>
-    requires { at + length bytes.now < 2 ^ 64 }
-    ensures gives { Gives (λ r. tokens r.0 r.1.now) result (closing_at (at + length bytes.now) (tokens at bytes.now)) }
-    ensures rest { IfOk result (λ r. r.0 + length r.1.now ≡ at + length bytes.now) }
+pub(crate) fn closing(text: Rest<'_>) -> Result<Rest<'_>, WktFault>
+    ensures gives { Gives (λ r. tokens r.at r.bytes.now) result (closing_at (text.entry.at + length text.entry.bytes.now) (tokens text.entry.at text.entry.bytes.now)) }
+    ensures rest { IfOk result (λ r. r.at + length r.bytes.now ≡ text.entry.at + length text.entry.bytes.now) }
 {
-    let Some(token) = first_token(at, bytes) else {
-        return Err(WktFault::Syntax(at + bytes.len()));
+    let Some(token) = first_token(text) else {
+        return Err(WktFault::Syntax(text.at + text.bytes.len()));
     };
     if is_the_mark(b')', token.bytes) {
-        return Ok((token.at + token.bytes.len(), token.rest));
+        return Ok(token.rest);
     }
     Err(if is_the_mark(b',', token.bytes) {
         WktFault::LeftOut(token.at)
@@ -105,11 +100,10 @@ pub(crate) fn closing(at: usize, bytes: &[u8]) -> Result<Rest<'_>, WktFault>
 }
 
 /// The end of the text.
-pub(crate) fn end(at: usize, bytes: &[u8]) -> Result<(), WktFault>
-    requires { at + length bytes.now < 2 ^ 64 }
-    ensures { Gives (λ u. u) result (end_at (tokens at bytes.now)) }
+pub(crate) fn end(text: Rest<'_>) -> Result<(), WktFault>
+    ensures { Gives (λ u. u) result (end_at (tokens text.entry.at text.entry.bytes.now)) }
 {
-    match first_token(at, bytes) {
+    match first_token(text) {
         None => Ok(()),
         Some(token) => Err(WktFault::Syntax(token.at)),
     }
@@ -128,48 +122,45 @@ fn number_of_token(at: usize, bytes: &[u8]) -> Result<i32, WktFault>
 
 /// A coordinate.
 #[tactic(auto, unfolding(crate::specs::Reading::number_at))]
-fn number(at: usize, bytes: &[u8]) -> Result<(i32, Rest<'_>), WktFault>
-    requires { at + length bytes.now < 2 ^ 64 }
-    ensures gives { Gives (λ r. (r.0, tokens r.1.0 r.1.1.now)) result (number_at (at + length bytes.now) (tokens at bytes.now)) }
-    ensures rest { IfOk result (λ r. r.1.0 + length r.1.1.now ≡ at + length bytes.now) }
-    ensures shorter { IfOk result (λ r. length r.1.1.now < length bytes.now) }
+fn number(text: Rest<'_>) -> Result<(i32, Rest<'_>), WktFault>
+    ensures gives { Gives (λ r. (r.0, tokens r.1.at r.1.bytes.now)) result (number_at (text.entry.at + length text.entry.bytes.now) (tokens text.entry.at text.entry.bytes.now)) }
+    ensures rest { IfOk result (λ r. r.1.at + length r.1.bytes.now ≡ text.entry.at + length text.entry.bytes.now) }
+    ensures shorter { IfOk result (λ r. length r.1.bytes.now < length text.entry.bytes.now) }
 {
-    let Some(token) = first_token(at, bytes) else {
-        return Err(WktFault::Syntax(at + bytes.len()));
+    let Some(token) = first_token(text) else {
+        return Err(WktFault::Syntax(text.at + text.bytes.len()));
     };
     let n = number_of_token(token.at, token.bytes)?;
-    Ok((n, (token.at + token.bytes.len(), token.rest)))
+    Ok((n, token.rest))
 }
 
 /// The two coordinates of a point.
 #[tactic(auto, unfolding(crate::specs::Reading::pair_at))]
-pub(crate) fn pair(at: usize, bytes: &[u8]) -> Result<(Point, Rest<'_>), WktFault>
-    requires { at + length bytes.now < 2 ^ 64 }
-    ensures gives { Gives (λ r. (r.0, tokens r.1.0 r.1.1.now)) result (pair_at (at + length bytes.now) (tokens at bytes.now)) }
-    ensures rest { IfOk result (λ r. r.1.0 + length r.1.1.now ≡ at + length bytes.now) }
-    ensures shorter { IfOk result (λ r. length r.1.1.now < length bytes.now) }
+pub(crate) fn pair(text: Rest<'_>) -> Result<(Point, Rest<'_>), WktFault>
+    ensures gives { Gives (λ r. (r.0, tokens r.1.at r.1.bytes.now)) result (pair_at (text.entry.at + length text.entry.bytes.now) (tokens text.entry.at text.entry.bytes.now)) }
+    ensures rest { IfOk result (λ r. r.1.at + length r.1.bytes.now ≡ text.entry.at + length text.entry.bytes.now) }
+    ensures shorter { IfOk result (λ r. length r.1.bytes.now < length text.entry.bytes.now) }
 {
-    let (x, (at, bytes)) = number(at, bytes)?;
-    let (y, rest) = number(at, bytes)?;
+    let (x, text) = number(text)?;
+    let (y, rest) = number(text)?;
     Ok((Point { x, y }, rest))
 }
 
 /// Whether a comma follows a pair of a ring, and not the bracket that closes it.
 #[tactic(auto, unfolding(crate::specs::Reading::more_at, crate::specs::Reading::is_more))]
-pub(crate) fn more(at: usize, bytes: &[u8]) -> Result<(bool, Rest<'_>), WktFault>
-    requires { at + length bytes.now < 2 ^ 64 }
-    ensures gives { Gives (λ r. (r.0, tokens r.1.0 r.1.1.now)) result (more_at (at + length bytes.now) (tokens at bytes.now)) }
-    ensures rest { IfOk result (λ r. r.1.0 + length r.1.1.now ≡ at + length bytes.now) }
-    ensures shorter { IfOk result (λ r. length r.1.1.now < length bytes.now) }
+pub(crate) fn more(text: Rest<'_>) -> Result<(bool, Rest<'_>), WktFault>
+    ensures gives { Gives (λ r. (r.0, tokens r.1.at r.1.bytes.now)) result (more_at (text.entry.at + length text.entry.bytes.now) (tokens text.entry.at text.entry.bytes.now)) }
+    ensures rest { IfOk result (λ r. r.1.at + length r.1.bytes.now ≡ text.entry.at + length text.entry.bytes.now) }
+    ensures shorter { IfOk result (λ r. length r.1.bytes.now < length text.entry.bytes.now) }
 {
-    let Some(token) = first_token(at, bytes) else {
-        return Err(WktFault::Syntax(at + bytes.len()));
+    let Some(token) = first_token(text) else {
+        return Err(WktFault::Syntax(text.at + text.bytes.len()));
     };
     if is_the_mark(b',', token.bytes) {
-        return Ok((true, (token.at + token.bytes.len(), token.rest)));
+        return Ok((true, token.rest));
     }
     if is_the_mark(b')', token.bytes) {
-        return Ok((false, (token.at + token.bytes.len(), token.rest)));
+        return Ok((false, token.rest));
     }
     Err(WktFault::Syntax(token.at))
 }

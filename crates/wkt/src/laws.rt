@@ -1,8 +1,10 @@
 //! Laws of the definitions that the readers and printers are proved by. The functions do nothing: each is its contract.
 
-ghost use Rattle.std.specs.Prelude.{◌≡◌, ℕ, Ok, List};
+ghost use Rattle.std.specs.Prelude.{◌≡◌, ℕ, Ok, Err, Some, List};
 ghost use Rattle.plane.specs.declared.point.Point.{Point};
 ghost use Rattle.plane.specs.Canonical.{IsCanonical};
+ghost use Rattle.wkt.specs.declared.fault.WktFault.{WktFault};
+ghost use Rattle.wkt.specs.FirstFaults.{place_of, FirstFault};
 ghost use Rattle.wkt.specs.Reading.{shape_of};
 ghost use Rattle.wkt.specs.Spelling.{Spells};
 ghost use Rattle.wkt.specs.Printing.{printed};
@@ -20,4 +22,11 @@ pub fn read_is_spelled()
 pub fn printed_is_read()
     ensures read { (corners : List Point) → IsCanonical corners → shape_of (printed corners) ≡ Ok corners }
     ensures spells { (corners : List Point) → IsCanonical corners → Spells (printed corners) corners }
+{}
+
+/// A fault with a place stands where the text first stops being the beginning of one that lists points: the tokens before
+/// it begin some text that lists points, and no text that begins with these and the faulty token does. At the text's
+/// end all its tokens begin such a text, and list no points themselves.
+pub fn fault_is_first()
+    ensures { (text : List ℕ) (fault : WktFault) (at : ℕ) → shape_of text ≡ Err fault → place_of fault ≡ Some at → FirstFault text at }
 {}

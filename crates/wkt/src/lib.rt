@@ -12,6 +12,6 @@ mod ring;
 mod tokens;
 
 pub use fault::WktFault;
-pub use laws::{printed_is_read, read_is_spelled};
+pub use laws::{fault_is_first, printed_is_read, read_is_spelled};
 pub use print::{print_shape, shape_text};
 pub use read::read_shape;

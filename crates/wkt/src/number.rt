@@ -4,8 +4,7 @@ ghost use Rattle.std.specs.Prelude.{◌≡◌, ◌≤◌, ◌==◌, true, min, l
 ghost use Rattle.std.specs.Char.{is_ascii_digit as digit_test};
 ghost use Rattle.std.specs.List.{list_all, prefix_len};
 ghost use Rattle.std.specs.Str.{all_ascii_digits};
-ghost use Rattle.std.specs.Str.Parse.{digits_value};
-ghost use Rattle.wkt.specs.Numbers.{sign_of, is_zero_fraction as zero_fraction_test, magnitude_of, coordinate_of};
+ghost use Rattle.wkt.specs.Numbers.{sign_of, is_zero_fraction as zero_fraction_test, capped_value as capped_digits, magnitude_of, coordinate_of};
 
 use crate::fault::WktFault;
 use plane::LIMIT;
@@ -24,6 +23,7 @@ fn unsigned_part(word: &[u8]) -> (bool, &[u8])
     }
 }
 
+/// Whether all bytes are zeros.
 fn are_zeros(bytes: &[u8]) -> bool
     ensures { result ≡ list_all (λ z. z == 48) bytes.now }
 {
@@ -44,7 +44,7 @@ fn is_zero_fraction(bytes: &[u8]) -> bool
 /// The number that digits spell, or `TOO_LARGE` where it is larger.
 fn capped_value(digits: &[u8]) -> u32
     requires { all_ascii_digits digits.now ≡ true }
-    ensures { result ≡ min (digits_value 10 digits.now) TOO_LARGE }
+    ensures { result ≡ capped_digits TOO_LARGE digits.now }
 {
     let mut value = 0u32;
     for digit in digits {
@@ -54,7 +54,7 @@ fn capped_value(digits: &[u8]) -> u32
 }
 
 /// How many digits the word begins with.
-#[tactic(auto, using(crate::proofs::TokensLemmas::prefix_fits))]
+#[tactic(auto, using(crate::proofs::DigitsLemmas::prefix_fits))]
 fn digits_len(word: &[u8]) -> usize
     ensures value { result ≡ prefix_len digit_test word.now }
     ensures fits { result ≤ length word.now }

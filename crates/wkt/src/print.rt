@@ -8,16 +8,18 @@ ghost use Rattle.plane.specs.Coordinates.{IsCoordinate};
 ghost use Rattle.plane.specs.Points.{IsInRange};
 ghost use Rattle.plane.specs.Canonical.{IsCanonical};
 ghost use Rattle.wkt.specs.Printing.{pair_text, following_text, printed};
+ghost use Rattle.wkt.specs.Spelling.{Spells};
 
 use arrayvec::ArrayString;
 use itoa::Buffer;
+use memory::Refused;
 use plane::{Point, Shape, corners};
-use std::alloc::{AllocError, Allocator};
+use std::alloc::Allocator;
 
 /// A printed text while it grows: the longest has 367 bytes.
 type Text = ArrayString<384>;
 
-/// A coordinate has 9 bytes at most.
+/// Prints a coordinate: 9 bytes at most.
 fn push_number(text: &mut Text, n: i32)
     requires room { array_string_len text.old + 9 ≤ 384 }
     requires range { IsCoordinate n }
@@ -28,6 +30,7 @@ fn push_number(text: &mut Text, n: i32)
     text.push_str(buffer.format(n));
 }
 
+/// Prints the two coordinates of a point, with a space between them.
 fn push_pair(text: &mut Text, p: Point)
     requires room { array_string_len text.old + 19 ≤ 384 }
     requires range { IsInRange p }
@@ -39,6 +42,7 @@ fn push_pair(text: &mut Text, p: Point)
     push_number(text, p.y);
 }
 
+/// Prints a point behind another one.
 fn push_following(text: &mut Text, p: Point)
     requires room { array_string_len text.old + 21 ≤ 384 }
     requires range { IsInRange p }
@@ -49,6 +53,7 @@ fn push_following(text: &mut Text, p: Point)
     push_pair(text, p);
 }
 
+/// Prints points behind another one.
 fn push_all_following(text: &mut Text, ps: &[Point])
     requires room { array_string_len text.old + 21 * length ps.now ≤ 384 }
     requires range { All IsInRange ps.now }
@@ -95,6 +100,7 @@ fn push_corners(text: &mut Text, corners: &[Point])
 /// corners in canonical order, a ring closed by its first one. It takes no memory.
 pub fn shape_text(shape: &Shape) -> ArrayString<384>
     ensures bytes { result.bytes ≡ printed shape.now }
+    ensures spells { Spells result.bytes shape.now }
     ensures short { array_string_len result ≤ 367 }
 {
     let mut text = ArrayString::new();
@@ -103,8 +109,8 @@ pub fn shape_text(shape: &Shape) -> ArrayString<384>
 }
 
 /// The text of `shape_text` as a string of its own. The only error is want of memory.
-pub fn print_shape<A: Allocator>(alloc: A, shape: &Shape) -> Result<String<A>, AllocError>
+pub fn print_shape<A: Allocator>(alloc: A, shape: &Shape) -> Result<String<A>, Refused>
     ensures { IfOk result (λ text. string_bytes text ≡ printed shape.now) }
 {
-    String::from_str(alloc, shape_text(shape).as_str())
+    memory::text(alloc, shape_text(shape).as_str())
 }

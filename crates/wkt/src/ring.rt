@@ -6,7 +6,8 @@ ghost use Rattle.wkt.specs.Kept.{KEPT, kept};
 ghost use Rattle.wkt.specs.Reading.{Gives, ring_at};
 
 use crate::fault::WktFault;
-use crate::fields::{Rest, more, pair};
+use crate::fields::{more, pair};
+use crate::tokens::Rest;
 use plane::Point;
 use std::marker::Model;
 
@@ -32,6 +33,7 @@ impl Model for RingPoints {
 }
 
 impl RingPoints {
+    /// No points.
     fn new() -> RingPoints
         ensures { result ≡ [] }
     {
@@ -60,20 +62,19 @@ impl RingPoints {
 }
 
 /// The points of a ring from its first number on: of a longer one the first 65.
-pub(crate) fn ring(at: usize, bytes: &[u8]) -> Result<(RingPoints, Rest<'_>), WktFault>
-    requires { at + length bytes.now < 2 ^ 64 }
-    ensures gives { Gives (λ r. (r.0, tokens r.1.0 r.1.1.now)) result (kept (ring_at (at + length bytes.now) (tokens at bytes.now))) }
-    ensures rest { IfOk result (λ r. r.1.0 + length r.1.1.now ≡ at + length bytes.now) }
+pub(crate) fn ring(text: Rest<'_>) -> Result<(RingPoints, Rest<'_>), WktFault>
+    ensures gives { Gives (λ r. (r.0, tokens r.1.at r.1.bytes.now)) result (kept (ring_at (text.entry.at + length text.entry.bytes.now) (tokens text.entry.at text.entry.bytes.now))) }
+    ensures rest { IfOk result (λ r. r.1.at + length r.1.bytes.now ≡ text.entry.at + length text.entry.bytes.now) }
 {
     let mut listed = RingPoints::new();
-    let (mut at, mut bytes) = (at, bytes);
+    let mut text = text;
     'pairs: loop {
-        let (point, (after, rest)) = pair(at, bytes)?;
+        let (point, after) = pair(text)?;
         listed.keep(point);
-        let (is_more, (after, rest)) = more(after, rest)?;
+        let (is_more, rest) = more(after)?;
         if !is_more {
-            return Ok((listed, (after, rest)));
+            return Ok((listed, rest));
         }
-        (at, bytes) = (after, rest);
+        text = rest;
     }
 }

@@ -5,6 +5,16 @@ ghost use Rattle.std.specs.List.{prefix_len};
 ghost use Rattle.wkt.specs.Tokens.{tokens};
 ghost use Rattle.wkt.specs.Tokens.{is_space as space_test, is_mark as mark_test, is_word_byte as word_byte_test, token_len as len_of_token};
 
+/// What is left of a text from some place on.
+#[derive(Clone, Copy)]
+pub(crate) struct Rest<'a> {
+    /// Where it begins in the whole text.
+    pub at: usize,
+    /// Its bytes.
+    pub bytes: &'a [u8],
+    pub ghost fits: { at + length bytes.now < 2 ^ 64 },
+}
+
 /// A token, and what is left of the text behind it.
 #[derive(Clone, Copy)]
 pub(crate) struct Token<'a> {
@@ -12,16 +22,18 @@ pub(crate) struct Token<'a> {
     pub at: usize,
     /// Its bytes: one bracket or comma, or a word.
     pub bytes: &'a [u8],
-    /// The bytes behind it.
-    pub rest: &'a [u8],
+    /// What stands behind it.
+    pub rest: Rest<'a>,
 }
 
+/// Whether a byte parts words: a space, a tab, a line feed or a return.
 pub(crate) fn is_space(byte: u8) -> bool
     ensures { result ≡ space_test byte }
 {
     byte == b' ' || byte == b'\t' || byte == b'\n' || byte == b'\r'
 }
 
+/// Whether a byte is a token by itself: a bracket or a comma.
 pub(crate) fn is_mark(byte: u8) -> bool
     ensures { result ≡ mark_test byte }
 {
@@ -29,7 +41,7 @@ pub(crate) fn is_mark(byte: u8) -> bool
 }
 
 /// How many spaces the bytes begin with.
-#[tactic(auto, using(crate::proofs::TokensLemmas::prefix_fits))]
+#[tactic(auto, using(crate::proofs::DigitsLemmas::prefix_fits))]
 fn space_len(bytes: &[u8]) -> usize
     ensures value { result ≡ prefix_len space_test bytes.now }
     ensures fits { result ≤ length bytes.now }
@@ -38,7 +50,7 @@ fn space_len(bytes: &[u8]) -> usize
 }
 
 /// How many bytes of a word the bytes begin with.
-#[tactic(auto, using(crate::proofs::TokensLemmas::prefix_fits))]
+#[tactic(auto, using(crate::proofs::DigitsLemmas::prefix_fits))]
 fn word_len(bytes: &[u8]) -> usize
     ensures value { result ≡ prefix_len word_byte_test bytes.now }
     ensures fits { result ≤ length bytes.now }
@@ -60,19 +72,25 @@ fn token_len(bytes: &[u8]) -> usize
     }
 }
 
-/// The first token of the bytes that stand from `at` on in the text.
-pub(crate) fn first_token(at: usize, bytes: &[u8]) -> Option<Token<'_>>
-    requires { at + length bytes.now < 2 ^ 64 }
-    ensures none { IfNone result (tokens at bytes.now ≡ []) }
-    ensures some { IfSome result (λ t. tokens at bytes.now ≡ (t.at, t.bytes.now) ∷ tokens (t.at + length t.bytes.now) t.rest.now) }
-    ensures shorter { IfSome result (λ t. length t.rest.now < length bytes.now) }
-    ensures length { IfSome result (λ t. t.at + length t.bytes.now + length t.rest.now ≡ at + length bytes.now) }
+/// The first token of what is left of a text.
+pub(crate) fn first_token(text: Rest<'_>) -> Option<Token<'_>>
+    ensures none { IfNone result (tokens text.entry.at text.entry.bytes.now ≡ []) }
+    ensures some { IfSome result (λ t. tokens text.entry.at text.entry.bytes.now ≡ (t.at, t.bytes.now) ∷ tokens t.rest.at t.rest.bytes.now) }
+    ensures shorter { IfSome result (λ t. length t.rest.bytes.now < length text.entry.bytes.now) }
+    ensures length { IfSome result (λ t. t.rest.at + length t.rest.bytes.now ≡ text.entry.at + length text.entry.bytes.now) }
 {
-    let (front, rest) = bytes.split_at(space_len(bytes));
-    let at = at + front.len();
-    if rest.is_empty() {
+    let (front, found) = text.bytes.split_at(space_len(text.bytes));
+    let at = text.at + front.len();
+    if found.is_empty() {
         return None;
     }
-    let (bytes, rest) = rest.split_at(token_len(rest));
-    Some(Token { at, bytes, rest })
+    let (bytes, behind) = found.split_at(token_len(found));
+    Some(Token {
+        at,
+        bytes,
+        rest: Rest {
+            at: at + bytes.len(),
+            bytes: behind,
+        },
+    })
 }

@@ -1,12 +1,12 @@
-use Rattle.std.proofs.Common.{◌≡◌, ◌+◌, ◌≤◌, length, drop, vec_len, vec_capacity}
-use Rattle.features.specs.Rows.{IsSortedById}
-use Rattle.features.specs.Changes.{CanApply, after}
+use Rattle.std.proofs.Common.{◌≡◌, drop}
+use Rattle.features.specs.Changes.{CanApply, additions, after}
+use Rattle.features.specs.Tables.{HasRoom, IsSound, rows_of}
 use Rattle.features.proofs.stores.make_all.Given as goal
 
 abbrev pub invariant-loop-change : goal.invariant-loop-change
 invariant-loop-change g l = record {
-  sorted : IsSortedById l.rows.items;
-  can_apply : CanApply (drop l.change-index l.changes) l.rows.items;
-  room : vec_len l.rows + length (drop l.change-index l.changes) ≤ vec_capacity l.rows;
-  told : after l.version l.office (drop l.change-index l.changes) l.rows.items ≡ after l.version l.office l.changes l.fn.rows.items;
+  sound : IsSound l.table;
+  can_apply : CanApply (drop l.change-index l.changes) (rows_of l.table);
+  room : HasRoom (additions (drop l.change-index l.changes)) l.table;
+  told : after l.version l.office (drop l.change-index l.changes) (rows_of l.table) ≡ after l.version l.office l.changes (rows_of l.fn.table);
 }

@@ -1,6 +1,6 @@
 use Rattle.std.specs.Prelude.{◌≡◌, ◌++◌}
 use Rattle.plane.specs.Rows.{rows_of}
-use Rattle.plane.proofs.ShapeRows.{both_rows, count_of_first, rows_small, rows_frame, common, without, found}
+use Rattle.plane.proofs.ShapeRows.{both_rows, count_of_first, rows_small, rows_frame, common, without}
 use Rattle.plane.proofs.meeting.by_elimination.Goals as goal
 
 pub push_rows-requires-2 : goal.push_rows-requires-2
@@ -20,6 +20,3 @@ returns-clause-common c = common c.args.first.now c.args.second.now _ _ (all_row
 
 pub returns-clause-none : goal.returns-clause-none
 returns-clause-none c = without c.args.first.now c.args.second.now _ _ (all_rows c.before) c.solution.ensures.none
-
-pub returns-clause-found : goal.returns-clause-found
-returns-clause-found c = found c.args.first.now c.args.second.now _ (common c.args.first.now c.args.second.now _ _ (all_rows c.before) c.solution.ensures.some) (without c.args.first.now c.args.second.now _ _ (all_rows c.before) c.solution.ensures.none)

@@ -13,4 +13,4 @@ loop-key-preserved g c =
     let left = c.next.new.self in
     let all : c.args.zones.now.entries ≡ done.entries ++ e ∷ left = c.loop-key.invariant ∙ ap (λ es. done.entries ++ es) c.in-Some.ensures.steps in
     let distinct = subst (λ es. IsDistinct same_key (keys_of es)) all c.iter-key-items.ensures.unique in
-    all ∙ sym (append_assoc done.entries (e ∷ []) left) ∙ ap (λ es. es ++ left) (sym (c.in_ok-insert.ensures.entries ∙ insert_entry-behind _ done e left distinct))
+    all ∙ sym (append_assoc done.entries (e ∷ []) left) ∙ ap (λ es. es ++ left) (sym (c.in_ok-put.ensures.entries ∙ insert_entry-behind _ done e left distinct))

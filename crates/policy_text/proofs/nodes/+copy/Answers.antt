@@ -14,4 +14,4 @@ copy_node-returns-in_ok-copy_rules-in-Policy g t c =
 
 pub copy_nodes-loop-node-preserved : goal.copy_nodes-loop-node-preserved
 copy_nodes-loop-node-preserved g t c =
-    mapped_more node_view node_view _ _ _ _ _ _ c.in_ok-push.ensures.items c.loop-node-test.true c.loop-node.invariant (c.in_ok-copy_node.ensures ∙ ap node_view c.node-item.is)
+    mapped_more node_view node_view _ _ _ _ _ _ c.in_ok-try_push.ensures.items c.loop-node-test.true c.loop-node.invariant (c.in_ok-copy_node.ensures ∙ ap node_view c.node-item.is)

@@ -24,5 +24,5 @@ node_value-returns-in_ok-children-in-Policy g t c =
 
 pub node_values-loop-node-preserved : goal.node_values-loop-node-preserved
 node_values-loop-node-preserved g t c =
-    mapped_more view (λ n. node_data (node_view n)) _ _ _ _ _ _ c.in_ok-push.ensures.items c.loop-node-test.true c.loop-node.invariant
+    mapped_more view (λ n. node_data (node_view n)) _ _ _ _ _ _ c.in_ok-try_push.ensures.items c.loop-node-test.true c.loop-node.invariant
     (c.in_ok-node_value.ensures ∙ ap (λ n. node_data (node_view n)) c.node-item.is)

@@ -38,7 +38,7 @@ nodes_at-returns g t c =
 pub nodes_at-loop-index-preserved : goal.nodes_at-loop-index-preserved
 nodes_at-loop-index-preserved g t c =
     ap (λ xs. behind xs (left_at (node_at (map zone_of c.args.zones.now.entries) c.args.levels) c.args.path (c.loop-index.index + 1) (seen_view c.in_ok-node.after) c.args.items.now))
-    (ap (map node_view) c.in_ok-push.ensures.items ∙ map-append node_view c.loop-index.nodes.items (c.in_ok-node.node ∷ []))
+    (ap (map node_view) c.in_ok-try_push.ensures.items ∙ map-append node_view c.loop-index.nodes.items (c.in_ok-node.node ∷ []))
     ∙ left_at-more (node_at (map zone_of c.args.zones.now.entries) c.args.levels) c.args.path (map node_view c.loop-index.nodes.items) c.loop-index.index (seen_view c.loop-index.seen) (seen_view c.in_ok-node.after) c.args.items.now
     c.index-items-index.result (node_view c.in_ok-node.node) c.loop-index-test.true c.index-items-index.is (rw (← c.with.ensures) c.in_ok-node.ensures) ∙ c.loop-index.invariant
 

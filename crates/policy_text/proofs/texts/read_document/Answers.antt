@@ -7,7 +7,7 @@ use Rattle.policy_text.proofs.texts.read_document.Goals as goal
 
 pub returns-in_err-value-clause-value : goal.returns-in_err-value-clause-value
 returns-in_err-value-clause-value g c =
-    Gives-residual _ _ _ _ c.from_residual.ensures.1 (json_fault-fails c.args.text.now c.in_err-value.field-0.0 c.in_err-value.ensures.err)
+    Gives-residual _ _ _ _ c.from_residual.ensures.1 (json_fault-fails c.args.text.now c.in_err-value.field-0.0 c.in_err-value.ensures.text)
 
 pub returns-in_err-zones-clause-value : goal.returns-in_err-zones-clause-value
 returns-in_err-zones-clause-value g c =

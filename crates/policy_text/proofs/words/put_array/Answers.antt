@@ -11,5 +11,5 @@ use Rattle.policy_text.proofs.words.put_array.Goals as goal
 pub returns : goal.returns
 returns c =
     let old = members_view c.args.members.now.entries in
-    on_ok_weaker c.put.result (λ told. told ∙ ap (λ t. put t (view (Array c.args.items)) old) c.text.ensures ∙ ap (λ d. put (key_text c.args.key) d old) (view-Array c.args.items)
-    ∙ put_items-filled c.args.key c.args.items.items _ old (sym c.args.items.ok.0) c.if-is_empty.ensures) c.put.ensures.ok
+    on_ok_weaker c.put_member.result (λ told. told ∙ ap (λ t. put t (view (Array c.args.items)) old) c.text.ensures ∙ ap (λ d. put (key_text c.args.key) d old) (view-Array c.args.items)
+    ∙ put_items-filled c.args.key c.args.items.items _ old (sym c.args.items.ok.0) c.if-is_empty.ensures) c.put_member.ensures.ok

@@ -1,16 +1,13 @@
-use Rattle.std.proofs.Common.{◌+◌, ◌++◌, [], ◌∷◌, sym, arith, length-append, drop}
-use Rattle.std.proofs.lemmas.List.{drop_more, drop_all}
-use Rattle.sessions.proofs.ListingLemmas.{lists_yes, lists_no, lists_end}
+use Rattle.std.proofs.Common.{◌+◌, ◌++◌, [], ◌∷◌, arith, length-append, drop}
+use Rattle.sessions.proofs.ListingLemmas.{left_at, lists_yes, lists_no, lists_end, none_left}
 use Rattle.sessions.proofs.writing.count_rows.Goals as goal
 use Rattle.sessions.proofs.writing.count_rows.Goals.{then-meets, else-meets}
 
 pub loop-feature-preserved : goal.loop-feature-preserved
-loop-feature-preserved c =
-    let i = c.loop-feature.feature-index in
-    let feature = c.feature-item.result in
-    let left = drop_more c.args.features.now i feature c.loop-feature-test.true in
-    let here = sym c.feature-item.is in
-    let told = rw (left, here) at c.loop-feature.invariant.told in
+loop-feature-preserved g c =
+    let i = c.loop-feature.at in
+    let feature = c.in-Some.feature.now in
+    let told = rw (left_at c.args.features.now i feature c.in-Some.ensures.value) at c.loop-feature.invariant.told in
     let within = c.loop-feature.invariant.within in
     elim c.if-meets.branch [
       | then-meets w ↦ record {
@@ -24,6 +21,6 @@ loop-feature-preserved c =
     ]
 
 pub returns : goal.returns
-returns c =
-    let told = rw (drop_all c.loop-feature.feature-index c.args.features.now c.loop-feature-test.false) at c.loop-feature.invariant.told in
+returns g c =
+    let told = rw (none_left c.args.features.now c.loop-feature.at c.in_default.ensures.value) at c.loop-feature.invariant.told in
     (told.0, lists_end c.args.window.now c.args.features.now told.0 told.1, told.2)

@@ -1,5 +1,5 @@
 use Rattle.std.proofs.Common.{◌∙◌}
-use Rattle.wkt.proofs.NumbersLemmas.{digit_in_range, capped_more}
+use Rattle.wkt.proofs.DigitsLemmas.{digit_in_range, capped_more}
 use Rattle.wkt.proofs.number.capped_value.Goals as goal
 
 pub overflow_sub-digit : goal.overflow_sub-digit
@@ -7,4 +7,4 @@ overflow_sub-digit c = (digit_in_range c.args.digits.now c.loop-digit.digit-inde
 
 pub loop-digit-preserved : goal.loop-digit-preserved
 loop-digit-preserved c =
-    c.min-value.ensures ∙ capped_more c.args.digits.now c.loop-digit.digit-index c.loop-digit.value c.requires c.loop-digit-test.true c.loop-digit.invariant
+    c.min-value.ensures ∙ capped_more _ c.args.digits.now c.loop-digit.digit-index c.loop-digit.value c.requires c.loop-digit-test.true c.loop-digit.invariant

@@ -7,11 +7,11 @@ use Rattle.wkt.proofs.ring.ring.Given as goal
 
 abbrev pub invariant-pairs : goal.invariant-pairs
 invariant-pairs l =
-    let end = l.initial.at + length l.initial.bytes in
+    let end = l.initial.text.at + length l.initial.text.bytes.now in
     record {
-      place : l.at + length l.bytes ≡ end;
-      reading : kept_behind l.listed (ring_at end (tokens l.at l.bytes)) ≡ kept (ring_at end (tokens l.initial.at l.initial.bytes));
+      place : l.text.at + length l.text.bytes.now ≡ end;
+      reading : kept_behind l.listed (ring_at end (tokens l.text.at l.text.bytes.now)) ≡ kept (ring_at end (tokens l.initial.text.at l.initial.text.bytes.now));
     }
 
 abbrev pub decreases-pairs : goal.decreases-pairs
-decreases-pairs l = length l.bytes
+decreases-pairs l = length l.text.bytes.now

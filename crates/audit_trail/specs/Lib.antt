@@ -1,0 +1,10 @@
+pub mod Records
+pub mod Coding
+pub mod Views
+pub mod Listing
+pub mod Judging
+pub mod Legal
+pub mod Calls
+pub mod FaultCodes
+pub mod JsonLines
+pub mod Equality

@@ -1,0 +1,36 @@
+-- The plain data of records, and the plain state that they change.
+use Rattle.std.specs.Prelude.{ℕ, ◌-◌, nat_lt, List, slice_get, Option, None, if◌then◌else◌}
+use Rattle.plane.specs.declared.point.Point.{Point}
+use Rattle.features.specs.declared.actors.Subject.{Subject}
+use Rattle.features.specs.declared.rows.Change.{Change}
+use Rattle.features.specs.declared.rows.Feature.{Feature}
+use Rattle.decision.specs.Deciders.{DeciderData}
+use Rattle.audit_trail.specs.declared.causes.Refusal.{Refusal}
+
+-- the features, sorted by id; the last version; and the document in force, with its edition
+pub record PlainState : Type 0 where
+  pub features : List Feature
+  pub version : ℕ
+  pub decider : DeciderData
+
+-- what a record tells: a search was answered, a list of changes was applied or turned away, a document was put in force
+pub data DeedData : Type 0 where
+  answered : (subject : Subject) → (window : List Point) → (ids versions : List ℕ) → DeedData
+  applied : (subject : Subject) → (version : ℕ) → (changes : List Change) → DeedData
+  turned_away : (subject : Subject) → (changes : List Change) → (refusal : Refusal) → DeedData
+  governed : (edition : ℕ) → (decider : DeciderData) → DeedData
+
+-- a record: what was done for a seat
+pub record RecordData : Type 0 where
+  pub seat : ℕ
+  pub deed : DeedData
+
+-- a trail: the number of its first record, its records, and for how many more there is room already
+pub record TrailData : Type 0 where
+  pub first : ℕ
+  pub records : List RecordData
+  pub room : ℕ
+
+-- the record of a number
+abbrev pub record_at : ℕ → TrailData → Option RecordData
+record_at number trail = if nat_lt number trail.first then None else slice_get trail.records (number - trail.first)

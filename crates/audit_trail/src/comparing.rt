@@ -1,0 +1,154 @@
+//! Comparing records by their contents.
+
+ghost use Rattle.std.specs.Prelude.{◌≡◌, ◌↔◌, IsTrue};
+ghost use Rattle.audit_trail.specs.Equality.{same_rule, same_cause, same_refusal, same_search, same_rows, same_list, same_deed};
+ghost use Rattle.audit_trail.specs.Views.{deed_view};
+
+use crate::causes::{Cause, Refusal};
+use crate::records::{Deed, Record};
+use features::{Change, Subject, same_changes};
+use plane::Shape;
+use std::alloc::Allocator;
+
+impl<A: Allocator> PartialEq for Record<A> {
+    ghost use Rattle.std.specs.Cmp.{decided, partial_equiv_from_equiv};
+    ghost use Rattle.audit_trail.specs.Equality.{same_record, same_record_decides};
+
+    ghost eq = { same_record };
+
+    ghost laws = { partial_equiv_from_equiv (decided same_record same_record_decides) };
+
+    /// Whether the two tell the same of the same seat.
+    fn eq(&self, other: &Self) -> bool
+        ensures tested { result ≡ same_record self.now other.now }
+        ensures exact { IsTrue result ↔ (self.now ≡ other.now) }
+    {
+        self.seat() == other.seat() && same_deed(self.deed(), other.deed())
+    }
+}
+
+impl<A: Allocator> Eq for Record<A> {
+    ghost use Rattle.std.specs.Cmp.{decided};
+    ghost use Rattle.audit_trail.specs.Equality.{same_record, same_record_decides};
+
+    ghost laws = { decided same_record same_record_decides };
+}
+
+/// Whether two deeds are one.
+fn same_deed<A: Allocator>(first: &Deed<A>, second: &Deed<A>) -> bool
+    ensures { result ≡ same_deed (deed_view first.now) (deed_view second.now) }
+{
+    match first {
+        Deed::Answered {
+            subject,
+            window,
+            ids,
+            versions,
+        } => match second {
+            Deed::Answered {
+                subject: other,
+                window: place,
+                ids: others,
+                versions: more,
+            } => same_search(subject, window, other, place)
+                && same_rows(ids, versions, others, more),
+            _ => false,
+        },
+        Deed::Applied {
+            subject,
+            version,
+            changes,
+        } => match second {
+            Deed::Applied {
+                subject: other,
+                version: number,
+                changes: others,
+            } => same_list(subject, changes, other, others) && version == number,
+            _ => false,
+        },
+        Deed::Refused {
+            subject,
+            changes,
+            refusal,
+        } => match second {
+            Deed::Refused {
+                subject: other,
+                changes: others,
+                refusal: why,
+            } => same_list(subject, changes, other, others) && same_refusal(refusal, why),
+            _ => false,
+        },
+        Deed::Governed { edition, decider } => match second {
+            Deed::Governed {
+                edition: number,
+                decider: other,
+            } => edition == number && **decider == **other,
+            _ => false,
+        },
+    }
+}
+
+/// Whether two searches are one.
+fn same_search(subject: &Subject, window: &Shape, other: &Subject, place: &Shape) -> bool
+    ensures { result ≡ same_search subject.now window.now other.now place.now }
+{
+    subject == other && window == place
+}
+
+/// Whether the rows of two answers are one.
+fn same_rows(ids: &[u64], versions: &[u64], others: &[u64], more: &[u64]) -> bool
+    ensures { result ≡ same_rows ids.now versions.now others.now more.now }
+{
+    *ids == *others && *versions == *more
+}
+
+/// Whether two lists of changes of a subject are one.
+fn same_list(subject: &Subject, changes: &[Change], other: &Subject, others: &[Change]) -> bool
+    ensures { result ≡ same_list subject.now changes.now other.now others.now }
+{
+    subject == other && same_changes(changes, others)
+}
+
+/// Whether two refusals are one.
+fn same_refusal(first: &Refusal, second: &Refusal) -> bool
+    ensures { result ≡ same_refusal first.now second.now }
+{
+    first.change == second.change && same_cause(&first.cause, &second.cause)
+}
+
+/// Whether two causes are one.
+fn same_cause(first: &Cause, second: &Cause) -> bool
+    ensures { result ≡ same_cause first.now second.now }
+{
+    match first {
+        Cause::Denied(rule) => match second {
+            Cause::Denied(other) => same_rule(rule, other),
+            _ => false,
+        },
+        Cause::Exists => match second {
+            Cause::Exists => true,
+            _ => false,
+        },
+        Cause::Absent => match second {
+            Cause::Absent => true,
+            _ => false,
+        },
+        Cause::Stale(version) => match second {
+            Cause::Stale(other) => version == other,
+            _ => false,
+        },
+    }
+}
+
+/// Whether two rules, or that there is none, are one.
+fn same_rule(rule: &Option<u32>, other: &Option<u32>) -> bool
+    ensures { result ≡ same_rule rule.now other.now }
+{
+    match rule {
+        Some(number) => match other {
+            Some(another) => number == another,
+            None => false,
+        },
+        None => other.is_none(),
+    }
+}

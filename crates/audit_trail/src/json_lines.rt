@@ -1,0 +1,255 @@
+//! Records as lines of JSON.
+
+ghost use Rattle.std.specs.Prelude.{◌≡◌, Err, IfOk, OnOk, MatchOption, MatchResult, string_bytes, codes};
+ghost use Rattle.memory.specs.Refused.{refused};
+ghost use Rattle.serde_json.specs.Data.{string, put as with_member};
+ghost use Rattle.serde_json.specs.View.{view, members_view};
+ghost use Rattle.wkt.specs.Printing.{printed};
+ghost use Rattle.audit_trail.specs.JsonLines.{with_fields, numeral, change_fields, change_data, changes_data, numbers_data, rule_data, cause_fields, deed_fields, line_of, line_text, IsDocumented};
+ghost use Rattle.audit_trail.specs.Records.{record_at};
+ghost use Rattle.audit_trail.specs.Views.{deed_view};
+
+use crate::causes::{Cause, Refusal};
+use crate::records::{Deed, Record};
+use crate::trails::{Trail, TrailFault};
+use features::{Change, Name};
+use memory::{GrowVec, Refused, json_string, json_text, put_member};
+use plane::Shape;
+use policy_text::document_value;
+use serde_json::{Map, Value};
+use std::alloc::{Allocator, Global};
+use wkt::print_shape;
+
+impl<A: Allocator> Trail<A> {
+    /// The record of a number as JSON (RFC 8259) without spaces and without a line end, the keys of each object in
+    /// order. `NoRecord` exactly where the trail has none of this number, else `Memory` where a growth is refused.
+    pub fn json_line(&self, heap: Global, number: u32) -> Result<String, TrailFault>
+        ensures { MatchOption (record_at number self.now)
+            (result ≡ Err TrailFault.NoRecord)
+            (λ r. MatchResult result (λ text. string_bytes text ≡ line_text number r) (λ fault. fault ≡ TrailFault.Memory refused)) }
+    {
+        let Some(entry) = self.get(number) else {
+            return Err(TrailFault::NoRecord);
+        };
+        Ok(line_text(heap, number, entry)?)
+    }
+}
+
+/// A record with its number, as JSON.
+fn line_text<A: Allocator>(heap: Global, number: u32, entry: &Record<A>) -> Result<String, Refused>
+    ensures { IfOk result (λ text. string_bytes text ≡ line_text number entry.now) }
+{
+    let value = line_value(heap, number, entry)?;
+    json_text(heap, &value)
+}
+
+/// A record with its number, as a JSON object.
+fn line_value<A: Allocator>(heap: Global, number: u32, entry: &Record<A>) -> Result<Value, Refused>
+    ensures value { IfOk result (λ v. view v ≡ line_of number entry.now) }
+    ensures documented { OnOk result (IsDocumented entry.now.deed) }
+{
+    let mut members = Map::new(heap);
+    put_member(&mut members, heap, "number", Value::from(number))?;
+    put_member(&mut members, heap, "seat", Value::from(entry.seat()))?;
+    put_deed(&mut members, heap, entry.deed())?;
+    Ok(Value::Object(members))
+}
+
+/// Puts what a deed tells.
+fn put_deed<A: Allocator>(
+    members: &mut Map<String, Value>,
+    heap: Global,
+    deed: &Deed<A>,
+) -> Result<(), Refused>
+    ensures fields { OnOk result (members_view members.new.entries ≡ with_fields (members_view members.old.entries) (deed_fields (deed_view deed.now))) }
+    ensures documented { OnOk result (IsDocumented (deed_view deed.now)) }
+{
+    match deed {
+        Deed::Answered {
+            subject,
+            window,
+            ids,
+            ..
+        } => {
+            put_text(members, heap, "kind", "answered")?;
+            put_name(members, heap, "subject", &subject.name)?;
+            put_shape(members, heap, "window", window)?;
+            put_member(members, heap, "ids", numbers_value(heap, ids)?)
+        }
+        Deed::Applied {
+            subject,
+            version,
+            changes,
+        } => {
+            put_text(members, heap, "kind", "applied")?;
+            put_name(members, heap, "subject", &subject.name)?;
+            put_member(members, heap, "version", Value::from(*version))?;
+            put_member(members, heap, "changes", changes_value(heap, changes)?)
+        }
+        Deed::Refused {
+            subject,
+            changes,
+            refusal,
+        } => {
+            put_text(members, heap, "kind", "refused")?;
+            put_name(members, heap, "subject", &subject.name)?;
+            put_member(members, heap, "changes", changes_value(heap, changes)?)?;
+            put_refusal(members, heap, refusal)
+        }
+        Deed::Governed { edition, decider } => {
+            put_text(members, heap, "kind", "governed")?;
+            put_member(members, heap, "edition", Value::from(*edition))?;
+            put_member(
+                members,
+                heap,
+                "document",
+                document_value(heap, decider.document())?,
+            )
+        }
+    }
+}
+
+/// Puts which change fails, and why.
+fn put_refusal(
+    members: &mut Map<String, Value>,
+    heap: Global,
+    refusal: &Refusal,
+) -> Result<(), Refused>
+    ensures { OnOk result (members_view members.new.entries ≡ with_fields (with_member (codes "change") (numeral refusal.now.change) (members_view members.old.entries)) (cause_fields refusal.now.cause)) }
+{
+    put_member(members, heap, "change", Value::from(refusal.change))?;
+    put_cause(members, heap, &refusal.cause)
+}
+
+/// Puts why a change fails.
+fn put_cause(members: &mut Map<String, Value>, heap: Global, cause: &Cause) -> Result<(), Refused>
+    ensures { OnOk result (members_view members.new.entries ≡ with_fields (members_view members.old.entries) (cause_fields cause.now)) }
+{
+    match cause {
+        Cause::Denied(rule) => {
+            put_text(members, heap, "cause", "denied")?;
+            put_member(members, heap, "rule", rule_value(rule))
+        }
+        Cause::Exists => put_text(members, heap, "cause", "exists"),
+        Cause::Absent => put_text(members, heap, "cause", "absent"),
+        Cause::Stale(current) => {
+            put_text(members, heap, "cause", "stale")?;
+            put_member(members, heap, "current", Value::from(*current))
+        }
+    }
+}
+
+/// A rule's number, or that there is none.
+fn rule_value(rule: &Option<u32>) -> Value
+    ensures { view result ≡ rule_data rule.now }
+{
+    match rule {
+        Some(number) => Value::from(*number),
+        None => Value::Null,
+    }
+}
+
+/// Changes as an array.
+fn changes_value(heap: Global, changes: &[Change]) -> Result<Value, Refused>
+    ensures { IfOk result (λ v. view v ≡ changes_data changes.now) }
+{
+    let mut values = Vec::new(heap);
+    for change in changes {
+        values.try_push(change_value(heap, change)?)?;
+    }
+    Ok(Value::Array(values))
+}
+
+/// A change as an object.
+fn change_value(heap: Global, change: &Change) -> Result<Value, Refused>
+    ensures { IfOk result (λ v. view v ≡ change_data change.now) }
+{
+    let mut members = Map::new(heap);
+    put_change(&mut members, heap, change)?;
+    Ok(Value::Object(members))
+}
+
+/// Puts what a change does.
+fn put_change(
+    members: &mut Map<String, Value>,
+    heap: Global,
+    change: &Change,
+) -> Result<(), Refused>
+    ensures { OnOk result (members_view members.new.entries ≡ with_fields (members_view members.old.entries) (change_fields change.now)) }
+{
+    match change {
+        Change::Add { id, class, shape } => {
+            put_text(members, heap, "what", "add")?;
+            put_member(members, heap, "id", Value::from(*id))?;
+            put_name(members, heap, "class", class)?;
+            put_shape(members, heap, "shape", shape)
+        }
+        Change::Reshape { id, version, shape } => {
+            put_text(members, heap, "what", "reshape")?;
+            put_member(members, heap, "id", Value::from(*id))?;
+            put_member(members, heap, "version", Value::from(*version))?;
+            put_shape(members, heap, "shape", shape)
+        }
+        Change::Delete { id, version } => {
+            put_text(members, heap, "what", "delete")?;
+            put_member(members, heap, "id", Value::from(*id))?;
+            put_member(members, heap, "version", Value::from(*version))
+        }
+    }
+}
+
+/// Numbers as an array.
+fn numbers_value(heap: Global, numbers: &[u64]) -> Result<Value, Refused>
+    ensures { IfOk result (λ v. view v ≡ numbers_data numbers.now) }
+{
+    let mut values = Vec::new(heap);
+    for number in numbers {
+        values.try_push(Value::from(*number))?;
+    }
+    Ok(Value::Array(values))
+}
+
+/// Puts a text under a key.
+fn put_text(
+    members: &mut Map<String, Value>,
+    heap: Global,
+    key: &str,
+    text: &str,
+) -> Result<(), Refused>
+    ensures { OnOk result (members_view members.new.entries ≡ with_member key.now (string text.now) (members_view members.old.entries)) }
+{
+    let text = json_string(heap, text)?;
+    put_member(members, heap, key, text)
+}
+
+/// Puts a name under a key.
+fn put_name(
+    members: &mut Map<String, Value>,
+    heap: Global,
+    key: &str,
+    name: &Name,
+) -> Result<(), Refused>
+    ensures { OnOk result (members_view members.new.entries ≡ with_member key.now (string name.now) (members_view members.old.entries)) }
+{
+    put_text(members, heap, key, name_text(name))
+}
+
+/// The text of a name.
+fn name_text(name: &Name) -> &str
+    ensures { result.now ≡ name.now }
+{
+    str::from_utf8(name.as_bytes()).unwrap()
+}
+
+/// Puts a shape under a key, as its text.
+fn put_shape(
+    members: &mut Map<String, Value>,
+    heap: Global,
+    key: &str,
+    shape: &Shape,
+) -> Result<(), Refused>
+    ensures { OnOk result (members_view members.new.entries ≡ with_member key.now (string (printed shape.now)) (members_view members.old.entries)) }
+{
+    let text = print_shape(heap, shape)?;
+    put_text(members, heap, key, text.as_str())
+}

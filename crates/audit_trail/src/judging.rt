@@ -1,0 +1,184 @@
+//! Judging lists of changes.
+
+ghost use Rattle.std.specs.Prelude.{◌≡◌};
+ghost use Rattle.features.specs.Rows.{feature_with};
+ghost use Rattle.features.specs.Changes.{change_id};
+ghost use Rattle.audit_trail.specs.Listing.{question_on};
+ghost use Rattle.audit_trail.specs.Judging.{question_on_new, stale, or_else, DenialOf, Objects, JudgedFrom, IsFoundedJudgement};
+
+use crate::causes::{Cause, Judgement, Objection, Refusal};
+use combining::Question;
+use decision::{Decider, Ruling};
+use features::{Action, Change, Feature, Meter, Name, Store, Subject};
+use plane::Shape;
+use std::alloc::Allocator;
+
+/// What becomes of a list of changes: the first that fails, with its first cause. Each is judged on the store as it is.
+/// It takes no memory.
+pub fn judge<A: Allocator>(
+    decider: &Decider,
+    store: &Store<A>,
+    subject: &Subject,
+    changes: &[Change],
+) -> Judgement
+    ensures judged { JudgedFrom 1 decider.now.document store.now subject.now changes.now result }
+    ensures founded { IsFoundedJudgement decider.now.document result }
+{
+    let mut number = 1;
+    for change in changes {
+        if let Some(objection) = objection_to(decider, store, subject, change) {
+            let refusal = Refusal {
+                change: number,
+                cause: objection.cause,
+            };
+            return Judgement::Refused(refusal, objection.question);
+        }
+        number += 1;
+    }
+    Judgement::Accepted
+}
+
+/// What stands against a change.
+fn objection_to<A: Allocator>(
+    decider: &Decider,
+    store: &Store<A>,
+    subject: &Subject,
+    change: &Change,
+) -> Option<Objection>
+    ensures { Objects decider.now.document subject.now change.now (feature_with (change_id change.now) store.now) result }
+{
+    let mut meter = Meter::new();
+    match store.get(change.id(), &mut meter) {
+        Some(feature) => objection_where_present(decider, subject, change, feature),
+        None => objection_where_absent(decider, subject, change),
+    }
+}
+
+/// What stands against a change of an id that no feature has.
+fn objection_where_absent(
+    decider: &Decider,
+    subject: &Subject,
+    change: &Change,
+) -> Option<Objection>
+    ensures { Objects decider.now.document subject.now change.now None result }
+{
+    match change {
+        Change::Add { class, shape, .. } => denial(
+            decider,
+            &question_on_new(subject, class, shape),
+        ),
+        Change::Reshape { .. } => Some(absent()),
+        Change::Delete { .. } => Some(absent()),
+    }
+}
+
+/// What stands against a change of the id of this feature.
+fn objection_where_present(
+    decider: &Decider,
+    subject: &Subject,
+    change: &Change,
+    feature: &Feature,
+) -> Option<Objection>
+    ensures { Objects decider.now.document subject.now change.now (Some feature.now) result }
+{
+    match change {
+        Change::Add { class, shape, .. } => {
+            let denied = denial(decider, &question_on_new(subject, class, shape));
+            or_else(denied, Some(in_use()))
+        }
+        Change::Reshape { version, shape, .. } => {
+            let before = question_on(subject, Action::Reshape, feature, &feature.shape);
+            let after = question_on(subject, Action::Reshape, feature, shape);
+            let later = or_else(denial(decider, &after), stale(*version, feature));
+            or_else(denial(decider, &before), later)
+        }
+        Change::Delete { version, .. } => {
+            let question = question_on(subject, Action::Delete, feature, &feature.shape);
+            or_else(denial(decider, &question), stale(*version, feature))
+        }
+    }
+}
+
+/// May the subject add a feature of this class at this shape?
+fn question_on_new(subject: &Subject, class: &Name, shape: &Shape) -> Question
+    ensures { result ≡ question_on_new subject.now class.now shape.now }
+{
+    Question {
+        subject: *subject,
+        action: Action::Add,
+        owner: subject.office,
+        class: *class,
+        shape: *shape,
+    }
+}
+
+/// May the subject do this with the feature, at this shape?
+fn question_on(subject: &Subject, action: Action, feature: &Feature, shape: &Shape) -> Question
+    ensures { result ≡ question_on subject.now action feature.now shape.now }
+{
+    Question {
+        subject: *subject,
+        action,
+        owner: feature.office,
+        class: feature.class,
+        shape: *shape,
+    }
+}
+
+/// The denial of a question, if it is denied.
+fn denial(decider: &Decider, question: &Question) -> Option<Objection>
+    ensures { DenialOf decider.now.document question.now result }
+{
+    let rule = match decider.decide(question) {
+        Ruling::Permit(_) => return None,
+        Ruling::DeniedBy(rule) => Some(rule),
+        Ruling::NoneApplied => None,
+    };
+    Some(Objection {
+        cause: Cause::Denied(rule),
+        question: Some(*question),
+    })
+}
+
+/// A feature of the id is there already.
+fn in_use() -> Objection
+    ensures { result ≡ record { cause = Cause.Exists; question = None } }
+{
+    Objection {
+        cause: Cause::Exists,
+        question: None,
+    }
+}
+
+/// There is no feature of the id.
+fn absent() -> Objection
+    ensures { result ≡ record { cause = Cause.Absent; question = None } }
+{
+    Objection {
+        cause: Cause::Absent,
+        question: None,
+    }
+}
+
+/// The editor has seen another version of the feature than the present one.
+fn stale(seen: u64, feature: &Feature) -> Option<Objection>
+    ensures { result ≡ stale seen feature.now }
+{
+    if seen == feature.version {
+        return None;
+    }
+    Some(Objection {
+        cause: Cause::Stale(feature.version),
+        question: None,
+    })
+}
+
+/// The first objection, or the later one where there is no first.
+fn or_else(first: Option<Objection>, later: Option<Objection>) -> Option<Objection>
+    ensures { result ≡ or_else first later }
+{
+    match first {
+        Some(objection) => Some(objection),
+        None => later,
+    }
+}

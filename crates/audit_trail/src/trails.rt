@@ -1,0 +1,211 @@
+//! Trails: records in a row, each with a number.
+
+ghost use Rattle.std.specs.Prelude.{◌≡◌, ◌+◌, ◌<◌, ◌≤◌, ◌↔◌, ◌++◌, [], ◌∷◌, length, Err, IsSome, IfOk, IfErr, OnOk, OnErr, IsTrue, option_map};
+ghost use Rattle.std.specs.Arc.{arc_value};
+ghost use Rattle.memory.specs.Refused.{refused};
+ghost use Rattle.audit_trail.specs.Records.{record_at};
+
+use crate::records::Record;
+use memory::{GrowVec, Refused, shared};
+use std::alloc::Allocator;
+use std::fmt;
+use std::marker::Model;
+use std::sync::Arc;
+
+/// How many records a trail has at most.
+pub const RECORD_LIMIT: u32 = 1_048_576;
+
+/// The greatest number that a trail's first record may have, so that each number fits.
+pub const FIRST_LIMIT: u32 = 4_293_918_720;
+
+/// Why a trail does not take a record, or gives none.
+#[derive(Debug, Drop, PartialEq, Eq)]
+pub enum TrailFault {
+    /// It has as many records as a trail has at most.
+    Full,
+    /// A growth was refused.
+    Memory(Refused),
+    /// It has no record of this number.
+    NoRecord,
+}
+
+impl TrailFault {
+    ghost use Rattle.audit_trail.specs.FaultCodes.{trail_code};
+
+    /// The code by which users know the fault.
+    pub fn code(&self) -> &'static str
+        ensures { result.now ≡ trail_code self.now }
+    {
+        match self {
+            TrailFault::Full => "G1",
+            TrailFault::Memory(_) => "G2",
+            TrailFault::NoRecord => "G3",
+        }
+    }
+}
+
+impl From<Refused> for TrailFault {
+    ghost use Rattle.std.specs.Prelude.{◌≡◌};
+    ghost use Rattle.audit_trail.specs.declared.trails.TrailFault.TheVariants.{Memory};
+
+    ghost from_gives = { λ refused fault. fault ≡ Memory refused };
+
+    fn from(refused: Refused) -> Self {
+        TrailFault::Memory(refused)
+    }
+}
+
+impl fmt::Display for TrailFault {
+    ghost use Rattle.std.specs.Prelude.{Some};
+    ghost use Rattle.audit_trail.specs.FaultCodes.{trail_code};
+
+    ghost output = { λ fault. Some (trail_code fault) };
+
+    fn fmt<W: fmt::Write>(&self, f: &mut fmt::Formatter<W>) -> fmt::Result {
+        f.write_str(self.code())
+    }
+}
+
+/// Records in the order in which they were put, numbered on from the first one's number. A contract sees that number,
+/// the records' plain data, and for how many more there is room already.
+#[derive(Debug, Drop)]
+pub struct Trail<A: Allocator> {
+    records: Vec<Arc<Record<A>, A>, A>,
+    first: u32,
+    alloc: A,
+}
+
+impl<A: Allocator> Model for Trail<A> {
+    ghost use Rattle.std.specs.Prelude.{map, ◌-◌, ◌≤◌, vec_len, vec_capacity};
+    ghost use Rattle.std.specs.Arc.{arc_value};
+    ghost use Rattle.audit_trail.specs.Records.{TrailData};
+    ghost use Rattle.audit_trail.specs.declared.trails.TheConstants.{RECORD_LIMIT, FIRST_LIMIT};
+    ghost use Rattle.audit_trail.specs.Coding.{StoredTrail, stored_trail, restored_trail, restored_trail-stored_trail};
+    ghost use Rattle.std.specs.Coded.{code_by, codes};
+
+    ghost Value = { TrailData };
+
+    ghost coded = { code_by StoredTrail (Prim.hlevel codes) stored_trail restored_trail restored_trail-stored_trail };
+
+    ghost view = { λ t. record { first = t.first; records = map arc_value t.records.items; room = vec_capacity t.records - vec_len t.records } };
+
+    ghost invariant = { λ t. (vec_len t.records ≤ RECORD_LIMIT) × (t.first ≤ FIRST_LIMIT) };
+}
+
+impl<A: Allocator> Trail<A> {
+    /// How many records there are.
+    pub fn len(&self) -> u32
+        ensures value { result ≡ length self.now.records }
+        ensures bound { result ≤ RECORD_LIMIT }
+    {
+        self.records.len() as u32
+    }
+
+    /// Whether there is no record.
+    pub fn is_empty(&self) -> bool
+        ensures { IsTrue result ↔ (self.now.records ≡ []) }
+    {
+        self.records.is_empty()
+    }
+
+    /// The number of the first record, or that the first one will have.
+    pub fn first(&self) -> u32
+        ensures value { result ≡ self.now.first }
+        ensures bound { result ≤ FIRST_LIMIT }
+    {
+        self.first
+    }
+
+    /// The record of a number.
+    pub fn get(&self, number: u32) -> Option<&Arc<Record<A>, A>>
+        ensures value { option_map (λ r. arc_value r.now) result ≡ record_at number self.now }
+        ensures found { IsSome result ↔ (self.now.first ≤ number) × (number < self.now.first + length self.now.records) }
+    {
+        if number < self.first {
+            return None;
+        }
+        self.records.get((number - self.first) as usize)
+    }
+}
+
+impl<A: Allocator + Copy> Trail<A> {
+    /// A trail with no record, whose first one will have the number 1. It takes no memory.
+    pub fn new(alloc: A) -> Self
+        ensures first { result.first ≡ 1 }
+        ensures none { result.records ≡ [] }
+    {
+        Trail::starting_at(alloc, 1)
+    }
+
+    /// A trail with no record, whose first one will have this number. It takes no memory.
+    pub fn starting_at(alloc: A, first: u32) -> Self
+        requires { first ≤ FIRST_LIMIT }
+        ensures first { result.first ≡ first }
+        ensures none { result.records ≡ [] }
+    {
+        Trail {
+            records: Vec::new(alloc),
+            first,
+            alloc,
+        }
+    }
+
+    /// Makes a record ready to be put at the end, and the room for it. `Full` exactly where the trail has as many
+    /// records as it may have, else `Memory` where a growth is refused.
+    pub fn prepare(&mut self, entry: Record<A>) -> Result<Arc<Record<A>, A>, TrailFault>
+        ensures first { self.new.first ≡ self.old.first }
+        ensures records { self.new.records ≡ self.old.records }
+        ensures room { OnOk result (1 ≤ self.new.room) }
+        ensures entry { IfOk result (λ shared. arc_value shared ≡ entry) }
+        ensures below { OnOk result (length self.old.records < RECORD_LIMIT) }
+        ensures full { (result ≡ Err TrailFault.Full) ↔ (RECORD_LIMIT ≤ length self.old.records) }
+        ensures memory { OnErr result (length self.old.records < RECORD_LIMIT → result ≡ Err (TrailFault.Memory refused)) }
+    {
+        if self.len() >= RECORD_LIMIT {
+            return Err(TrailFault::Full);
+        }
+        self.records.make_place()?;
+        match shared(self.alloc, entry) {
+            Ok(made) => Ok(made),
+            Err(failed) => Err(TrailFault::Memory(failed.refusal)),
+        }
+    }
+
+    /// Puts a record at the end, for which there is room.
+    pub fn put(&mut self, entry: Arc<Record<A>, A>)
+        requires room { 1 ≤ self.old.room }
+        requires limit { length self.old.records < RECORD_LIMIT }
+        ensures first { self.new.first ≡ self.old.first }
+        ensures records { self.new.records ≡ self.old.records ++ arc_value entry ∷ [] }
+    {
+        self.records.push_reserved(entry);
+    }
+
+    /// Adds a record at the end, and answers its number; else hands it back, with the trail as it was. `Full` exactly
+    /// where the trail has as many records as it may have, else `Memory` where a growth is refused.
+    pub fn push(&mut self, entry: Record<A>) -> Result<u32, (Record<A>, TrailFault)>
+        ensures first { self.new.first ≡ self.old.first }
+        ensures ok { OnOk result (self.new.records ≡ self.old.records ++ entry ∷ []) }
+        ensures number { IfOk result (λ n. n ≡ self.old.first + length self.old.records) }
+        ensures err { OnErr result (self.new.records ≡ self.old.records) }
+        ensures entry_returned { IfErr result (λ e. e.0 ≡ entry) }
+        ensures full { IfErr result (λ e. (e.1 ≡ TrailFault.Full) ↔ (RECORD_LIMIT ≤ length self.old.records)) }
+        ensures memory { IfErr result (λ e. length self.old.records < RECORD_LIMIT → e.1 ≡ TrailFault.Memory refused) }
+        ensures below { OnOk result (length self.old.records < RECORD_LIMIT) }
+    {
+        let number = self.len();
+        if number >= RECORD_LIMIT {
+            return Err((entry, TrailFault::Full));
+        }
+        if let Err(refusal) = self.records.make_place() {
+            return Err((entry, TrailFault::Memory(refusal)));
+        }
+        match shared(self.alloc, entry) {
+            Ok(made) => {
+                self.records.push_reserved(made);
+                Ok(self.first + number)
+            }
+            Err(failed) => Err((failed.value, TrailFault::Memory(failed.refusal))),
+        }
+    }
+}

@@ -1,0 +1,71 @@
+//! What is kept of the children of a set or a policy while they are decided one after another.
+
+ghost use Rattle.std.specs.Prelude.{◌≡◌, ◌&&◌, []};
+ghost use Rattle.combining.specs.Gathering.{with_verdict, settled_verdict, stays_open, nothing_gathered};
+
+use crate::algorithms::Tally;
+use crate::decisions::{Decision, Verdict};
+use policy_text::Algorithm;
+
+/// The decisions of some children, and the first rules below them that made a Permit and a Deny.
+#[derive(Clone, Copy)]
+pub(crate) struct Gathered {
+    tally: Tally,
+    counts: bool,
+    permitting: Option<u32>,
+    denying: Option<u32>,
+}
+
+/// Whether rules still count behind a child with this decision: under first-applicable only where the child is not
+/// applicable.
+fn still_counts(counts: bool, algorithm: Algorithm, decision: Decision) -> bool
+    ensures { result ≡ (counts && stays_open algorithm decision) }
+{
+    counts
+        && match algorithm {
+            Algorithm::FirstApplicable => matches!(decision, Decision::NotApplicable),
+            _ => true,
+        }
+}
+
+impl Gathered {
+    /// What is kept of no children.
+    pub fn new() -> Gathered
+        ensures { result ≡ nothing_gathered }
+    {
+        Gathered {
+            tally: Tally::new(),
+            counts: true,
+            permitting: None,
+            denying: None,
+        }
+    }
+
+    /// What is kept with one child more.
+    pub fn with(self, algorithm: Algorithm, child: Verdict) -> Gathered
+        ensures { result ≡ with_verdict algorithm self child }
+    {
+        let mut gathered = self;
+        match child.decision {
+            Decision::Permit if self.counts => gathered.permitting = self.permitting.or(child.rule),
+            Decision::Deny if self.counts => gathered.denying = self.denying.or(child.rule),
+            _ => {}
+        }
+        gathered.tally = self.tally.with(child.decision);
+        gathered.counts = still_counts(self.counts, algorithm, child.decision);
+        gathered
+    }
+
+    /// What an algorithm makes of the children, and the first rule that made it.
+    pub fn settle(self, algorithm: Algorithm) -> Verdict
+        ensures { result ≡ settled_verdict algorithm self }
+    {
+        let decision = self.tally.settle(algorithm);
+        let rule = match decision {
+            Decision::Permit => self.permitting,
+            Decision::Deny => self.denying,
+            Decision::NotApplicable => None,
+        };
+        Verdict { decision, rule }
+    }
+}

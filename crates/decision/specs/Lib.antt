@@ -1,0 +1,3 @@
+pub mod Deciders
+pub mod Rulings
+pub mod Equality

@@ -1,0 +1,105 @@
+//! Policy documents that are in force.
+
+ghost use Rattle.std.specs.Prelude.{◌≡◌, ◌↔◌, IfOk, IfErr, IsTrue};
+ghost use Rattle.policy_text.specs.Documents.{rule_named};
+ghost use Rattle.decision.specs.Rulings.{Rules};
+
+use crate::rulings::Ruling;
+use combining::{Decision, Question, evaluate};
+use features::Name;
+use memory::NotStored;
+use policy_text::Document;
+use std::alloc::Global;
+use std::marker::Model;
+
+/// A policy document with its edition. It is made once and only read from then on, so that many may share it. A
+/// contract sees the document's plain data and the edition.
+#[derive(Debug, Drop)]
+pub struct Decider {
+    document: Document<Global>,
+    edition: u64,
+}
+
+impl Model for Decider {
+    ghost use Rattle.decision.specs.Deciders.{DeciderData, Stored, stored, restored, restored-stored};
+    ghost use Rattle.std.specs.Coded.{code_by, codes};
+
+    ghost Value = { DeciderData };
+
+    ghost coded = { code_by Stored (Prim.hlevel codes) stored restored restored-stored };
+
+    ghost view = { λ d. record { document = d.document; edition = d.edition } };
+}
+
+impl Decider {
+    /// The decision point of a document under an edition. Where a growth is refused, the document is handed back.
+    pub fn new(
+        document: Document<Global>,
+        edition: u64,
+    ) -> Result<Decider, NotStored<Document<Global>>>
+        ensures ok { IfOk result (λ decider. decider ≡ record { document = document; edition = edition }) }
+        ensures document_returned { IfErr result (λ failed. failed.value ≡ document) }
+    {
+        Ok(Decider { document, edition })
+    }
+
+    /// How the document rules. It takes no memory.
+    pub fn decide(&self, question: &Question) -> Ruling
+        ensures { Rules self.now.document question.now result }
+    {
+        let verdict = evaluate(&self.document, question);
+        match verdict.decision {
+            Decision::Permit => Ruling::Permit(verdict.rule),
+            Decision::Deny => match verdict.rule {
+                Some(rule) => Ruling::DeniedBy(rule),
+                None => Ruling::NoneApplied,
+            },
+            Decision::NotApplicable => Ruling::NoneApplied,
+        }
+    }
+
+    /// The name of the document's rule of this number. Rules are numbered from 1, in document order.
+    pub fn rule_name(&self, number: u32) -> Option<Name>
+        ensures { result ≡ rule_named number self.now.document.root }
+    {
+        self.document.rule_name(number)
+    }
+
+    /// The document that rules.
+    pub fn document(&self) -> &Document<Global>
+        ensures { result.now ≡ self.now.document }
+    {
+        &self.document
+    }
+
+    /// The number of the document's edition.
+    pub fn edition(&self) -> u64
+        ensures { result ≡ self.now.edition }
+    {
+        self.edition
+    }
+}
+
+impl PartialEq for Decider {
+    ghost use Rattle.std.specs.Cmp.{decided, partial_equiv_from_equiv};
+    ghost use Rattle.decision.specs.Equality.{same_decider, same_decider_decides};
+
+    ghost eq = { same_decider };
+
+    ghost laws = { partial_equiv_from_equiv (decided same_decider same_decider_decides) };
+
+    /// Whether the two have one document, under one edition.
+    fn eq(&self, other: &Self) -> bool
+        ensures tested { result ≡ same_decider self.now other.now }
+        ensures exact { IsTrue result ↔ (self.now ≡ other.now) }
+    {
+        self.document == other.document && self.edition == other.edition
+    }
+}
+
+impl Eq for Decider {
+    ghost use Rattle.std.specs.Cmp.{decided};
+    ghost use Rattle.decision.specs.Equality.{same_decider, same_decider_decides};
+
+    ghost laws = { decided same_decider same_decider_decides };
+}

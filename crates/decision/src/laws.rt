@@ -1,0 +1,13 @@
+//! A law of the definition by which documents rule. The function does nothing: it is its contract.
+
+ghost use Rattle.std.specs.Prelude.{◌≡◌};
+ghost use Rattle.policy_text.specs.Documents.{DocumentData};
+ghost use Rattle.combining.specs.declared.questions.Question.{Question};
+ghost use Rattle.decision.specs.Rulings.{Rules};
+
+use crate::rulings::Ruling;
+
+/// A document gives one ruling to a question.
+pub fn rulings_are_one()
+    ensures { (document : DocumentData) (question : Question) (a b : Ruling) → Rules document question a → Rules document question b → a ≡ b }
+{}

@@ -1,0 +1,61 @@
+ghost use Rattle.std.specs.Prelude.{◌≡◌, ◌≤◌, ◌++◌, ◌∷◌, [], None, OnOk, OnErr, IfOk, IfErr};
+ghost use Rattle.indexmap.specs.IndexMap.{get, insert_entry, IsUnchanged};
+ghost use Rattle.smallvec.specs.SmallVec.{small_vec_len, HasRoomFor};
+
+use crate::refused::{NotStored, Refused};
+use indexmap::IndexMap;
+use smallvec::SmallVec;
+use std::alloc::Allocator;
+use std::default::MadeWith;
+use std::hash::{BuildHasher, Hash};
+use std::io::{BufWriter, Write};
+
+/// Appends a value to a small vector, or hands it back.
+pub fn small_store<T: MadeWith<A> + Drop, const N: usize, A: Allocator + Copy>(
+    list: &mut SmallVec<T, N, A>,
+    value: T,
+) -> Result<(), NotStored<T>>
+    ensures ok { OnOk result (list.new.items ≡ list.old.items ++ value ∷ []) }
+    ensures err { OnErr result (list.new ≡ list.old) }
+    ensures value_returned { IfErr result (λ failed. failed.value ≡ value) }
+{
+    match list.push(value) {
+        Ok(()) => Ok(()),
+        Err(failed) => Err(NotStored {
+            value: failed.value,
+            refusal: Refused::seen(),
+        }),
+    }
+}
+
+/// Puts a value under a key of a map that keeps its order, or hands both back.
+pub fn put<K: Eq + Hash + Drop, V, S: BuildHasher, A: Allocator>(
+    map: &mut IndexMap<K, V, S, A>,
+    key: K,
+    value: V,
+) -> Result<Option<V>, NotStored<(K, V)>>
+    ensures old { IfOk result (λ old. old ≡ get K.eq map.old key) }
+    ensures entries { OnOk result (map.new.entries ≡ insert_entry K.eq map.old.entries key value) }
+    ensures err { OnErr result (IsUnchanged map.old map.new) }
+    ensures absent { OnErr result (get K.eq map.old key ≡ None) }
+    ensures value_returned { IfErr result (λ failed. failed.value ≡ (key, value)) }
+{
+    match map.insert(key, value) {
+        Ok(old) => Ok(old),
+        Err(failed) => Err(NotStored {
+            value: failed.value,
+            refusal: Refused::seen(),
+        }),
+    }
+}
+
+/// A writer with a buffer before it.
+pub fn buffered<W: Write + Drop, A: Allocator>(
+    alloc: A,
+    inner: W,
+) -> Result<BufWriter<W, A>, Refused> {
+    match BufWriter::new(alloc, inner) {
+        Ok(writer) => Ok(writer),
+        Err(_) => Err(Refused::seen()),
+    }
+}

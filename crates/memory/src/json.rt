@@ -1,0 +1,72 @@
+ghost use Rattle.std.specs.Prelude.{◌≡◌, ◌≤◌, ◌<◌, OnOk, OnErr, IfOk, IfErr, None, Some, false, length, string_bytes, IsUtf8};
+ghost use Rattle.serde_json.specs.Data.{string, depth as nesting, put as with_member};
+ghost use Rattle.serde_json.specs.Read.{read, max_depth, read as read_text};
+ghost use Rattle.serde_json.specs.View.{view, members_view};
+ghost use Rattle.serde_json.specs.Written.{has_float, compact_text};
+ghost use Rattle.memory.specs.JsonFault.{IsTextFault};
+
+use crate::refused::Refused;
+use serde_json::{Category, Error, Map, Value};
+use std::alloc::Global;
+
+/// Why bytes give no JSON value.
+#[derive(Debug, Drop)]
+pub enum JsonFault {
+    /// They are no JSON text, or no UTF-8.
+    Text(Error),
+    /// A growth was refused.
+    Memory(Refused),
+}
+
+/// The value that a JSON text (RFC 8259) spells, its bytes being UTF-8. No bytes are no text, whatever memory there is.
+pub fn json_value(heap: Global, bytes: &[u8]) -> Result<Value, JsonFault>
+    ensures ok { IfOk result (λ value. IsUtf8 bytes.now × (read_text bytes.now ≡ Some (view value))) }
+    ensures nests { IfOk result (λ value. nesting (view value) ≤ max_depth) }
+    ensures text { IfErr result (λ fault. IsTextFault fault → IsUtf8 bytes.now → read_text bytes.now ≡ None) }
+    ensures empty { length bytes.now ≡ 0 → IfErr result IsTextFault }
+{
+    match Value::from_slice(heap, bytes) {
+        Ok(value) => Ok(value),
+        Err(error) => match error.classify() {
+            Category::Memory => Err(JsonFault::Memory(Refused::seen())),
+            _ => Err(JsonFault::Text(error)),
+        },
+    }
+}
+
+/// The text of a JSON value, without spaces, and its keys in order. It is read as that value.
+pub fn json_text(heap: Global, value: &Value) -> Result<String, Refused>
+    ensures text { IfOk result (λ text. has_float (view value.now) ≡ false → string_bytes text ≡ compact_text (view value.now)) }
+    ensures reads_back { IfOk result (λ text. nesting (view value.now) ≤ max_depth → read (string_bytes text) ≡ Some (view value.now)) }
+{
+    match value.to_string(heap) {
+        Ok(text) => Ok(text),
+        Err(_) => Err(Refused::seen()),
+    }
+}
+
+/// A text as a JSON value.
+pub fn json_string(heap: Global, text: &str) -> Result<Value, Refused>
+    ensures { IfOk result (λ value. view value ≡ string text.now) }
+{
+    match Value::try_from_str(heap, text) {
+        Ok(value) => Ok(value),
+        Err(_) => Err(Refused::seen()),
+    }
+}
+
+/// Puts a member into a JSON object, in place of one that stands under the key.
+pub fn put_member(
+    members: &mut Map<String, Value>,
+    heap: Global,
+    key: &str,
+    value: Value,
+) -> Result<(), Refused>
+    ensures ok { OnOk result (members_view members.new.entries ≡ with_member key.now (view value) (members_view members.old.entries)) }
+    ensures err { OnErr result (members.new.entries ≡ members.old.entries) }
+{
+    match serde_json::put(members, heap, key, value) {
+        Ok(()) => Ok(()),
+        Err(_) => Err(Refused::seen()),
+    }
+}

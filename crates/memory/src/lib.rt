@@ -1,0 +1,14 @@
+//! Growths of collections. Where one is refused, the answer is a `Refused`, which nothing else can make.
+#![tactic(auto)]
+
+mod collections;
+mod growths;
+mod json;
+mod makes;
+mod refused;
+
+pub use collections::{buffered, put, small_store};
+pub use growths::{GrowText, GrowVec, MOST_BYTES, MOST_PLACES, try_extend};
+pub use json::{JsonFault, json_string, json_text, json_value, put_member};
+pub use makes::{another, boxed, copied, shared, text, vec_with_places, vec_with_room};
+pub use refused::{NotStored, Refused};

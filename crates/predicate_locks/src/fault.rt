@@ -1,0 +1,51 @@
+ghost use Rattle.std.specs.Prelude.{◌≡◌, Some};
+ghost use Rattle.predicate_locks.specs.Fault.{code_of};
+
+use memory::Refused;
+use std::error::Error;
+use std::fmt;
+
+/// Why a search was not entered or attached.
+#[derive(Debug, Drop, PartialEq, Eq)]
+pub enum LockFault {
+    /// L1: as many searches run as may.
+    TooMany,
+    /// L2: the next number is at its end.
+    Spent,
+    /// L3: there was no memory.
+    Memory(Refused),
+}
+
+impl From<Refused> for LockFault {
+    ghost use Rattle.predicate_locks.specs.declared.fault.LockFault.TheVariants.{Memory};
+
+    ghost from_gives = { λ refused fault. fault ≡ Memory refused };
+
+    fn from(refused: Refused) -> LockFault {
+        LockFault::Memory(refused)
+    }
+}
+
+impl LockFault {
+    /// The code that stands for the fault: `L1`, `L2` or `L3`.
+    pub fn code(&self) -> &'static str
+        ensures { result.now ≡ code_of self.now }
+    {
+        match self {
+            LockFault::TooMany => "L1",
+            LockFault::Spent => "L2",
+            LockFault::Memory(_) => "L3",
+        }
+    }
+}
+
+/// Writes the code.
+impl fmt::Display for LockFault {
+    ghost output = { λ fault. Some (code_of fault) };
+
+    fn fmt<W: fmt::Write>(&self, f: &mut fmt::Formatter<W>) -> fmt::Result {
+        f.write_str(self.code())
+    }
+}
+
+impl Error for LockFault {}

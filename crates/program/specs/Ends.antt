@@ -1,0 +1,19 @@
+-- How the program ends.
+use Rattle.std.specs.Prelude.{ℕ, List, ◌++◌, codes, Result, Ok, Err}
+use Rattle.program.specs.declared.faults.ProgramFault.{ProgramFault}
+use Rattle.program.specs.declared.faults.ProgramFault.TheVariants.{CannotRead, CannotWrite, NoMemory, Run}
+use Rattle.sessions.specs.Faults.{serve_code_of}
+
+abbrev pub fault_text : ProgramFault → List ℕ
+fault_text (CannotRead name) = codes "cannot read " ++ name.now
+fault_text CannotWrite = codes "cannot write"
+fault_text NoMemory = codes "V4"
+fault_text (Run fault) = serve_code_of fault
+
+-- the one line on standard error
+abbrev pub fault_line : ProgramFault → List ℕ
+fault_line fault = codes "landmap: " ++ fault_text fault ++ codes "\n"
+
+abbrev pub exit_status : Result (Unit {0}) ProgramFault → ℕ
+exit_status (Ok u) = 0
+exit_status (Err fault) = 1

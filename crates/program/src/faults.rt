@@ -1,0 +1,36 @@
+ghost use Rattle.std.specs.Prelude.{◌≡◌};
+
+use sessions::ServeFault;
+use std::fmt;
+
+/// Why the program ends with status 1.
+#[derive(Debug, Drop)]
+pub enum ProgramFault<'a> {
+    /// A file cannot be opened, or is a folder.
+    CannotRead(&'a str),
+    /// What the program has to say cannot be written.
+    CannotWrite,
+    /// There is no memory for the command line. It is shown as V4.
+    NoMemory,
+    /// The run ended by a fault of its own.
+    Run(ServeFault),
+}
+
+impl fmt::Display for ProgramFault<'_> {
+    ghost use Rattle.std.specs.Prelude.{Some};
+    ghost use Rattle.program.specs.Ends.{fault_text};
+
+    ghost output = { λ fault. Some (fault_text fault) };
+
+    fn fmt<W: fmt::Write>(&self, f: &mut fmt::Formatter<W>) -> fmt::Result {
+        match self {
+            ProgramFault::CannotRead(name) => {
+                f.write_str("cannot read ")?;
+                f.write_str(name)
+            }
+            ProgramFault::CannotWrite => f.write_str("cannot write"),
+            ProgramFault::NoMemory => f.write_str("V4"),
+            ProgramFault::Run(fault) => f.write_str(fault.code()),
+        }
+    }
+}

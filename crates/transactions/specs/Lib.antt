@@ -1,0 +1,9 @@
+pub mod FaultCodes
+pub mod Staging
+pub mod Answers
+pub mod States
+pub mod Rolls
+pub mod Coding
+pub mod Admitting
+pub mod Events
+pub mod Laws

@@ -1,0 +1,13 @@
+//! What becomes of a committed list.
+
+use crate::denials::Denial;
+use audit_trail::Refusal;
+
+/// How a committed list ended.
+#[derive(Debug, Drop)]
+pub enum Outcome {
+    /// The whole list is applied, under this version.
+    Applied(u64),
+    /// The list is turned away, and no feature is changed. A denial is there exactly where the policy denies a change.
+    Refused(Refusal, Option<Denial>),
+}

@@ -1,0 +1,47 @@
+//! Where a world's numbers start, and its limits.
+
+/// Where the numbers of a world start. A world that `open` gives starts as `Starts::default()` says.
+#[derive(Clone, Copy, Debug, PartialEq, Eq)]
+pub struct Starts {
+    /// The generation at which each slot of the index starts.
+    pub generation: u32,
+    /// The index's counter.
+    pub counter: u64,
+    /// The number of the first search.
+    pub search: u64,
+    /// The version before the first list.
+    pub version: u64,
+    /// The edition of the opening document.
+    pub edition: u64,
+    /// How many records were rolled out before.
+    pub rolled: u32,
+}
+
+/// The limits of a world.
+#[derive(Clone, Copy, Debug, PartialEq, Eq)]
+pub struct Limits {
+    /// The steps of one search or walk.
+    pub steps: u32,
+    /// The records of the trail, those that were rolled out aside.
+    pub records: u32,
+    /// The features.
+    pub features: u32,
+}
+
+/// How many seats are given in the life of a world.
+pub const SEAT_LIMIT: usize = 1_024;
+
+/// How many searches run at once at most.
+pub const SEARCH_LIMIT: usize = 16;
+
+/// How many transactions are open at once at most.
+pub const TRANSACTION_LIMIT: usize = 64;
+
+/// How many changes a list has at most.
+pub const CHANGE_LIMIT: usize = 16;
+
+/// How many steps a search or a walk makes at most.
+pub const STEP_LIMIT: u32 = 1_000_000;
+
+/// How many records may be rolled out in the life of a world, so that each number fits.
+pub const ROLLED_LIMIT: u32 = 4_293_918_719;

@@ -1,0 +1,246 @@
+use node_arena::{Arena, ArenaFault, Handle, MAX_SLOTS};
+use refusing::Refusing;
+use std::alloc::Allocator;
+use std::process::Abort;
+use std::test::Fail;
+
+// The next of a fixed row of numbers that look random.
+fn next_random(state: &mut u64) -> usize {
+    *state = state
+        .wrapping_mul(6_364_136_223_846_793_005)
+        .wrapping_add(1_442_695_040_888_963_407);
+    (*state >> 33) as usize
+}
+
+// Puts a value in, which has to succeed.
+fn inserted<A: Allocator + Drop>(rt: &impl Abort, arena: &mut Arena<u64, A>, value: u64) -> Handle {
+    let given = arena.insert(value);
+    assert!(rt; given.is_ok(), "no room for {value}");
+    given.unwrap()
+}
+
+#[test]
+fn worn_out_handles(rt: HostRuntime) -> Result<(), Fail> {
+    let mut arena = Arena::starting_at(rt.alloc(), u32::MAX);
+    let first = inserted(&rt, &mut arena, 1);
+    assert_eq!(rt;
+        first,
+        Handle {
+            slot: 0,
+            generation: u32::MAX
+        }
+    );
+    assert_eq!(rt; arena.remove(first), Some(1));
+    assert_eq!(rt; arena.at_slot(0), None);
+    let second = inserted(&rt, &mut arena, 2);
+    assert!(rt; second.slot != first.slot);
+    assert_eq!(rt; arena.get(first).copied(), None);
+    assert_eq!(rt; arena.remove(first), None);
+    assert_eq!(rt; arena.get(second).copied(), Some(2));
+    assert_eq!(rt; (arena.len(), arena.slots()), (1, 2));
+    Ok(())
+}
+
+#[test]
+fn as_a_list_of_pairs(rt: HostRuntime) -> Result<(), Fail> {
+    let mut arena = Arena::new(rt.alloc());
+    let mut pairs: Vec<(Handle, u64)> = Vec::new(rt.alloc());
+    let mut removed: Vec<Handle> = Vec::new(rt.alloc());
+    let mut state = 2_026;
+    for step in 0..100_000u64 {
+        let draw = next_random(&mut state);
+        // In turn, mostly inserts and mostly removals.
+        let inserts = if step / 10_000 % 2 == 0 { 7 } else { 4 };
+        if draw % 10 < inserts || pairs.is_empty() {
+            pairs.push((inserted(&rt, &mut arena, step), step))?;
+            continue;
+        }
+        let (handle, value) = pairs.swap_remove(draw / 10 % pairs.len());
+        assert_eq!(rt; arena.remove(handle), Some(value), "at {step}");
+        assert_eq!(rt; arena.get(handle).copied(), None, "at {step}");
+        removed.push(handle)?;
+    }
+    assert!(rt; pairs.len() > 1_000 && removed.len() > 40_000);
+    assert_eq!(rt; arena.len(), pairs.len());
+    for (handle, value) in &pairs {
+        assert_eq!(rt; arena.get(*handle).copied(), Some(*value));
+        assert_eq!(rt; arena.at_slot(handle.slot), Some(*handle));
+    }
+    for handle in &removed {
+        assert_eq!(rt; arena.get(*handle).copied(), None);
+    }
+    Ok(())
+}
+
+#[test]
+fn each_allocation_refused(rt: HostRuntime) -> Result<(), Fail> {
+    let memory = Refusing::new(rt.alloc(), 0);
+    for at in 1..8 {
+        memory.refuse(0);
+        let mut arena = Arena::new(&memory);
+        let first = inserted(&rt, &mut arena, 0);
+        for value in 1..4 {
+            inserted(&rt, &mut arena, value);
+        }
+        memory.refuse(at);
+        let answer = arena.insert(4);
+        if !memory.has_refused() {
+            assert!(rt; answer.is_ok() && at > 1, "nothing was refused");
+            return Ok(());
+        }
+        assert!(rt;
+            matches!(&answer, Err((4, ArenaFault::Memory(_)))),
+            "at {at}"
+        );
+        assert_eq!(rt; (arena.len(), arena.slots()), (4, 4), "at {at}");
+        for slot in 0..4 {
+            let handle = Handle {
+                slot,
+                generation: 0,
+            };
+            assert_eq!(rt;
+                arena.get(handle).copied(),
+                Some(u64::from(slot)),
+                "at {at}"
+            );
+        }
+        // A slot that is free is used again with no memory.
+        memory.refuse(1);
+        assert_eq!(rt; arena.remove(first), Some(0), "at {at}");
+        let again = inserted(&rt, &mut arena, 5);
+        assert_eq!(rt;
+            again,
+            Handle {
+                slot: 0,
+                generation: 1
+            },
+            "at {at}"
+        );
+        assert!(rt; !memory.has_refused(), "at {at}");
+    }
+    assert!(rt; false, "each allocation was refused");
+    Ok(())
+}
+
+#[test]
+fn full(rt: HostRuntime) -> Result<(), Fail> {
+    let mut arena = Arena::new(rt.alloc());
+    assert!(rt; arena.is_empty() && arena.has_room(MAX_SLOTS));
+    for value in 0..u64::from(MAX_SLOTS) {
+        inserted(&rt, &mut arena, value);
+    }
+    assert!(rt; arena.has_room(0) && !arena.has_room(1));
+    assert_eq!(rt; arena.reserve(1), Err(ArenaFault::Full));
+    assert!(rt; arena.reserve(0).is_ok());
+    assert_eq!(rt; arena.insert(7), Err((7, ArenaFault::Full)));
+    let last = Handle {
+        slot: MAX_SLOTS - 1,
+        generation: 0,
+    };
+    if let Some(value) = arena.get_mut(last) {
+        *value = 9;
+    }
+    assert_eq!(rt; arena.remove(last), Some(9));
+    assert_eq!(rt; arena.reserve(2), Err(ArenaFault::Full));
+    assert!(rt; arena.reserve(1).is_ok());
+    assert_eq!(rt;
+        inserted(&rt, &mut arena, 8),
+        Handle {
+            slot: MAX_SLOTS - 1,
+            generation: 1
+        }
+    );
+    assert_eq!(rt; ArenaFault::Full.code(), "A1");
+    Ok(())
+}
+
+// How many of the arena's first slots hold their own number.
+fn held<A: Allocator + Drop>(arena: &Arena<u64, A>, slots: u32) -> u32 {
+    let mut held = 0u32;
+    for slot in 0..slots {
+        let handle = Handle {
+            slot,
+            generation: 0,
+        };
+        if arena.get(handle).copied() == Some(u64::from(slot)) {
+            held = held.saturating_add(1);
+        }
+    }
+    held
+}
+
+#[test]
+fn each_allocation_of_reserve_refused(rt: HostRuntime) -> Result<(), Fail> {
+    let memory = Refusing::new(rt.alloc(), 0);
+    for at in 1..8 {
+        memory.refuse(0);
+        let mut arena = Arena::new(&memory);
+        for value in 0..4 {
+            inserted(&rt, &mut arena, value);
+        }
+        memory.refuse(at);
+        let answer = arena.reserve(2);
+        if !memory.has_refused() {
+            assert!(rt; answer.is_ok() && at > 1, "nothing was refused");
+            // What was reserved is there: two inserts take no memory.
+            memory.refuse(1);
+            inserted(&rt, &mut arena, 4);
+            inserted(&rt, &mut arena, 5);
+            assert!(rt; !memory.has_refused());
+            assert_eq!(rt; held(&arena, 6), 6);
+            return Ok(());
+        }
+        let Err(fault) = answer else {
+            assert!(rt; false, "a refusal was not answered");
+            return Ok(());
+        };
+        assert_eq!(rt; fault.code(), "A2");
+        assert_eq!(rt; format!(in rt.alloc(); "{fault}")?.as_str(), "A2");
+        assert_eq!(rt; (arena.len(), arena.slots()), (4, 4));
+        assert_eq!(rt; held(&arena, 4), 4);
+    }
+    assert!(rt; false, "each allocation was refused");
+    Ok(())
+}
+
+#[test]
+fn reserve_counts_free_slots(rt: HostRuntime) -> Result<(), Fail> {
+    let memory = Refusing::new(rt.alloc(), 0);
+    let mut arena = Arena::new(&memory);
+    let mut handles = Vec::new(rt.alloc());
+    for value in 0..4 {
+        handles.push(inserted(&rt, &mut arena, value))?;
+    }
+    for handle in &handles {
+        assert!(rt; arena.remove(*handle).is_some());
+    }
+    // Four slots are free, so room for four is there.
+    memory.refuse(1);
+    assert!(rt; arena.reserve(4).is_ok() && !memory.has_refused());
+    for value in 4..8 {
+        assert!(rt; inserted(&rt, &mut arena, value).slot < 4);
+    }
+    assert!(rt; !memory.has_refused());
+    assert_eq!(rt; (arena.len(), arena.slots()), (4, 4));
+    Ok(())
+}
+
+#[test]
+fn reserve_passes_worn_out_slots(rt: HostRuntime) -> Result<(), Fail> {
+    let memory = Refusing::new(rt.alloc(), 0);
+    let mut arena = Arena::starting_at(&memory, u32::MAX);
+    for value in 0..4 {
+        let handle = inserted(&rt, &mut arena, value);
+        assert_eq!(rt; arena.remove(handle), Some(value));
+    }
+    // Four slots are worn out, so none is free.
+    assert_eq!(rt; (arena.len(), arena.slots()), (0, 4));
+    memory.refuse(1);
+    assert!(rt; arena.reserve(1).is_err() && memory.has_refused());
+    memory.refuse(0);
+    assert!(rt; arena.reserve(1).is_ok());
+    memory.refuse(1);
+    assert_eq!(rt; inserted(&rt, &mut arena, 9).slot, 4);
+    assert!(rt; !memory.has_refused());
+    Ok(())
+}

@@ -1,0 +1,9 @@
+pub mod Lists
+pub mod KeyClasses
+pub mod Nodes
+pub mod Walks
+pub mod Invariant
+pub mod Changes
+pub mod Contents
+pub mod Promises
+pub mod Runs

@@ -1,0 +1,35 @@
+-- Where a search gets to along rightlinks, and what is done or owed to it.
+use Rattle.std.specs.Prelude.{◌≡◌, ◌⊎◌, ℕ, List, Contains, Some, IsTrue}
+use Rattle.node_arena.specs.declared.handle.Handle.{Handle}
+use Rattle.tree_theory.specs.KeyClasses.{Class}
+use Rattle.tree_theory.specs.Nodes.{Node, Search, Tree, is_followed}
+
+module _ {C : Class} where
+  -- whoever comes to x with this memo goes on to its right node y
+  pub record Step (t : Tree C) (memo : ℕ) (x y : Handle) : Type 0 where
+    pub node : Node C
+    pub is : t.look x ≡ Some node
+    pub follows : IsTrue (is_followed node.place node.seq memo)
+    pub right : node.right ≡ Some y
+
+  -- such steps lead from a handle to the last one
+  pub data Leads (t : Tree C) (memo : ℕ) (last : Handle) : Handle → Type 0 where
+    here : Leads t memo last last
+    along : {x y : Handle} → Step t memo x y → Leads t memo last y → Leads t memo last x
+
+  -- some entry of the stack leads to the handle
+  pub record StackLeads (t : Tree C) (stack : List (Handle × ℕ)) (last : Handle) : Type 0 where
+    pub from : Handle
+    pub memo : ℕ
+    pub on_stack : Contains stack (from, memo)
+    pub leads : Leads t memo last from
+
+  -- the search with this number is attached to the node: it has seen what the node has
+  pub record Done (t : Tree C) (s : ℕ) (h : Handle) : Type 0 where
+    pub node : Node C
+    pub is : t.look h ≡ Some node
+    pub attached : Contains node.attached s
+
+  -- the search has seen the node, or will come to it
+  abbrev pub Owed : Tree C → ℕ → Search C → Handle → Type 0
+  Owed t s search h = Done t s h ⊎ StackLeads t search.stack h

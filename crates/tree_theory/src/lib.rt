@@ -1,0 +1,23 @@
+//! The theory of the search tree: what a tree of nodes keeps under any interleaving of its steps, and why no search misses anything. Nothing here runs but the plain data and the trait of the keys.
+#![tactic(auto)]
+
+mod key_class;
+mod laws;
+mod laws_contents;
+mod laws_shape;
+mod place;
+
+pub use key_class::KeyClass;
+pub use laws::{
+    ready_searches_miss_nothing, runs_miss_nothing, steps_keep_the_invariant,
+    steps_keep_the_searches,
+};
+pub use laws_contents::steps_and_contents;
+pub use laws_shape::steps_keep_the_shape;
+pub use place::Place;
+
+/// How many pairs or entries a node has at most.
+pub const NODE_SIZE: usize = 16;
+
+/// The highest level that a node may have. A leaf has level 0.
+pub const TOP_LEVEL: u8 = 31;

@@ -1,0 +1,99 @@
+//! A worked script, and readers and writers that fail.
+use std::io;
+use std::io::{ErrorKind, Read, Write};
+
+/// The worked script of a point that is added and found again.
+pub const FIRST_POINT: &str =
+    "n: HELLO north\nn: ADD 1 mast POINT (3 4)\nn: COMMIT\nn: SEARCH point(3 4)\nn: SEARCH POINT (3 5)\n";
+
+/// Its replies.
+pub const FIRST_REPLIES: &str =
+    "n: hello north\nn: staged\nn: applied 1\nn: rows 1\nn: 1 1 north mast POINT (3 4)\nn: rows 0\n";
+
+/// A reader that gives one byte a call, and fails at a call, counted from 1.
+#[derive(Drop)]
+pub struct FailingReader<'a> {
+    pub bytes: &'a [u8],
+    pub fails_at: u64,
+}
+
+impl Read for FailingReader<'_> {
+    fn read(&mut self, buf: &mut [u8]) -> io::Result<usize> {
+        if self.fails_at == 1 {
+            return Err(ErrorKind::Other.into());
+        }
+        self.fails_at = self.fails_at.saturating_sub(1);
+        if self.bytes.is_empty() || buf.is_empty() {
+            return Ok(0);
+        }
+        buf[0] = self.bytes[0];
+        self.bytes = &self.bytes[1..];
+        Ok(1)
+    }
+}
+
+/// A writer that takes so many bytes a call, and fails at a call, counted from 1.
+#[derive(Drop)]
+pub struct FailingWriter {
+    pub taken: Vec<u8>,
+    pub most: usize,
+    pub fails_at: u64,
+    pub with: Failure,
+}
+
+/// How a call of a writer fails.
+#[derive(Clone, Copy, Drop)]
+pub enum Failure {
+    /// An error.
+    Error,
+    /// It takes no byte.
+    Nothing,
+    /// It was interrupted, and the next call goes on.
+    Interrupted,
+    /// No write fails, and each flush.
+    Flush,
+}
+
+impl Write for FailingWriter {
+    fn write(&mut self, buf: &[u8]) -> io::Result<usize> {
+        let fails = self.fails_at == 1;
+        self.fails_at = self.fails_at.saturating_sub(1);
+        if fails {
+            match self.with {
+                Failure::Error => return Err(ErrorKind::Other.into()),
+                Failure::Nothing => return Ok(0),
+                Failure::Interrupted => return Err(ErrorKind::Interrupted.into()),
+                Failure::Flush => {}
+            }
+        }
+        let count = buf.len().min(self.most);
+        self.taken.extend_from_slice(&buf[..count])?;
+        Ok(count)
+    }
+
+    fn flush(&mut self) -> io::Result<()> {
+        match self.with {
+            Failure::Flush => Err(ErrorKind::Other.into()),
+            _ => Ok(()),
+        }
+    }
+}
+
+/// A reader that gives one byte a call, a line feed, so many times, and counts its calls.
+#[derive(Drop)]
+pub struct CountingReader {
+    pub left: u64,
+    pub calls: u64,
+}
+
+impl Read for CountingReader {
+    fn read(&mut self, buf: &mut [u8]) -> io::Result<usize> {
+        self.calls = self.calls.saturating_add(1);
+        if buf.is_empty() || self.left == 0 {
+            return Ok(0);
+        }
+        self.left -= 1;
+        buf[0] = b'\n';
+        Ok(1)
+    }
+}

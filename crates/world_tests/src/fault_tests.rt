@@ -1,0 +1,215 @@
+//! What stands when a run ends by a fault.
+use crate::fakes::{
+    CountingReader, FIRST_POINT, FIRST_REPLIES, FailingReader, FailingWriter, Failure,
+};
+use refusing::Refusing;
+use sessions::{PlainWorld, READ_LIMIT, ServeFault, built_in_subjects, run_script};
+use std::alloc::{AllocError, Allocator, Global};
+use std::process::Abort;
+use std::test::Fail;
+
+/// The replies to each number of whole lines of the worked script.
+const REPLIES: [&str; 6] = [
+    "",
+    "n: hello north\n",
+    "n: hello north\nn: staged\n",
+    "n: hello north\nn: staged\nn: applied 1\n",
+    "n: hello north\nn: staged\nn: applied 1\nn: rows 1\nn: 1 1 north mast POINT (3 4)\n",
+    FIRST_REPLIES,
+];
+
+/// What a search finds, and a commit, in a world that so many lines of the worked script have left.
+const LEFT: [&str; 6] = [
+    "n: hello north\nn: error E7\nn: rows 0\n",
+    "n: hello north\nn: error E7\nn: rows 0\n",
+    "n: hello north\nn: error E7\nn: rows 0\n",
+    "n: hello north\nn: error E7\nn: rows 1\nn: 1 1 north mast POINT (3 4)\n",
+    "n: hello north\nn: error E7\nn: rows 1\nn: 1 1 north mast POINT (3 4)\n",
+    "n: hello north\nn: error E7\nn: rows 1\nn: 1 1 north mast POINT (3 4)\n",
+];
+
+/// A new run finds the world that so many lines have left, and no staged list.
+fn check_left(
+    rt: &impl Abort,
+    alloc: Global,
+    world: &mut PlainWorld<Global>,
+    lines: usize,
+) -> Result<(), AllocError> {
+    let mut output = Vec::new(alloc);
+    let mut script = "n: HELLO north\nn: COMMIT\nn: SEARCH POINT (3 4)\n".as_bytes();
+    let end = run_script(alloc, world, &mut script, &mut output);
+    assert_eq!(rt; end, Ok(()));
+    assert_eq!(rt;
+        Some(output.as_slice()),
+        LEFT.get(lines).map(|text| text.as_bytes()),
+        "after {lines}"
+    );
+    Ok(())
+}
+
+#[test]
+fn each_read_fails(rt: HostRuntime) -> Result<(), Fail> {
+    let mut lines = 0;
+    for (at, byte) in FIRST_POINT.bytes().enumerate() {
+        let mut world = PlainWorld::open(rt.alloc(), built_in_subjects());
+        let mut output = Vec::new(rt.alloc());
+        let mut reader = FailingReader {
+            bytes: FIRST_POINT.as_bytes(),
+            fails_at: at as u64 + 1,
+        };
+        let end = run_script(rt.alloc(), &mut world, &mut reader, &mut output);
+        assert_eq!(rt; end, Err(ServeFault::Read), "at {at}");
+        assert_eq!(rt;
+            Some(output.as_slice()),
+            REPLIES.get(lines).map(|text| text.as_bytes()),
+            "at {at}"
+        );
+        check_left(&rt, rt.alloc(), &mut world, lines)?;
+        if byte == b'\n' {
+            lines = (lines + 1).min(REPLIES.len());
+        }
+    }
+    assert_eq!(rt; lines, 5);
+    Ok(())
+}
+
+/// Runs the worked script into a writer that fails.
+fn run_into(
+    rt: &impl Abort,
+    alloc: Global,
+    writer: &mut FailingWriter,
+    end: Result<(), ServeFault>,
+    lines: usize,
+) -> Result<(), AllocError> {
+    let mut world = PlainWorld::open(alloc, built_in_subjects());
+    let ended = run_script(alloc, &mut world, &mut FIRST_POINT.as_bytes(), writer);
+    assert_eq!(rt; ended, end);
+    check_left(rt, alloc, &mut world, lines)
+}
+
+#[test]
+fn each_write_fails(rt: HostRuntime) -> Result<(), Fail> {
+    // The replies in lines, and how many lines of the script were answered when each is written.
+    let lines = [1, 2, 3, 4, 4, 5];
+    let mut written = 0;
+    for (at, reply) in FIRST_REPLIES.split_inclusive('\n').enumerate() {
+        for failure in [Failure::Error, Failure::Nothing] {
+            let mut writer = FailingWriter {
+                taken: Vec::new(rt.alloc()),
+                most: 1_000,
+                fails_at: at as u64 + 1,
+                with: failure,
+            };
+            let answered = lines.get(at).copied().unwrap_or(0);
+            run_into(
+                &rt,
+                rt.alloc(),
+                &mut writer,
+                Err(ServeFault::Write),
+                answered,
+            )?;
+            assert_eq!(rt;
+                Some(writer.taken.as_slice()),
+                FIRST_REPLIES.as_bytes().get(..written),
+                "at {at}"
+            );
+        }
+        written = written.saturating_add(reply.len()).min(FIRST_REPLIES.len());
+    }
+    assert_eq!(rt; written, FIRST_REPLIES.len());
+    Ok(())
+}
+
+#[test]
+fn each_byte_fails(rt: HostRuntime) -> Result<(), Fail> {
+    for at in 0..FIRST_REPLIES.len() {
+        let mut world = PlainWorld::open(rt.alloc(), built_in_subjects());
+        let mut writer = FailingWriter {
+            taken: Vec::new(rt.alloc()),
+            most: 1,
+            fails_at: at as u64 + 1,
+            with: Failure::Error,
+        };
+        let end = run_script(
+            rt.alloc(),
+            &mut world,
+            &mut FIRST_POINT.as_bytes(),
+            &mut writer,
+        );
+        assert_eq!(rt; end, Err(ServeFault::Write));
+        assert_eq!(rt;
+            Some(writer.taken.as_slice()),
+            FIRST_REPLIES.as_bytes().get(..at),
+            "at {at}"
+        );
+    }
+    Ok(())
+}
+
+#[test]
+fn writes_go_on(rt: HostRuntime) -> Result<(), Fail> {
+    for (most, fails_at) in [(1_000, 0), (1, 0), (7, 0), (1_000, 2), (3, 20)] {
+        let mut writer = FailingWriter {
+            taken: Vec::new(rt.alloc()),
+            most,
+            fails_at,
+            with: Failure::Interrupted,
+        };
+        run_into(&rt, rt.alloc(), &mut writer, Ok(()), 5)?;
+        assert_eq!(rt; writer.taken.as_slice(), FIRST_REPLIES.as_bytes());
+    }
+    Ok(())
+}
+
+/// Runs an input of so many bytes, each given by a call of its own.
+fn run_bytes(rt: &impl Abort, alloc: Global, bytes: u64, end: Result<(), ServeFault>, calls: u64) {
+    let mut world = PlainWorld::open(alloc, built_in_subjects());
+    let mut output = Vec::new(alloc);
+    let mut reader = CountingReader {
+        left: bytes,
+        calls: 0,
+    };
+    let ended = run_script(alloc, &mut world, &mut reader, &mut output);
+    assert_eq!(rt; ended, end);
+    assert_eq!(rt; reader.calls, calls);
+    assert_eq!(rt; output.len(), 0);
+}
+
+#[test]
+fn a_reader_that_does_not_end(rt: HostRuntime) {
+    let reads = READ_LIMIT as u64;
+    run_bytes(&rt, rt.alloc(), reads - 1, Ok(()), reads);
+    run_bytes(&rt, rt.alloc(), reads, Err(ServeFault::TooManyTurns), reads);
+}
+
+#[test]
+fn each_allocation_refused(rt: HostRuntime) -> Result<(), Fail> {
+    let memory = Refusing::new(rt.alloc(), 0);
+    for at in 1..20 {
+        memory.refuse(at);
+        let mut world = PlainWorld::open(&memory, built_in_subjects());
+        let mut output = Vec::new(rt.alloc());
+        let mut reader = FIRST_POINT.as_bytes();
+        let end = run_script(&memory, &mut world, &mut reader, &mut output);
+        if !memory.has_refused() {
+            assert_eq!(rt; end, Ok(()));
+            assert_eq!(rt; output.as_slice(), FIRST_REPLIES.as_bytes());
+            assert!(rt; at > 3, "nothing was refused");
+            return Ok(());
+        }
+        if at < 3 {
+            // The table of sessions and the held line: nothing is read.
+            assert!(rt; matches!(end, Err(ServeFault::Memory(_))));
+            assert_eq!(rt; (reader.len(), output.len()), (FIRST_POINT.len(), 0));
+        } else {
+            // The feature, whose list stays staged.
+            assert_eq!(rt; end, Ok(()));
+            assert_eq!(rt;
+                output.as_slice(),
+                "n: hello north\nn: staged\nn: memory\nn: rows 0\nn: rows 0\n".as_bytes()
+            );
+        }
+    }
+    assert!(rt; false, "each allocation was refused");
+    Ok(())
+}
