@@ -1,11 +1,11 @@
 -- Comparing the parts of documents: what the tests that are derived answer, and that `==` is exact.
 use Rattle.std.proofs.Common.{◌≡◌, ◌↔◌, ℕ, ◌+◌, ◌<◌, Bool, true, false, not, ◌&&◌, List, length, slice_get, Option, refl, sym, ap, ◌∙◌, IsTrue}
 use Rattle.std.proofs.lemmas.Bool.Decides.{Decides-at}
-use Rattle.std.specs.Cmp.Lexicographic.{pointwise}
+use Rattle.std.specs.Cmp.Lexicographic.{pointwise, pointwise_decides}
 use Rattle.std.specs.Option.{option_eq}
 use Rattle.policy_text.specs.Names.{is_name}
 use Rattle.policy_text.proofs.RowLemmas.{same_from, same_from-more_at, same_from-other_at}
-use Rattle.policy_text.specs.Equality.{same_action, same_match, same_term, same_all_of, same_all_of_decides, same_any_of, same_any_of_decides, same_target, same_target_decides, same_atom, same_conditions, same_conditions_decides, same_rule, same_rule_decides, same_node, same_node_decides, same_point, same_shape, same_zone, same_zones, same_document, same_document_decides}
+use Rattle.policy_text.specs.Equality.{same_action, same_match, same_term, same_match_decides, same_target, same_atom, same_atom_decides, same_conditions, same_rule, same_rule_decides, same_node, same_node_decides, same_point, same_shape, same_zone, same_zones, same_document, same_document_decides}
 use Rattle.features.specs.contracts.actors.ActionPartialEq.TheImpl as acting
 use Rattle.features.specs.declared.actors.Action.{Action}
 use Rattle.features.specs.declared.actors.Action.TheVariants as actions
@@ -47,26 +47,28 @@ same_term_derived (terms.Match a) terms.Own = refl
 same_term_derived terms.Own terms.Own = refl
 same_term_derived terms.Own (terms.Match b) = refl
 
-pub exact_all_of : (r : Bool) (a b p q : List Match) → r ≡ pointwise matching.eq-value.it p q → p ≡ a → q ≡ b → IsTrue r ↔ (a ≡ b)
-exact_all_of r a b p q e h k = Decides-at r (same_all_of a b) (e ∙ (λ i. pointwise (λ x y. same_match_derived x y i) (h i) (k i))) (same_all_of_decides a b)
-
-pub exact_any_of : (r : Bool) (a b : List (List Match)) → r ≡ same_any_of a b → IsTrue r ↔ (a ≡ b)
-exact_any_of r a b e = Decides-at r (same_any_of a b) e (same_any_of_decides a b)
-
-pub exact_target : (r : Bool) (a b : List (List (List Match))) → r ≡ same_target a b → IsTrue r ↔ (a ≡ b)
-exact_target r a b e = Decides-at r (same_target a b) e (same_target_decides a b)
-
 pub same_atom_derived : (a b : Atom) → testing.eq-value.it a b ≡ same_atom a b
 same_atom_derived (atoms.Is a) (atoms.Is b) = same_term_derived a b
 same_atom_derived (atoms.Not a) (atoms.Not b) = same_term_derived a b
 same_atom_derived (atoms.Is a) (atoms.Not b) = refl
 same_atom_derived (atoms.Not a) (atoms.Is b) = refl
 
-pub exact_conditions : (r : Bool) (a b p q : List Atom) → r ≡ pointwise testing.eq-value.it p q → p ≡ a → q ≡ b → IsTrue r ↔ (a ≡ b)
-exact_conditions r a b p q e h k = Decides-at r (same_conditions a b) (e ∙ (λ i. pointwise (λ x y. same_atom_derived x y i) (h i) (k i))) (same_conditions_decides a b)
+-- rows are compared exactly where their parts are
+pub exact_items : {X : Type 0} (test : X → X → Bool) (r : Bool) (a b p q : List X) → r ≡ pointwise test p q → p ≡ a → q ≡ b →
+    ((x y : X) → IsTrue (test x y) ↔ (x ≡ y)) → IsTrue r ↔ (a ≡ b)
+exact_items test r a b p q e h k exact = Decides-at r (pointwise test a b) (e ∙ (λ i. pointwise test (h i) (k i))) (pointwise_decides exact a b)
 
-pub same_conditions_derived : (a b p q : List Atom) → p ≡ a → q ≡ b → pointwise testing.eq-value.it p q ≡ same_conditions a b
-same_conditions_derived a b p q h k = λ i. pointwise (λ x y. same_atom_derived x y i) (h i) (k i)
+pub exact_match : (a b : Match) → IsTrue (matching.eq-value.it a b) ↔ (a ≡ b)
+exact_match a b = Decides-at (matching.eq-value.it a b) (same_match a b) (same_match_derived a b) (same_match_decides a b)
+
+pub exact_atom : (a b : Atom) → IsTrue (testing.eq-value.it a b) ↔ (a ≡ b)
+exact_atom a b = Decides-at (testing.eq-value.it a b) (same_atom a b) (same_atom_derived a b) (same_atom_decides a b)
+
+pub same_target_derived : (a b : List (List (List Match))) → pointwise (pointwise (pointwise matching.eq-value.it)) a b ≡ same_target a b
+same_target_derived a b = λ i. pointwise (pointwise (pointwise (λ x y. same_match_derived x y i))) a b
+
+pub same_conditions_derived : (a b : List Atom) → pointwise testing.eq-value.it a b ≡ same_conditions a b
+same_conditions_derived a b = λ i. pointwise (λ x y. same_atom_derived x y i) a b
 
 pub exact_rule : (r : Bool) (a b : RuleData) → r ≡ same_rule a b → IsTrue r ↔ (a ≡ b)
 exact_rule r a b e = Decides-at r (same_rule a b) e (same_rule_decides a b)

@@ -174,9 +174,13 @@ known_in zones (matches.Class name) = Ok tt
 known_in zones (matches.Owner name) = Ok tt
 known_in zones (matches.Action action) = Ok tt
 
+-- one more of a kind of which there may be so many
+abbrev pub within : ℕ → ℕ → Result ℕ TextFault
+within limit count = if nat_lt count limit then Ok (count + 1) else Err faults.TooMany
+
 -- one match or atom more
 abbrev pub counted : ℕ → Result ℕ TextFault
-counted tests = if nat_lt tests TEST_LIMIT then Ok (tests + 1) else Err faults.TooMany
+counted = within TEST_LIMIT
 
 abbrev pub match_keys : List Key
 match_keys = keys.Role ∷ keys.Office ∷ keys.Class ∷ keys.Owner ∷ keys.Zone ∷ keys.Action ∷ []
@@ -238,11 +242,15 @@ each_at read path index seen (item d rest) =
 abbrev pub items_in : List Step → Data → Result Items TextFault
 items_in path d = ok_or (as_array d) (faults.Form path) >>= λ items. if is_empty items then Err (faults.Form path) else Ok items
 
+-- an array that is not empty, each of its items read with the count of matches and atoms before it
+abbrev pub row_at : {X : Type 0} → (List Step → ℕ → Data → Result (X × ℕ) TextFault) → List Step → ℕ → Data → Result (List X × ℕ) TextFault
+row_at read path tests d = items_in path d >>= λ items. each_at read path 0 tests items
+
 unfoldable pub all_of_at : List Zone → List Step → ℕ → Data → Result (List Match × ℕ) TextFault
-all_of_at zones path tests d = items_in path d >>= λ items. each_at (match_at zones) path 0 tests items
+all_of_at zones = row_at (match_at zones)
 
 unfoldable pub any_of_at : List Zone → List Step → ℕ → Data → Result (List (List Match) × ℕ) TextFault
-any_of_at zones path tests d = items_in path d >>= λ items. each_at (all_of_at zones) path 0 tests items
+any_of_at zones = row_at (all_of_at zones)
 
 unfoldable pub target_at : List Zone → List Step → ℕ → Items → Result (List (List (List Match)) × ℕ) TextFault
 target_at zones path tests items = each_at (any_of_at zones) path 0 tests items
@@ -260,10 +268,6 @@ pub record Seen : Type 0 where
 -- one name more, that was not seen before
 abbrev pub fresh : List ℕ → List (List ℕ) → Result (List (List ℕ)) TextFault
 fresh name names = if list_any (is_name name) names then Err (faults.NameTwice name) else Ok (names ++ name ∷ [])
-
--- one more of a kind of which there may be so many
-abbrev pub within : ℕ → ℕ → Result ℕ TextFault
-within limit count = if nat_lt count limit then Ok (count + 1) else Err faults.TooMany
 
 abbrev pub rule_keys : List Key
 rule_keys = keys.Rule ∷ keys.Effect ∷ keys.Target ∷ keys.When ∷ []

@@ -5,7 +5,7 @@ ghost use Rattle.serde_json.specs.View.{view, items_view, members_view};
 ghost use Rattle.serde_json.specs.Find.{as_str};
 ghost use Rattle.std.specs.Option.{ok_or};
 ghost use Rattle.policy_text.specs.Keys.{key_text};
-ghost use Rattle.policy_text.specs.Reading.{Shows, is_listed, has_key, has_only, has_one, object_in, name_in, text_in, array_in, optional_array_in, algorithm_named, algorithm_in, effect_named, effect_in, action_named, action_in, value_of, at_key, single_in};
+ghost use Rattle.policy_text.specs.Reading.{Shows, is_listed, has_key, has_only, has_one, object_in, name_in, text_in, array_in, optional_array_in, algorithm_in, effect_in, action_in, value_of, at_key, single_in, within};
 ghost use Rattle.policy_text.specs.declared.faults.TextFault.TheVariants.{Form};
 
 use crate::algorithms::{Algorithm, Effect};
@@ -26,41 +26,6 @@ fn text_at(value: &Value, key: Key) -> Option<&str>
     ensures { option_map (λ text. text.now) result ≡ option_and_then as_str (value_of key (view value.now)) }
 {
     value.get(key.text())?.as_str()
-}
-
-fn algorithm_named(text: &str) -> Option<Algorithm>
-    ensures { result ≡ algorithm_named text.now }
-{
-    match text {
-        "deny-overrides" => Some(Algorithm::DenyOverrides),
-        "permit-overrides" => Some(Algorithm::PermitOverrides),
-        "deny-unless-permit" => Some(Algorithm::DenyUnlessPermit),
-        "permit-unless-deny" => Some(Algorithm::PermitUnlessDeny),
-        "first-applicable" => Some(Algorithm::FirstApplicable),
-        _ => None,
-    }
-}
-
-fn effect_named(text: &str) -> Option<Effect>
-    ensures { result ≡ effect_named text.now }
-{
-    match text {
-        "permit" => Some(Effect::Permit),
-        "deny" => Some(Effect::Deny),
-        _ => None,
-    }
-}
-
-fn action_named(text: &str) -> Option<Action>
-    ensures { result ≡ action_named text.now }
-{
-    match text {
-        "read" => Some(Action::Read),
-        "add" => Some(Action::Add),
-        "reshape" => Some(Action::Reshape),
-        "delete" => Some(Action::Delete),
-        _ => None,
-    }
 }
 
 /// A missing or wrong value under a key.
@@ -115,9 +80,13 @@ pub(crate) fn algorithm_in(value: &Value, path: Path) -> Result<Algorithm, TextF
     let Some(text) = text_at(value, Key::Combine) else {
         return Err(form_at(path, Key::Combine));
     };
-    match algorithm_named(text) {
-        Some(algorithm) => Ok(algorithm),
-        None => Err(form_at(path, Key::Combine)),
+    match text {
+        "deny-overrides" => Ok(Algorithm::DenyOverrides),
+        "permit-overrides" => Ok(Algorithm::PermitOverrides),
+        "deny-unless-permit" => Ok(Algorithm::DenyUnlessPermit),
+        "permit-unless-deny" => Ok(Algorithm::PermitUnlessDeny),
+        "first-applicable" => Ok(Algorithm::FirstApplicable),
+        _ => Err(form_at(path, Key::Combine)),
     }
 }
 
@@ -129,9 +98,10 @@ pub(crate) fn effect_in(value: &Value, path: Path) -> Result<Effect, TextFault>
     let Some(text) = text_at(value, Key::Effect) else {
         return Err(form_at(path, Key::Effect));
     };
-    match effect_named(text) {
-        Some(effect) => Ok(effect),
-        None => Err(form_at(path, Key::Effect)),
+    match text {
+        "permit" => Ok(Effect::Permit),
+        "deny" => Ok(Effect::Deny),
+        _ => Err(form_at(path, Key::Effect)),
     }
 }
 
@@ -143,9 +113,12 @@ pub(crate) fn action_in(value: &Value, path: Path) -> Result<Action, TextFault>
     let Some(text) = text_at(value, Key::Action) else {
         return Err(form_at(path, Key::Action));
     };
-    match action_named(text) {
-        Some(action) => Ok(action),
-        None => Err(form_at(path, Key::Action)),
+    match text {
+        "read" => Ok(Action::Read),
+        "add" => Ok(Action::Add),
+        "reshape" => Ok(Action::Reshape),
+        "delete" => Ok(Action::Delete),
+        _ => Err(form_at(path, Key::Action)),
     }
 }
 
@@ -232,5 +205,16 @@ pub(crate) fn optional_array_in(value: &Value, key: Key, path: Path) -> Result<&
     match items.as_array() {
         Some(items) => Ok(items),
         None => Err(form_at(path, key)),
+    }
+}
+
+/// One more of a kind of which there may be so many.
+pub(crate) fn within(limit: u32, count: u32) -> Result<u32, TextFault>
+    ensures { result ≡ within limit count }
+{
+    if count < limit {
+        Ok(count + 1)
+    } else {
+        Err(TextFault::TooMany)
     }
 }

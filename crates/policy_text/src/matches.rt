@@ -1,7 +1,7 @@
 //! What a rule, a policy or a set asks of a question before it applies.
 
 ghost use Rattle.std.specs.Prelude.{◌≡◌, ◌↔◌, IfOk, IsTrue};
-ghost use Rattle.policy_text.specs.Equality.{same_all_of, same_any_of, same_target, same_conditions};
+ghost use Rattle.std.specs.Cmp.Lexicographic.{pointwise, lists_per, lists_equiv};
 
 use features::{Action, Name};
 use memory::{GrowVec, Refused, copied};
@@ -39,233 +39,74 @@ pub enum Atom {
     Not(Term),
 }
 
-/// Matches that hold where each of them holds. A contract sees their list.
+/// Parts, in written order. A contract sees their list.
 #[derive(Debug, Drop)]
-pub struct AllOf<A: Allocator> {
-    matches: Vec<Match, A>,
+pub struct Items<T, A: Allocator> {
+    items: Vec<T, A>,
 }
 
-impl<A: Allocator> Model for AllOf<A> {
+/// Matches that hold where each of them holds.
+pub type AllOf<A> = Items<Match, A>;
+
+/// Alternatives, of which one has to hold.
+pub type AnyOf<A> = Items<AllOf<A>, A>;
+
+/// What a set, a policy or a rule is about: each of its parts has to hold.
+pub type Target<A> = Items<AnyOf<A>, A>;
+
+/// The conditions of a rule, all of which have to hold.
+pub type Conditions<A> = Items<Atom, A>;
+
+impl<T, A: Allocator> Model for Items<T, A> {
     ghost use Rattle.std.specs.Prelude.{List};
-    ghost use Rattle.policy_text.specs.declared.matches.Match.{Match};
 
-    ghost Value = { List Match };
+    ghost Value = { List T };
 
-    ghost view = { λ a. a.matches.items };
+    ghost view = { λ i. i.items.items };
 }
 
-impl<A: Allocator> AllOf<A> {
-    /// The matches of this list.
-    pub fn from_vec(matches: Vec<Match, A>) -> Self
-        ensures { result ≡ matches.items }
+impl<T, A: Allocator> Items<T, A> {
+    /// The parts of this list.
+    pub fn from_vec(items: Vec<T, A>) -> Self
+        ensures { result ≡ items.items }
     {
-        AllOf { matches }
-    }
-
-    /// The matches, in written order.
-    pub fn as_slice(&self) -> &[Match]
-        ensures { result.now ≡ self.now }
-    {
-        &self.matches
-    }
-}
-
-impl<A: Allocator> PartialEq for AllOf<A> {
-    ghost use Rattle.std.specs.Cmp.{decided, partial_equiv_from_equiv};
-    ghost use Rattle.policy_text.specs.Equality.{same_all_of, same_all_of_decides};
-
-    ghost eq = { same_all_of };
-
-    ghost laws = { partial_equiv_from_equiv (decided same_all_of same_all_of_decides) };
-
-    fn eq(&self, other: &Self) -> bool
-        ensures tested { result ≡ same_all_of self.now other.now }
-        ensures exact { IsTrue result ↔ (self.now ≡ other.now) }
-    {
-        self.as_slice() == other.as_slice()
-    }
-}
-
-impl<A: Allocator> Eq for AllOf<A> {
-    ghost use Rattle.std.specs.Cmp.{decided};
-    ghost use Rattle.policy_text.specs.Equality.{same_all_of, same_all_of_decides};
-
-    ghost laws = { decided same_all_of same_all_of_decides };
-}
-
-/// Alternatives, of which one has to hold. A contract sees their list.
-#[derive(Debug, Drop)]
-pub struct AnyOf<A: Allocator> {
-    alternatives: Vec<AllOf<A>, A>,
-}
-
-impl<A: Allocator> Model for AnyOf<A> {
-    ghost use Rattle.std.specs.Prelude.{List};
-    ghost use Rattle.policy_text.specs.declared.matches.Match.{Match};
-
-    ghost Value = { List (List Match) };
-
-    ghost view = { λ a. a.alternatives.items };
-}
-
-impl<A: Allocator> AnyOf<A> {
-    /// The alternatives of this list.
-    pub fn from_vec(alternatives: Vec<AllOf<A>, A>) -> Self
-        ensures { result ≡ alternatives.items }
-    {
-        AnyOf { alternatives }
-    }
-
-    /// The alternatives, in written order.
-    pub fn as_slice(&self) -> &[AllOf<A>]
-        ensures { result.now ≡ self.now }
-    {
-        &self.alternatives
-    }
-}
-
-impl<A: Allocator> PartialEq for AnyOf<A> {
-    ghost use Rattle.std.specs.Cmp.{decided, partial_equiv_from_equiv};
-    ghost use Rattle.policy_text.specs.Equality.{same_any_of, same_any_of_decides};
-
-    ghost eq = { same_any_of };
-
-    ghost laws = { partial_equiv_from_equiv (decided same_any_of same_any_of_decides) };
-
-    #[tactic(auto, using(crate::proofs::EqualLemmas::exact_any_of))]
-    fn eq(&self, other: &Self) -> bool
-        ensures tested { result ≡ same_any_of self.now other.now }
-        ensures exact { IsTrue result ↔ (self.now ≡ other.now) }
-    {
-        self.as_slice() == other.as_slice()
-    }
-}
-
-impl<A: Allocator> Eq for AnyOf<A> {
-    ghost use Rattle.std.specs.Cmp.{decided};
-    ghost use Rattle.policy_text.specs.Equality.{same_any_of, same_any_of_decides};
-
-    ghost laws = { decided same_any_of same_any_of_decides };
-}
-
-/// What a set, a policy or a rule is about: each of its parts has to hold. A contract sees their list.
-#[derive(Debug, Drop)]
-pub struct Target<A: Allocator> {
-    parts: Vec<AnyOf<A>, A>,
-}
-
-impl<A: Allocator> Model for Target<A> {
-    ghost use Rattle.std.specs.Prelude.{List};
-    ghost use Rattle.policy_text.specs.declared.matches.Match.{Match};
-
-    ghost Value = { List (List (List Match)) };
-
-    ghost view = { λ t. t.parts.items };
-}
-
-impl<A: Allocator> Target<A> {
-    /// The target with these parts.
-    pub fn from_vec(parts: Vec<AnyOf<A>, A>) -> Self
-        ensures { result ≡ parts.items }
-    {
-        Target { parts }
+        Items { items }
     }
 
     /// The parts, in written order.
-    pub fn as_slice(&self) -> &[AnyOf<A>]
+    pub fn as_slice(&self) -> &[T]
         ensures { result.now ≡ self.now }
     {
-        &self.parts
+        &self.items
     }
 }
 
-impl<A: Allocator> PartialEq for Target<A> {
-    ghost use Rattle.std.specs.Cmp.{decided, partial_equiv_from_equiv};
-    ghost use Rattle.policy_text.specs.Equality.{same_target, same_target_decides};
+impl<T: PartialEq, A: Allocator> PartialEq for Items<T, A> {
+    ghost eq = { pointwise T.eq };
 
-    ghost eq = { same_target };
+    ghost laws = { lists_per T.laws };
 
-    ghost laws = { partial_equiv_from_equiv (decided same_target same_target_decides) };
-
-    #[tactic(auto, using(crate::proofs::EqualLemmas::exact_target))]
+    /// Two rows are `==` where their parts are, and so exactly where they are one if that is said of their parts.
     fn eq(&self, other: &Self) -> bool
-        ensures tested { result ≡ same_target self.now other.now }
-        ensures exact { IsTrue result ↔ (self.now ≡ other.now) }
+        ensures tested { result ≡ pointwise T.eq self.now other.now }
+        ensures exact { ((a b : T) → IsTrue (T.eq a b) ↔ (a ≡ b)) → (IsTrue result ↔ (self.now ≡ other.now)) }
     {
         self.as_slice() == other.as_slice()
     }
 }
 
-impl<A: Allocator> Eq for Target<A> {
-    ghost use Rattle.std.specs.Cmp.{decided};
-    ghost use Rattle.policy_text.specs.Equality.{same_target, same_target_decides};
-
-    ghost laws = { decided same_target same_target_decides };
+impl<T: Eq, A: Allocator> Eq for Items<T, A> {
+    ghost laws = { lists_equiv T.Eq.laws };
 }
 
-/// The conditions of a rule, all of which have to hold. A contract sees their list.
-#[derive(Debug, Drop)]
-pub struct Conditions<A: Allocator> {
-    atoms: Vec<Atom, A>,
-}
-
-impl<A: Allocator> Model for Conditions<A> {
-    ghost use Rattle.std.specs.Prelude.{List};
-    ghost use Rattle.policy_text.specs.declared.matches.Atom.{Atom};
-
-    ghost Value = { List Atom };
-
-    ghost view = { λ c. c.atoms.items };
-}
-
-impl<A: Allocator> Conditions<A> {
-    /// The conditions of this list.
-    pub fn from_vec(atoms: Vec<Atom, A>) -> Self
-        ensures { result ≡ atoms.items }
-    {
-        Conditions { atoms }
-    }
-
-    /// The conditions, in written order.
-    pub fn as_slice(&self) -> &[Atom]
-        ensures { result.now ≡ self.now }
-    {
-        &self.atoms
-    }
-}
-
-impl<A: Allocator> PartialEq for Conditions<A> {
-    ghost use Rattle.std.specs.Cmp.{decided, partial_equiv_from_equiv};
-    ghost use Rattle.policy_text.specs.Equality.{same_conditions, same_conditions_decides};
-
-    ghost eq = { same_conditions };
-
-    ghost laws = { partial_equiv_from_equiv (decided same_conditions same_conditions_decides) };
-
-    #[tactic(auto, using(crate::proofs::EqualLemmas::same_conditions_derived))]
-    fn eq(&self, other: &Self) -> bool
-        ensures tested { result ≡ same_conditions self.now other.now }
-        ensures exact { IsTrue result ↔ (self.now ≡ other.now) }
-    {
-        self.as_slice() == other.as_slice()
-    }
-}
-
-impl<A: Allocator> Eq for Conditions<A> {
-    ghost use Rattle.std.specs.Cmp.{decided};
-    ghost use Rattle.policy_text.specs.Equality.{same_conditions, same_conditions_decides};
-
-    ghost laws = { decided same_conditions same_conditions_decides };
-}
-
-/// A copy of these matches. The only error is want of memory.
-pub(crate) fn copy_matches<A: Allocator, B: Allocator + Copy>(
+/// A copy of these matches, or of these conditions. The only error is want of memory.
+pub(crate) fn copy_items<T: Copy, A: Allocator, B: Allocator + Copy>(
     alloc: B,
-    matches: &AllOf<A>,
-) -> Result<AllOf<B>, Refused>
-    ensures { IfOk result (λ copy. copy ≡ matches.now) }
+    items: &Items<T, A>,
+) -> Result<Items<T, B>, Refused>
+    ensures { IfOk result (λ copy. copy ≡ items.now) }
 {
-    Ok(AllOf::from_vec(copied(alloc, matches.as_slice())?))
+    Ok(Items::from_vec(copied(alloc, items.as_slice())?))
 }
 
 /// A copy of these alternatives. The only error is want of memory.
@@ -277,9 +118,9 @@ pub(crate) fn copy_alternatives<A: Allocator, B: Allocator + Copy>(
 {
     let mut copies = Vec::new(alloc);
     for matches in alternatives.as_slice() {
-        copies.try_push(copy_matches(alloc, matches)?)?;
+        copies.try_push(copy_items(alloc, matches)?)?;
     }
-    Ok(AnyOf::from_vec(copies))
+    Ok(Items::from_vec(copies))
 }
 
 /// A copy of this target. The only error is want of memory.
@@ -293,15 +134,5 @@ pub(crate) fn copy_target<A: Allocator, B: Allocator + Copy>(
     for part in target.as_slice() {
         copies.try_push(copy_alternatives(alloc, part)?)?;
     }
-    Ok(Target::from_vec(copies))
-}
-
-/// A copy of these conditions. The only error is want of memory.
-pub(crate) fn copy_conditions<A: Allocator, B: Allocator + Copy>(
-    alloc: B,
-    conditions: &Conditions<A>,
-) -> Result<Conditions<B>, Refused>
-    ensures { IfOk result (λ copy. copy ≡ conditions.now) }
-{
-    Ok(Conditions::from_vec(copied(alloc, conditions.as_slice())?))
+    Ok(Items::from_vec(copies))
 }

@@ -137,6 +137,7 @@ fn same_node<A: Allocator>(node: &Node<A>, other: &Node<A>) -> bool
 }
 
 /// Whether two nodes have one name, one algorithm and one target.
+#[tactic(auto, using(crate::proofs::EqualLemmas::same_target_derived))]
 fn same_head<A: Allocator>(node: &Node<A>, other: &Node<A>) -> bool
     ensures { result ≡ same_head (head_of (node_view node.now)) (head_of (node_view other.now)) }
 {

@@ -6,19 +6,19 @@ ghost use Rattle.serde_json.specs.View.{view, items_view};
 ghost use Rattle.policy_text.specs.Names.{is_name};
 ghost use Rattle.policy_text.specs.SeenViews.{seen_view, head_view};
 ghost use Rattle.policy_text.specs.Views.{zone_of, node_view};
-ghost use Rattle.policy_text.specs.Reading.{Gives, Tells, fresh, within, each_at, rule_at, head_at, policy_at, set_at, node_at};
+ghost use Rattle.policy_text.specs.Reading.{Gives, Tells, fresh, each_at, rule_at, head_at, policy_at, set_at, node_at};
 
 use crate::algorithms::Algorithm;
 use crate::documents::Zones;
 use crate::faults::TextFault;
 use crate::fields::{
-    algorithm_in, array_in, effect_in, has_key, name_in, object_in, optional_array_in,
+    algorithm_in, array_in, effect_in, has_key, name_in, object_in, optional_array_in, within,
 };
 use crate::matches::Target;
 use crate::nodes::Node;
 use crate::paths::{Key, Path, Step};
 use crate::rules::Rule;
-use crate::targets::{conditions_at, target_at};
+use crate::targets::parts_at;
 use features::Name;
 use memory::GrowVec;
 use serde_json::Value;
@@ -95,19 +95,8 @@ pub(crate) fn fresh<A: Allocator>(
     Ok(names)
 }
 
-/// One more of a kind of which there may be so many.
-fn within(limit: u32, count: u32) -> Result<u32, TextFault>
-    ensures { result ≡ within limit count }
-{
-    if count < limit {
-        Ok(count + 1)
-    } else {
-        Err(TextFault::TooMany)
-    }
-}
-
 /// A rule, with what was seen behind it.
-#[tactic(auto, unfolding(crate::specs::Reading::rule_at, crate::specs::Reading::target_at, crate::specs::Reading::when_at))]
+#[tactic(auto, unfolding(crate::specs::Reading::rule_at, crate::specs::Reading::target_at, crate::specs::Reading::any_of_at, crate::specs::Reading::all_of_at, crate::specs::Reading::when_at))]
 fn rule_at<A: Allocator + Copy, B: Allocator>(
     alloc: A,
     zones: &Zones<B>,
@@ -125,14 +114,14 @@ fn rule_at<A: Allocator + Copy, B: Allocator>(
     let when = optional_array_in(value, Key::When, path)?;
     let names = fresh(name, seen.names)?;
     let rules = within(RULE_LIMIT, seen.rules)?;
-    let (target, tests) = target_at(
+    let (target, tests) = parts_at(
         alloc,
         zones,
         target,
         path.with(Step::Key(Key::Target)),
         seen.tests,
     )?;
-    let (when, tests) = conditions_at(alloc, zones, when, path.with(Step::Key(Key::When)), tests)?;
+    let (when, tests) = parts_at(alloc, zones, when, path.with(Step::Key(Key::When)), tests)?;
     let rule = Rule {
         name,
         effect,
@@ -172,7 +161,7 @@ fn rules_at<A: Allocator + Copy, B: Allocator>(
 }
 
 /// A set or a policy without its children, with what was seen behind its target, and its children's array.
-#[tactic(auto, unfolding(crate::specs::Reading::head_at, crate::specs::Reading::target_at))]
+#[tactic(auto, unfolding(crate::specs::Reading::head_at, crate::specs::Reading::target_at, crate::specs::Reading::any_of_at, crate::specs::Reading::all_of_at))]
 fn head_at<'v, A: Allocator + Copy, B: Allocator>(
     alloc: A,
     zones: &Zones<B>,
@@ -192,7 +181,7 @@ fn head_at<'v, A: Allocator + Copy, B: Allocator>(
     let items = array_in(value, form.children, path)?;
     let names = fresh(name, seen.names)?;
     let nodes = within(NODE_LIMIT, seen.nodes)?;
-    let (target, tests) = target_at(
+    let (target, tests) = parts_at(
         alloc,
         zones,
         target,

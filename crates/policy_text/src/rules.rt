@@ -4,7 +4,7 @@ ghost use Rattle.std.specs.Prelude.{◌≡◌, ◌↔◌, IfOk, IsTrue};
 ghost use Rattle.policy_text.specs.Equality.{same_rule};
 
 use crate::algorithms::Effect;
-use crate::matches::{Conditions, Target, copy_conditions, copy_target};
+use crate::matches::{Conditions, Target, copy_items, copy_target};
 use features::Name;
 use memory::Refused;
 use std::alloc::Allocator;
@@ -36,7 +36,7 @@ impl<A: Allocator> Rule<A> {
             name: self.name,
             effect: self.effect,
             target: copy_target(alloc, &self.target)?,
-            when: copy_conditions(alloc, &self.when)?,
+            when: copy_items(alloc, &self.when)?,
         })
     }
 }
@@ -49,15 +49,11 @@ impl<A: Allocator> PartialEq for Rule<A> {
 
     ghost laws = { partial_equiv_from_equiv (decided same_rule same_rule_decides) };
 
-    #[tactic(auto, using(crate::proofs::EqualLemmas::exact_rule))]
     fn eq(&self, other: &Self) -> bool
         ensures tested { result ≡ same_rule self.now other.now }
         ensures exact { IsTrue result ↔ (self.now ≡ other.now) }
     {
-        self.name == other.name
-            && self.effect == other.effect
-            && self.target == other.target
-            && self.when == other.when
+        is_same(self, other)
     }
 }
 
@@ -66,4 +62,15 @@ impl<A: Allocator> Eq for Rule<A> {
     ghost use Rattle.policy_text.specs.Equality.{same_rule, same_rule_decides};
 
     ghost laws = { decided same_rule same_rule_decides };
+}
+
+/// Whether two rules are one, field by field.
+#[tactic(auto, using(crate::proofs::EqualLemmas::same_target_derived, crate::proofs::EqualLemmas::same_conditions_derived))]
+fn is_same<A: Allocator>(rule: &Rule<A>, other: &Rule<A>) -> bool
+    ensures { result ≡ same_rule rule.now other.now }
+{
+    rule.name == other.name
+        && rule.effect == other.effect
+        && rule.target == other.target
+        && rule.when == other.when
 }

@@ -5,13 +5,14 @@ ghost use Rattle.std.specs.List.{list_any};
 ghost use Rattle.serde_json.specs.View.{view};
 ghost use Rattle.policy_text.specs.Names.{is_name};
 ghost use Rattle.policy_text.specs.Views.{zone_of};
-ghost use Rattle.policy_text.specs.Reading.{match_in, known_in, counted, match_at, term_in, known_term, term_of, term_at, atom_at, own_in};
+ghost use Rattle.policy_text.specs.Reading.{match_in, known_in, match_at, term_in, known_term, term_of, term_at, atom_at, own_in};
 
 use crate::documents::Zones;
 use crate::faults::TextFault;
-use crate::fields::{action_in, name_in, single_in};
+use crate::fields::{action_in, name_in, single_in, within};
 use crate::matches::{Atom, Match, Term};
 use crate::paths::{Key, Path, STEP_LIMIT, Step};
+use crate::targets::Part;
 use crate::zones::ZoneName;
 use features::Name;
 use serde_json::Value;
@@ -97,33 +98,25 @@ fn known_in<A: Allocator>(zones: &Zones<A>, test: &Match) -> Result<(), TextFaul
     }
 }
 
-/// One match or atom more.
-fn counted(tests: u32) -> Result<u32, TextFault>
-    ensures { result ≡ counted tests }
-{
-    if tests < TEST_LIMIT {
-        Ok(tests + 1)
-    } else {
-        Err(TextFault::TooMany)
-    }
-}
+impl<A: Allocator + Copy> Part<A> for Match {
+    ghost reads = { match_at };
 
-/// A match, with the count of matches and atoms behind it.
-#[tactic(auto, unfolding(crate::specs::Reading::match_at))]
-pub(crate) fn match_at<A: Allocator>(
-    zones: &Zones<A>,
-    value: &Value,
-    path: Path,
-    tests: u32,
-) -> Result<(Match, u32), TextFault>
-    requires { length path < STEP_LIMIT }
-    ensures { result ≡ match_at (map zone_of zones.now.entries) path tests (view value.now) }
-{
-    single_in(value, &MATCH_KEYS, path)?;
-    let test = match_in(value, path)?;
-    known_in(zones, &test)?;
-    let tests = counted(tests)?;
-    Ok((test, tests))
+    ghost steps = { 1 };
+
+    #[tactic(auto, unfolding(crate::specs::Reading::match_at))]
+    fn read<B: Allocator>(
+        _alloc: A,
+        zones: &Zones<B>,
+        value: &Value,
+        path: Path,
+        tests: u32,
+    ) -> Result<(Self, u32), TextFault> {
+        single_in(value, &MATCH_KEYS, path)?;
+        let test = match_in(value, path)?;
+        known_in(zones, &test)?;
+        let tests = within(TEST_LIMIT, tests)?;
+        Ok((test, tests))
+    }
 }
 
 /// The term of an object that has one key, a term's.
@@ -162,7 +155,7 @@ fn term_of<A: Allocator>(
 {
     let term = term_in(value, path)?;
     known_term(zones, &term)?;
-    let tests = counted(tests)?;
+    let tests = within(TEST_LIMIT, tests)?;
     Ok((term, tests))
 }
 
@@ -181,23 +174,26 @@ fn term_at<A: Allocator>(
     term_of(zones, value, path, tests)
 }
 
-/// An atom, with the count of matches and atoms behind it.
-#[tactic(auto, unfolding(crate::specs::Reading::atom_at, crate::specs::Reading::atom_of))]
-pub(crate) fn atom_at<A: Allocator>(
-    zones: &Zones<A>,
-    value: &Value,
-    path: Path,
-    tests: u32,
-) -> Result<(Atom, u32), TextFault>
-    requires { length path < 23 }
-    ensures { result ≡ atom_at (map zone_of zones.now.entries) path tests (view value.now) }
-{
-    single_in(value, &ATOM_KEYS, path)?;
-    let Some(inner) = value.get(Key::Not.text()) else {
-        let (term, tests) = term_of(zones, value, path, tests)?;
-        return Ok((Atom::Is(term), tests));
-    };
-    let tests = counted(tests)?;
-    let (term, tests) = term_at(zones, inner, path.with(Step::Key(Key::Not)), tests)?;
-    Ok((Atom::Not(term), tests))
+impl<A: Allocator + Copy> Part<A> for Atom {
+    ghost reads = { atom_at };
+
+    ghost steps = { 2 };
+
+    #[tactic(auto, unfolding(crate::specs::Reading::atom_at, crate::specs::Reading::atom_of))]
+    fn read<B: Allocator>(
+        _alloc: A,
+        zones: &Zones<B>,
+        value: &Value,
+        path: Path,
+        tests: u32,
+    ) -> Result<(Self, u32), TextFault> {
+        single_in(value, &ATOM_KEYS, path)?;
+        let Some(inner) = value.get(Key::Not.text()) else {
+            let (term, tests) = term_of(zones, value, path, tests)?;
+            return Ok((Atom::Is(term), tests));
+        };
+        let tests = within(TEST_LIMIT, tests)?;
+        let (term, tests) = term_at(zones, inner, path.with(Step::Key(Key::Not)), tests)?;
+        Ok((Atom::Not(term), tests))
+    }
 }
