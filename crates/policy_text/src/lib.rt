@@ -29,5 +29,5 @@ pub use nodes::Node;
 pub use paths::{Key, Path, STEP_LIMIT, Step};
 pub use printing::{document_value, print_document};
 pub use rules::Rule;
-pub use texts::read_document;
+pub use texts::{document_of_value, read_document};
 pub use zones::Zone;

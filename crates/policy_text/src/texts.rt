@@ -1,13 +1,15 @@
 //! Reading whole documents.
 
 ghost use Rattle.std.specs.Prelude.{◌≡◌, length};
-ghost use Rattle.policy_text.specs.Reading.{Gives};
+ghost use Rattle.serde_json.specs.View.{view};
+ghost use Rattle.policy_text.specs.Reading.{Gives, document_in};
 ghost use Rattle.policy_text.specs.Bytes.{document_of_bytes};
 
 use crate::areas::document_in;
 use crate::documents::Document;
 use crate::faults::TextFault;
 use memory::json_value;
+use serde_json::Value;
 use std::alloc::{Allocator, Global};
 
 /// Reads the document that a JSON text (RFC 8259) spells.
@@ -39,6 +41,17 @@ pub fn read_document<A: Allocator + Copy>(
     ensures empty { length text.now ≡ 0 → result ≡ Err TextFault.NotJson }
 {
     let value = json_value(heap, text)?;
-    let (zones, root) = document_in(alloc, &value)?;
+    document_of_value(alloc, &value)
+}
+
+/// Reads the document that a JSON value spells, which may stand within a larger text. The faults are those of
+/// [`read_document`] behind D1, in their order; a path begins at the value.
+pub fn document_of_value<A: Allocator + Copy>(
+    alloc: A,
+    value: &Value,
+) -> Result<Document<A>, TextFault>
+    ensures { Gives (λ document. document) result (document_in (view value.now)) }
+{
+    let (zones, root) = document_in(alloc, value)?;
     Ok(Document::new(zones, root))
 }
