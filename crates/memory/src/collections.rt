@@ -1,4 +1,5 @@
 ghost use Rattle.std.specs.Prelude.{◌≡◌, ◌≤◌, ◌++◌, ◌∷◌, [], None, OnOk, OnErr, IfOk, IfErr};
+ghost use Rattle.std.specs.Io.Buffered.{writer_inner, writer_buffer};
 ghost use Rattle.indexmap.specs.IndexMap.{get, insert_entry, IsUnchanged};
 ghost use Rattle.smallvec.specs.SmallVec.{small_vec_len, HasRoomFor};
 
@@ -49,11 +50,14 @@ pub fn put<K: Eq + Hash + Drop, V, S: BuildHasher, A: Allocator>(
     }
 }
 
-/// A writer with a buffer before it.
+/// A writer with an empty buffer before it. Nothing is written yet.
 pub fn buffered<W: Write + Drop, A: Allocator>(
     alloc: A,
     inner: W,
-) -> Result<BufWriter<W, A>, Refused> {
+) -> Result<BufWriter<W, A>, Refused>
+    ensures inner { IfOk result (λ writer. writer_inner writer ≡ inner) }
+    ensures empty { IfOk result (λ writer. writer_buffer writer ≡ []) }
+{
     match BufWriter::new(alloc, inner) {
         Ok(writer) => Ok(writer),
         Err(_) => Err(Refused::seen()),

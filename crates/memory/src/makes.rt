@@ -1,4 +1,4 @@
-ghost use Rattle.std.specs.Prelude.{◌≡◌, ◌*◌, ◌≤◌, [], length, vec_len, vec_capacity, string_bytes, IfOk, IfErr};
+ghost use Rattle.std.specs.Prelude.{◌≡◌, ◌*◌, ◌≤◌, [], length, vec_len, vec_capacity, string_bytes, IfOk, IfErr, IsOk};
 ghost use Rattle.std.specs.Arc.{arc_value};
 ghost use prog.Memory.{size};
 ghost use denote.Param.{layout};
@@ -8,12 +8,13 @@ use crate::refused::{NotStored, Refused};
 use std::alloc::Allocator;
 use std::sync::Arc;
 
-/// An empty `Vec` with this much room.
+/// An empty `Vec` with this much room. No room takes no memory.
 pub fn vec_with_room<T, A: Allocator>(alloc: A, room: usize) -> Result<Vec<T, A>, Refused>
     requires { room * size (layout T.row) ≤ MOST_BYTES }
     ensures items { IfOk result (λ made. made.items ≡ []) }
     ensures len { IfOk result (λ made. vec_len made ≡ 0) }
     ensures capacity { IfOk result (λ made. room ≤ vec_capacity made) }
+    ensures certain { room ≡ 0 → IsOk result }
 {
     match Vec::with_capacity(alloc, room) {
         Ok(made) => Ok(made),
@@ -21,12 +22,13 @@ pub fn vec_with_room<T, A: Allocator>(alloc: A, room: usize) -> Result<Vec<T, A>
     }
 }
 
-/// An empty `Vec` with this much room, for elements whose size depends on a type parameter.
+/// An empty `Vec` with this much room, for elements whose size depends on a type parameter. No room takes no memory.
 pub fn vec_with_places<T, A: Allocator>(alloc: A, room: usize) -> Result<Vec<T, A>, Refused>
     requires { room ≤ MOST_PLACES }
     ensures items { IfOk result (λ made. made.items ≡ []) }
     ensures len { IfOk result (λ made. vec_len made ≡ 0) }
     ensures capacity { IfOk result (λ made. room ≤ vec_capacity made) }
+    ensures certain { room ≡ 0 → IsOk result }
 {
     match Vec::with_capacity(alloc, room) {
         Ok(made) => Ok(made),
