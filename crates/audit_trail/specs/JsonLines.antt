@@ -1,5 +1,5 @@
 -- Records as JSON (RFC 8259).
-use Rattle.std.specs.Prelude.{ℕ, List, [], ◌∷◌, map, codes, Option, None, Some}
+use Rattle.std.specs.Prelude.{ℕ, ◌+◌, List, [], ◌∷◌, map, codes, Option, None, Some}
 use Rattle.serde_json.specs.Data.{Data, unsigned, null, number, string, array, object, Members, no_members, put}
 use Rattle.serde_json.specs.View.{items_of}
 use Rattle.serde_json.specs.Written.{compact_text}
@@ -79,6 +79,11 @@ line_of n r = object_of (line_fields n r)
 -- its text: JSON without spaces, the keys of each object in order
 abbrev pub line_text : ℕ → RecordData → List ℕ
 line_text n r = compact_text (line_of n r)
+
+-- the lines of records that are numbered on from a number
+abbrev pub lines_from : ℕ → List RecordData → List (List ℕ)
+lines_from n [] = []
+lines_from n (r ∷ rs) = line_text n r ∷ lines_from (n + 1) rs
 
 -- a document that a deed puts in force is one
 abbrev pub IsDocumented : DeedData → Type 0

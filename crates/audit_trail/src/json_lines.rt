@@ -1,23 +1,25 @@
 //! Records as lines of JSON.
 
-ghost use Rattle.std.specs.Prelude.{◌≡◌, Err, IfOk, OnOk, MatchOption, MatchResult, string_bytes, codes};
+ghost use Rattle.std.specs.Prelude.{◌≡◌, ◌≤◌, Err, IfOk, OnOk, MatchOption, MatchResult, length, map, string_bytes, codes};
+ghost use Rattle.std.specs.Arc.{arc_value};
 ghost use Rattle.memory.specs.Refused.{refused};
 ghost use Rattle.serde_json.specs.Data.{string, put as with_member};
 ghost use Rattle.serde_json.specs.View.{view, members_view};
 ghost use Rattle.wkt.specs.Printing.{printed};
-ghost use Rattle.audit_trail.specs.JsonLines.{with_fields, numeral, change_fields, change_data, changes_data, numbers_data, rule_data, cause_fields, deed_fields, line_of, line_text, IsDocumented};
+ghost use Rattle.audit_trail.specs.JsonLines.{with_fields, numeral, change_fields, change_data, changes_data, numbers_data, rule_data, cause_fields, deed_fields, line_of, line_text, lines_from, IsDocumented};
 ghost use Rattle.audit_trail.specs.Records.{record_at};
 ghost use Rattle.audit_trail.specs.Views.{deed_view};
 
 use crate::causes::{Cause, Refusal};
 use crate::records::{Deed, Record};
-use crate::trails::{Trail, TrailFault};
+use crate::trails::{FIRST_LIMIT, RECORD_LIMIT, Trail, TrailFault};
 use features::{Change, Name};
-use memory::{GrowVec, Refused, json_string, json_text, put_member};
+use memory::{GrowVec, Refused, json_string, json_text, put_member, text};
 use plane::Shape;
 use policy_text::document_value;
 use serde_json::{Map, Value};
 use std::alloc::{Allocator, Global};
+use std::sync::Arc;
 use wkt::print_shape;
 
 impl<A: Allocator> Trail<A> {
@@ -33,6 +35,37 @@ impl<A: Allocator> Trail<A> {
         };
         Ok(line_text(heap, number, entry)?)
     }
+}
+
+impl<A: Allocator + Copy> Trail<A> {
+    /// All records as `json_line` gives them, by rising number. They are kept by the trail's allocator; `heap` holds what
+    /// JSON needs on the way.
+    pub fn lines(&self, heap: Global) -> Result<Vec<String<A>, A>, Refused>
+        ensures { IfOk result (λ lines. map string_bytes lines.items ≡ lines_from self.now.first self.now.records) }
+    {
+        lines_of(self.alloc, heap, self.first, self.records.as_slice())
+    }
+}
+
+/// These records as lines of JSON, numbered on from the first one's number.
+fn lines_of<A: Allocator + Copy>(
+    alloc: A,
+    heap: Global,
+    first: u32,
+    records: &[Arc<Record<A>, A>],
+) -> Result<Vec<String<A>, A>, Refused>
+    requires first { first ≤ FIRST_LIMIT }
+    requires records { length records.now ≤ RECORD_LIMIT }
+    ensures { IfOk result (λ lines. map string_bytes lines.items ≡ lines_from first (map arc_value records.now)) }
+{
+    let mut lines = Vec::new(alloc);
+    let mut place = 0;
+    for entry in records {
+        let line = line_text(heap, first + place, entry)?;
+        lines.try_push(text(alloc, line.as_str())?)?;
+        place += 1;
+    }
+    Ok(lines)
 }
 
 /// A record with its number, as JSON.

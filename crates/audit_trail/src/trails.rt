@@ -70,9 +70,9 @@ impl fmt::Display for TrailFault {
 /// the records' plain data, and for how many more there is room already.
 #[derive(Debug, Drop)]
 pub struct Trail<A: Allocator> {
-    records: Vec<Arc<Record<A>, A>, A>,
-    first: u32,
-    alloc: A,
+    pub(crate) records: Vec<Arc<Record<A>, A>, A>,
+    pub(crate) first: u32,
+    pub(crate) alloc: A,
 }
 
 impl<A: Allocator> Model for Trail<A> {
