@@ -1,5 +1,5 @@
 -- Numbers that are attached, of which those that do not run are let go.
-use Rattle.std.proofs.Common.{◌≡◌, ◌≢◌, ◌⊎◌, ℕ, Bool, true, false, cond, List, [], ◌∷◌, Contains, filter, is_some, Option, Some, None, refl, sym, subst, ◌∙◌, inl, inr}
+use Rattle.std.proofs.Common.{◌≡◌, ℕ, Bool, true, false, cond, List, [], ◌∷◌, Contains, filter, Option, Some, None, refl, sym, subst, ◌∙◌, inl, inr}
 use Rattle.predicate_locks.proofs.NumberLemmas.{with_one, with_all}
 use Rattle.predicate_locks.specs.Numbers.{with_number, with_numbers}
 use Rattle.predicate_locks.specs.Searches.{does_run, search_at}

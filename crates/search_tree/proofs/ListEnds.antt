@@ -1,5 +1,5 @@
 -- The end of a list, and its first elements.
-use Rattle.std.proofs.Common.{◌≡◌, ◌≢◌, ℕ, zero, suc, ◌+◌, ◌<◌, List, [], ◌∷◌, ◌++◌, length, slice_index_or, slice_get, take, map, Option, Some, refl, sym, ap, ◌∙◌, arith}
+use Rattle.std.proofs.Common.{◌≡◌, ◌≢◌, ℕ, zero, suc, ◌+◌, ◌<◌, List, [], ◌∷◌, ◌++◌, length, slice_index_or, slice_get, take, map, Option, Some, refl, ap, arith}
 
 module _ {T : Type 0} where
   pub filled : (xs : List T) → xs ≢ [] → 0 < length xs

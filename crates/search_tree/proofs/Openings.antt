@@ -1,5 +1,5 @@
 -- Searches begin and end.
-use Rattle.std.proofs.Common.{◌≡◌, ◌≢◌, ℕ, ◌==◌, Bool, true, false, not, List, [], ◌∷◌, ◌++◌, filter, slice_index_or, Option, Some, None, is_some, refl, sym, ap, subst, ◌∙◌, inl, inr, arith}
+use Rattle.std.proofs.Common.{◌≡◌, ◌≢◌, ℕ, ◌==◌, true, false, not, [], ◌∷◌, ◌++◌, filter, slice_index_or, Option, Some, None, is_some, refl, sym, ap, subst, ◌∙◌, inl, inr}
 use Rattle.std.proofs.lemmas.Bool.{cases_eq}
 use Rattle.predicate_locks.specs.Searches.{Searches as RunningSearches, search_at, IsEntered, IsLeft}
 use Rattle.predicate_locks.specs.declared.running.RunningSearch.{RunningSearch}
@@ -10,7 +10,7 @@ use Rattle.tree_theory.specs.Changes.{IsOpened, IsClosed}
 use Rattle.tree_theory.specs.KeyClasses.{Class}
 use Rattle.std.specs.Option.{option_map}
 use Rattle.search_tree.specs.Calls.{IsOpen, IsShut, found_in, found_of}
-use Rattle.search_tree.specs.Trees.{PlainProgress, PlainTree, IsFirstOf, IsSound, search_of, search_in, progress_at, seen, tree_of}
+use Rattle.search_tree.specs.Trees.{PlainProgress, PlainTree, IsFirstOf, IsSound, search_of, progress_at, seen, tree_of}
 use Rattle.search_tree.proofs.ListEnds.{read_any}
 use Rattle.search_tree.proofs.ProgressLemmas.{first_read, pushed_here, pushed_other, filtered_here, filtered_other}
 

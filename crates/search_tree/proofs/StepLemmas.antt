@@ -1,5 +1,5 @@
 -- What one step of a search has done, from what its parts have done.
-use Rattle.std.proofs.Common.{◌≡◌, ◌≢◌, ℕ, ◌+◌, List, [], ◌∷◌, ◌++◌, filter, Option, Some, None, refl, sym, ap, subst, ◌∙◌, inl, inr}
+use Rattle.std.proofs.Common.{◌≡◌, ℕ, ◌+◌, ◌++◌, filter, Option, Some, None, refl, sym, ap, subst, ◌∙◌, inl, inr}
 use Rattle.std.specs.Option.{option_map}
 use Rattle.node_arena.specs.Slots.{Slots, value_at}
 use Rattle.node_arena.specs.declared.handle.Handle.{Handle}
@@ -8,9 +8,9 @@ use Rattle.predicate_locks.specs.Searches.{Searches as RunningSearches, does_run
 use Rattle.tree_theory.proofs.ListLemmas.{handle_cases}
 use Rattle.tree_theory.specs.KeyClasses.{Class}
 use Rattle.tree_theory.specs.Nodes.{Node, followed, pushed}
-use Rattle.search_tree.specs.Arenas.{IsChanged, AreSame}
+use Rattle.search_tree.specs.Arenas.{IsChanged}
 use Rattle.search_tree.specs.Trees.{PlainProgress, SameButRoom, IsLast}
-use Rattle.search_tree.specs.Visits.{HasSeen, HasSeenAt, IsGoneAt, HasVisited}
+use Rattle.search_tree.specs.Visits.{HasSeen, HasVisited}
 
 module _ (C : Class) (query : C.Query) (counter : ℕ) (running : RunningSearches C.Query) (nodes after : Slots (Node C)) (x : Handle) (memo : ℕ) where
   abbrev pub joined : ℕ → Node C → Node C

@@ -1,19 +1,16 @@
 -- From what the code does to the steps of the theory.
-use Rattle.std.proofs.Common.{◌≡◌, ◌≢◌, ℕ, ◌+◌, ◌<◌, List, [], ◌∷◌, ◌++◌, Contains, slice_index_or, slice_set, Option, Some, None, is_some, refl, sym, ap, ◌∙◌, inl, inr, arith}
-use Rattle.std.specs.Option.{option_map}
-use Rattle.node_arena.specs.Slots.{Slots, value_at}
+use Rattle.std.proofs.Common.{◌≡◌, ℕ, List, [], ◌∷◌, ◌++◌, slice_index_or, slice_set, Option, Some, None, refl, sym, ap, ◌∙◌, inl, inr, arith}
+use Rattle.node_arena.specs.Slots.{Slots}
 use Rattle.node_arena.specs.declared.handle.Handle.{Handle}
-use Rattle.predicate_locks.specs.Searches.{Searches as RunningSearches, search_at}
+use Rattle.predicate_locks.specs.Searches.{search_at}
 use Rattle.predicate_locks.specs.declared.running.RunningSearch.{RunningSearch}
-use Rattle.tree_theory.proofs.Steps.{step_keeps}
-use Rattle.tree_theory.specs.Changes.{IsOpened, IsClosed, IsVisited, IsVisitedGone}
+use Rattle.tree_theory.specs.Changes.{IsClosed, IsVisited, IsVisitedGone}
 use Rattle.tree_theory.specs.Invariant.{Invariant}
-use Rattle.tree_theory.specs.KeyClasses.{Class, Laws}
+use Rattle.tree_theory.specs.KeyClasses.{Class}
 use Rattle.tree_theory.specs.Nodes.{Node, Search, Tree}
 use Rattle.tree_theory.specs.Runs.{IsStep}
-use Rattle.tree_theory.specs.Runs.IsStep.{opens, closes, visits, visits_gone}
-use Rattle.search_tree.specs.Arenas.{AreSame}
-use Rattle.search_tree.specs.Trees.{PlainProgress, PlainTree, IsFirstOf, search_of, progress_at, tree_of}
+use Rattle.tree_theory.specs.Runs.IsStep.{visits, visits_gone}
+use Rattle.search_tree.specs.Trees.{PlainProgress, PlainTree, IsFirstOf, search_of, tree_of}
 use Rattle.search_tree.specs.Visits.{HasVisited, HasSeenAt, IsGoneAt}
 use Rattle.search_tree.proofs.Kept.{with_one_kept, one_joins}
 use Rattle.search_tree.proofs.ProgressLemmas.{first_read, set_here, set_other}

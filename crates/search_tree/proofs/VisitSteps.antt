@@ -1,5 +1,5 @@
 -- What a visit leaves, as callers see it.
-use Rattle.std.proofs.Common.{◌≡◌, ◌≢◌, ℕ, ◌+◌, Bool, true, false, List, [], ◌∷◌, ◌++◌, Contains, length, slice_index_or, slice_set, Option, Some, None, is_some, refl, sym, ap, subst, ◌∙◌, inl, inr, arith, append-nil}
+use Rattle.std.proofs.Common.{◌≡◌, ◌≢◌, ℕ, false, List, [], ◌∷◌, ◌++◌, slice_index_or, slice_set, Option, Some, None, is_some, refl, sym, ap, subst, ◌∙◌, inl, inr, arith, append-nil}
 use Rattle.std.specs.Option.{option_map}
 use Rattle.std.proofs.lemmas.Bool.{cases_eq}
 use Rattle.node_arena.specs.Slots.{Slots, value_at}
@@ -14,7 +14,7 @@ use Rattle.tree_theory.proofs.Steps.{step_keeps}
 use Rattle.tree_theory.specs.KeyClasses.{Class, Laws}
 use Rattle.tree_theory.specs.Nodes.{Node}
 use Rattle.search_tree.specs.Arenas.{AreSame, IsChanged}
-use Rattle.search_tree.specs.Calls.{IsAlike, IsFurther, SameCounts}
+use Rattle.search_tree.specs.Calls.{IsAlike, IsFurther}
 use Rattle.search_tree.specs.Trees.{PlainProgress, PlainTree, IsFirstOf, IsSound, SameButRoom, search_of, search_in, steps_in, steps_of, progress_at, seen, is_empty, tree_of, level_of}
 use Rattle.search_tree.specs.Visits.{HasVisited}
 use Rattle.search_tree.proofs.ProgressLemmas.{first_read, set_here, set_other}

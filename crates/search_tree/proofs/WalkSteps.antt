@@ -1,13 +1,11 @@
 -- The steps of a walk keep what every tree keeps.
-use Rattle.std.proofs.Common.{◌≡◌, ◌≢◌, ◌⊎◌, ℕ, ◌+◌, ◌<◌, List, [], ◌∷◌, ◌++◌, Contains, filter, length, slice_get, slice_set, Option, Some, None, refl, sym, ap, subst, ◌∙◌, inl, inr, arith}
-use Rattle.std.specs.Option.{option_map}
+use Rattle.std.proofs.Common.{◌≡◌, ℕ, List, [], ◌∷◌, ◌++◌, filter, slice_set, Some, refl, sym, subst, inl, inr}
 use Rattle.node_arena.specs.Slots.{Slots, value_at}
 use Rattle.node_arena.specs.declared.handle.Handle.{Handle}
 use Rattle.predicate_locks.specs.Numbers.{with_numbers}
 use Rattle.predicate_locks.specs.Searches.{search_at, does_run}
-use Rattle.tree_theory.proofs.ContentsKept.{contents_placed, contents_joined, contents_enlarged}
-use Rattle.tree_theory.proofs.SearchPlace.{searches_placed, searches_joined, searches_enlarged}
-use Rattle.tree_theory.proofs.ShapeKept.{shape_joined}
+use Rattle.tree_theory.proofs.ContentsKept.{contents_placed, contents_enlarged}
+use Rattle.tree_theory.proofs.SearchPlace.{searches_placed, searches_enlarged}
 use Rattle.tree_theory.proofs.ShapePlace.{shape_placed}
 use Rattle.tree_theory.proofs.ShapeEnlarge.{shape_enlarged}
 use Rattle.tree_theory.specs.Changes.{IsPlaced, IsJoined, IsEnlarged, MayJoin}
@@ -15,7 +13,7 @@ use Rattle.tree_theory.specs.KeyClasses.{Class, Laws}
 use Rattle.tree_theory.specs.Nodes.{Node, Search, entries_of, pairs_of}
 use Rattle.tree_theory.specs.Nodes.PlainBody.{Leaf, Inner}
 use Rattle.search_tree.specs.Arenas.{IsChanged}
-use Rattle.search_tree.specs.Calls.{IsAlike, SameCounts}
+use Rattle.search_tree.specs.Calls.{IsAlike}
 use Rattle.search_tree.specs.Trees.{PlainTree, IsSound, search_of, progress_at, tree_of}
 use Rattle.search_tree.specs.Walks.{MayPlace, HasPlaced, MayJoinAll, MayEnlarge}
 use Rattle.search_tree.proofs.Kept.{Parts, parts_of, with_all_kept}

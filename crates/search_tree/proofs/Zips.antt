@@ -2,7 +2,7 @@
 use Rattle.std.proofs.lemmas.Slice.Zip.{length-zip}
 use Rattle.search_tree.specs.Rooms.{AreAligned}
 use Rattle.tree_theory.specs.declared.TheConstants.{NODE_SIZE}
-use Rattle.std.proofs.Common.{◌≡◌, ◌<◌, ◌≤◌, ℕ, zero, suc, List, [], ◌∷◌, ◌++◌, length, slice_set, slice_get, length-append, take, drop, Some, remove, zip, refl, sym, ap, ◌∙◌, arith}
+use Rattle.std.proofs.Common.{◌≡◌, ◌<◌, ◌≤◌, ℕ, zero, suc, List, [], ◌∷◌, ◌++◌, length, slice_set, slice_get, length-append, Some, remove, zip, refl, ap, arith}
 
 module _ {K T : Type 0} where
   pub zip_push : (ks : List K) (ts : List T) (k : K) (t : T) → length ts ≡ length ks → zip (ks ++ k ∷ []) (ts ++ t ∷ []) ≡ zip ks ts ++ (k, t) ∷ []

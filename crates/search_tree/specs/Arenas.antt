@@ -1,5 +1,5 @@
 -- What a change of the nodes' arena is.
-use Rattle.std.specs.Prelude.{◌≡◌, ◌≢◌, ◌<◌, Some}
+use Rattle.std.specs.Prelude.{◌≡◌, ◌≢◌, Some}
 use Rattle.std.specs.Option.{option_map}
 use Rattle.node_arena.specs.Slots.{Slots, SameCounts, value_at}
 use Rattle.node_arena.specs.declared.handle.Handle.{Handle}

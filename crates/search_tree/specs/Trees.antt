@@ -8,7 +8,7 @@ use Rattle.predicate_locks.specs.declared.running.RunningSearch.{RunningSearch}
 use Rattle.tree_theory.specs.Contents.{IsContents}
 use Rattle.tree_theory.specs.Invariant.{Invariant}
 use Rattle.tree_theory.specs.KeyClasses.{Class}
-use Rattle.tree_theory.specs.Nodes.{PlainBody, PlainNode, PlainSearch, Search, Tree}
+use Rattle.tree_theory.specs.Nodes.{PlainBody, PlainNode, PlainSearch, Tree}
 use Rattle.tree_theory.specs.Nodes.PlainBody.{Leaf, Inner}
 use Rattle.tree_theory.specs.declared.TheConstants.{NODE_SIZE}
 use Rattle.tree_theory.specs.declared.place.Place.TheVariants.{Root}

@@ -7,7 +7,7 @@ use Rattle.predicate_locks.specs.declared.running.RunningSearch.{RunningSearch}
 use Rattle.tree_theory.specs.Changes.{MayTake, MayJoin}
 use Rattle.tree_theory.specs.Contents.{IsContents}
 use Rattle.tree_theory.specs.KeyClasses.{Class}
-use Rattle.tree_theory.specs.Nodes.{Node, Search, entries_of, pairs_of}
+use Rattle.tree_theory.specs.Nodes.{Node}
 use Rattle.tree_theory.specs.Nodes.PlainBody.{Leaf, Inner}
 use Rattle.tree_theory.specs.declared.TheConstants.{NODE_SIZE}
 use Rattle.search_tree.specs.Calls.{SameCounts}

@@ -1,5 +1,5 @@
-use Rattle.std.proofs.Common.{◌≡◌, ◌<◌, ◌≤◌, ℕ, length, refl, sym, ap, ◌∙◌, arith}
-use Rattle.std.proofs.lemmas.Slice.Zip.{firsts-zip, seconds-zip}
+use Rattle.std.proofs.Common.{arith}
+use Rattle.std.proofs.lemmas.Slice.Zip.{firsts-zip}
 use Rattle.search_tree.proofs.Zips.{length_aligned}
 use Rattle.search_tree.proofs.entries.Entries.keys.Goals as goal
 

@@ -1,5 +1,4 @@
-use Rattle.std.proofs.Common.{◌≡◌, ◌<◌, ◌≤◌, ℕ, length, refl, sym, ap, ◌∙◌, arith}
-use Rattle.std.proofs.lemmas.Slice.Zip.{firsts-zip, seconds-zip}
+use Rattle.std.proofs.Common.{arith}
 use Rattle.search_tree.proofs.Zips.{length_aligned}
 use Rattle.search_tree.proofs.entries.Entries.len.Goals as goal
 

@@ -1,4 +1,4 @@
-use Rattle.std.proofs.Common.{◌≡◌, ◌<◌, ◌≤◌, ℕ, length, refl, sym, ap, ◌∙◌, arith}
+use Rattle.std.proofs.Common.{arith}
 use Rattle.search_tree.proofs.Zips.{length_aligned, pushed_aligned, zip_push}
 use Rattle.search_tree.proofs.entries.Entries.push.Goals as goal
 

@@ -1,4 +1,4 @@
-use Rattle.std.proofs.Common.{◌≡◌, ◌<◌, ◌≤◌, ℕ, length, refl, sym, ap, ◌∙◌, arith}
+use Rattle.std.proofs.Common.{arith}
 use Rattle.search_tree.proofs.Zips.{length_aligned, zip_set}
 use Rattle.search_tree.proofs.entries.Entries.set_key.Goals as goal
 

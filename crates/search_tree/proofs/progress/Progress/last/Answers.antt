@@ -1,4 +1,4 @@
-use Rattle.std.proofs.Common.{◌≡◌, length, sym, arith}
+use Rattle.std.proofs.Common.{sym, arith}
 use Rattle.search_tree.proofs.ListEnds.{filled, last_at}
 use Rattle.search_tree.proofs.progress.Progress.last.Goals as goal
 

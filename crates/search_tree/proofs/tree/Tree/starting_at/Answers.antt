@@ -1,4 +1,4 @@
-use Rattle.std.proofs.Common.{◌≡◌, ℕ, Some, refl, ap, ◌∙◌, arith}
+use Rattle.std.proofs.Common.{◌≡◌, Some, refl, ap, ◌∙◌, arith}
 use Rattle.node_arena.specs.Slots.{taken_count}
 use Rattle.tree_theory.proofs.Steps.{started_keeps}
 use Rattle.tree_theory.proofs.ContentsKept.{contents_started}
