@@ -13,3 +13,5 @@ pub mod VisitLemmas
 pub mod StepLemmas
 pub mod VisitSteps
 pub mod WalkSteps
+pub mod TendSteps
+pub mod InstallSteps

@@ -10,3 +10,4 @@ pub mod Trees
 pub mod Calls
 pub mod Visits
 pub mod Walks
+pub mod Tends

@@ -6,6 +6,7 @@ mod bits;
 mod entries;
 mod fault;
 mod frames;
+mod installing;
 mod laws;
 mod measure;
 mod node;
@@ -13,6 +14,7 @@ mod opening;
 mod progress;
 mod setters;
 mod split;
+mod tending;
 mod tree;
 mod visiting;
 
