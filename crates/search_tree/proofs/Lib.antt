@@ -3,3 +3,15 @@ pub mod MaskBits
 pub mod Middles
 pub mod MaskHulls
 pub mod Stretches
+pub mod Zips
+pub mod ListEnds
+pub mod ProgressLemmas
+pub mod Kept
+pub mod TreeSteps
+pub mod Openings
+pub mod VisitLemmas
+pub mod StepLemmas
+pub mod VisitSteps
+pub mod WalkSteps
+pub mod TendSteps
+pub mod InstallSteps

@@ -2,3 +2,12 @@ pub mod Keys
 pub mod Measures
 pub mod Laws
 pub mod Splits
+pub mod Rooms
+pub mod Faults
+pub mod Arenas
+pub mod Bodies
+pub mod Trees
+pub mod Calls
+pub mod Visits
+pub mod Walks
+pub mod Tends

@@ -1,11 +1,25 @@
-//! The search tree of features. Today it has the class of its keys: frames.
+//! The search tree of features: the tree, and the class of its keys, frames.
 #![tactic(auto)]
 
+mod answers;
 mod bits;
+mod entries;
+mod fault;
 mod frames;
+mod installing;
 mod laws;
 mod measure;
+mod node;
+mod opening;
+mod progress;
+mod setters;
 mod split;
+mod tending;
+mod tree;
+mod visiting;
 
+pub use answers::{Step, Tending, Visit};
+pub use fault::TreeFault;
 pub use frames::Frames;
 pub use laws::frames_cover_by_ends;
+pub use tree::{MAX_STEPS, Tree};

@@ -1,0 +1,113 @@
+-- The steps of a walk keep what every tree keeps.
+use Rattle.std.proofs.Common.{◌≡◌, ℕ, List, [], ◌∷◌, ◌++◌, filter, slice_set, Some, refl, sym, subst, inl, inr}
+use Rattle.node_arena.specs.Slots.{Slots, value_at}
+use Rattle.node_arena.specs.declared.handle.Handle.{Handle}
+use Rattle.predicate_locks.specs.Numbers.{with_numbers}
+use Rattle.predicate_locks.specs.Searches.{search_at, does_run}
+use Rattle.tree_theory.proofs.ContentsKept.{contents_placed, contents_enlarged}
+use Rattle.tree_theory.proofs.SearchPlace.{searches_placed, searches_enlarged}
+use Rattle.tree_theory.proofs.ShapePlace.{shape_placed}
+use Rattle.tree_theory.proofs.ShapeEnlarge.{shape_enlarged}
+use Rattle.tree_theory.specs.Changes.{IsPlaced, IsJoined, IsEnlarged, MayJoin}
+use Rattle.tree_theory.specs.KeyClasses.{Class, Laws}
+use Rattle.tree_theory.specs.Nodes.{Node, Search, entries_of, pairs_of}
+use Rattle.tree_theory.specs.Nodes.PlainBody.{Leaf, Inner}
+use Rattle.search_tree.specs.Arenas.{IsChanged}
+use Rattle.search_tree.specs.Calls.{IsAlike}
+use Rattle.search_tree.specs.Trees.{PlainTree, IsSound, search_of, progress_at, tree_of}
+use Rattle.search_tree.specs.Walks.{MayPlace, HasPlaced, MayJoinAll, MayEnlarge}
+use Rattle.search_tree.proofs.Kept.{Parts, parts_of, with_all_kept}
+use Rattle.search_tree.proofs.VisitSteps.{level_kept}
+
+module _ (C : Class) (t : PlainTree C.Key C.Query C.Item) (nodes : Slots (Node C)) where
+  abbrev now : PlainTree C.Key C.Query C.Item
+  now = record t { nodes = nodes }
+
+  -- what runs in the theory runs
+  running : (s : ℕ) (search : Search C) → search_of (search_at t.running s) (progress_at s t.progress) ≡ Some search → Parts (search_at t.running s) (progress_at s t.progress) search
+  running s search is = parts_of (search_at t.running s) (progress_at s t.progress) search is
+
+  placed_step : (at : Handle) (pair : ℕ × C.Item) → MayPlace C t at pair → IsChanged t.nodes nodes at (λ n. record n { body = Leaf (pairs_of n.body ++ pair ∷ []) }) → IsPlaced (tree_of C t) (tree_of C now) at pair
+  placed_step at pair may changed =
+      record {
+        node = may.node;
+        pairs = may.pairs;
+        body = may.body;
+        room = may.room;
+        may_take = may.may_take;
+        none_matches = λ s search is attached matches.
+            let parts = running s search is in
+            may.none_matches s parts.run parts.is_run attached (subst (λ q. C.Matches pair.1 q) parts.query matches);
+        nodes = record { before = may.is; after = rw (changed.here, may.is, may.body) refl; others = changed.others };
+        searches = record { search = λ s. refl };
+        clock = record { root = refl; counter = refl; next = refl };
+      }
+
+  pub placed_sound : Laws C → (at : Handle) (pair : ℕ × C.Item) → MayPlace C t at pair → IsChanged t.nodes nodes at (λ n. record n { body = Leaf (pairs_of n.body ++ pair ∷ []) }) → IsSound C t → IsSound C now
+  placed_sound laws at pair may changed sound =
+      let step = placed_step at pair may changed in
+      record {
+        invariant = record { shape = shape_placed laws sound.invariant.shape step; searches = searches_placed sound.invariant.shape sound.invariant.searches step };
+        progress_of_each = sound.progress_of_each;
+      }
+
+  pub placed_call : (at : Handle) (pair : ℕ × C.Item) → MayPlace C t at pair → IsChanged t.nodes nodes at (λ n. record n { body = Leaf (pairs_of n.body ++ pair ∷ []) }) → HasPlaced C t now pair
+  placed_call at pair may changed =
+      record {
+        contents = λ xs. contents_placed (placed_step at pair may changed);
+        searches = λ s. refl;
+        steps = λ s. refl;
+        next = refl;
+        counts = record { counter = refl; limit = refl; level = level_kept C t 0 0 nodes at _ changed (λ n. refl); taken = changed.counts.taken; slots = changed.counts.slots };
+      }
+
+  joined_step : (at : Handle) (more : List ℕ) (node : Node C) → value_at t.nodes at ≡ Some node → MayJoinAll C t at more → IsChanged t.nodes nodes at (λ n. record n { attached = filter (does_run t.running) (with_numbers more n.attached) }) → IsJoined (tree_of C t) (tree_of C now) at
+  joined_step at more node is may changed =
+      record {
+        node = node;
+        attached = _;
+        numbers = with_all_kept C t (MayJoin (tree_of C t) at node) more node.attached (may node is);
+        nodes = record { before = is; after = rw (changed.here, is) refl; others = changed.others };
+        searches = record { search = λ s. refl };
+        clock = record { root = refl; counter = refl; next = refl };
+      }
+
+  enlarged_step : (p : Handle) (place : ℕ) (old key : C.Key) (child : Handle) → MayEnlarge C t p place old key child → IsChanged t.nodes nodes p (λ n. record n { body = Inner (slice_set (entries_of n.body) place (C.united old key, child)) }) → IsEnlarged (tree_of C t) (tree_of C now) p key
+  enlarged_step p place old key child may changed =
+      record {
+        node = may.node;
+        entries = may.entries;
+        body = may.body;
+        index = place;
+        old = old;
+        child = child;
+        entry = may.entry;
+        may_take = may.may_take;
+        seen = λ s search is attached consistent.
+            let parts = running s search is in
+            elim (may.seen s parts.run parts.is_run attached (subst (λ q. C.Consistent (C.united old key) q) parts.query consistent)) [
+              | inl before ↦ inl (subst (λ q. C.Consistent old q) (sym parts.query) before)
+              | inr done ↦ inr (record { node = done.0; is = done.1; attached = done.2 })
+            ];
+        nodes = record { before = may.is; after = rw (changed.here, may.is, may.body) refl; others = changed.others };
+        searches = record { search = λ s. refl };
+        clock = record { root = refl; counter = refl; next = refl };
+      }
+
+  pub enlarged_sound : Laws C → (p : Handle) (place : ℕ) (old key : C.Key) (child : Handle) → MayEnlarge C t p place old key child → IsChanged t.nodes nodes p (λ n. record n { body = Inner (slice_set (entries_of n.body) place (C.united old key, child)) }) → IsSound C t → IsSound C now
+  enlarged_sound laws p place old key child may changed sound =
+      let step = enlarged_step p place old key child may changed in
+      record {
+        invariant = record { shape = shape_enlarged laws sound.invariant.shape step; searches = searches_enlarged sound.invariant.shape sound.invariant.searches step };
+        progress_of_each = sound.progress_of_each;
+      }
+
+  pub enlarged_call : (p : Handle) (place : ℕ) (old key : C.Key) (child : Handle) → MayEnlarge C t p place old key child → IsChanged t.nodes nodes p (λ n. record n { body = Inner (slice_set (entries_of n.body) place (C.united old key, child)) }) → IsAlike C t now
+  enlarged_call p place old key child may changed =
+      record {
+        searches = λ s. refl;
+        steps = λ s. refl;
+        next = refl;
+        contents = λ xs. contents_enlarged (enlarged_step p place old key child may changed);
+        counts = record { counter = refl; limit = refl; level = level_kept C t 0 0 nodes p _ changed (λ n. refl); taken = changed.counts.taken; slots = changed.counts.slots };
+      }

@@ -1,0 +1,7 @@
+use Rattle.std.proofs.Common.{◌≢◌, ℕ, ◌<◌, slice_index_or}
+use Rattle.search_tree.specs.Trees.{PlainProgress}
+use Rattle.search_tree.proofs.opening.place_of.Given as goal
+
+abbrev pub invariant-loop-at : goal.invariant-loop-at
+invariant-loop-at g l =
+    (k : ℕ) (d : PlainProgress g.row.I.Denot) → k < l.at → (slice_index_or l.progress k d).number ≢ l.number

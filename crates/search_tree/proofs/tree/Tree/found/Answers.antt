@@ -1,0 +1,8 @@
+use Rattle.std.proofs.Common.{sym, ◌∙◌}
+use Rattle.search_tree.proofs.Openings.{found_there}
+use Rattle.search_tree.proofs.tree.Tree.found.Goals as goal
+
+pub returns-in-Some : goal.returns-in-Some
+returns-in-Some g c =
+    let first = rw c.deref.ensures.value at c.in-Some.ensures.found in
+    rw (← c.self.view_is) (c.found.ensures ∙ sym (found_there _ _ c.args.search c.in-Some.at c.index.result.now c.self.invariant first (sym c.index.ensures)))

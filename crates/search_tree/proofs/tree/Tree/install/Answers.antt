@@ -1,0 +1,37 @@
+use Rattle.tree_theory.specs.KeyClasses.{Laws, class_of}
+use Rattle.search_tree.proofs.InstallSteps.{parent_inner, entry_there, place_within, keyed_inner, keyed_room, installed_sound, installed_same, installed_call}
+use Rattle.search_tree.proofs.tree.Tree.install.Goals as goal
+
+pub set_key-requires-clause-inner : goal.set_key-requires-clause-inner
+set_key-requires-clause-inner g c = parent_inner _ _ _ (rw (← c.self.view_is) at c.requires.may)
+
+pub set_key-requires-clause-place : goal.set_key-requires-clause-place
+set_key-requires-clause-place g c = place_within _ _ _ (rw (← c.self.view_is) at c.requires.may)
+
+pub push_entry-requires-clause-inner : goal.push_entry-requires-clause-inner
+push_entry-requires-clause-inner g c =
+    let may = rw (← c.self.view_is) at c.requires.may in
+    keyed_inner _ _ _ may _ (c.set_key.ensures may.old c.args.entry.now.left (entry_there _ _ _ may))
+
+pub push_entry-requires-clause-room : goal.push_entry-requires-clause-room
+push_entry-requires-clause-room g c =
+    let may = rw (← c.self.view_is) at c.requires.may in
+    keyed_room _ _ _ may _ (c.set_key.ensures may.old c.args.entry.now.left (entry_there _ _ _ may))
+
+pub invariant_of-self : goal.invariant_of-self
+invariant_of-self g c =
+    let key = g.C.KeyClass in
+    let law = g.met.C.KeyClass in
+    let laws : Laws (class_of key.covered key.may_match key.is_match key.key_with key.united) = record { reflexive = law.reflexive; transitive = law.transitive; covers_first = law.covers_first; covers_second = law.covers_second; least = law.least; monotone = law.monotone; sound = law.sound } in
+    let may = rw (← c.self.view_is) at c.requires.may in
+    installed_sound _ _ _ may c.self.invariant _ _ _ _ _ _ (c.set_key.ensures may.old c.args.entry.now.left (entry_there _ _ _ may)) c.push_entry.ensures c.set_place.ensures c.set_seq.ensures c.set_place-2.ensures (rw (← c.self.view_is) at c.requires.seq) laws
+
+pub returns-clause-contents : goal.returns-clause-contents
+returns-clause-contents g c =
+    let may = rw (← c.self.view_is) at c.requires.may in
+    rw (← c.self.view_is) (installed_same _ _ _ may c.self.invariant _ _ _ _ _ _ (c.set_key.ensures may.old c.args.entry.now.left (entry_there _ _ _ may)) c.push_entry.ensures c.set_place.ensures c.set_seq.ensures c.set_place-2.ensures (rw (← c.self.view_is) at c.requires.seq))
+
+pub returns-clause-tended : goal.returns-clause-tended
+returns-clause-tended g c =
+    let may = rw (← c.self.view_is) at c.requires.may in
+    rw (← c.self.view_is) (installed_call _ _ _ may c.self.invariant _ _ _ _ _ _ (c.set_key.ensures may.old c.args.entry.now.left (entry_there _ _ _ may)) c.push_entry.ensures c.set_place.ensures c.set_seq.ensures c.set_place-2.ensures (rw (← c.self.view_is) at c.requires.seq))

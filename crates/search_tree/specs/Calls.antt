@@ -1,0 +1,81 @@
+-- What the calls do, as callers see it: the contents, the searches, and the counts.
+use Rattle.std.specs.Prelude.{◌≡◌, ◌≢◌, ◌+◌, ◌++◌, ◌≤◌, ℕ, Bool, true, false, [], List, Contains, length, Option, None, Some}
+use Rattle.std.specs.Option.{option_map}
+use Rattle.search_tree.specs.Trees.{PlainTree, SeenSearch, search_in, steps_in, tree_of, root_level}
+use Rattle.node_arena.specs.Slots.{taken_count, slot_count}
+use Rattle.tree_theory.specs.Contents.{InContents, IsContents}
+use Rattle.tree_theory.specs.KeyClasses.{Class}
+use Rattle.tree_theory.specs.declared.TheConstants.{NODE_SIZE}
+
+-- what a search has found, if it runs
+abbrev pub found_of : {Query Item : Type 0} → Option (SeenSearch Query Item) → List (ℕ × Item)
+found_of None = []
+found_of (Some search) = search.found
+
+abbrev pub found_in : {Key Query Item : Type 0} → PlainTree Key Query Item → ℕ → List (ℕ × Item)
+found_in t s = found_of (search_in t s)
+
+module _ (C : Class) where
+  -- the same contents, order aside
+  abbrev pub SameContents : PlainTree C.Key C.Query C.Item → PlainTree C.Key C.Query C.Item → Type 0
+  SameContents t u = (xs : List (ℕ × C.Item)) → IsContents (tree_of C t) xs → IsContents (tree_of C u) xs
+
+  -- the counts that nothing but the tree's own growth and the ends of searches move
+  pub record SameCounts (t u : PlainTree C.Key C.Query C.Item) : Type 0 where
+    pub counter : u.counter ≡ t.counter
+    pub limit : u.limit ≡ t.limit
+    pub level : root_level u ≡ root_level t
+    pub taken : taken_count u.nodes ≡ taken_count t.nodes
+    pub slots : slot_count u.nodes ≡ slot_count t.nodes
+
+  -- a search begins under the next number and has found nothing. Nothing else changes
+  pub record IsOpen (t u : PlainTree C.Key C.Query C.Item) (query : C.Query) (search : ℕ) : Type 0 where
+    pub number : search ≡ t.running.next
+    pub did_not_run : search_in t search ≡ None
+    pub runs : search_in u search ≡ Some (record { query = query; found = []; ready = false })
+    pub others : (other : ℕ) → other ≢ search → search_in u other ≡ search_in t other
+    pub next : u.running.next ≡ t.running.next + 1
+    pub contents : SameContents t u
+    pub counts : SameCounts t u
+
+  -- no search runs under the number. Nothing else changes
+  pub record IsShut (t u : PlainTree C.Key C.Query C.Item) (search : ℕ) : Type 0 where
+    pub gone : search_in u search ≡ None
+    pub others : (other : ℕ) → other ≢ search → search_in u other ≡ search_in t other
+    pub next : u.running.next ≡ t.running.next
+    pub contents : SameContents t u
+    pub counts : SameCounts t u
+
+  -- the same to all who call: contents, searches and counts
+  pub record IsAlike (t u : PlainTree C.Key C.Query C.Item) : Type 0 where
+    pub searches : (search : ℕ) → search_in u search ≡ search_in t search
+    pub steps : (search : ℕ) → steps_in u search ≡ steps_in t search
+    pub next : u.running.next ≡ t.running.next
+    pub contents : SameContents t u
+    pub counts : SameCounts t u
+
+  -- the search makes a step: it finds these pairs, no more than a node has, each of them in the tree and one that
+  -- it looks for. Nothing else changes
+  pub record IsFurther (t u : PlainTree C.Key C.Query C.Item) (search : ℕ) (ready : Bool) : Type 0 where
+    pub before : SeenSearch C.Query C.Item
+    pub ran : search_in t search ≡ Some before
+    pub was_not_ready : before.ready ≡ false
+    pub pairs : List (ℕ × C.Item)
+    pub few : length pairs ≤ NODE_SIZE
+    pub match : (pair : ℕ × C.Item) → Contains pairs pair → C.Matches pair.1 before.query
+    pub in_tree : (pair : ℕ × C.Item) → Contains pairs pair → InContents (tree_of C t) pair
+    pub now : search_in u search ≡ Some (record { query = before.query; found = before.found ++ pairs; ready = ready })
+    pub steps : steps_in u search ≡ steps_in t search + 1
+    pub others : (other : ℕ) → other ≢ search → (search_in u other ≡ search_in t other) × (steps_in u other ≡ steps_in t other)
+    pub next : u.running.next ≡ t.running.next
+    pub contents : SameContents t u
+    pub counts : SameCounts t u
+
+-- the search runs and has seen all there is
+abbrev pub IsReadyIn : {Key Query Item : Type 0} → PlainTree Key Query Item → ℕ → Type 0
+IsReadyIn t search = option_map (λ s. s.ready) (search_in t search) ≡ Some true
+
+-- the search runs, has more to see, and has made all its steps
+pub record IsOverrun {Key Query Item : Type 0} (t : PlainTree Key Query Item) (search : ℕ) : Type 0 where
+  pub waits : option_map (λ s. s.ready) (search_in t search) ≡ Some false
+  pub spent : t.limit ≤ steps_in t search

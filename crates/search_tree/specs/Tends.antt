@@ -1,0 +1,84 @@
+-- What a step of tending needs, and what it leaves.
+use Rattle.std.specs.Prelude.{◌≡◌, ◌+◌, ◌<◌, ◌≤◌, ℕ, true, false, List, [], Some, length, slice_get}
+use Rattle.node_arena.specs.Slots.{value_at, slot_count, taken_count}
+use Rattle.node_arena.specs.declared.handle.Handle.{Handle}
+use Rattle.predicate_locks.specs.Searches.{AllBegunSince}
+use Rattle.search_tree.specs.Trees.{PlainTree, search_in, steps_in, root_level}
+use Rattle.search_tree.specs.declared.answers.Tending.{Tending}
+use Rattle.search_tree.specs.declared.answers.Tending.TheVariants.{Idle, Freed, Installed, Cleaned, Retired}
+use Rattle.search_tree.specs.declared.installing.NewEntry.{NewEntry}
+use Rattle.tree_theory.specs.Changes.{IsKeyFor}
+use Rattle.tree_theory.specs.KeyClasses.{Class}
+use Rattle.tree_theory.specs.Nodes.{Node}
+use Rattle.tree_theory.specs.Nodes.PlainBody.{Leaf, Inner}
+use Rattle.tree_theory.specs.declared.TheConstants.{NODE_SIZE}
+use Rattle.tree_theory.specs.declared.place.Place.TheVariants.{Linked, Retired as AtRest}
+
+-- by how much the counter rises
+abbrev pub ticks : Tending → ℕ
+ticks Idle = 0
+ticks Freed = 0
+ticks Installed = 1
+ticks Cleaned = 0
+ticks Retired = 1
+
+-- how many slots are taken afterwards: where a node goes, its slot is free or worn out
+abbrev pub TakenAfter : Tending → ℕ → ℕ → Type 0
+TakenAfter Idle before after = after ≡ before
+TakenAfter Freed before after = (after ≤ before) × (before ≤ after + 1)
+TakenAfter Installed before after = after ≡ before
+TakenAfter Cleaned before after = after ≡ before
+TakenAfter Retired before after = after ≡ before
+
+module _ (C : Class) (t : PlainTree C.Key C.Query C.Item) where
+  -- tending changes no search, and of the counts no other than the counter and the slots that are taken
+  pub record HasTended (u : PlainTree C.Key C.Query C.Item) (tending : Tending) : Type 0 where
+    pub searches : (search : ℕ) → search_in u search ≡ search_in t search
+    pub steps : (search : ℕ) → steps_in u search ≡ steps_in t search
+    pub next : u.running.next ≡ t.running.next
+    pub limit : u.limit ≡ t.limit
+    pub level : root_level u ≡ root_level t
+    pub slots : slot_count u.nodes ≡ slot_count t.nodes
+    pub counter : u.counter ≡ t.counter + ticks tending
+    pub taken : TakenAfter tending (taken_count t.nodes) (taken_count u.nodes)
+
+  -- a retired node that no running search can come to any more
+  pub record MayFree (at : Handle) : Type 0 where
+    pub node : Node C
+    pub is : value_at t.nodes at ≡ Some node
+    pub stamp : ℕ
+    pub place : node.place ≡ AtRest stamp
+    pub all_later : AllBegunSince t.running stamp
+
+  -- an empty leaf whose parent has another entry too, at whose place the leaf's stands
+  pub record MayRetire (at parent : Handle) (place : ℕ) : Type 0 where
+    pub leaf : Node C
+    pub leaf_is : value_at t.nodes at ≡ Some leaf
+    pub empty : leaf.body ≡ Leaf []
+    pub linked : leaf.place ≡ Linked parent false
+    pub node : Node C
+    pub is : value_at t.nodes parent ≡ Some node
+    pub entries : List (C.Key × Handle)
+    pub body : node.body ≡ Inner entries
+    pub more : 1 < length entries
+    pub key : C.Key
+    pub entry : slice_get entries place ≡ Some (key, at)
+
+  -- a marked node and its right node under a parent with room, where the entry of the left one stands at the
+  -- place, and the keys that their entries are to have
+  pub record MayInstall (e : NewEntry C.Key) : Type 0 where
+    pub node : Node C
+    pub is : value_at t.nodes e.parent ≡ Some node
+    pub entries : List (C.Key × Handle)
+    pub body : node.body ≡ Inner entries
+    pub room : length entries < NODE_SIZE
+    pub old : C.Key
+    pub entry : slice_get entries e.place ≡ Some (old, e.left)
+    pub left : Node C
+    pub left_is : value_at t.nodes e.left ≡ Some left
+    pub linked : left.place ≡ Linked e.parent true
+    pub is_right : left.right ≡ Some e.right
+    pub right : Node C
+    pub right_is : value_at t.nodes e.right ≡ Some right
+    pub for_left : IsKeyFor C left.body old e.left_key
+    pub for_right : IsKeyFor C right.body old e.right_key

@@ -1,0 +1,152 @@
+-- The tree as its contracts see it.
+use Rattle.std.specs.Prelude.{◌≡◌, ◌≢◌, ◌==◌, ◌+◌, ◌<◌, ◌≤◌, ℕ, Bool, true, false, [], ◌∷◌, ◌++◌, List, length, slice_index_or, Option, None, Some, is_some, if◌then◌else◌}
+use Rattle.std.specs.Option.{option_map}
+use Rattle.node_arena.specs.Slots.{Slots, value_at, taken_count}
+use Rattle.node_arena.specs.declared.handle.Handle.{Handle}
+use Rattle.predicate_locks.specs.Searches.{Searches, search_at}
+use Rattle.predicate_locks.specs.declared.running.RunningSearch.{RunningSearch}
+use Rattle.tree_theory.specs.Contents.{IsContents}
+use Rattle.tree_theory.specs.Invariant.{Invariant}
+use Rattle.tree_theory.specs.KeyClasses.{Class}
+use Rattle.tree_theory.specs.Nodes.{PlainBody, PlainNode, PlainSearch, Tree}
+use Rattle.tree_theory.specs.Nodes.PlainBody.{Leaf, Inner}
+use Rattle.tree_theory.specs.declared.TheConstants.{NODE_SIZE}
+use Rattle.tree_theory.specs.declared.place.Place.TheVariants.{Root}
+
+module _ {Key Item : Type 0} where
+  abbrev pub IsLeaf : PlainBody Key Item → Type 0
+  IsLeaf body = (pairs : List (ℕ × Item)) × (body ≡ Leaf pairs)
+
+  abbrev pub IsInner : PlainBody Key Item → Type 0
+  IsInner body = (entries : List (Key × Handle)) × (body ≡ Inner entries)
+
+  -- the root of a tree that has nothing yet
+  abbrev pub first_leaf : ℕ → PlainNode Key Item
+  first_leaf seq =
+      record {
+        level = 0;
+        body = Leaf [];
+        seq = seq;
+        right = None;
+        place = Root;
+        attached = [];
+      }
+
+abbrev pub level_of : {Key Item : Type 0} → Option (PlainNode Key Item) → ℕ
+level_of None = 0
+level_of (Some node) = node.level
+
+-- how far a search has come: its steps, the nodes that it has yet to visit, what it has found, and how many
+-- more of both there is memory for
+pub record PlainProgress (Item : Type 0) : Type 0 where
+  pub number : ℕ
+  pub steps : ℕ
+  pub stack : List (Handle × ℕ)
+  pub found : List (ℕ × Item)
+  pub stack_places : ℕ
+  pub found_places : ℕ
+
+-- the list ends with this element
+abbrev pub IsLast : {T : Type 0} → List T → T → Type 0
+IsLast {T} xs last = (rest : List T) × (xs ≡ rest ++ last ∷ [])
+
+module _ {Item : Type 0} where
+  -- the progress of the search with this number
+  abbrev pub progress_at : ℕ → List (PlainProgress Item) → Option (PlainProgress Item)
+  progress_at number [] = None
+  progress_at number (progress ∷ rest) = if progress.number == number then Some progress else progress_at number rest
+
+  abbrev pub steps_of : Option (PlainProgress Item) → ℕ
+  steps_of None = 0
+  steps_of (Some progress) = progress.steps
+
+  -- the first place that has the number
+  pub record IsFirstOf (number : ℕ) (ps : List (PlainProgress Item)) (at : ℕ) : Type 0 where
+    pub within : at < length ps
+    pub named : (d : PlainProgress Item) → (slice_index_or ps at d).number ≡ number
+    pub before : (k : ℕ) (d : PlainProgress Item) → k < at → (slice_index_or ps k d).number ≢ number
+
+  -- the same progress, whatever the room
+  abbrev pub SameButRoom : PlainProgress Item → PlainProgress Item → Type 0
+  SameButRoom old new = new ≡ record old { stack_places = new.stack_places; found_places = new.found_places }
+
+  -- one visit more takes no memory
+  pub record HasVisitRoom (p : PlainProgress Item) : Type 0 where
+    pub stack : length p.stack + NODE_SIZE + 1 ≤ p.stack_places
+    pub found : length p.found + NODE_SIZE ≤ p.found_places
+
+-- the nodes, the counter, the running searches and how far they have come, and the limit of steps
+pub record PlainTree (Key Query Item : Type 0) : Type 0 where
+  pub nodes : Slots (PlainNode Key Item)
+  pub root : Handle
+  pub counter : ℕ
+  pub running : Searches Query
+  pub progress : List (PlainProgress Item)
+  pub limit : ℕ
+
+-- a search from its two parts
+abbrev pub search_of : {Query Item : Type 0} → Option (RunningSearch Query) → Option (PlainProgress Item) → Option (PlainSearch Query Item)
+search_of None progress = None
+search_of (Some running) None = None
+search_of (Some running) (Some progress) =
+    Some
+    (record {
+      query = running.query;
+      begun = running.begun;
+      stack = progress.stack;
+      found = progress.found;
+    })
+
+-- a search as callers know it: its query, what it has found, and whether it has seen all there is
+pub record SeenSearch (Query Item : Type 0) : Type 0 where
+  pub query : Query
+  pub found : List (ℕ × Item)
+  pub ready : Bool
+
+abbrev pub is_empty : {T : Type 0} → List T → Bool
+is_empty [] = true
+is_empty (x ∷ xs) = false
+
+abbrev pub seen : {Query Item : Type 0} → PlainSearch Query Item → SeenSearch Query Item
+seen search = record { query = search.query; found = search.found; ready = is_empty search.stack }
+
+module _ {Key Query Item : Type 0} where
+  -- the search with this number, if it runs
+  abbrev pub search_in : PlainTree Key Query Item → ℕ → Option (SeenSearch Query Item)
+  search_in t s = option_map seen (search_of (search_at t.running s) (progress_at s t.progress))
+
+  -- how many steps the search with this number has made
+  abbrev pub steps_in : PlainTree Key Query Item → ℕ → ℕ
+  steps_in t s = steps_of (progress_at s t.progress)
+
+  -- the level of the root
+  abbrev pub root_level : PlainTree Key Query Item → ℕ
+  root_level t = level_of (value_at t.nodes t.root)
+
+module _ (C : Class) where
+  -- the tree of the theory
+  abbrev pub tree_of : PlainTree C.Key C.Query C.Item → Tree C
+  tree_of t =
+      record {
+        look = value_at t.nodes;
+        root = t.root;
+        counter = t.counter;
+        next = t.running.next;
+        searches = λ s. search_of (search_at t.running s) (progress_at s t.progress);
+      }
+
+  -- what every tree keeps
+  pub record IsSound (t : PlainTree C.Key C.Query C.Item) : Type 0 where
+    pub invariant : Invariant (tree_of t)
+    -- each search that runs has its progress, and no other
+    pub progress_of_each : (s : ℕ) → is_some (progress_at s t.progress) ≡ is_some (search_at t.running s)
+
+  -- a tree that nobody has called yet: it has no pairs and no searches, and its root is its one node
+  pub record IsFirst (counter next limit : ℕ) (t : PlainTree C.Key C.Query C.Item) : Type 0 where
+    pub contents : IsContents (tree_of t) []
+    pub searches : (s : ℕ) → search_in t s ≡ None
+    pub counter_is : t.counter ≡ counter
+    pub next_is : t.running.next ≡ next
+    pub limit_is : t.limit ≡ limit
+    pub level : root_level t ≡ 0
+    pub taken : taken_count t.nodes ≡ 1

@@ -1,0 +1,65 @@
+//! Why a tree refuses a step.
+
+ghost use Rattle.std.specs.Prelude.{◌≡◌, Some};
+ghost use Rattle.search_tree.specs.Faults.{code_of};
+
+use memory::Refused;
+use std::fmt;
+
+/// Why a tree refuses a step. A refused step is not counted, and changes nothing; S7 alone ends its own search or walk.
+#[derive(Debug, Drop, PartialEq, Eq)]
+pub enum TreeFault {
+    /// S1: no search runs under the number.
+    NoSearch,
+    /// S2: as many searches run as may run at once.
+    TooMany,
+    /// S3: the search of this number has seen the leaf already, and looks for the item that would be put there.
+    Held(u64),
+    /// S4: every slot is taken.
+    Full,
+    /// S5: the root would stand too high.
+    TooHigh,
+    /// S6: the counter, or the number of the next search, is at its end.
+    Spent,
+    /// S7: the search or the walk has made all its steps.
+    Overrun,
+    /// S8: a growth was refused.
+    Memory(Refused),
+}
+
+impl From<Refused> for TreeFault {
+    ghost use Rattle.search_tree.specs.declared.fault.TreeFault.TheVariants.{Memory};
+
+    ghost from_gives = { λ refused fault. fault ≡ Memory refused };
+
+    fn from(refused: Refused) -> TreeFault {
+        TreeFault::Memory(refused)
+    }
+}
+
+impl TreeFault {
+    /// The code by which users know the fault: `S1` to `S8`.
+    pub fn code(&self) -> &'static str
+        ensures { result.now ≡ code_of self.now }
+    {
+        match self {
+            TreeFault::NoSearch => "S1",
+            TreeFault::TooMany => "S2",
+            TreeFault::Held(_) => "S3",
+            TreeFault::Full => "S4",
+            TreeFault::TooHigh => "S5",
+            TreeFault::Spent => "S6",
+            TreeFault::Overrun => "S7",
+            TreeFault::Memory(_) => "S8",
+        }
+    }
+}
+
+/// Writes the code.
+impl fmt::Display for TreeFault {
+    ghost output = { λ fault. Some (code_of fault) };
+
+    fn fmt<W: fmt::Write>(&self, f: &mut fmt::Formatter<W>) -> fmt::Result {
+        f.write_str(self.code())
+    }
+}

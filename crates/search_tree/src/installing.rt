@@ -1,0 +1,45 @@
+//! A right node gets its entry.
+
+ghost use Rattle.std.specs.Prelude.{◌≡◌, ◌+◌};
+ghost use Rattle.search_tree.specs.Calls.{SameContents};
+ghost use Rattle.search_tree.specs.Tends.{HasTended, MayInstall};
+ghost use Rattle.tree_theory.specs.KeyClasses.{class_of};
+
+use crate::answers::Tending;
+use crate::setters::{push_entry, set_key, set_place, set_seq};
+use crate::tree::Tree;
+use node_arena::Handle;
+use std::alloc::Allocator;
+use tree_theory::{KeyClass, Place};
+
+/// An entry for a right node, and what becomes of its left node's entry, which stands at the place.
+#[derive(Clone, Copy)]
+pub(crate) struct NewEntry<K> {
+    pub(crate) parent: Handle,
+    pub(crate) place: usize,
+    pub(crate) left: Handle,
+    pub(crate) left_key: K,
+    pub(crate) right: Handle,
+    pub(crate) right_key: K,
+}
+
+impl<C: KeyClass, A: Allocator> Tree<C, A> {
+    // Gives a right node its entry. The left node is marked no more, and has the number to which the counter rises: so searches that remember a lesser one still go on to its right.
+    pub(crate) fn install(&mut self, entry: &NewEntry<C::Key>, seq: u64)
+        requires may { MayInstall (class_of C.covered C.may_match C.is_match C.key_with C.united) self.old entry.now }
+        requires seq { seq ≡ self.old.counter + 1 }
+        ensures tended { HasTended (class_of C.covered C.may_match C.is_match C.key_with C.united) self.old self.new Tending.Installed }
+        ensures contents { SameContents (class_of C.covered C.may_match C.is_match C.key_with C.united) self.old self.new }
+    {
+        let place = Place::Linked {
+            parent: entry.parent,
+            marked: false,
+        };
+        set_key(&mut self.nodes, entry.parent, entry.place, entry.left_key);
+        push_entry(&mut self.nodes, entry.parent, entry.right_key, entry.right);
+        set_place(&mut self.nodes, entry.left, place);
+        set_seq(&mut self.nodes, entry.left, seq);
+        set_place(&mut self.nodes, entry.right, place);
+        self.counter = seq;
+    }
+}

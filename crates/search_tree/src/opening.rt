@@ -1,0 +1,84 @@
+//! Searches begin and end.
+
+ghost use Rattle.std.specs.Prelude.{◌≡◌, ◌≢◌, ◌↔◌, ◌<◌, ◌+◌, ◌==◌, ℕ, [], true, false, not, filter, length, None, Some, Err, is_some, IfOk, IfErr, IfSome, IfNone, OnErr};
+ghost use Rattle.memory.specs.Refused.{refused};
+ghost use Rattle.predicate_locks.specs.Searches.{last_number};
+ghost use Rattle.predicate_locks.specs.declared.TheConstants.{MAX_RUNNING};
+ghost use Rattle.search_tree.specs.Calls.{IsOpen, IsShut, found_in};
+ghost use Rattle.search_tree.specs.Trees.{IsFirstOf, progress_at};
+ghost use Rattle.tree_theory.specs.KeyClasses.{class_of};
+
+use crate::fault::TreeFault;
+use crate::progress::Progress;
+use crate::tree::Tree;
+use memory::GrowVec;
+use predicate_locks::MAX_RUNNING;
+use std::alloc::Allocator;
+use tree_theory::KeyClass;
+
+impl<C: KeyClass, A: Allocator + Copy> Tree<C, A> {
+    /// Begins a search for the pairs whose item matches the query, and answers its number.
+    ///
+    /// It is refused with S2 where `MAX_RUNNING` searches run, else with S6 where the next number is the last of 64 bits, and with S8 where there is no memory.
+    pub fn open_search(&mut self, query: C::Query) -> Result<u64, TreeFault>
+        ensures ok { IfOk result (IsOpen (class_of C.covered C.may_match C.is_match C.key_with C.united) self.old self.new query) }
+        ensures too_many { (result ≡ Err TreeFault.TooMany) ↔ (length self.old.running.running ≡ MAX_RUNNING) }
+        ensures spent { (result ≡ Err TreeFault.Spent) ↔ ((length self.old.running.running ≢ MAX_RUNNING) × (self.old.running.next ≡ last_number)) }
+        ensures err { OnErr result (self.new ≡ self.old) }
+    {
+        if self.running.searches().len() == MAX_RUNNING {
+            return Err(TreeFault::TooMany);
+        }
+        let number = self.running.next_number();
+        if number == u64::MAX {
+            return Err(TreeFault::Spent);
+        }
+        let progress = Progress::at_root(self.alloc, number, self.root, self.counter)?;
+        self.progress.make_place()?;
+        let Ok(number) = self.running.enter(query, self.counter) else {
+            unreachable!();
+        };
+        self.progress.push_reserved(progress);
+        Ok(number)
+    }
+}
+
+impl<C: KeyClass, A: Allocator> Tree<C, A> {
+    /// Ends a search. Where none runs under the number nothing happens.
+    pub fn close_search(&mut self, search: u64)
+        ensures { IsShut (class_of C.covered C.may_match C.is_match C.key_with C.united) self.old self.new search }
+    {
+        self.running.leave(search);
+        drop_progress(&mut self.progress, search);
+    }
+
+    /// What a search has found, and nothing where none runs under the number.
+    pub fn found(&self, search: u64) -> &[(u64, C::Item)]
+        ensures { result.now ≡ found_in self.now search }
+    {
+        match place_of(&self.progress, search) {
+            Some(at) => self.progress[at].found(),
+            None => &[],
+        }
+    }
+}
+
+/// The first place that has the number.
+pub fn place_of<I: Copy, A: Allocator>(progress: &[Progress<I, A>], number: u64) -> Option<usize>
+    ensures found { IfSome result (IsFirstOf number progress.now) }
+    ensures none { IfNone result (progress_at number progress.now ≡ None) }
+{
+    for (at, held) in progress.iter().enumerate() {
+        if held.number() == number {
+            return Some(at);
+        }
+    }
+    None
+}
+
+// Takes out what has this number.
+fn drop_progress<I: Copy, A: Allocator>(progress: &mut Vec<Progress<I, A>, A>, number: u64)
+    ensures { progress.new.items ≡ filter (λ held. not (held.number == number)) progress.old.items }
+{
+    progress.retain(|held| held.number() != number);
+}

@@ -1,0 +1,135 @@
+//! Changes of one node of the tree's arena. Where no node stands at the handle nothing happens.
+
+ghost use Rattle.std.specs.Prelude.{◌≡◌, ◌∷◌, ◌++◌, ◌<◌, [], ℕ, Some, OnOk, OnErr, filter, slice_get, slice_set, remove};
+ghost use Rattle.node_arena.specs.declared.handle.Handle.{Handle};
+ghost use Rattle.predicate_locks.specs.Numbers.{with_number};
+ghost use Rattle.predicate_locks.specs.Searches.{does_run};
+ghost use Rattle.search_tree.specs.Arenas.{IsChanged, AreSame, Holds};
+ghost use Rattle.search_tree.specs.Trees.{IsLeaf, IsInner};
+ghost use Rattle.tree_theory.specs.Nodes.{entries_of, pairs_of, size_of};
+ghost use Rattle.tree_theory.specs.Nodes.PlainBody.{Leaf, Inner};
+ghost use Rattle.tree_theory.specs.declared.TheConstants.{NODE_SIZE};
+
+use crate::node::TreeNode;
+use memory::Refused;
+use node_arena::{Arena, Handle};
+use predicate_locks::Running;
+use std::alloc::Allocator;
+use tree_theory::Place;
+
+/// The nodes of a tree.
+pub type Nodes<K, I, A> = Arena<TreeNode<K, I, A>, A>;
+
+/// Gives a node another sequence number.
+pub fn set_seq<K: Copy, I: Copy, A: Allocator>(nodes: &mut Nodes<K, I, A>, at: Handle, seq: u64)
+    ensures { IsChanged nodes.old nodes.new at (λ node. record node { seq = seq }) }
+{
+    if let Some(node) = nodes.get_mut(at) {
+        node.set_seq(seq);
+    }
+}
+
+/// Gives a node another rightlink.
+pub fn set_right<K: Copy, I: Copy, A: Allocator>(
+    nodes: &mut Nodes<K, I, A>,
+    at: Handle,
+    right: Option<Handle>,
+)
+    ensures { IsChanged nodes.old nodes.new at (λ node. record node { right = right }) }
+{
+    if let Some(node) = nodes.get_mut(at) {
+        node.set_right(right);
+    }
+}
+
+/// Puts a node elsewhere.
+pub fn set_place<K: Copy, I: Copy, A: Allocator>(
+    nodes: &mut Nodes<K, I, A>,
+    at: Handle,
+    place: Place,
+)
+    ensures { IsChanged nodes.old nodes.new at (λ node. record node { place = place }) }
+{
+    if let Some(node) = nodes.get_mut(at) {
+        node.set_place(place);
+    }
+}
+
+/// Adds a pair to a leaf with room.
+pub fn push_pair<K: Copy, I: Copy, A: Allocator>(
+    nodes: &mut Nodes<K, I, A>,
+    at: Handle,
+    key: u64,
+    item: I,
+)
+    requires leaf { Holds nodes.old at (λ node. IsLeaf node.body) }
+    requires room { Holds nodes.old at (λ node. size_of node.body < NODE_SIZE) }
+    ensures { IsChanged nodes.old nodes.new at (λ node. record node { body = Leaf (pairs_of node.body ++ (key, item) ∷ []) }) }
+{
+    if let Some(node) = nodes.get_mut(at) {
+        node.push_pair(key, item);
+    }
+}
+
+/// Adds an entry to an inner node with room.
+pub fn push_entry<K: Copy, I: Copy, A: Allocator>(
+    nodes: &mut Nodes<K, I, A>,
+    at: Handle,
+    key: K,
+    child: Handle,
+)
+    requires inner { Holds nodes.old at (λ node. IsInner node.body) }
+    requires room { Holds nodes.old at (λ node. size_of node.body < NODE_SIZE) }
+    ensures { IsChanged nodes.old nodes.new at (λ node. record node { body = Inner (entries_of node.body ++ (key, child) ∷ []) }) }
+{
+    if let Some(node) = nodes.get_mut(at) {
+        node.push_entry(key, child);
+    }
+}
+
+/// Gives an entry of an inner node another key.
+pub fn set_key<K: Copy, I: Copy, A: Allocator>(
+    nodes: &mut Nodes<K, I, A>,
+    at: Handle,
+    place: usize,
+    key: K,
+)
+    requires inner { Holds nodes.old at (λ node. IsInner node.body) }
+    requires place { Holds nodes.old at (λ node. place < size_of node.body) }
+    ensures { (old : K) (child : Handle) → Holds nodes.old at (λ node. slice_get (entries_of node.body) place ≡ Some (old, child)) → IsChanged nodes.old nodes.new at (λ node. record node { body = Inner (slice_set (entries_of node.body) place (key, child)) }) }
+{
+    if let Some(node) = nodes.get_mut(at) {
+        node.set_key(place, key);
+    }
+}
+
+/// Takes an entry out of an inner node.
+pub fn remove_entry<K: Copy, I: Copy, A: Allocator>(
+    nodes: &mut Nodes<K, I, A>,
+    at: Handle,
+    place: usize,
+)
+    requires inner { Holds nodes.old at (λ node. IsInner node.body) }
+    requires place { Holds nodes.old at (λ node. place < size_of node.body) }
+    ensures { IsChanged nodes.old nodes.new at (λ node. record node { body = Inner (remove (entries_of node.body) place) }) }
+{
+    if let Some(node) = nodes.get_mut(at) {
+        node.remove_entry(place);
+    }
+}
+
+/// Attaches a search to a node, and lets numbers go that do not run. Where there is no memory nothing changes.
+pub fn attach<K: Copy, I: Copy, Q: Copy, A: Allocator + Copy>(
+    nodes: &mut Nodes<K, I, A>,
+    running: &Running<Q, A>,
+    at: Handle,
+    search: u64,
+) -> Result<(), Refused>
+    ensures ok { OnOk result (IsChanged nodes.old nodes.new at (λ node. record node { attached = filter (does_run running.now) (with_number search node.attached) })) }
+    ensures err { OnErr result (AreSame nodes.old nodes.new) }
+{
+    match nodes.get_mut(at) {
+        Some(node) => node.attach(running, search),
+        None => Ok(()),
+    }
+}

@@ -1,0 +1,131 @@
+//! The tree.
+
+ghost use Rattle.std.specs.Prelude.{◌≡◌, ◌≤◌, [], IfOk, IfErr};
+ghost use Rattle.memory.specs.Refused.{refused};
+ghost use Rattle.node_arena.specs.Slots.{slot_count, taken_count, IsGiven, CountsGiven};
+ghost use Rattle.search_tree.specs.Trees.{IsFirst};
+ghost use Rattle.tree_theory.specs.KeyClasses.{class_of};
+
+use crate::fault::TreeFault;
+use crate::node::TreeNode;
+use crate::progress::Progress;
+use memory::Refused;
+use node_arena::{Arena, ArenaFault, Handle};
+use predicate_locks::{LockFault, Running};
+use std::alloc::Allocator;
+use std::marker::Model;
+use tree_theory::KeyClass;
+
+/// How many steps a search or a walk makes at most.
+pub const MAX_STEPS: u64 = 1_000_000;
+
+/// An index of items under keys of the class `C`, in which searches and walks go on at the same time, step by step.
+#[derive(Drop)]
+pub struct Tree<C: KeyClass, A: Allocator> {
+    pub(crate) alloc: A,
+    pub(crate) nodes: Arena<TreeNode<C::Key, C::Item, A>, A>,
+    pub(crate) root: Handle,
+    // It rises at each install and each retiring.
+    pub(crate) counter: u64,
+    pub(crate) running: Running<C::Query, A>,
+    // How far each running search has come.
+    pub(crate) progress: Vec<Progress<C::Item, A>, A>,
+    // How many steps a search or a walk makes at most.
+    pub(crate) limit: u64,
+}
+
+impl<C: KeyClass, A: Allocator> Model for Tree<C, A> {
+    ghost use Rattle.search_tree.specs.Trees.{PlainTree, IsSound};
+    ghost use Rattle.tree_theory.specs.KeyClasses.{class_of};
+
+    ghost Value = { PlainTree C.Key C.Query C.Item };
+
+    ghost view = { λ t. record {
+      nodes = t.nodes;
+      root = t.root;
+      counter = t.counter;
+      running = t.running;
+      progress = t.progress.items;
+      limit = t.limit;
+    } };
+
+    ghost invariant = { λ t. IsSound (class_of C.covered C.may_match C.is_match C.key_with C.united) (record {
+      nodes = t.nodes;
+      root = t.root;
+      counter = t.counter;
+      running = t.running;
+      progress = t.progress.items;
+      limit = t.limit;
+    }) };
+}
+
+impl<C: KeyClass, A: Allocator + Copy> Tree<C, A> {
+    /// A tree with no pairs and no searches. S8 where there is no memory.
+    pub fn new(alloc: A) -> Result<Self, TreeFault>
+        ensures ok { IfOk result (IsFirst (class_of C.covered C.may_match C.is_match C.key_with C.united) 0 1 MAX_STEPS) }
+        ensures memory { IfErr result (λ fault. fault ≡ TreeFault.Memory refused) }
+    {
+        Self::starting_at(alloc, 0, 0, 1, MAX_STEPS)
+    }
+
+    /// The same, where slots start at this generation, and the counter and the numbers of searches here, and a search or a walk makes at most so many steps. It is for tests of what comes at their ends.
+    pub fn starting_at(
+        alloc: A,
+        generation: u32,
+        counter: u64,
+        search: u64,
+        steps: u64,
+    ) -> Result<Self, TreeFault>
+        requires { steps ≤ MAX_STEPS }
+        ensures ok { IfOk result (IsFirst (class_of C.covered C.may_match C.is_match C.key_with C.united) counter search steps) }
+        ensures memory { IfErr result (λ fault. fault ≡ TreeFault.Memory refused) }
+    {
+        let first = TreeNode::first(alloc, counter)?;
+        let running = no_searches(alloc, search)?;
+        let mut nodes = Arena::starting_at(alloc, generation);
+        let root = plant(&mut nodes, first)?;
+        Ok(Tree {
+            alloc,
+            nodes,
+            root,
+            counter,
+            running,
+            progress: Vec::new(alloc),
+            limit: steps,
+        })
+    }
+}
+
+impl<C: KeyClass, A: Allocator> Tree<C, A> {
+    /// How many slots the tree has used at most: each node stands in a slot below this number.
+    pub fn slots(&self) -> u32
+        ensures value { result ≡ slot_count self.now.nodes }
+        ensures taken { taken_count self.now.nodes ≤ result }
+    {
+        self.nodes.slots()
+    }
+}
+
+// No search, with room for as many as may run.
+fn no_searches<Q: Copy, A: Allocator>(alloc: A, first: u64) -> Result<Running<Q, A>, Refused>
+    ensures { IfOk result (λ made. made ≡ record { running = []; next = first }) }
+{
+    match Running::new(alloc, first) {
+        Ok(running) => Ok(running),
+        Err(LockFault::Memory(refused)) => Err(refused),
+        Err(_) => unreachable!(),
+    }
+}
+
+// Puts the first node into an arena that has none.
+fn plant<T: Drop, A: Allocator>(nodes: &mut Arena<T, A>, first: T) -> Result<Handle, Refused>
+    requires { taken_count nodes.old ≡ 0 }
+    ensures ok { IfOk result (λ handle. IsGiven nodes.old nodes.new handle first) }
+    ensures counts { IfOk result (CountsGiven nodes.old nodes.new) }
+{
+    match nodes.insert(first) {
+        Ok(handle) => Ok(handle),
+        Err((_, ArenaFault::Memory(refused))) => Err(refused),
+        Err(_) => unreachable!(),
+    }
+}
