@@ -15,7 +15,12 @@ struct HostFolder<'a> {
 }
 
 impl Folder for HostFolder<'_> {
+    ghost use Rattle.std.specs.Prelude.{None};
+
     type File = File;
+
+    // nothing is known of the host's files
+    ghost holds = { λ folder name. None };
 
     fn open_file(&self, name: &str) -> Option<File> {
         let file = File::open(self.rt, name).ok()?;

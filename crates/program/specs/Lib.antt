@@ -1,1 +1,7 @@
+pub mod BuiltIn
+pub mod ConfigFaults
+pub mod ConfigFiles
+pub mod Configs
 pub mod Ends
+pub mod Runs
+pub mod Spelling

@@ -1,17 +1,21 @@
 ghost use Rattle.std.specs.Prelude.{◌≡◌};
 
+use crate::config_faults::ConfigFault;
 use sessions::ServeFault;
 use std::fmt;
 
 /// Why the program ends with status 1.
 #[derive(Debug, Drop)]
 pub enum ProgramFault<'a> {
-    /// A file cannot be opened, or is a folder.
+    /// A file cannot be opened, or is a folder; or the file of a configuration cannot be read, or is longer than
+    /// 16,777,216 bytes.
     CannotRead(&'a str),
     /// What the program has to say cannot be written.
     CannotWrite,
     /// There is no memory for the command line. It is shown as V4.
     NoMemory,
+    /// The configuration is none.
+    Config(ConfigFault),
     /// The run ended by a fault of its own.
     Run(ServeFault),
 }
@@ -30,6 +34,7 @@ impl fmt::Display for ProgramFault<'_> {
             }
             ProgramFault::CannotWrite => f.write_str("cannot write"),
             ProgramFault::NoMemory => f.write_str("V4"),
+            ProgramFault::Config(fault) => f.write_str(fault.code()),
             ProgramFault::Run(fault) => f.write_str(fault.code()),
         }
     }

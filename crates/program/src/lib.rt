@@ -1,9 +1,21 @@
 //! What the program `landmap` does, over arguments, files and streams in hand.
 #![tactic(auto)]
 
+mod built_in;
+mod config_faults;
+mod configs;
 mod faults;
+mod fields;
+mod files;
+mod laws;
 mod runs;
 mod words;
 
+pub use built_in::built_in_config;
+pub use config_faults::ConfigFault;
+pub use configs::{Config, read_config};
 pub use faults::ProgramFault;
-pub use runs::{Folder, run_file, run_program, status_of, tell};
+pub use files::{CONFIG_LIMIT, FileFault, read_config_file};
+pub use laws::{configurations_are_one, read_is_spelled};
+pub use runs::{Folder, run_file, run_named, run_program, status_of, tell};
+pub use words::ScriptWords;

@@ -1,15 +1,16 @@
-ghost use Rattle.std.specs.Prelude.{◌≡◌, ◌≤◌, ℕ, List, OnOk, IfSome, IsNone, IfErr};
+ghost use Rattle.std.specs.Prelude.{◌≡◌, ◌≤◌, ℕ, List, Option, Some, OnOk, IfOk, IfSome, option_map};
 ghost use Rattle.std.specs.Io.KnownBytes.{Appends};
+ghost use Rattle.program.specs.Configs.{config_data};
 ghost use Rattle.program.specs.Ends.{exit_status, fault_line};
-ghost use Rattle.sessions.specs.BuiltIn.{built_in};
-ghost use Rattle.sessions.specs.Scripts.{IsScriptText};
-ghost use Rattle.sessions.specs.States.{PlainState};
-ghost use Rattle.sessions.specs.Worlds.{opened};
+ghost use Rattle.program.specs.Runs.{IsConfigOf, Ran, Served};
 
+use crate::built_in::built_in_config;
+use crate::configs::Config;
 use crate::faults::ProgramFault;
-use crate::words::{Asked, read_words};
+use crate::files::{FileFault, read_config_file};
+use crate::words::{Asked, ScriptWords, read_words};
 use clap::Error;
-use sessions::{PlainWorld, ServeFault, built_in_subjects, run_script};
+use sessions::{PlainWorld, ServeFault, run_script};
 use std::alloc::{Allocator, Global};
 use std::io;
 use std::io::{Read, Write};
@@ -18,21 +19,25 @@ use std::io::{Read, Write};
 pub trait Folder {
     type File: Read + Drop;
 
+    // what the file of a name reads, where that is known
+    ghost holds: { Self → List ℕ → Option (List ℕ) };
+
     /// The file of this name, for reading. `None` where it cannot be opened, or is a folder.
-    fn open_file(&self, name: &str) -> Option<Self::File>;
+    fn open_file(&self, name: &str) -> Option<Self::File>
+        ensures { IfSome result (λ file. Self.File.remaining file ≡ holds self.now name.now) };
 }
 
-/// Runs the script of a file over a world with no features and the built-in subjects, and writes the replies.
+/// Runs the script of a file over the world that a configuration opens, and writes the replies.
 /// `CannotWrite` where a write fails, or the flush at the end; else the fault of the run.
 pub fn run_file<'a, A: Allocator + Copy, R: Read, W: Write>(
     alloc: A,
+    config: Config<Global>,
     file: &mut R,
     output: &mut W,
 ) -> Result<(), ProgramFault<'a>>
-    ensures { OnOk result (IfSome (R.remaining file.old) (λ input. (said : List ℕ) × (end : PlainState) × Appends (W.contents output.old) (W.contents output.new) said
-        × IsScriptText (opened built_in) input end said)) }
+    ensures { OnOk result (IfSome (R.remaining file.old) (λ script. Served (config_data config) script (W.contents output.old) (W.contents output.new))) }
 {
-    let mut world = PlainWorld::open(alloc, built_in_subjects());
+    let mut world = PlainWorld::open(alloc, config.subjects);
     let end = run_script(alloc, &mut world, file, output);
     if output.flush().is_err() {
         return Err(ProgramFault::CannotWrite);
@@ -44,17 +49,62 @@ pub fn run_file<'a, A: Allocator + Copy, R: Read, W: Write>(
     }
 }
 
-/// Opens the file of this name, and runs its script.
-fn run_named<'a, F: Folder, W: Write>(
-    alloc: Global,
+/// The configuration that stands in the file of this name.
+#[tactic(auto, using(crate::proofs::RunLemmas::configured))]
+fn named_config<'a, F: Folder>(
+    heap: Global,
     name: &'a str,
     folder: &F,
-    output: &mut W,
-) -> Result<(), ProgramFault<'a>> {
-    match folder.open_file(name) {
-        Some(mut file) => run_file(alloc, &mut file, output),
-        None => Err(ProgramFault::CannotRead(name)),
+) -> Result<Config<Global>, ProgramFault<'a>>
+    ensures { IfOk result (λ config. IsConfigOf (Some (F.holds folder.now name.now)) (config_data config)) }
+{
+    let Some(mut file) = folder.open_file(name) else {
+        return Err(ProgramFault::CannotRead(name));
+    };
+    match read_config_file(heap, heap, &mut file) {
+        Ok(config) => Ok(config),
+        Err(FileFault::CannotRead) => Err(ProgramFault::CannotRead(name)),
+        Err(FileFault::Config(fault)) => Err(ProgramFault::Config(fault)),
     }
+}
+
+/// The configuration that the command line asks for.
+fn asked_config<'a, F: Folder>(
+    heap: Global,
+    name: Option<&'a str>,
+    folder: &F,
+) -> Result<Config<Global>, ProgramFault<'a>>
+    ensures { IfOk result (λ config. IsConfigOf (option_map (λ name. F.holds folder.now name.now) name.entry) (config_data config)) }
+{
+    let Some(name) = name else {
+        return match built_in_config(heap, heap) {
+            Ok(config) => Ok(config),
+            Err(fault) => Err(ProgramFault::Config(fault)),
+        };
+    };
+    named_config(heap, name, folder)
+}
+
+/// Runs the script that the command line names, by the configuration that it names or the built-in one. The first of
+/// these faults ends it: the configuration's file cannot be read, the configuration is none, the script's file cannot
+/// be read, and those of the run.
+#[tactic(auto, using(crate::proofs::RunLemmas::ran))]
+pub fn run_named<'a, F: Folder, W: Write>(
+    heap: Global,
+    words: ScriptWords<'a>,
+    folder: &F,
+    output: &mut W,
+) -> Result<(), ProgramFault<'a>>
+    ensures { OnOk result (Ran (option_map (λ name. F.holds folder.now name.now) words.entry.config) (F.holds folder.now words.entry.script.now) (W.contents output.old) (W.contents output.new)) }
+{
+    let config = match asked_config(heap, words.config, folder) {
+        Ok(config) => config,
+        Err(fault) => return Err(fault),
+    };
+    let Some(mut file) = folder.open_file(words.script) else {
+        return Err(ProgramFault::CannotRead(words.script));
+    };
+    run_file(heap, config, &mut file, output)
 }
 
 /// Writes help to the output.
@@ -96,7 +146,7 @@ pub fn run_program<F: Folder, O: Write, E: Write>(
     ensures quiet { result ≡ 0 → errors.new ≡ errors.old }
 {
     let end = match read_words(alloc, words) {
-        Ok(Asked::Script(name)) => run_named(alloc, name, folder, output),
+        Ok(Asked::Script(words)) => run_named(alloc, words, folder, output),
         Ok(Asked::Text(help)) if !help.use_stderr() => show_help(&help, output),
         Ok(Asked::Text(mistake)) => {
             let _ = write!(errors, "{mistake}");

@@ -3,27 +3,97 @@ use clap::error::ErrorKind;
 use clap::{Arg, Command, Error};
 use std::alloc::{AllocError, Global};
 
+const ABOUT: &str = "A map feature server for land agencies";
+
+const LONG_ABOUT: &str =
+    "A map feature server for land agencies: offices search features by a window and change them \
+by lists, under policies that stewards replace while others work.";
+
+const EXAMPLES: &str = "Examples:
+  landmap script day.map
+  landmap script --config agency.json day.map
+
+Exit status:
+  0  what was asked is done
+  1  it ended by a fault, of which one line on standard error tells
+  2  the command line is wrong";
+
+const SCRIPT_ABOUT: &str = "Runs the session lines of a file, and writes the replies";
+
+const SCRIPT_LONG_ABOUT: &str =
+    "Runs the session lines of a file, and writes the replies to standard output.
+
+A line is `label: command`. A label stands for one session, which begins with HELLO and the name of a subject. Empty \
+lines, and lines that begin with #, are skipped.
+
+Without a configuration the subjects are north, south and chief, who is the steward, and everything is permitted.";
+
+const SCRIPT_EXAMPLES: &str = "Example:
+  A file first.map of these lines
+
+    n: HELLO north
+    n: ADD 1 mast POINT (3 4)
+    n: COMMIT
+    n: SEARCH POINT (3 4)
+
+  is run by `landmap script first.map`, which writes
+
+    n: hello north
+    n: staged
+    n: applied 1
+    n: rows 1
+    n: 1 1 north mast POINT (3 4)
+
+Exit status:
+  0  all lines are answered, be it by `error`
+  1  the run ended by a fault, of which one line on standard error tells:
+     `cannot read FILE`, `cannot write`, or a code: B1 to B5 and N1 to N3 of the configuration,
+     D2 to D8 of its policies, V1 to V4 of the run
+  2  the command line is wrong";
+
 /// What the command line asks.
 pub(crate) enum Asked<'a> {
-    /// To run the script of this file.
-    Script(&'a str),
+    /// To run the script of a file.
+    Script(ScriptWords<'a>),
     /// To show a text of clap's: help, or what is wrong with the command line.
     Text(Error),
 }
 
+/// The files that the command line names for a script.
+#[derive(Clone, Copy)]
+pub struct ScriptWords<'a> {
+    /// The script's file.
+    pub script: &'a str,
+    /// The configuration's file, where it is not to be the built-in one.
+    pub config: Option<&'a str>,
+}
+
+/// The subcommand that runs a script.
+fn script_command<'a>(alloc: Global) -> Result<Command<'a>, AllocError> {
+    let config = Arg::new(alloc, "config")
+        .long("config")
+        .value_name("FILE")
+        .help("The subjects and the first policy document, as JSON");
+    let file = Arg::new(alloc, "FILE")
+        .help("The script: lines `label: command`")
+        .required(true);
+    Command::new(alloc, "script")
+        .about(SCRIPT_ABOUT)
+        .long_about(SCRIPT_LONG_ABOUT)
+        .after_long_help(SCRIPT_EXAMPLES)
+        .arg(config)?
+        .arg(file)
+}
+
 /// The command line.
 fn command<'a>(alloc: Global) -> Result<Command<'a>, AllocError> {
-    let file = Arg::new(alloc, "FILE")
-        .help("The script: lines `label: line`")
-        .required(true);
-    let script = Command::new(alloc, "script")
-        .about("Runs the session lines of a file, and writes the replies")
-        .arg(file)?;
     Command::new(alloc, "landmap")
-        .about("A map feature server for land agencies")
+        .about(ABOUT)
+        .long_about(LONG_ABOUT)
+        .after_long_help(EXAMPLES)
         .subcommand_required(true)
         .arg_required_else_help(true)
-        .subcommand(script)
+        .subcommand(script_command(alloc)?)
 }
 
 /// Reads the command line, of which the first word is the program's name. `NoMemory` where clap found none.
@@ -41,7 +111,10 @@ pub(crate) fn read_words<'a>(
     };
     match matches.subcommand() {
         Some((_, matches)) => match matches.get_str("FILE") {
-            Some(name) => Ok(Asked::Script(name)),
+            Some(script) => Ok(Asked::Script(ScriptWords {
+                script,
+                config: matches.get_str("config"),
+            })),
             None => Err(ProgramFault::NoMemory),
         },
         None => Err(ProgramFault::NoMemory),

@@ -97,3 +97,18 @@ impl Read for CountingReader {
         Ok(1)
     }
 }
+
+/// A reader that fills what it is given with line feeds, so many in all.
+#[derive(Drop)]
+pub struct LongReader {
+    pub left: usize,
+}
+
+impl Read for LongReader {
+    fn read(&mut self, buf: &mut [u8]) -> io::Result<usize> {
+        let count = buf.len().min(self.left);
+        buf[..count].fill(b'\n');
+        self.left -= count;
+        Ok(count)
+    }
+}

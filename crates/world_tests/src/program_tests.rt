@@ -1,8 +1,11 @@
 //! The program's exit statuses, and what it writes.
 use crate::fakes::{
-    CountingReader, FIRST_POINT, FIRST_REPLIES, FailingReader, FailingWriter, Failure,
+    CountingReader, FIRST_POINT, FIRST_REPLIES, FailingReader, FailingWriter, Failure, LongReader,
 };
-use program::{Folder, ProgramFault, run_file, run_program, status_of, tell};
+use program::{
+    CONFIG_LIMIT, Config, Folder, ProgramFault, built_in_config, run_file, run_program, status_of,
+    tell,
+};
 use refusing::Refusing;
 use std::alloc::{AllocError, Global};
 use std::io::Read;
@@ -17,7 +20,11 @@ struct Text<'a> {
 }
 
 impl<'a> Folder for Text<'a> {
+    ghost use Rattle.std.specs.Prelude.{None};
+
     type File = FailingReader<'a>;
+
+    ghost holds = { λ folder name. None };
 
     fn open_file(&self, name: &str) -> Option<FailingReader<'a>> {
         if name != "a.map" {
@@ -30,12 +37,40 @@ impl<'a> Folder for Text<'a> {
     }
 }
 
+/// A folder with two files, `a.json` and `a.map`.
+#[derive(Drop)]
+struct Two<'a> {
+    config: &'a [u8],
+    script: &'a [u8],
+}
+
+impl<'a> Folder for Two<'a> {
+    ghost use Rattle.std.specs.Prelude.{None};
+
+    type File = FailingReader<'a>;
+
+    ghost holds = { λ folder name. None };
+
+    fn open_file(&self, name: &str) -> Option<FailingReader<'a>> {
+        let bytes = match name {
+            "a.json" => self.config,
+            "a.map" => self.script,
+            _ => return None,
+        };
+        Some(FailingReader { bytes, fails_at: 0 })
+    }
+}
+
 /// A folder in which each file never ends.
 #[derive(Drop)]
 struct Endless;
 
 impl Folder for Endless {
+    ghost use Rattle.std.specs.Prelude.{None};
+
     type File = CountingReader;
+
+    ghost holds = { λ folder name. None };
 
     fn open_file(&self, _name: &str) -> Option<CountingReader> {
         Some(CountingReader {
@@ -121,6 +156,125 @@ fn a_script_is_run(rt: HostRuntime) -> Result<(), Fail> {
     Ok(())
 }
 
+/// A script of one session of `ines`, who is there by the configuration alone.
+const OF_INES: &str = "n: HELLO north\ni: HELLO ines\n";
+
+const BY_INES: &str =
+    r#"{"subjects":[{"name":"ines","office":"north","role":"editor"}],"policies":{"root":{"combine":"first-applicable","policy":"start","rules":[]}}}"#;
+
+/// The script by this configuration ends so.
+fn configured(
+    rt: &impl Abort,
+    alloc: Global,
+    config: &str,
+    status: u8,
+    written: (&str, &str),
+) -> Result<(), AllocError> {
+    let folder = Two {
+        config: config.as_bytes(),
+        script: OF_INES.as_bytes(),
+    };
+    let words = ["script", "--config", "a.json", "a.map"];
+    check(rt, alloc, &words, &folder, status, written)
+}
+
+#[test]
+fn a_configuration_is_read(rt: HostRuntime) -> Result<(), Fail> {
+    configured(
+        &rt,
+        rt.alloc(),
+        BY_INES,
+        0,
+        ("n: error H1\ni: hello ines\n", ""),
+    )?;
+    configured(&rt, rt.alloc(), "{", 1, ("", "landmap: B1\n"))?;
+    configured(&rt, rt.alloc(), "{}", 1, ("", "landmap: B2\n"))?;
+    configured(
+        &rt,
+        rt.alloc(),
+        r#"{"subjects":[],"policies":{}}"#,
+        1,
+        ("", "landmap: N1\n"),
+    )?;
+    configured(
+        &rt,
+        rt.alloc(),
+        r#"{"subjects":[{"name":"a","office":"b","role":"c"}],"policies":{}}"#,
+        1,
+        ("", "landmap: D2\n"),
+    )?;
+    Ok(())
+}
+
+/// The words over the folder of two files, of which the configuration's is none, end with status 1 and this line.
+fn ends_with(rt: &impl Abort, alloc: Global, texts: &[&str], line: &str) -> Result<(), AllocError> {
+    let folder = Two {
+        config: b"{}",
+        script: OF_INES.as_bytes(),
+    };
+    check(rt, alloc, texts, &folder, 1, ("", line))
+}
+
+#[test]
+fn files_are_opened_in_turn(rt: HostRuntime) -> Result<(), Fail> {
+    ends_with(
+        &rt,
+        rt.alloc(),
+        &["script", "--config", "b.json", "b.map"],
+        "landmap: cannot read b.json\n",
+    )?;
+    ends_with(
+        &rt,
+        rt.alloc(),
+        &["script", "--config", "a.json", "b.map"],
+        "landmap: B2\n",
+    )?;
+    ends_with(
+        &rt,
+        rt.alloc(),
+        &["script", "--config=a.json", "a.map"],
+        "landmap: B2\n",
+    )?;
+    ends_with(
+        &rt,
+        rt.alloc(),
+        &["script", "b.map"],
+        "landmap: cannot read b.map\n",
+    )?;
+    Ok(())
+}
+
+/// A folder in which each file is one byte longer than a configuration may be.
+#[derive(Drop)]
+struct TooLong;
+
+impl Folder for TooLong {
+    ghost use Rattle.std.specs.Prelude.{None};
+
+    type File = LongReader;
+
+    ghost holds = { λ folder name. None };
+
+    fn open_file(&self, _name: &str) -> Option<LongReader> {
+        Some(LongReader {
+            left: CONFIG_LIMIT + 1,
+        })
+    }
+}
+
+#[test]
+fn a_configuration_too_long(rt: HostRuntime) -> Result<(), Fail> {
+    check(
+        &rt,
+        rt.alloc(),
+        &["script", "--config", "a.json", "a.map"],
+        &TooLong,
+        1,
+        ("", "landmap: cannot read a.json\n"),
+    )?;
+    Ok(())
+}
+
 #[test]
 fn a_read_fails(rt: HostRuntime) -> Result<(), Fail> {
     let folder = Text {
@@ -146,18 +300,31 @@ fn a_read_fails(rt: HostRuntime) -> Result<(), Fail> {
     Ok(())
 }
 
-#[test]
-fn memory_is_refused(rt: HostRuntime) -> Result<(), Fail> {
-    let memory = Refusing::new(rt.alloc(), 1);
-    let mut output = Vec::new(rt.alloc());
-    let mut errors = Vec::new(rt.alloc());
-    let end = run_file(&memory, &mut FIRST_POINT.as_bytes(), &mut output);
+/// A run whose first allocation is refused ends by V4.
+fn without_memory(
+    rt: &impl Abort,
+    alloc: Global,
+    config: Config<Global>,
+) -> Result<(), AllocError> {
+    let memory = Refusing::new(alloc, 1);
+    let mut output = Vec::new(alloc);
+    let mut errors = Vec::new(alloc);
+    let end = run_file(&memory, config, &mut FIRST_POINT.as_bytes(), &mut output);
     assert_eq!(rt; status_of(&end), 1);
     if let Err(fault) = &end {
         assert!(rt; tell(fault, &mut errors).is_ok());
     }
     assert_eq!(rt; errors.as_slice(), b"landmap: V4\n".as_slice());
     assert_eq!(rt; output.len(), 0);
+    Ok(())
+}
+
+#[test]
+fn memory_is_refused(rt: HostRuntime) -> Result<(), Fail> {
+    match built_in_config(rt.alloc(), rt.alloc()) {
+        Ok(config) => without_memory(&rt, rt.alloc(), config)?,
+        Err(fault) => assert!(rt; false, "{fault}"),
+    }
     let mut errors = Vec::new(rt.alloc());
     assert!(rt; tell(&ProgramFault::NoMemory, &mut errors).is_ok());
     assert_eq!(rt; errors.as_slice(), b"landmap: V4\n".as_slice());
@@ -254,14 +421,21 @@ fn texts_of_clap(rt: HostRuntime) -> Result<(), Fail> {
         rt.alloc(),
         &["--help"],
         0,
-        "A map feature server for land agencies\n\nUsage: landmap <COMMAND>\n",
+        "A map feature server for land agencies: offices search features by a window",
     )?;
     shows(
         &rt,
         rt.alloc(),
         &["script", "--help"],
         0,
-        "Runs the session lines of a file, and writes the replies\n\nUsage: landmap script <FILE>\n",
+        "Runs the session lines of a file, and writes the replies to standard output.\n\nA line is `label: command`.",
+    )?;
+    shows(
+        &rt,
+        rt.alloc(),
+        &["script", "-h"],
+        0,
+        "Runs the session lines of a file, and writes the replies\n\nUsage: landmap script [OPTIONS] <FILE>\n",
     )?;
     shows(
         &rt,

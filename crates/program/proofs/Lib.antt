@@ -1,0 +1,5 @@
+pub mod BuiltInLemmas
+pub mod ConfigLemmas
+pub mod FileLemmas
+pub mod RunLemmas
+pub mod SpellingLaws

@@ -1,0 +1,18 @@
+-- The configuration of a server that is given none.
+use Rattle.std.specs.Prelude.{[], ◌∷◌, codes}
+use Rattle.policy_text.specs.Documents.{DocumentData, policy}
+use Rattle.policy_text.specs.declared.algorithms.Algorithm.TheVariants.{FirstApplicable}
+use Rattle.policy_text.specs.declared.algorithms.Effect.TheVariants.{Permit}
+use Rattle.sessions.specs.BuiltIn.{built_in}
+use Rattle.program.specs.Configs.{ConfigData}
+
+-- everything is permitted, by the rule `open`
+abbrev pub open_document : DocumentData
+open_document = record {
+  zones = [];
+  root = policy (record { name = codes "start"; combine = FirstApplicable; target = [] })
+      (record { name = codes "open"; effect = Permit; target = []; when = [] } ∷ []);
+}
+
+abbrev pub built_in_config : ConfigData
+built_in_config = record { subjects = built_in; document = open_document }

@@ -1,0 +1,28 @@
+-- The file of a configuration, whose bytes may be known.
+use Rattle.std.specs.Prelude.{◌≡◌, ◌≤◌, ℕ, List, length, Option, IfSome, Result, Ok, Err}
+use Rattle.program.specs.ConfigFaults.{Fails}
+use Rattle.program.specs.Configs.{config_data, config_of}
+use Rattle.program.specs.declared.config_faults.ConfigFault.{ConfigFault}
+use Rattle.program.specs.declared.config_faults.ConfigFault.TheVariants.{Memory}
+use Rattle.program.specs.declared.configs.Config.{Config}
+use Rattle.program.specs.declared.files.FileFault.{FileFault}
+use Rattle.program.specs.declared.files.FileFault.TheVariants as reasons
+use Rattle.program.specs.declared.files.TheConstants.{CONFIG_LIMIT}
+
+-- all the bytes that a file had left, where they are known
+abbrev pub IsWhole : Option (List ℕ) → List ℕ → Type 0
+IsWhole left bytes = IfSome left (λ text. bytes ≡ text)
+
+-- a file's bytes were not had: want of memory, or they cannot be read
+abbrev pub IsUnread : FileFault → Type 0
+IsUnread reasons.CannotRead = Unit {0}
+IsUnread (reasons.Config (Memory refused)) = Unit {0}
+IsUnread (reasons.Config _) = ⊥
+
+-- What a file of these bytes gives: its configuration or the first fault of that, where it is not too long. That it cannot
+-- be read, and want of memory, may come of any.
+abbrev pub FileGives : {A : Type 0} → Result (Config A) FileFault → List ℕ → Type 0
+FileGives (Ok config) text = (length text ≤ CONFIG_LIMIT) × (config_of text ≡ Ok (config_data config))
+FileGives (Err reasons.CannotRead) text = Unit {0}
+FileGives (Err (reasons.Config (Memory refused))) text = Unit {0}
+FileGives (Err (reasons.Config fault)) text = (length text ≤ CONFIG_LIMIT) × Fails fault (config_of text)

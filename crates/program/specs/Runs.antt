@@ -1,0 +1,27 @@
+-- What a run of a script has written, where it ended well.
+use Rattle.std.specs.Prelude.{◌≡◌, ℕ, List, Option, None, Some, option_map, IfSome, Ok}
+use Rattle.std.specs.Io.KnownBytes.{Appends}
+use Rattle.sessions.specs.Scripts.{IsScriptText}
+use Rattle.sessions.specs.States.{PlainState}
+use Rattle.sessions.specs.Worlds.{opened}
+use Rattle.program.specs.BuiltIn.{built_in_config}
+use Rattle.program.specs.Configs.{ConfigData, config_of}
+
+-- the script text of the script's bytes, over the world that a configuration opens
+pub record Served (config : ConfigData) (script : List ℕ) (before after : Option (List ℕ)) : Type 0 where
+  pub said : List ℕ
+  pub end : PlainState
+  pub written : Appends before after said
+  pub text : IsScriptText (opened config.subjects) script end said
+
+-- the configuration of a run: the built-in one, or that of a file, whose bytes may be known
+abbrev pub IsConfigOf : Option (Option (List ℕ)) → ConfigData → Type 0
+IsConfigOf None config = config ≡ built_in_config
+IsConfigOf (Some None) config = Unit {0}
+IsConfigOf (Some (Some text)) config = config_of text ≡ Ok config
+
+-- the configuration is the one that was asked for, and the script is served
+pub record Ran (config : Option (Option (List ℕ))) (script : Option (List ℕ)) (before after : Option (List ℕ)) : Type 0 where
+  pub configured : ConfigData
+  pub is_config : IsConfigOf config configured
+  pub served : IfSome script (λ text. Served configured text before after)

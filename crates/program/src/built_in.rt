@@ -1,0 +1,26 @@
+//! The configuration of a server that is given none.
+
+ghost use Rattle.std.specs.Prelude.{Ok};
+ghost use Rattle.program.specs.BuiltIn.{built_in_config};
+ghost use Rattle.program.specs.ConfigFaults.{Gives};
+ghost use Rattle.program.specs.Configs.{config_data};
+
+use crate::config_faults::ConfigFault;
+use crate::configs::{Config, read_config};
+use std::alloc::{Allocator, Global};
+
+/// The text of that configuration.
+const BUILT_IN: &str =
+    r#"{"subjects":[{"name":"north","office":"north","role":"editor"},{"name":"south","office":"south","role":"viewer"},{"name":"chief","office":"hq","role":"chief","steward":true}],"policies":{"root":{"combine":"first-applicable","policy":"start","rules":[{"effect":"permit","rule":"open"}]}}}"#;
+
+/// The configuration of a server that is given none: the subjects `north`, an editor of the office north, `south`, a
+/// viewer of the office south, and `chief`, the steward, of the office hq; and a policy by which everything is
+/// permitted. The only error is want of memory.
+pub fn built_in_config<A: Allocator + Copy>(
+    alloc: A,
+    heap: Global,
+) -> Result<Config<A>, ConfigFault>
+    ensures { Gives config_data result (Ok built_in_config) }
+{
+    read_config(alloc, heap, BUILT_IN.as_bytes())
+}

@@ -1,0 +1,84 @@
+//! The file of a configuration.
+
+ghost use Rattle.std.specs.Prelude.{◌≡◌, ◌≤◌, IfOk, IfErr, IfSome, length};
+ghost use Rattle.program.specs.ConfigFiles.{FileGives, IsUnread, IsWhole};
+
+use crate::config_faults::ConfigFault;
+use crate::configs::{Config, read_config};
+use memory::{Refused, try_extend};
+use std::alloc::{Allocator, Global};
+use std::io::Read;
+
+/// How many bytes the file of a configuration has at most.
+pub const CONFIG_LIMIT: usize = 16_777_216;
+
+/// How many bytes are read at once.
+const CHUNK: usize = 4_096;
+
+/// Why a file gives no configuration.
+#[derive(Debug, Drop, PartialEq, Eq)]
+pub enum FileFault {
+    /// A read failed, or the file is longer than 16,777,216 bytes.
+    CannotRead,
+    /// What stands in the file is none, or a growth was refused.
+    Config(ConfigFault),
+}
+
+impl From<Refused> for FileFault {
+    ghost use Rattle.std.specs.Prelude.{◌≡◌};
+    ghost use Rattle.program.specs.declared.config_faults.ConfigFault.TheVariants.{Memory};
+    ghost use Rattle.program.specs.declared.files.FileFault.TheVariants as reasons;
+
+    ghost from_gives = { λ refused fault. fault ≡ reasons.Config (Memory refused) };
+
+    fn from(refused: Refused) -> Self {
+        FileFault::Config(ConfigFault::Memory(refused))
+    }
+}
+
+impl From<ConfigFault> for FileFault {
+    ghost use Rattle.std.specs.Prelude.{◌≡◌};
+    ghost use Rattle.program.specs.declared.files.FileFault.TheVariants as reasons;
+
+    ghost from_gives = { λ unread fault. fault ≡ reasons.Config unread };
+
+    fn from(unread: ConfigFault) -> Self {
+        FileFault::Config(unread)
+    }
+}
+
+/// All bytes of a file. A read gives at least one byte, but at the end, so there are no more reads than bytes.
+fn whole_file<A: Allocator, R: Read>(alloc: A, file: &mut R) -> Result<Vec<u8, A>, FileFault>
+    ensures whole { IfOk result (λ bytes. IsWhole (R.remaining file.old) bytes.items) }
+    ensures fits { IfOk result (λ bytes. length bytes.items ≤ CONFIG_LIMIT) }
+    ensures unread { IfErr result (λ fault. IsUnread fault) }
+{
+    let mut bytes = Vec::new(alloc);
+    let mut chunk = [0; CHUNK];
+    for _ in 0..=CONFIG_LIMIT {
+        let Ok(count) = file.read(&mut chunk) else {
+            return Err(FileFault::CannotRead);
+        };
+        if count == 0 {
+            return Ok(bytes);
+        }
+        if count > CONFIG_LIMIT - bytes.len() {
+            return Err(FileFault::CannotRead);
+        }
+        try_extend(&mut bytes, &chunk[..count])?;
+    }
+    Err(FileFault::CannotRead)
+}
+
+/// Reads the configuration that stands in a file, which is held whole until it is read.
+/// Faults: `CannotRead` where a read fails, or the file is longer than 16,777,216 bytes; else that of `read_config`.
+pub fn read_config_file<A: Allocator + Copy, R: Read>(
+    alloc: A,
+    heap: Global,
+    file: &mut R,
+) -> Result<Config<A>, FileFault>
+    ensures { IfSome (R.remaining file.old) (λ text. FileGives result text) }
+{
+    let text = whole_file(alloc, file)?;
+    Ok(read_config(alloc, heap, text.as_slice())?)
+}
