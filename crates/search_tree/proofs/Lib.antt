@@ -12,4 +12,6 @@ pub mod Openings
 pub mod VisitLemmas
 pub mod StepLemmas
 pub mod VisitSteps
+pub mod VisitCalls
+pub mod Complete
 pub mod WalkSteps

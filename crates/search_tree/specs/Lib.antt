@@ -8,5 +8,6 @@ pub mod Arenas
 pub mod Bodies
 pub mod Trees
 pub mod Calls
+pub mod States
 pub mod Visits
 pub mod Walks
