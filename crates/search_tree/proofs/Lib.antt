@@ -12,6 +12,8 @@ pub mod Openings
 pub mod VisitLemmas
 pub mod StepLemmas
 pub mod VisitSteps
+pub mod VisitCalls
+pub mod Complete
 pub mod WalkSteps
 pub mod TendSteps
 pub mod InstallSteps

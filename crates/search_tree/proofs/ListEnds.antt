@@ -28,6 +28,11 @@ module _ {T : Type 0} where
   read_any (y ∷ xs) zero x d lt e = e
   read_any (y ∷ xs) (suc i) x d lt e = read_any xs i x d (omega arith) e
 
+  pub read_self : (xs : List T) (i : ℕ) (d : T) → i < length xs → slice_index_or xs i (slice_index_or xs i d) ≡ slice_index_or xs i d
+  read_self [] i d lt = absurd (omega arith)
+  read_self (y ∷ xs) zero d lt = refl
+  read_self (y ∷ xs) (suc i) d lt = read_self xs i d (omega arith)
+
   pub get_some : (xs : List T) (i : ℕ) (d : T) → i < length xs → slice_get xs i ≡ Some (slice_index_or xs i d)
   get_some [] i d lt = absurd (omega arith)
   get_some (y ∷ xs) zero d lt = refl

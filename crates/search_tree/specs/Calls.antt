@@ -1,7 +1,13 @@
 -- What the calls do, as callers see it: the contents, the searches, and the counts.
-use Rattle.std.specs.Prelude.{◌≡◌, ◌≢◌, ◌+◌, ◌++◌, ◌≤◌, ℕ, Bool, true, false, [], List, Contains, length, Option, None, Some}
+use Rattle.std.specs.Prelude.{◌≡◌, ◌≢◌, ◌+◌, ◌++◌, ◌<◌, ◌≤◌, ℕ, Bool, true, false, [], List, Contains, length, slice_index_or, Option, None, Some, Result, Ok, Err}
 use Rattle.std.specs.Option.{option_map}
-use Rattle.search_tree.specs.Trees.{PlainTree, SeenSearch, search_in, steps_in, tree_of, root_level}
+use Rattle.memory.specs.declared.refused.Refused.{Refused}
+use Rattle.predicate_locks.specs.Searches.{last_number}
+use Rattle.search_tree.specs.declared.answers.Visit.{Visit}
+use Rattle.search_tree.specs.declared.answers.Visit.TheVariants.{More, Ready}
+use Rattle.search_tree.specs.declared.fault.TreeFault.{TreeFault}
+use Rattle.search_tree.specs.declared.fault.TreeFault.TheVariants.{NoSearch, Overrun, Memory}
+use Rattle.search_tree.specs.Trees.{PlainProgress, PlainTree, IsFirstOf, is_empty, SeenSearch, search_in, steps_in, tree_of, root_level}
 use Rattle.node_arena.specs.Slots.{taken_count, slot_count}
 use Rattle.tree_theory.specs.Contents.{InContents, IsContents}
 use Rattle.tree_theory.specs.KeyClasses.{Class}
@@ -46,6 +52,12 @@ module _ (C : Class) where
     pub contents : SameContents t u
     pub counts : SameCounts t u
 
+  -- where the search is ready, it has found every pair of the tree that it looks for
+  abbrev pub IsComplete : PlainTree C.Key C.Query C.Item → ℕ → List (ℕ × C.Item) → Type 0
+  IsComplete t search found =
+      (s : SeenSearch C.Query C.Item) → search_in t search ≡ Some s → s.ready ≡ true → (xs : List (ℕ × C.Item)) → IsContents (tree_of C t) xs
+      → (pair : ℕ × C.Item) → Contains xs pair → C.Matches pair.1 s.query → Contains found pair
+
   -- the same to all who call: contents, searches and counts
   pub record IsAlike (t u : PlainTree C.Key C.Query C.Item) : Type 0 where
     pub searches : (search : ℕ) → search_in u search ≡ search_in t search
@@ -79,3 +91,26 @@ IsReadyIn t search = option_map (λ s. s.ready) (search_in t search) ≡ Some tr
 pub record IsOverrun {Key Query Item : Type 0} (t : PlainTree Key Query Item) (search : ℕ) : Type 0 where
   pub waits : option_map (λ s. s.ready) (search_in t search) ≡ Some false
   pub spent : t.limit ≤ steps_in t search
+
+-- the search whose progress stands at this place has more to see, and may make a step more
+pub record MayStep {Key Query Item : Type 0} (t : PlainTree Key Query Item) (search at : ℕ) : Type 0 where
+  pub first : IsFirstOf search t.progress at
+  pub waits : (p : PlainProgress Item) → slice_index_or t.progress at p ≡ p → is_empty p.stack ≡ false
+  pub steps : (p : PlainProgress Item) → slice_index_or t.progress at p ≡ p → p.steps < last_number
+
+abbrev pub is_ready : Visit → Bool
+is_ready More = false
+is_ready Ready = true
+
+-- the search runs, has more to see, and has steps left
+pub record IsUnderWay {Key Query Item : Type 0} (t : PlainTree Key Query Item) (search : ℕ) : Type 0 where
+  pub waits : option_map (λ s. s.ready) (search_in t search) ≡ Some false
+  pub left : steps_in t search < t.limit
+
+-- what a visit answers, when, and what it leaves. At most one of the first four can be said of a search
+pub data IsVisit (C : Class) (t u : PlainTree C.Key C.Query C.Item) (search : ℕ) : Result Visit TreeFault → Type 0 where
+  none_runs : search_in t search ≡ None → u ≡ t → IsVisit C t u search (Err NoSearch)
+  was_ready : IsReadyIn t search → u ≡ t → IsVisit C t u search (Ok Ready)
+  overruns : IsOverrun t search → IsShut C t u search → IsVisit C t u search (Err Overrun)
+  goes_on : (visit : Visit) → IsUnderWay t search → IsFurther C t u search (is_ready visit) → IsVisit C t u search (Ok visit)
+  wants_memory : (refusal : Refused) → IsUnderWay t search → IsAlike C t u → IsVisit C t u search (Err (Memory refusal))

@@ -8,6 +8,7 @@ pub mod Arenas
 pub mod Bodies
 pub mod Trees
 pub mod Calls
+pub mod States
 pub mod Visits
 pub mod Walks
 pub mod Tends

@@ -97,6 +97,14 @@ search_of (Some running) (Some progress) =
       found = progress.found;
     })
 
+-- a walk: its pair, where it stands, its steps, and whether the pair is placed
+pub record PlainWalk (Item : Type 0) : Type 0 where
+  pub key : ℕ
+  pub item : Item
+  pub at : Handle
+  pub steps : ℕ
+  pub placed : Bool
+
 -- a search as callers know it: its query, what it has found, and whether it has seen all there is
 pub record SeenSearch (Query Item : Type 0) : Type 0 where
   pub query : Query

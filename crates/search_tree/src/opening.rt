@@ -4,7 +4,7 @@ ghost use Rattle.std.specs.Prelude.{◌≡◌, ◌≢◌, ◌↔◌, ◌<◌, �
 ghost use Rattle.memory.specs.Refused.{refused};
 ghost use Rattle.predicate_locks.specs.Searches.{last_number};
 ghost use Rattle.predicate_locks.specs.declared.TheConstants.{MAX_RUNNING};
-ghost use Rattle.search_tree.specs.Calls.{IsOpen, IsShut, found_in};
+ghost use Rattle.search_tree.specs.Calls.{IsOpen, IsShut, IsComplete, found_in};
 ghost use Rattle.search_tree.specs.Trees.{IsFirstOf, progress_at};
 ghost use Rattle.tree_theory.specs.KeyClasses.{class_of};
 
@@ -52,9 +52,10 @@ impl<C: KeyClass, A: Allocator> Tree<C, A> {
         drop_progress(&mut self.progress, search);
     }
 
-    /// What a search has found, and nothing where none runs under the number.
+    /// What a search has found, and nothing where none runs under the number. Of a search that is ready this is every pair of the tree whose item matches its query.
     pub fn found(&self, search: u64) -> &[(u64, C::Item)]
-        ensures { result.now ≡ found_in self.now search }
+        ensures value { result.now ≡ found_in self.now search }
+        ensures complete { IsComplete (class_of C.covered C.may_match C.is_match C.key_with C.united) self.now search result.now }
     {
         match place_of(&self.progress, search) {
             Some(at) => self.progress[at].found(),

@@ -3,7 +3,7 @@
 ghost use Rattle.std.specs.Prelude.{◌≡◌, ◌≢◌, ◌∷◌, ◌++◌, ◌+◌, ◌<◌, [], ℕ, List, IfOk, OnOk, OnErr, length};
 ghost use Rattle.predicate_locks.specs.Searches.{last_number};
 ghost use Rattle.node_arena.specs.declared.handle.Handle.{Handle};
-ghost use Rattle.search_tree.specs.Trees.{SameButRoom, HasVisitRoom, IsLast};
+ghost use Rattle.search_tree.specs.Trees.{SameButRoom, HasVisitRoom, IsLast, is_empty};
 
 use memory::{GrowVec, Refused, vec_with_places};
 use node_arena::Handle;
@@ -72,6 +72,13 @@ impl<I: Copy, A: Allocator> Progress<I, A> {
         ensures { result.now ≡ self.now.stack }
     {
         &self.stack
+    }
+
+    /// Whether it has seen all there is.
+    pub fn is_ready(&self) -> bool
+        ensures { result ≡ is_empty self.now.stack }
+    {
+        self.stack.is_empty()
     }
 
     /// What it has found.

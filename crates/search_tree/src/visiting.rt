@@ -1,22 +1,118 @@
 //! One step of a search.
 
-ghost use Rattle.std.specs.Prelude.{◌≡◌, ◌≢◌, ◌++◌, ◌+◌, ◌<◌, ◌≤◌, [], OnOk, OnErr, length};
+ghost use Rattle.std.specs.Prelude.{◌≡◌, ◌≢◌, ◌++◌, ◌+◌, ◌<◌, ◌≤◌, [], IfOk, OnOk, OnErr, length};
 ghost use Rattle.predicate_locks.specs.Searches.{last_number};
 ghost use Rattle.search_tree.specs.Arenas.{AreSame};
-ghost use Rattle.search_tree.specs.Trees.{HasVisitRoom, SameButRoom};
+ghost use Rattle.search_tree.specs.Calls.{IsAlike, IsFurther, IsVisit, MayStep, is_ready};
+ghost use Rattle.search_tree.specs.States.{IsState};
+ghost use Rattle.search_tree.specs.Trees.{HasVisitRoom, SameButRoom, is_empty};
 ghost use Rattle.search_tree.specs.Visits.{HasChildren, HasMatching, HasSeen, HasVisited};
 ghost use Rattle.tree_theory.specs.KeyClasses.{class_of};
 ghost use Rattle.tree_theory.specs.Nodes.{entries_of, pairs_of, followed, is_followed as follows};
 ghost use Rattle.tree_theory.specs.declared.TheConstants.{NODE_SIZE};
 
+use crate::answers::Visit;
 use crate::bits::has_bit;
+use crate::fault::TreeFault;
 use crate::node::TreeNode;
+use crate::opening::place_of;
 use crate::progress::Progress;
 use crate::setters::{Nodes, attach};
+use crate::tree::Tree;
 use memory::Refused;
 use predicate_locks::Running;
 use std::alloc::Allocator;
 use tree_theory::{KeyClass, Place};
+
+/// How a search stands before a step of it.
+#[derive(Clone, Copy)]
+pub(crate) enum State {
+    /// None runs under the number.
+    Gone,
+    /// It has seen all there is.
+    Ready,
+    /// It has made all its steps.
+    Spent,
+    /// It may make a step; its progress stands at this place.
+    Waits(usize),
+}
+
+impl<C: KeyClass, A: Allocator + Copy> Tree<C, A> {
+    /// One step of a search: it sees one node. Ready is answered where it has then seen all there is; from then on until it is closed, `found` has every pair of the tree whose item matches its query.
+    ///
+    /// S1 where no search runs under the number. A search that is ready is answered Ready again, and makes no step. S7 where it has made all its steps: then it ends. S8 where there is no memory; then nothing has changed.
+    pub fn visit(&mut self, search: u64) -> Result<Visit, TreeFault>
+        ensures { IsVisit (class_of C.covered C.may_match C.is_match C.key_with C.united) self.old self.new search result }
+    {
+        match self.state_of(search) {
+            State::Gone => Err(TreeFault::NoSearch),
+            State::Ready => Ok(Visit::Ready),
+            State::Spent => {
+                self.close_search(search);
+                Err(TreeFault::Overrun)
+            }
+            State::Waits(at) => match self.visit_at(at, search) {
+                Ok(visit) => Ok(visit),
+                Err(refused) => Err(TreeFault::Memory(refused)),
+            },
+        }
+    }
+
+    // How a search stands.
+    fn state_of(&self, search: u64) -> State
+        ensures { IsState self.now search result }
+    {
+        let limit = self.step_limit();
+        let Some(at) = place_of(&self.progress, search) else {
+            return State::Gone;
+        };
+        let progress = &self.progress[at];
+        if progress.is_ready() {
+            return State::Ready;
+        }
+        if limit <= progress.steps() {
+            return State::Spent;
+        }
+        State::Waits(at)
+    }
+
+    // How many steps a search makes at most.
+    fn step_limit(&self) -> u64
+        ensures { result ≡ self.now.limit }
+    {
+        self.limit
+    }
+
+    // One step of the search whose progress stands at this place.
+    fn visit_at(&mut self, at: usize, search: u64) -> Result<Visit, Refused>
+        requires { MayStep self.old search at }
+        ensures ok { IfOk result (λ visit. IsFurther (class_of C.covered C.may_match C.is_match C.key_with C.united) self.old self.new search (is_ready visit)) }
+        ensures err { OnErr result (IsAlike (class_of C.covered C.may_match C.is_match C.key_with C.united) self.old self.new) }
+    {
+        let Some(query) = self.running.query(search) else {
+            unreachable!();
+        };
+        visit_last::<C, A>(
+            &mut self.nodes,
+            &self.running,
+            &mut self.progress[at],
+            query,
+            self.counter,
+        )?;
+        Ok(visit_of(&self.progress[at]))
+    }
+}
+
+// What a visit answers that has come so far.
+fn visit_of<I: Copy, A: Allocator>(progress: &Progress<I, A>) -> Visit
+    ensures { is_ready result ≡ is_empty progress.now.stack }
+{
+    if progress.is_ready() {
+        Visit::Ready
+    } else {
+        Visit::More
+    }
+}
 
 // One step of a search: it takes the last node from its stack, and sees what that has. Where there is no memory nothing changes but the room.
 pub(crate) fn visit_last<C: KeyClass, A: Allocator + Copy>(
