@@ -15,3 +15,4 @@ pub mod VisitSteps
 pub mod WalkSteps
 pub mod TendSteps
 pub mod InstallSteps
+pub mod CleanSteps
