@@ -17,3 +17,4 @@ pub mod Complete
 pub mod WalkSteps
 pub mod TendSteps
 pub mod InstallSteps
+pub mod CleanSteps

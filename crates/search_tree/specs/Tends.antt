@@ -3,11 +3,12 @@ use Rattle.std.specs.Prelude.{◌≡◌, ◌+◌, ◌<◌, ◌≤◌, ℕ, true,
 use Rattle.node_arena.specs.Slots.{value_at, slot_count, taken_count}
 use Rattle.node_arena.specs.declared.handle.Handle.{Handle}
 use Rattle.predicate_locks.specs.Searches.{AllBegunSince}
-use Rattle.search_tree.specs.Trees.{PlainTree, search_in, steps_in, root_level}
+use Rattle.search_tree.specs.Trees.{PlainTree, search_in, steps_in, root_level, tree_of}
 use Rattle.search_tree.specs.declared.answers.Tending.{Tending}
 use Rattle.search_tree.specs.declared.answers.Tending.TheVariants.{Idle, Freed, Installed, Cleaned, Retired}
 use Rattle.search_tree.specs.declared.installing.NewEntry.{NewEntry}
 use Rattle.tree_theory.specs.Changes.{IsKeyFor}
+use Rattle.tree_theory.specs.Contents.{IsContents, LosesPairs}
 use Rattle.tree_theory.specs.KeyClasses.{Class}
 use Rattle.tree_theory.specs.Nodes.{Node}
 use Rattle.tree_theory.specs.Nodes.PlainBody.{Leaf, Inner}
@@ -41,6 +42,17 @@ module _ (C : Class) (t : PlainTree C.Key C.Query C.Item) where
     pub slots : slot_count u.nodes ≡ slot_count t.nodes
     pub counter : u.counter ≡ t.counter + ticks tending
     pub taken : TakenAfter tending (taken_count t.nodes) (taken_count u.nodes)
+
+  -- the contents without some pairs, none of which is in Kept
+  abbrev pub ContentsLess : PlainTree C.Key C.Query C.Item → (ℕ × C.Item → Type 0) → Type 0
+  ContentsLess u Kept = (xs ys : List (ℕ × C.Item)) → IsContents (tree_of C t) xs → IsContents (tree_of C u) ys → LosesPairs Kept xs ys
+
+  -- a leaf
+  pub record MayClean (at : Handle) : Type 0 where
+    pub node : Node C
+    pub is : value_at t.nodes at ≡ Some node
+    pub pairs : List (ℕ × C.Item)
+    pub body : node.body ≡ Leaf pairs
 
   -- a retired node that no running search can come to any more
   pub record MayFree (at : Handle) : Type 0 where

@@ -1,9 +1,10 @@
 //! What a node has: the entries of an inner node, or the pairs of a leaf. Each list has the places of a full node from the start, so that it never grows.
 
-ghost use Rattle.std.specs.Prelude.{◌≡◌, ◌∷◌, ◌++◌, ◌<◌, ◌≤◌, [], ℕ, Some, IfOk, length, map, slice_get, slice_set, remove};
+ghost use Rattle.std.specs.Prelude.{◌≡◌, ◌∷◌, ◌++◌, ◌<◌, ◌≤◌, [], ℕ, Some, IfOk, filter, length, map, slice_get, slice_set, remove, vec_capacity};
 ghost use Rattle.node_arena.specs.declared.handle.Handle.{Handle};
 ghost use Rattle.tree_theory.specs.declared.TheConstants.{NODE_SIZE};
 
+use crate::keeper::Keeper;
 use memory::{GrowVec, Refused, vec_with_places};
 use node_arena::Handle;
 use std::alloc::Allocator;
@@ -141,4 +142,20 @@ impl<I: Copy, A: Allocator> Pairs<I, A> {
     {
         self.pairs.push_reserved((key, item));
     }
+
+    /// Lets the pairs go that are not kept.
+    pub fn keep<K: Keeper<I>>(&mut self, keeper: &K)
+        ensures { self.new ≡ filter (λ pair. K.kept keeper.now pair.0 pair.1) self.old }
+    {
+        sift(&mut self.pairs, keeper);
+    }
+}
+
+// Takes out what is not kept.
+fn sift<I: Copy, K: Keeper<I>, A: Allocator>(pairs: &mut Vec<(u64, I), A>, keeper: &K)
+    ensures kept { pairs.new.items ≡ filter (λ pair. K.kept keeper.now pair.0 pair.1) pairs.old.items }
+    ensures fewer { length pairs.new.items ≤ length pairs.old.items }
+    ensures places { vec_capacity pairs.new ≡ vec_capacity pairs.old }
+{
+    pairs.retain(|pair| keeper.keeps(pair.0, &pair.1));
 }

@@ -10,6 +10,7 @@ ghost use Rattle.tree_theory.specs.declared.TheConstants.{NODE_SIZE};
 ghost use Rattle.search_tree.specs.Trees.{IsLeaf, IsInner, first_leaf};
 
 use crate::entries::{Entries, Pairs};
+use crate::keeper::Keeper;
 use memory::Refused;
 use node_arena::Handle;
 use predicate_locks::{Attached, LockFault, Running};
@@ -228,6 +229,17 @@ impl<K: Copy, I: Copy, A: Allocator> TreeNode<K, I, A> {
         match &mut self.body {
             Body::Pairs(_) => unreachable!(),
             Body::Entries(entries) => entries.remove(place),
+        }
+    }
+
+    /// Lets the pairs of a leaf go that are not kept.
+    pub fn keep<T: Keeper<I>>(&mut self, keeper: &T)
+        requires { IsLeaf self.old.body }
+        ensures { self.new ≡ record self.old { body = Leaf (filter (λ pair. T.kept keeper.now pair.0 pair.1) (pairs_of self.old.body)) } }
+    {
+        match &mut self.body {
+            Body::Pairs(pairs) => pairs.keep(keeper),
+            Body::Entries(_) => unreachable!(),
         }
     }
 

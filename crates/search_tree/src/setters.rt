@@ -10,6 +10,7 @@ ghost use Rattle.tree_theory.specs.Nodes.{entries_of, pairs_of, size_of};
 ghost use Rattle.tree_theory.specs.Nodes.PlainBody.{Leaf, Inner};
 ghost use Rattle.tree_theory.specs.declared.TheConstants.{NODE_SIZE};
 
+use crate::keeper::Keeper;
 use crate::node::TreeNode;
 use memory::Refused;
 use node_arena::{Arena, Handle};
@@ -115,6 +116,20 @@ pub fn remove_entry<K: Copy, I: Copy, A: Allocator>(
 {
     if let Some(node) = nodes.get_mut(at) {
         node.remove_entry(place);
+    }
+}
+
+/// Lets the pairs of a leaf go that are not kept.
+pub fn keep<K: Copy, I: Copy, T: Keeper<I>, A: Allocator>(
+    nodes: &mut Nodes<K, I, A>,
+    at: Handle,
+    keeper: &T,
+)
+    requires { Holds nodes.old at (λ node. IsLeaf node.body) }
+    ensures { IsChanged nodes.old nodes.new at (λ node. record node { body = Leaf (filter (λ pair. T.kept keeper.now pair.0 pair.1) (pairs_of node.body)) }) }
+{
+    if let Some(node) = nodes.get_mut(at) {
+        node.keep(keeper);
     }
 }
 

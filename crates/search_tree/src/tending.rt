@@ -1,12 +1,13 @@
 //! Tending: slot by slot a tree lets go of what it no longer needs.
 
-ghost use Rattle.std.specs.Prelude.{◌≡◌, ◌+◌};
+ghost use Rattle.std.specs.Prelude.{◌≡◌, ◌+◌, IsTrue};
 ghost use Rattle.search_tree.specs.Calls.{SameContents};
-ghost use Rattle.search_tree.specs.Tends.{HasTended, MayFree, MayRetire};
+ghost use Rattle.search_tree.specs.Tends.{HasTended, ContentsLess, MayClean, MayFree, MayRetire};
 ghost use Rattle.tree_theory.specs.KeyClasses.{class_of};
 
 use crate::answers::Tending;
-use crate::setters::{remove_entry, set_place};
+use crate::keeper::Keeper;
+use crate::setters::{keep, remove_entry, set_place};
 use crate::tree::Tree;
 use node_arena::Handle;
 use std::alloc::Allocator;
@@ -32,5 +33,14 @@ impl<C: KeyClass, A: Allocator> Tree<C, A> {
         set_place(&mut self.nodes, at, Place::Retired { stamp });
         remove_entry(&mut self.nodes, parent, place);
         self.counter = stamp;
+    }
+
+    // Lets the pairs of a leaf go that are not kept.
+    fn clean<K: Keeper<C::Item>>(&mut self, at: Handle, keeper: &K)
+        requires { MayClean (class_of C.covered C.may_match C.is_match C.key_with C.united) self.old at }
+        ensures tended { HasTended (class_of C.covered C.may_match C.is_match C.key_with C.united) self.old self.new Tending.Cleaned }
+        ensures contents { ContentsLess (class_of C.covered C.may_match C.is_match C.key_with C.united) self.old self.new (λ pair. IsTrue (K.kept keeper.now pair.0 pair.1)) }
+    {
+        keep(&mut self.nodes, at, keeper);
     }
 }
