@@ -1,59 +1,18 @@
-//! Policies are put in force, and the trail is rolled over.
+//! Policies are put in force.
 
-ghost use Rattle.std.specs.Prelude.{◌≡◌, ◌+◌, ◌<◌, length, map, IfOk, IfErr};
+ghost use Rattle.std.specs.Prelude.{◌≡◌, ◌+◌, IfErr};
 ghost use Rattle.std.specs.Arc.{arc_value};
-ghost use Rattle.memory.specs.Refused.{refused};
-ghost use Rattle.audit_trail.specs.Records as deeds;
-ghost use Rattle.transactions.specs.Events.{Happens, Govern, Roll, Number, TakenOut, reply_of, reply_handing};
+ghost use Rattle.transactions.specs.Events.{Happens, Govern, Number, reply_of, reply_handing};
 
 use crate::faults::Fault;
 use crate::searching::want_of;
-use crate::worlds::{Base, World, made_decider};
-use audit_trail::{Deed, Record, Trail};
+use crate::worlds::{World, made_decider};
+use audit_trail::{Deed, Record};
 use decision::Decider;
-use features::{Meter, StoreFault};
 use memory::another;
 use policy_text::Document;
 use std::alloc::{Allocator, Global};
-use std::marker::Model;
-use std::mem;
 use std::sync::Arc;
-
-/// What a roll takes out: the state at which the trail began, and the trail.
-#[derive(Debug, Drop)]
-pub struct Rolled<A: Allocator> {
-    base: Base<A>,
-    trail: Trail<A>,
-}
-
-impl<A: Allocator> Model for Rolled<A> {
-    ghost use Rattle.std.specs.Coded.{code_by, codes};
-    ghost use Rattle.transactions.specs.Rolls.{RolledData};
-    ghost use Rattle.transactions.specs.Coding.{StoredRolled, stored_rolled, restored_rolled, restored_rolled-stored_rolled};
-
-    ghost Value = { RolledData };
-
-    ghost coded = { code_by StoredRolled (Prim.hlevel codes) stored_rolled restored_rolled restored_rolled-stored_rolled };
-
-    ghost view = { λ r. record { base = r.base; first = r.trail.first; records = r.trail.records } };
-}
-
-impl<A: Allocator> Rolled<A> {
-    /// The state at which the trail began.
-    pub fn base(&self) -> &Base<A>
-        ensures { result.now ≡ self.now.base }
-    {
-        &self.base
-    }
-
-    /// The trail.
-    pub fn trail(&self) -> &Trail<A>
-        ensures first { result.now.first ≡ self.now.first }
-        ensures records { result.now.records ≡ self.now.records }
-    {
-        &self.trail
-    }
-}
 
 impl<A: Allocator + Copy> World<A> {
     /// Puts a document in force by a decider that was made before, of the next edition. X1 where the seat was not given,
@@ -114,38 +73,5 @@ impl<A: Allocator + Copy> World<A> {
             Ok(edition) => Ok(edition),
             Err(fault) => Err((document, fault)),
         }
-    }
-
-    /// Takes the trail out whole; the new one begins from the present state, with the next number. X1 where the seat was
-    /// not given, X7 where its subject is no steward, X8 where so many records were rolled out and are there that the next
-    /// trail's numbers would not fit, X12 where a growth is refused.
-    pub fn roll(&mut self, seat: u32) -> Result<Rolled<A>, Fault>
-        ensures { Happens (Roll seat) self.old self.new (reply_of TakenOut result) }
-    {
-        self.may_roll(seat)?;
-        let next = self.present()?;
-        let first = self.trail.first() + self.trail.len();
-        let base = mem::replace(&mut self.base, next);
-        let trail = mem::replace(&mut self.trail, Trail::starting_at(self.alloc, first));
-        Ok(Rolled { base, trail })
-    }
-
-    /// The present state, from which a trail may begin.
-    fn present(&self) -> Result<Base<A>, Fault>
-        ensures ok { IfOk result (λ base. base ≡ self.now.state) }
-        ensures err { IfErr result (λ fault. fault ≡ Fault.Memory refused) }
-    {
-        let mut meter = Meter::new();
-        let features = match self.store.dump(self.alloc, &mut meter) {
-            Ok(features) => features,
-            Err(StoreFault::Memory(refusal)) => return Err(Fault::Memory(refusal)),
-            Err(StoreFault::Full) => unreachable!(),
-        };
-        let decider = another(&self.decider)?;
-        Ok(Base {
-            features,
-            version: self.version,
-            decider,
-        })
     }
 }

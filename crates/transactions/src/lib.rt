@@ -10,6 +10,7 @@ mod governing;
 mod laws;
 mod listing;
 mod outcomes;
+mod rolling;
 mod searches;
 mod searching;
 mod settings;
@@ -20,7 +21,6 @@ mod worlds;
 pub use answers::Answer;
 pub use denials::Denial;
 pub use faults::{Fault, TreeFault};
-pub use governing::Rolled;
 pub use laws::{
     every_answer_is_exact, every_commit_ends_as_judged, every_outcome_is_the_judgement,
     every_piece_leads_on, every_policy_is_a_stewards, every_refusal_changes_nothing,
@@ -28,6 +28,7 @@ pub use laws::{
     records_are_added_alone, what_is_under_way_is_in_order,
 };
 pub use outcomes::Outcome;
+pub use rolling::Rolled;
 pub use searches::Search;
 pub use settings::{
     CHANGE_LIMIT, Limits, ROLLED_LIMIT, SEARCH_LIMIT, SEAT_LIMIT, STEP_LIMIT, Starts,

@@ -6,12 +6,24 @@ mod audit_trail_tests;
 #[cfg(test)]
 mod config_tests;
 #[cfg(test)]
+mod end_tests;
+#[cfg(test)]
 mod event_tests;
 #[cfg(test)]
 mod fakes;
 #[cfg(test)]
 mod fault_tests;
 #[cfg(test)]
+mod memory_tests;
+#[cfg(test)]
+mod model_tests;
+#[cfg(test)]
+mod plain_world;
+#[cfg(test)]
 mod program_tests;
 #[cfg(test)]
+mod refusal_tests;
+#[cfg(test)]
 mod script_tests;
+#[cfg(test)]
+mod worlds;

@@ -1,0 +1,221 @@
+//! What comes at the ends of counters and limits, and the trail that is rolled over.
+use crate::worlds::{
+    CLOSED, LIMITS, OPEN, STARTS, add, document, found, picture, placed, point, ready, seated,
+    square,
+};
+use features::Meter;
+use policy_text::print_document;
+use std::alloc::Global;
+use std::process::Abort;
+use std::test::Fail;
+use transactions::{Fault, Limits, Outcome, ROLLED_LIMIT, Starts, TreeFault, World};
+
+/// The line of the first record of the worked search below.
+const ADDED: &str =
+    r#"{"changes":[{"class":"mast","id":1,"shape":"POINT (4 4)","what":"add"}],"kind":"applied","number":1,"seat":1,"subject":"north","version":1}"#;
+
+const LISTED: &str =
+    r#"{"ids":[1],"kind":"answered","number":2,"seat":1,"subject":"north","window":"POLYGON ((0 0, 4 0, 4 4, 0 4, 0 0))"}"#;
+
+const AGAIN: &str =
+    r#"{"ids":[1],"kind":"answered","number":3,"seat":1,"subject":"north","window":"POLYGON ((0 0, 4 0, 4 4, 0 4, 0 0))"}"#;
+
+/// North adds the mast 1 at 4, 4.
+fn add_mast(rt: &impl Abort, world: &mut World<Global>) {
+    let changes = [add(rt, 1, "mast", 4)];
+    let number = placed(rt, world, 1, &changes);
+    assert!(rt; matches!(world.commit(1, number), Ok(Outcome::Applied(1))));
+}
+
+/// North finds the mast in the square of the side 4 at the origin.
+fn find_mast(rt: &impl Abort, world: &mut World<Global>) {
+    let answer = found(rt, world, 1, square(rt, 0, 4));
+    let rows = answer.rows();
+    assert!(rt; rows.len() == 1 && rows[0].id == 1 && rows[0].version == 1);
+}
+
+/// The steward rolls the trail, and is handed these lines.
+fn check_rolled(rt: &impl Abort, heap: Global, world: &mut World<Global>, lines: &[&str]) {
+    let first = world.trail().first();
+    let rolled = world.roll(heap, 3);
+    assert!(rt; rolled.is_ok());
+    let piece = rolled.unwrap();
+    assert!(rt; piece.trail().first() == first);
+    assert_eq!(rt; piece.trail().len() as usize, lines.len());
+    assert_eq!(rt; piece.lines().len(), lines.len());
+    for (line, expected) in piece.lines().iter().zip(lines) {
+        assert_eq!(rt; line.as_str(), *expected);
+    }
+}
+
+#[test]
+fn pieces_and_their_lines(rt: HostRuntime) -> Result<(), Fail> {
+    let heap = rt.alloc();
+    let mut world = seated(&rt, heap, heap, OPEN, STARTS, LIMITS);
+    add_mast(&rt, &mut world);
+    find_mast(&rt, &mut world);
+    check_rolled(&rt, heap, &mut world, &[ADDED, LISTED]);
+    check_rolled(&rt, heap, &mut world, &[]);
+    assert!(rt; world.trail().first() == 3 && world.trail().is_empty());
+    find_mast(&rt, &mut world);
+    check_rolled(&rt, heap, &mut world, &[AGAIN]);
+    assert!(rt; world.trail().first() == 4);
+    Ok(())
+}
+
+/// What a piece's base is: its version, its edition, its document and its features' ids.
+fn check_base(
+    rt: &impl Abort,
+    heap: Global,
+    world: &mut World<Global>,
+    version: u64,
+    edition: u64,
+    policy: &str,
+    ids: &[u64],
+) {
+    let rolled = world.roll(heap, 3);
+    assert!(rt; rolled.is_ok());
+    let piece = rolled.unwrap();
+    let base = piece.base();
+    assert!(rt; base.version == version && base.decider.edition() == edition);
+    let printed = print_document(heap, base.decider.document());
+    assert!(rt; printed.is_ok());
+    assert_eq!(rt; printed.unwrap().as_str(), policy);
+    assert_eq!(rt; base.features.len(), ids.len());
+    assert!(rt; base.features.iter().zip(ids).all(|(row, id)| row.id == *id));
+}
+
+#[test]
+fn each_piece_begins_where_the_last_ended(rt: HostRuntime) -> Result<(), Fail> {
+    let heap = rt.alloc();
+    let mut world = seated(&rt, heap, heap, OPEN, STARTS, LIMITS);
+    let search = ready(&rt, &mut world, 1, point(&rt, 4, 4));
+    let changes = [add(&rt, 2, "mast", 4)];
+    let open = placed(&rt, &mut world, 1, &changes);
+    add_mast(&rt, &mut world);
+    check_base(&rt, heap, &mut world, 0, 1, OPEN, &[]);
+    assert!(rt; matches!(world.govern(heap, 3, document(&rt, heap, CLOSED)), Ok(2)));
+    check_base(&rt, heap, &mut world, 1, 1, OPEN, &[1]);
+    check_base(&rt, heap, &mut world, 1, 2, CLOSED, &[1]);
+    // What is under way goes on.
+    let mut meter = Meter::new();
+    assert!(rt; world.finish(1, search, &mut meter).is_ok());
+    assert!(rt; matches!(world.commit(1, open), Ok(Outcome::Refused(_, Some(_)))));
+    assert!(rt; world.trail().first() == 3 && world.trail().len() == 2);
+    Ok(())
+}
+
+/// A world whose trail takes so many records.
+fn recording(rt: &impl Abort, heap: Global, records: u32) -> World<Global> {
+    let limits = Limits {
+        steps: 10,
+        records,
+        features: 10,
+    };
+    seated(rt, heap, heap, OPEN, STARTS, limits)
+}
+
+#[test]
+fn ends_of_counters(rt: HostRuntime) -> Result<(), Fail> {
+    let heap = rt.alloc();
+    let mut world = recording(&rt, heap, 0);
+    let before = picture(&rt, heap, &world);
+    let search = ready(&rt, &mut world, 1, point(&rt, 1, 1));
+    let mut meter = Meter::new();
+    for _ in 0..3 {
+        assert!(rt; matches!(world.finish(1, search, &mut meter), Err(Fault::TrailFull)));
+    }
+    assert!(rt; world.drop_search(1, search) == Ok(()));
+    assert_eq!(rt; picture(&rt, heap, &world).as_str(), before.as_str());
+    Ok(())
+}
+
+#[test]
+fn a_full_trail_is_rolled(rt: HostRuntime) -> Result<(), Fail> {
+    let heap = rt.alloc();
+    let mut world = recording(&rt, heap, 1);
+    add_mast(&rt, &mut world);
+    let search = ready(&rt, &mut world, 1, square(&rt, 0, 4));
+    let mut meter = Meter::new();
+    assert!(rt; matches!(world.finish(1, search, &mut meter), Err(Fault::TrailFull)));
+    check_rolled(&rt, heap, &mut world, &[ADDED]);
+    assert!(rt; world.finish(1, search, &mut meter).is_ok());
+    check_rolled(&rt, heap, &mut world, &[LISTED]);
+    Ok(())
+}
+
+#[test]
+fn numbers_that_would_not_fit(rt: HostRuntime) -> Result<(), Fail> {
+    let heap = rt.alloc();
+    let starts = Starts {
+        rolled: ROLLED_LIMIT,
+        ..STARTS
+    };
+    let mut world = seated(&rt, heap, heap, OPEN, starts, LIMITS);
+    assert!(rt; world.trail().first() == 4_293_918_720);
+    check_rolled(&rt, heap, &mut world, &[]);
+    let answer = found(&rt, &mut world, 1, point(&rt, 1, 1));
+    assert_eq!(rt; answer.rows().len(), 0);
+    let before = picture(&rt, heap, &world);
+    assert!(rt; matches!(world.roll(heap, 3), Err(Fault::Spent)));
+    assert!(rt; matches!(world.roll(heap, 1), Err(Fault::NotSteward)));
+    assert_eq!(rt; picture(&rt, heap, &world).as_str(), before.as_str());
+    Ok(())
+}
+
+#[test]
+fn the_last_version(rt: HostRuntime) -> Result<(), Fail> {
+    let heap = rt.alloc();
+    let starts = Starts {
+        version: u64::MAX,
+        ..STARTS
+    };
+    let mut world = seated(&rt, heap, heap, OPEN, starts, LIMITS);
+    let before = picture(&rt, heap, &world);
+    let changes = [add(&rt, 1, "mast", 4)];
+    let number = placed(&rt, &mut world, 1, &changes);
+    assert!(rt; matches!(world.commit(1, number), Err(Fault::Spent)));
+    assert_eq!(rt; picture(&rt, heap, &world).as_str(), before.as_str());
+    // A list that fails is turned away all the same.
+    let absent = [features::Change::Delete { id: 9, version: 1 }];
+    let other = placed(&rt, &mut world, 1, &absent);
+    assert!(rt; matches!(world.commit(1, other), Ok(Outcome::Refused(_, None))));
+    Ok(())
+}
+
+#[test]
+fn the_last_edition(rt: HostRuntime) -> Result<(), Fail> {
+    let heap = rt.alloc();
+    let starts = Starts {
+        edition: u64::MAX,
+        ..STARTS
+    };
+    let mut world = seated(&rt, heap, heap, OPEN, starts, LIMITS);
+    let before = picture(&rt, heap, &world);
+    match world.govern(heap, 3, document(&rt, heap, CLOSED)) {
+        Ok(_) => assert!(&rt; false, "a document was put in force"),
+        Err((back, fault)) => {
+            assert!(rt; fault == Fault::Spent);
+            assert!(rt; back == document(&rt, heap, CLOSED));
+        }
+    }
+    assert_eq!(rt; picture(&rt, heap, &world).as_str(), before.as_str());
+    Ok(())
+}
+
+#[test]
+fn the_last_search(rt: HostRuntime) -> Result<(), Fail> {
+    let heap = rt.alloc();
+    let starts = Starts {
+        search: u64::MAX - 1,
+        ..STARTS
+    };
+    let mut world = seated(&rt, heap, heap, OPEN, starts, LIMITS);
+    let answer = found(&rt, &mut world, 1, point(&rt, 1, 1));
+    assert_eq!(rt; answer.rows().len(), 0);
+    let before = picture(&rt, heap, &world);
+    let spent = Err(Fault::Tree(TreeFault::Spent));
+    assert!(rt; world.open_search(1, point(&rt, 1, 1)) == spent);
+    assert_eq!(rt; picture(&rt, heap, &world).as_str(), before.as_str());
+    Ok(())
+}

@@ -1,0 +1,212 @@
+//! Each event with each of its allocations refused in turn, and the calls that take no memory.
+use crate::worlds::{
+    CLOSED, LIMITS, OPEN, STARTS, add, document, found, name, picture, placed, point, ready,
+    seated, square, staged,
+};
+use features::{Change, Meter};
+use refusing::Refusing;
+use std::alloc::Global;
+use std::process::Abort;
+use std::test::Fail;
+use transactions::{Advance, Fault, Outcome, Step, Tending, Visit, World};
+
+/// An event that takes memory.
+#[derive(Clone, Copy, Debug, PartialEq, Eq)]
+enum Taking {
+    Seat,
+    OpenSearch,
+    Finish,
+    Begin,
+    Apply,
+    TurnAway,
+    Deny,
+    Govern,
+    Roll,
+}
+
+/// A world in which north has added the roads 1 to 4 and searched, and has a ready search and a transaction.
+#[derive(Drop)]
+struct Prepared<'a> {
+    world: World<&'a Refusing<Global>>,
+    search: u64,
+    transaction: u64,
+}
+
+/// The change that is staged for a commit.
+fn change_for(rt: &impl Abort, event: &Taking) -> Change {
+    match event {
+        Taking::TurnAway => Change::Delete { id: 9, version: 1 },
+        _ => add(rt, 5, "road", 5),
+    }
+}
+
+/// A world before an event.
+fn before_event<'a>(
+    rt: &impl Abort,
+    memory: &'a Refusing<Global>,
+    heap: Global,
+    event: &Taking,
+) -> Prepared<'a> {
+    let mut world = seated(rt, memory, heap, OPEN, STARTS, LIMITS);
+    let four = [
+        add(rt, 1, "road", 1),
+        add(rt, 2, "road", 2),
+        add(rt, 3, "road", 3),
+        add(rt, 4, "road", 4),
+    ];
+    let number = placed(rt, &mut world, 1, &four);
+    assert!(rt; matches!(world.commit(1, number), Ok(Outcome::Applied(1))));
+    // Four places of a list are made at once, so each list that may grow is full.
+    assert!(rt; world.seat(name(rt, "south")) == Ok(4));
+    for _ in 0..3 {
+        assert_eq!(rt; found(rt, &mut world, 1, square(rt, 0, 9)).rows().len(), 4);
+        ready(rt, &mut world, 2, point(rt, 0, 0));
+        staged(rt, &mut world, 2, &[]);
+    }
+    let search = ready(rt, &mut world, 1, square(rt, 0, 9));
+    let transaction = placed(rt, &mut world, 1, &[change_for(rt, event)]);
+    if *event == Taking::Deny {
+        assert!(rt; matches!(world.govern(heap, 3, document(rt, heap, CLOSED)), Ok(2)));
+    }
+    Prepared {
+        world,
+        search,
+        transaction,
+    }
+}
+
+/// Whether the event succeeds, and whether it wants memory.
+fn run(
+    rt: &impl Abort,
+    heap: Global,
+    prepared: &mut Prepared<'_>,
+    event: &Taking,
+) -> Option<Fault> {
+    let mut meter = Meter::new();
+    let world = &mut prepared.world;
+    match event {
+        Taking::Seat => world.seat(name(rt, "south")).err(),
+        Taking::OpenSearch => world.open_search(1, point(rt, 1, 1)).err(),
+        Taking::Finish => world.finish(1, prepared.search, &mut meter).err(),
+        Taking::Begin => world.begin(1).err(),
+        Taking::Govern => govern(rt, heap, world),
+        Taking::Roll => world.roll(heap, 3).err(),
+        _ => world.commit(1, prepared.transaction).err(),
+    }
+}
+
+/// Puts a document in force.
+fn govern(rt: &impl Abort, heap: Global, world: &mut World<&Refusing<Global>>) -> Option<Fault> {
+    match world.govern(heap, 3, document(rt, heap, CLOSED)) {
+        Ok(_) => None,
+        Err((back, fault)) => {
+            assert!(rt; back == document(rt, heap, CLOSED));
+            Some(fault)
+        }
+    }
+}
+
+/// After a refusal the world tells what it told before, what is under way goes on, and the event succeeds when it is
+/// made again.
+fn check_refused(
+    rt: &impl Abort,
+    heap: Global,
+    prepared: &mut Prepared<'_>,
+    event: &Taking,
+    before: &str,
+) {
+    assert_eq!(rt; picture(rt, heap, &prepared.world).as_str(), before);
+    assert!(rt; run(rt, heap, prepared, event).is_none());
+    let world = &mut prepared.world;
+    if *event != Taking::Finish {
+        let mut meter = Meter::new();
+        assert!(rt; world.finish(1, prepared.search, &mut meter).is_ok());
+    }
+}
+
+/// The event with its allocation of this number refused. Whether that was reached.
+fn try_refused(rt: &impl Abort, heap: Global, event: &Taking, at: u64) -> bool {
+    let memory = Refusing::new(heap, 0);
+    let mut prepared = before_event(rt, &memory, heap, event);
+    let before = picture(rt, heap, &prepared.world);
+    memory.refuse(at);
+    let told = run(rt, heap, &mut prepared, event);
+    let refused = memory.has_refused();
+    memory.refuse(0);
+    if refused {
+        assert!(rt; matches!(told, Some(Fault::Memory(_))), "{event:?} {at}");
+        check_refused(rt, heap, &mut prepared, event, before.as_str());
+    } else {
+        assert!(rt; told.is_none(), "{event:?} {at}");
+    }
+    refused
+}
+
+/// How many of the event's allocations can be refused.
+fn refusals(rt: &impl Abort, heap: Global, event: &Taking) -> u64 {
+    for at in 1..100 {
+        if !try_refused(rt, heap, event, at) {
+            return at.saturating_sub(1);
+        }
+    }
+    0
+}
+
+#[test]
+fn each_allocation_of_a_search_refused(rt: HostRuntime) -> Result<(), Fail> {
+    for event in &[Taking::Seat, Taking::OpenSearch, Taking::Finish] {
+        assert!(rt; refusals(&rt, rt.alloc(), event) > 0, "{event:?}");
+    }
+    Ok(())
+}
+
+#[test]
+fn each_allocation_of_a_commit_refused(rt: HostRuntime) -> Result<(), Fail> {
+    for event in &[Taking::Begin, Taking::Apply, Taking::TurnAway, Taking::Deny] {
+        assert!(rt; refusals(&rt, rt.alloc(), event) > 0, "{event:?}");
+    }
+    Ok(())
+}
+
+#[test]
+fn each_allocation_of_a_policy_and_a_roll_refused(rt: HostRuntime) -> Result<(), Fail> {
+    for event in &[Taking::Govern, Taking::Roll] {
+        assert!(rt; refusals(&rt, rt.alloc(), event) > 0, "{event:?}");
+    }
+    Ok(())
+}
+
+/// The readers, and the events of searches that take no memory.
+fn read_and_visit(rt: &impl Abort, prepared: &mut Prepared<'_>) {
+    let world = &mut prepared.world;
+    assert!(rt; world.trail().len() == 4 && world.trail().get(1).is_some());
+    assert!(rt; world.edition() == 1 && world.len() == 4 && world.found_count(1) == 0);
+    assert!(rt; world.document().rule_name(1) == Some(name(rt, "open")));
+    assert!(rt; world.visit(1, prepared.search) == Ok(Visit::Ready));
+    assert!(rt; world.drop_search(1, prepared.search) == Ok(()));
+    assert!(rt; world.tend(0) == Ok(Tending::Idle));
+}
+
+/// The events of transactions that take no memory: fifteen more changes, one beyond, and giving the list up.
+fn stage_and_abort(rt: &impl Abort, prepared: &mut Prepared<'_>) {
+    let world = &mut prepared.world;
+    let number = prepared.transaction;
+    for id in 10..25 {
+        assert!(rt; world.stage(1, number, add(rt, id, "road", 1)) == Ok(()));
+    }
+    let beyond = world.stage(1, number, add(rt, 25, "road", 1));
+    assert!(rt; beyond == Err(Fault::TooManyChanges));
+    assert!(rt; world.advance(1, number) == Ok(Advance::Walked(Step::Placed)));
+    assert!(rt; world.abort(1, number) == Ok(()));
+}
+
+#[test]
+fn calls_that_take_no_memory(rt: HostRuntime) -> Result<(), Fail> {
+    let memory = Refusing::new(rt.alloc(), 0);
+    let mut prepared = before_event(&rt, &memory, rt.alloc(), &Taking::Apply);
+    memory.refuse(1);
+    read_and_visit(&rt, &mut prepared);
+    stage_and_abort(&rt, &mut prepared);
+    assert!(rt; !memory.has_refused());
+    Ok(())
+}

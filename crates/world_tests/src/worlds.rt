@@ -1,0 +1,212 @@
+//! Worlds, subjects and policies to try events on.
+use features::{Change, FEATURE_LIMIT, Meter, Name, Subject, Subjects};
+use plane::{Point, Shape};
+use policy_text::{Document, print_document, read_document};
+use std::alloc::{Allocator, Global};
+use std::process::Abort;
+use transactions::{Answer, Limits, ROLLED_LIMIT, STEP_LIMIT, Starts, Visit, World};
+
+/// Everything is permitted.
+pub const OPEN: &str =
+    r#"{"root":{"combine":"first-applicable","policy":"start","rules":[{"effect":"permit","rule":"open"}]}}"#;
+
+/// What is done with roads is permitted, and nothing is said of anything else.
+pub const ROADS: &str =
+    r#"{"root":{"combine":"first-applicable","policy":"p","rules":[{"effect":"permit","rule":"roads","target":[[[{"class":"road"}]]]}]}}"#;
+
+/// Nothing is permitted.
+pub const CLOSED: &str =
+    r#"{"root":{"combine":"first-applicable","policy":"p","rules":[{"effect":"deny","rule":"closed"}]}}"#;
+
+/// Where the numbers of a world start that `open` gives.
+pub const STARTS: Starts = Starts {
+    generation: 0,
+    counter: 0,
+    search: 1,
+    version: 0,
+    edition: 1,
+    rolled: 0,
+};
+
+/// Limits that no test reaches.
+pub const LIMITS: Limits = Limits {
+    steps: 1_000,
+    records: 1_000,
+    features: 1_000,
+};
+
+pub fn name(rt: &impl Abort, text: &str) -> Name {
+    let name = Name::new(text.as_bytes());
+    assert!(rt; name.is_some(), "{text}");
+    name.unwrap()
+}
+
+pub fn point(rt: &impl Abort, x: i32, y: i32) -> Shape {
+    let shape = Shape::point(Point { x, y });
+    assert!(rt; shape.is_ok());
+    shape.unwrap()
+}
+
+/// The square between two corners.
+pub fn square(rt: &impl Abort, low: i32, high: i32) -> Shape {
+    let ring = [
+        Point { x: low, y: low },
+        Point { x: high, y: low },
+        Point { x: high, y: high },
+        Point { x: low, y: high },
+        Point { x: low, y: low },
+    ];
+    let shape = Shape::polygon(&ring);
+    assert!(rt; shape.is_ok());
+    shape.unwrap()
+}
+
+pub fn document(rt: &impl Abort, heap: Global, text: &str) -> Document<Global> {
+    let read = read_document(heap, heap, text.as_bytes());
+    assert!(rt; read.is_ok(), "{text}");
+    read.unwrap()
+}
+
+/// A subject whose name and office are one.
+fn subject(rt: &impl Abort, office: &str, steward: bool) -> Subject {
+    Subject {
+        name: name(rt, office),
+        office: name(rt, office),
+        role: name(rt, "editor"),
+        steward,
+    }
+}
+
+/// Two editors, and a steward.
+pub fn subjects(rt: &impl Abort) -> Subjects {
+    let made = Subjects::new(&[
+        subject(rt, "north", false),
+        subject(rt, "south", false),
+        subject(rt, "chief", true),
+    ]);
+    assert!(rt; made.is_ok());
+    made.unwrap()
+}
+
+/// A world of this policy, with three seats: north has the first, south the second, chief the third.
+pub fn seated<A: Allocator + Copy>(
+    rt: &impl Abort,
+    alloc: A,
+    heap: Global,
+    policy: &str,
+    starts: Starts,
+    limits: Limits,
+) -> World<A> {
+    assert!(rt; starts.rolled <= ROLLED_LIMIT && limits.steps <= STEP_LIMIT);
+    assert!(rt; limits.records <= 1_000 && limits.features as usize <= FEATURE_LIMIT);
+    let opened = World::open_at(
+        alloc,
+        heap,
+        subjects(rt),
+        document(rt, heap, policy),
+        starts,
+        limits,
+    );
+    assert!(rt; opened.is_ok());
+    let mut world = opened.unwrap();
+    assert!(rt; world.seat(name(rt, "north")) == Ok(1));
+    assert!(rt; world.seat(name(rt, "south")) == Ok(2));
+    assert!(rt; world.seat(name(rt, "chief")) == Ok(3));
+    world
+}
+
+/// An added feature at a place on the diagonal.
+pub fn add(rt: &impl Abort, id: u64, class: &str, at: i32) -> Change {
+    Change::Add {
+        id,
+        class: name(rt, class),
+        shape: point(rt, at, at),
+    }
+}
+
+/// A transaction of a seat that has staged these changes, of which none is placed.
+pub fn staged<A: Allocator + Copy>(
+    rt: &impl Abort,
+    world: &mut World<A>,
+    seat: u32,
+    changes: &[Change],
+) -> u64 {
+    let begun = world.begin(seat);
+    assert!(rt; begun.is_ok());
+    let number = begun.unwrap();
+    for change in changes {
+        assert!(rt; world.stage(seat, number, *change) == Ok(()));
+    }
+    number
+}
+
+/// The same, with all placed.
+pub fn placed<A: Allocator + Copy>(
+    rt: &impl Abort,
+    world: &mut World<A>,
+    seat: u32,
+    changes: &[Change],
+) -> u64 {
+    let number = staged(rt, world, seat, changes);
+    for change in changes {
+        assert!(rt; matches!(change, Change::Delete { .. }) || world.advance(seat, number).is_ok());
+    }
+    number
+}
+
+/// A search of a seat that is ready.
+pub fn ready<A: Allocator + Copy>(
+    rt: &impl Abort,
+    world: &mut World<A>,
+    seat: u32,
+    window: Shape,
+) -> u64 {
+    let opened = world.open_search(seat, window);
+    assert!(rt; opened.is_ok());
+    let number = opened.unwrap();
+    assert!(rt; world.visit(seat, number) == Ok(Visit::Ready));
+    number
+}
+
+/// What a seat is answered for a window.
+pub fn found<A: Allocator + Copy>(
+    rt: &impl Abort,
+    world: &mut World<A>,
+    seat: u32,
+    window: Shape,
+) -> Answer<A> {
+    let number = ready(rt, world, seat, window);
+    let mut meter = Meter::new();
+    let answered = world.finish(seat, number, &mut meter);
+    assert!(rt; answered.is_ok());
+    answered.unwrap()
+}
+
+/// All that a world tells without an event: how many features there are, the edition, the document in force, and the
+/// trail's records with the number of the first.
+pub fn picture<A: Allocator>(rt: &impl Abort, heap: Global, world: &World<A>) -> String {
+    let printed = print_document(heap, world.document());
+    assert!(rt; printed.is_ok());
+    let document = printed.unwrap();
+    let head = format!(in heap;
+        "{} {} {} {}\n{document}\n",
+        world.len(),
+        world.edition(),
+        world.trail().first(),
+        world.trail().len()
+    );
+    assert!(rt; head.is_ok());
+    let mut told = head.unwrap();
+    put_lines(rt, heap, world, &mut told);
+    told
+}
+
+/// Puts the lines of a world's trail to a text.
+fn put_lines<A: Allocator>(rt: &impl Abort, heap: Global, world: &World<A>, told: &mut String) {
+    let trail = world.trail();
+    for place in 0..trail.len() {
+        let line = trail.json_line(heap, trail.first().saturating_add(place));
+        assert!(rt; line.is_ok());
+        assert!(rt; told.push_str(line.unwrap().as_str()).is_ok() && told.push('\n').is_ok());
+    }
+}
