@@ -1,5 +1,5 @@
 -- The text of the built-in configuration is read as it.
-use Rattle.std.proofs.Common.{◌≡◌, ℕ, true, List, [], ◌∷◌, codes, refl, ap, ◌∙◌, subst, Result, Some, Ok}
+use Rattle.std.proofs.Common.{◌≡◌, ℕ, true, List, codes, refl, ap, ◌∙◌, subst, Result, Some, Ok}
 use Rattle.std.specs.Str.{is_utf8, chars}
 use lib.Utf8.{encode}
 use Rattle.serde_json.specs.Data.{Data, boolean, string, array, object, Items, no_items, item, Members, no_members, member}

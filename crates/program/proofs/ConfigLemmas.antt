@@ -13,7 +13,6 @@ use Rattle.features.specs.declared.actors.Subject.{Subject}
 use Rattle.memory.specs.JsonFault.{IsTextFault}
 use Rattle.memory.specs.declared.json.JsonFault.{JsonFault}
 use Rattle.memory.specs.declared.json.JsonFault.TheVariants as reasons
-use Rattle.policy_text.specs.Documents.{DocumentData}
 use Rattle.policy_text.specs.Reading.{Fails as FailsText, document_in}
 use Rattle.policy_text.specs.declared.faults.TextFault.{TextFault}
 use Rattle.policy_text.specs.declared.faults.TextFault.TheVariants as texts

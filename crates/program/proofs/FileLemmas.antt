@@ -1,5 +1,5 @@
 -- Reading a file to its end.
-use Rattle.std.proofs.Common.{◌≡◌, ℕ, List, [], ◌++◌, Option, Some, None, ap, ◌∙◌, sym, refl, append_assoc, IfSome}
+use Rattle.std.proofs.Common.{ℕ, List, [], ◌++◌, Option, Some, None, ap, ◌∙◌, sym, refl, append_assoc}
 use Rattle.std.proofs.lemmas.List.{append-nil}
 use Rattle.std.specs.Io.KnownBytes.{Consumes, IsAtEnd}
 use Rattle.program.specs.ConfigFiles.{IsWhole}

@@ -3,13 +3,12 @@ use Rattle.std.proofs.Common.{arith, ltb-true, ◌≡◌, ℕ, ◌≤◌, ◌<�
 use Rattle.std.proofs.lemmas.Bool.{ltb-false}
 use Rattle.std.specs.Option.{ok_or}
 use Rattle.std.specs.Str.{is_utf8}
-use Rattle.serde_json.specs.Data.{Data, null, boolean, number, string, array, object, Items, no_items, item, Members}
-use Rattle.serde_json.specs.Find.{as_array, as_bool, as_object, as_str}
+use Rattle.serde_json.specs.Data.{Data, null, boolean, number, string, array, object, Items, no_items, item}
+use Rattle.serde_json.specs.Find.{as_array, as_str}
 use Rattle.serde_json.specs.Read.{read}
 use Rattle.features.specs.Names.{is_name, name_of}
-use Rattle.features.specs.Subjects.{have_distinct_names, subjects_of}
+use Rattle.features.specs.Subjects.{have_distinct_names}
 use Rattle.features.specs.declared.actors.Subject.{Subject}
-use Rattle.features.specs.declared.actors.SubjectsFault.{SubjectsFault}
 use Rattle.features.specs.declared.actors.SubjectsFault.TheVariants as lists
 use Rattle.policy_text.specs.Documents.{DocumentData}
 use Rattle.policy_text.specs.Reading.{document_in}

@@ -2,7 +2,6 @@
 use Rattle.std.specs.Prelude.{◌≡◌, ◌≤◌, ℕ, List, length, Option, IfSome, Result, Ok, Err}
 use Rattle.program.specs.ConfigFaults.{Fails}
 use Rattle.program.specs.Configs.{config_data, config_of}
-use Rattle.program.specs.declared.config_faults.ConfigFault.{ConfigFault}
 use Rattle.program.specs.declared.config_faults.ConfigFault.TheVariants.{Memory}
 use Rattle.program.specs.declared.configs.Config.{Config}
 use Rattle.program.specs.declared.files.FileFault.{FileFault}

@@ -1,5 +1,5 @@
 -- What a run of a script has written, where it ended well.
-use Rattle.std.specs.Prelude.{◌≡◌, ℕ, List, Option, None, Some, option_map, IfSome, Ok}
+use Rattle.std.specs.Prelude.{◌≡◌, ℕ, List, Option, None, Some, IfSome, Ok}
 use Rattle.std.specs.Io.KnownBytes.{Appends}
 use Rattle.sessions.specs.Scripts.{IsScriptText}
 use Rattle.sessions.specs.States.{PlainState}
