@@ -7,7 +7,7 @@ const ABOUT: &str = "A map feature server for land agencies";
 
 const LONG_ABOUT: &str =
     "A map feature server for land agencies: offices search features by a window and change them \
-by lists, under policies that stewards replace while others work.";
+by lists. Policies are read and checked; a script is not held to them yet.";
 
 const EXAMPLES: &str = "Examples:
   landmap script day.map
@@ -26,7 +26,8 @@ const SCRIPT_LONG_ABOUT: &str =
 A line is `label: command`. A label stands for one session, which begins with HELLO and the name of a subject. Empty \
 lines, and lines that begin with #, are skipped.
 
-Without a configuration the subjects are north, south and chief, who is the steward, and everything is permitted.";
+A configuration gives the subjects; its policies are checked, but not enforced yet: everything is permitted. Without \
+a configuration the subjects are north, south and chief, who is the steward.";
 
 const SCRIPT_EXAMPLES: &str = "Example:
   A file first.map of these lines
@@ -73,7 +74,7 @@ fn script_command<'a>(alloc: Global) -> Result<Command<'a>, AllocError> {
     let config = Arg::new(alloc, "config")
         .long("config")
         .value_name("FILE")
-        .help("The subjects and the first policy document, as JSON");
+        .help("The subjects, and policies that are checked but not enforced yet, as JSON");
     let file = Arg::new(alloc, "FILE")
         .help("The script: lines `label: command`")
         .required(true);
