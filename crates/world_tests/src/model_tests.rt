@@ -22,15 +22,16 @@ struct Dice {
 }
 
 impl Dice {
-    /// A number below this one.
-    fn below(&mut self, sides: u32) -> u32
-        requires { 0 < sides }
-    {
+    /// A number below this one, or 0 where that is 0.
+    fn below(&mut self, sides: u32) -> u32 {
         self.state = self
             .state
             .wrapping_mul(6_364_136_223_846_793_005)
             .wrapping_add(1_442_695_040_888_963_407);
-        u32::try_from((self.state >> 33) % u64::from(sides)).unwrap_or(0)
+        let number = (self.state >> 33)
+            .checked_rem(u64::from(sides))
+            .unwrap_or(0);
+        u32::try_from(number).unwrap_or(0)
     }
 
     /// A seat, or rarely one that was not given.
