@@ -18,3 +18,5 @@ pub mod WalkSteps
 pub mod TendSteps
 pub mod InstallSteps
 pub mod CleanSteps
+pub mod UnionLemmas
+pub mod NeedLemmas

@@ -12,3 +12,5 @@ pub mod States
 pub mod Visits
 pub mod Walks
 pub mod Tends
+pub mod Unions
+pub mod Needs
