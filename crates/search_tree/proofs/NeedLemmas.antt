@@ -1,23 +1,42 @@
 -- What tending finds at nodes is what its steps need.
-use Rattle.std.proofs.Common.{◌≡◌, ℕ, ◌<◌, true, false, List, [], ◌∷◌, length, map, slice_get, slice_index_or, Some, refl, sym, subst, ◌∙◌}
+use Rattle.std.proofs.Common.{◌≡◌, ◌↔◌, ℕ, ◌<◌, Bool, true, false, List, [], ◌∷◌, length, map, slice_get, slice_index_or, Option, None, Some, refl, sym, subst, ◌∙◌}
+use Rattle.std.proofs.lemmas.Bool.{false≢true}
 use Rattle.std.proofs.lemmas.Option.{get_or_from_slice_get}
 use Rattle.node_arena.specs.Slots.{value_at}
 use Rattle.node_arena.specs.declared.handle.Handle.{Handle}
 use Rattle.predicate_locks.specs.Searches.{AllBegunSince}
 use Rattle.search_tree.proofs.ListEnds.{both_at}
-use Rattle.search_tree.specs.Needs.{IsAtRest}
+use Rattle.search_tree.proofs.TendSteps.{some_one}
+use Rattle.search_tree.specs.Needs.{stamp_at, stamp_in}
 use Rattle.search_tree.specs.Tends.{MayClean, MayFree, MayInstall, MayRetire}
 use Rattle.search_tree.specs.Trees.{PlainTree, IsInner, IsLeaf, IsSound}
+use Rattle.search_tree.specs.declared.needs.Due.{Due}
+use Rattle.search_tree.specs.declared.needs.Due.TheVariants.{Nothing, Free}
 use Rattle.tree_theory.specs.Changes.{IsKeyFor}
 use Rattle.tree_theory.specs.KeyClasses.{Class}
-use Rattle.tree_theory.specs.Nodes.{Body, Node, children_of, entries_of, size_of}
+use Rattle.tree_theory.specs.Nodes.{Body, Node, PlainNode, children_of, entries_of, size_of}
 use Rattle.tree_theory.specs.Nodes.PlainBody.{Leaf}
 use Rattle.tree_theory.specs.declared.TheConstants.{NODE_SIZE}
-use Rattle.tree_theory.specs.declared.place.Place.TheVariants.{Linked}
+use Rattle.tree_theory.specs.declared.place.Place.{Place}
+use Rattle.tree_theory.specs.declared.place.Place.TheVariants.{Root, Linked, Unlinked, Retired}
+
+retired_place : (place : Place) (stamp : ℕ) → stamp_in place ≡ Some stamp → place ≡ Retired stamp
+retired_place Root stamp e = absurd (cc (e))
+retired_place (Linked parent marked) stamp e = absurd (cc (e))
+retired_place (Unlinked left) stamp e = absurd (cc (e))
+retired_place (Retired s) stamp e = cc (e)
+
+at_rest : {Key Item : Type 0} (o : Option (PlainNode Key Item)) (stamp : ℕ) → stamp_at o ≡ Some stamp → (node : PlainNode Key Item) × (o ≡ Some node) × (node.place ≡ Retired stamp)
+at_rest None stamp e = absurd (cc (e))
+at_rest (Some node) stamp e = (node, refl, retired_place node.place stamp e)
 
 module _ (C : Class) (t : PlainTree C.Key C.Query C.Item) (sound : IsSound C t) where
-  pub may_free : (at : Handle) (stamp : ℕ) → IsAtRest C t.nodes at stamp → AllBegunSince t.running stamp → MayFree C t at
-  may_free at stamp rest all_later = record { node = rest.node; is = rest.is; stamp = stamp; place = rest.place; all_later = all_later }
+  pub may_free : (at : Handle) (stamp : ℕ) → stamp_at (value_at t.nodes at) ≡ Some stamp → AllBegunSince t.running stamp → MayFree C t at
+  may_free at stamp is all_later = let rest = at_rest (value_at t.nodes at) stamp is in record { node = rest.0; is = rest.1; stamp = stamp; place = rest.2; all_later = all_later }
+
+  -- where some running search began before the stamp, the retired node stays
+  pub stays_yet : (at : Handle) (was : ℕ) (told : Bool) → stamp_at (value_at t.nodes at) ≡ Some was → (AllBegunSince t.running was → told ≡ true) → told ≡ false → (stamp : ℕ) → stamp_at (value_at t.nodes at) ≡ Some stamp → (◌≡◌ {A = Due C.Key} Nothing Free) ↔ AllBegunSince t.running stamp
+  stays_yet at was told there tells refused stamp is = (λ e. absurd (cc (e)), λ all. absurd (false≢true (sym refused ∙ tells (subst (AllBegunSince t.running) (some_one is there) all))))
 
   pub may_clean : (at : Handle) (node : Node C) → value_at t.nodes at ≡ Some node → IsLeaf node.body → MayClean C t at
   may_clean at node is leaf = record { node = node; is = is; pairs = leaf.0; body = leaf.1 }

@@ -1,7 +1,9 @@
 //! What tending finds to do at a node. Nothing here changes anything.
 
-ghost use Rattle.std.specs.Prelude.{◌≡◌, ◌<◌, Some, IsTrue, IfSome, slice_get};
-ghost use Rattle.search_tree.specs.Needs.{IsAtRest, MayDo};
+ghost use Rattle.std.specs.Prelude.{◌≡◌, ◌↔◌, ◌<◌, ℕ, Some, IsTrue, IfSome, slice_get};
+ghost use Rattle.node_arena.specs.Slots.{value_at};
+ghost use Rattle.predicate_locks.specs.Searches.{AllBegunSince};
+ghost use Rattle.search_tree.specs.Needs.{MayDo, stamp_at, stamp_in};
 ghost use Rattle.search_tree.specs.Tends.{MayClean, MayInstall, MayRetire};
 ghost use Rattle.search_tree.specs.Trees.{IsLeaf, IsInner};
 ghost use Rattle.tree_theory.specs.KeyClasses.{class_of};
@@ -34,15 +36,25 @@ pub(crate) enum Due<K> {
 impl<C: KeyClass, A: Allocator> Tree<C, A> {
     // What is to be done at a node: the first of the cases that holds.
     pub(crate) fn first_due<K: Keeper<C::Item>>(&self, at: Handle, keeper: &K) -> Due<C::Key>
+        ensures may { MayDo (class_of C.covered C.may_match C.is_match C.key_with C.united) self.now at result }
+        ensures retired { (stamp : ℕ) → stamp_at (value_at self.now.nodes at) ≡ Some stamp → ((result ≡ Due.Free) ↔ AllBegunSince self.now.running stamp) }
+    {
+        match stamp_of(&self.nodes, at) {
+            Some(stamp) => {
+                if self.running.all_begun_since(stamp) {
+                    Due::Free
+                } else {
+                    Due::Nothing
+                }
+            }
+            None => self.due_in_place(at, keeper),
+        }
+    }
+
+    // What is to be done at a node that is not retired.
+    fn due_in_place<K: Keeper<C::Item>>(&self, at: Handle, keeper: &K) -> Due<C::Key>
         ensures { MayDo (class_of C.covered C.may_match C.is_match C.key_with C.united) self.now at result }
     {
-        if let Some(stamp) = stamp_of::<C, A>(&self.nodes, at) {
-            return if self.running.all_begun_since(stamp) {
-                Due::Free
-            } else {
-                Due::Nothing
-            };
-        }
         if let Some(entry) = self.lacking(at) {
             return Due::Install(entry);
         }
@@ -110,13 +122,23 @@ impl<C: KeyClass, A: Allocator> Tree<C, A> {
     }
 }
 
-// The stamp of a retired node.
-fn stamp_of<C: KeyClass, A: Allocator>(nodes: &Nodes<C::Key, C::Item, A>, at: Handle) -> Option<u64>
-    ensures { IfSome result (IsAtRest (class_of C.covered C.may_match C.is_match C.key_with C.united) nodes.now at) }
+// The stamp of a node, where one stands there and is retired.
+fn stamp_of<K: Copy, I: Copy, A: Allocator>(nodes: &Nodes<K, I, A>, at: Handle) -> Option<u64>
+    ensures { result ≡ stamp_at (value_at nodes.now at) }
 {
-    match nodes.get(at)?.place() {
+    match nodes.get(at) {
+        Some(node) => stamp_in_place(node.place()),
+        None => None,
+    }
+}
+
+// The stamp of what is retired.
+fn stamp_in_place(place: Place) -> Option<u64>
+    ensures { result ≡ stamp_in place }
+{
+    match place {
+        Place::Root | Place::Linked { .. } | Place::Unlinked { .. } => None,
         Place::Retired { stamp } => Some(stamp),
-        _ => None,
     }
 }
 

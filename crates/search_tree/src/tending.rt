@@ -1,8 +1,11 @@
 //! Tending: slot by slot a tree lets go of what it no longer needs.
 
-ghost use Rattle.std.specs.Prelude.{◌≡◌, ◌+◌, IsTrue, IfOk, IfErr, OnErr};
-ghost use Rattle.predicate_locks.specs.Searches.{last_number};
+ghost use Rattle.std.specs.Prelude.{◌≡◌, ◌↔◌, ◌+◌, ℕ, Some, Ok, IsTrue, IfOk, IfErr, OnErr};
+ghost use Rattle.node_arena.specs.Slots.{value_at};
+ghost use Rattle.node_arena.specs.declared.handle.Handle.{Handle};
+ghost use Rattle.predicate_locks.specs.Searches.{AllBegunSince, last_number};
 ghost use Rattle.search_tree.specs.Calls.{SameContents};
+ghost use Rattle.search_tree.specs.Needs.{stamp_at};
 ghost use Rattle.search_tree.specs.Tends.{HasTended, ContentsLess, ContentsTended, MayClean, MayFree, MayRetire};
 ghost use Rattle.tree_theory.specs.KeyClasses.{class_of};
 
@@ -25,12 +28,24 @@ impl<C: KeyClass, A: Allocator> Tree<C, A> {
     pub fn tend<K: Keeper<C::Item>>(&mut self, slot: u32, keeper: &K) -> Result<Tending, TreeFault>
         ensures tended { IfOk result (HasTended (class_of C.covered C.may_match C.is_match C.key_with C.united) self.old self.new) }
         ensures contents { IfOk result (ContentsTended (class_of C.covered C.may_match C.is_match C.key_with C.united) self.old (λ pair. IsTrue (K.kept keeper.now pair.0 pair.1)) self.new) }
+        ensures freed { (at : Handle) (stamp : ℕ) → at.slot ≡ slot → stamp_at (value_at self.old.nodes at) ≡ Some stamp → ((result ≡ Ok Tending.Freed) ↔ AllBegunSince self.old.running stamp) }
         ensures spent { IfErr result (λ fault. (fault ≡ TreeFault.Spent) × (self.old.counter ≡ last_number)) }
         ensures err { OnErr result (self.new ≡ self.old) }
     {
-        let Some(at) = self.nodes.at_slot(slot) else {
-            return Ok(Tending::Idle);
-        };
+        match self.nodes.at_slot(slot) {
+            Some(at) => self.tend_at(at, keeper),
+            None => Ok(Tending::Idle),
+        }
+    }
+
+    // Does what is due at a node.
+    fn tend_at<K: Keeper<C::Item>>(&mut self, at: Handle, keeper: &K) -> Result<Tending, TreeFault>
+        ensures tended { IfOk result (HasTended (class_of C.covered C.may_match C.is_match C.key_with C.united) self.old self.new) }
+        ensures contents { IfOk result (ContentsTended (class_of C.covered C.may_match C.is_match C.key_with C.united) self.old (λ pair. IsTrue (K.kept keeper.now pair.0 pair.1)) self.new) }
+        ensures freed { (stamp : ℕ) → stamp_at (value_at self.old.nodes at) ≡ Some stamp → ((result ≡ Ok Tending.Freed) ↔ AllBegunSince self.old.running stamp) }
+        ensures spent { IfErr result (λ fault. (fault ≡ TreeFault.Spent) × (self.old.counter ≡ last_number)) }
+        ensures err { OnErr result (self.new ≡ self.old) }
+    {
         match self.first_due(at, keeper) {
             Due::Nothing => Ok(Tending::Idle),
             Due::Free => {
