@@ -12,3 +12,4 @@ pub mod States
 pub mod Visits
 pub mod Walks
 pub mod Tends
+pub mod Standings

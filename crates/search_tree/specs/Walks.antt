@@ -1,8 +1,9 @@
 -- What a step of a walk needs, and what it leaves.
-use Rattle.std.specs.Prelude.{◌≡◌, ◌⊎◌, ◌++◌, ◌∷◌, ◌<◌, ℕ, List, [], Contains, Some, length, slice_get}
+use Rattle.std.specs.Prelude.{◌≡◌, ◌⊎◌, ◌++◌, ◌∷◌, ◌<◌, ℕ, List, [], Contains, Some, filter, length, slice_get}
 use Rattle.node_arena.specs.Slots.{value_at}
 use Rattle.node_arena.specs.declared.handle.Handle.{Handle}
-use Rattle.predicate_locks.specs.Searches.{search_at}
+use Rattle.predicate_locks.specs.Numbers.{with_numbers}
+use Rattle.predicate_locks.specs.Searches.{Searches, does_run, search_at}
 use Rattle.predicate_locks.specs.declared.running.RunningSearch.{RunningSearch}
 use Rattle.tree_theory.specs.Changes.{MayTake, MayJoin}
 use Rattle.tree_theory.specs.Contents.{IsContents}
@@ -10,8 +11,22 @@ use Rattle.tree_theory.specs.KeyClasses.{Class}
 use Rattle.tree_theory.specs.Nodes.{Node}
 use Rattle.tree_theory.specs.Nodes.PlainBody.{Leaf, Inner}
 use Rattle.tree_theory.specs.declared.TheConstants.{NODE_SIZE}
-use Rattle.search_tree.specs.Calls.{SameCounts}
+use Rattle.search_tree.specs.Arenas.{IsChanged}
+use Rattle.search_tree.specs.Calls.{IsAlike, SameCounts}
 use Rattle.search_tree.specs.Trees.{PlainTree, search_in, steps_in, tree_of}
+
+module _ (C : Class) (s : Searches C.Query) (attached : List ℕ) (item : C.Item) where
+  -- the search of this number runs, is attached and looks for the item, and none of a lesser number does
+  pub record IsHolder (number : ℕ) : Type 0 where
+    pub search : RunningSearch C.Query
+    pub runs : search_at s number ≡ Some search
+    pub is_attached : Contains attached number
+    pub matches : C.Matches item search.query
+    pub least : (other : ℕ) (smaller : RunningSearch C.Query) → other < number → search_at s other ≡ Some smaller → Contains attached other → C.Matches item smaller.query → ⊥
+
+  -- no running search that is attached looks for the item
+  abbrev pub NoneHolds : Type 0
+  NoneHolds = (number : ℕ) (search : RunningSearch C.Query) → search_at s number ≡ Some search → Contains attached number → C.Matches item search.query → ⊥
 
 module _ (C : Class) (t : PlainTree C.Key C.Query C.Item) where
   -- a leaf with room may take the pair: its entry covers the item, and no search that has seen it looks for the item
@@ -33,8 +48,16 @@ module _ (C : Class) (t : PlainTree C.Key C.Query C.Item) where
     pub counts : SameCounts C t u
 
   -- searches that have nothing to look for in a node may be attached to it
-  abbrev pub MayJoinAll : Handle → List ℕ → Type 0
-  MayJoinAll at searches = (node : Node C) → value_at t.nodes at ≡ Some node → (s : ℕ) → Contains searches s → MayJoin (tree_of C t) at node s
+  pub record MayJoinAll (at : Handle) (searches : List ℕ) : Type 0 where
+    pub node : Node C
+    pub is : value_at t.nodes at ≡ Some node
+    pub each : (s : ℕ) → Contains searches s → MayJoin (tree_of C t) at node s
+
+  -- these searches are attached to the node too, and those that do not run are let go. No other node changes
+  pub record HasJoined (u : PlainTree C.Key C.Query C.Item) (at : Handle) (searches : List ℕ) : Type 0 where
+    pub only_nodes : u ≡ record t { nodes = u.nodes }
+    pub changed : IsChanged t.nodes u.nodes at (λ n. record n { attached = filter (does_run t.running) (with_numbers searches n.attached) })
+    pub alike : IsAlike C t u
 
   -- an entry of p may take a key: it becomes the union
   pub record MayEnlarge (p : Handle) (place : ℕ) (old key : C.Key) (child : Handle) : Type 0 where
