@@ -16,6 +16,7 @@ pub mod VisitCalls
 pub mod Complete
 pub mod WalkSteps
 pub mod StandingLemmas
+pub mod DescentLemmas
 pub mod TendSteps
 pub mod InstallSteps
 pub mod CleanSteps

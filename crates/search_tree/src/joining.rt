@@ -1,9 +1,10 @@
 //! What a walk changes on its way down: searches join a node, and an entry takes in the item's key.
 
-ghost use Rattle.std.specs.Prelude.{◌≤◌, OnOk, OnErr, length};
+ghost use Rattle.std.specs.Prelude.{◌≡◌, ◌≤◌, Some, OnOk, OnErr, length};
+ghost use Rattle.node_arena.specs.Slots.{value_at};
 ghost use Rattle.predicate_locks.specs.declared.TheConstants.{MAX_ROOM};
 ghost use Rattle.search_tree.specs.Calls.{IsAlike};
-ghost use Rattle.search_tree.specs.Walks.{MayJoinAll, HasJoined, MayEnlarge};
+ghost use Rattle.search_tree.specs.Walks.{MayJoinAll, HasJoined, MayJoinBelow, HasJoinedBelow, MayEnlarge, marked_right as right_of_marked};
 ghost use Rattle.tree_theory.specs.KeyClasses.{class_of};
 
 use crate::setters::{attach_all, set_key};
@@ -22,6 +23,19 @@ impl<C: KeyClass, A: Allocator + Copy> Tree<C, A> {
         ensures err { OnErr result (IsAlike (class_of C.covered C.may_match C.is_match C.key_with C.united) self.old self.new) }
     {
         attach_all(&mut self.nodes, &self.running, at, searches)?;
+        Ok(())
+    }
+
+    // Attaches searches to a marked child whose entry does not lead them on, and to its right node first. Where there is no memory the right node may have got them already; no caller can tell.
+    fn join_both(&mut self, child: Handle, right: Handle, searches: &[u64]) -> Result<(), Refused>
+        requires may { MayJoinBelow (class_of C.covered C.may_match C.is_match C.key_with C.united) self.old child searches.now }
+        requires leads { right_of_marked (value_at self.old.nodes child) ≡ Some right }
+        requires few { length searches.now ≤ MAX_ROOM }
+        ensures ok { OnOk result (HasJoinedBelow (class_of C.covered C.may_match C.is_match C.key_with C.united) self.old self.new child searches.now) }
+        ensures err { OnErr result (IsAlike (class_of C.covered C.may_match C.is_match C.key_with C.united) self.old self.new) }
+    {
+        attach_all(&mut self.nodes, &self.running, right, searches)?;
+        attach_all(&mut self.nodes, &self.running, child, searches)?;
         Ok(())
     }
 }

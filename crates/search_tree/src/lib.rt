@@ -3,6 +3,7 @@
 
 mod answers;
 mod bits;
+mod descending;
 mod entries;
 mod fault;
 mod frames;
