@@ -1,5 +1,5 @@
 -- A walk's way down: searches join the child, and its right node where it is marked, before the entry is enlarged.
-use Rattle.std.proofs.Common.{◌≡◌, ◌⊎◌, ◌∙◌, ℕ, List, [], ◌∷◌, Contains, Bool, true, false, if◌then◌else◌, filter, IsTrue, Option, None, Some, is_some, refl, sym, ap, subst, inl, inr}
+use Rattle.std.proofs.Common.{◌≡◌, ◌⊎◌, ◌∙◌, ℕ, List, [], ◌∷◌, Contains, Bool, true, false, if◌then◌else◌, filter, IsTrue, Option, None, Some, is_some, refl, sym, ap, subst, inl, inr, Result, Ok, Err, OnOk}
 use Rattle.std.proofs.lemmas.Bool.{cases_eq}
 use Rattle.std.specs.Option.{option_map}
 use Rattle.node_arena.specs.Slots.{Slots, value_at}
@@ -98,8 +98,13 @@ module _ (C : Class) (t : PlainTree C.Key C.Query C.Item) (sound : IsSound C t) 
               };
         }
 
+-- what is said of a success, by what was said of it
+pub on_ok : {T E : Type 0} (r : Result T E) (P Q : Type 0) → (P → Q) → OnOk r P → OnOk r Q
+on_ok (Ok x) P Q goes p = goes p
+on_ok (Err e) P Q goes p = tt
+
 -- a number is in a list or not
-held_or_not : (n : ℕ) (xs : List ℕ) → Contains xs n ⊎ (Contains xs n → ⊥)
+pub held_or_not : (n : ℕ) (xs : List ℕ) → Contains xs n ⊎ (Contains xs n → ⊥)
 held_or_not n [] = inr (λ h. nothing_in n h)
 held_or_not n (x ∷ xs) = elim (cases_eq x n) [
   | inl same ↦ inl (subst (Contains (x ∷ xs)) same (first_in x xs))

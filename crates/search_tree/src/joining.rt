@@ -7,6 +7,7 @@ ghost use Rattle.search_tree.specs.Calls.{IsAlike};
 ghost use Rattle.search_tree.specs.Walks.{MayJoinAll, HasJoined, MayJoinBelow, HasJoinedBelow, MayEnlarge, marked_right as right_of_marked};
 ghost use Rattle.tree_theory.specs.KeyClasses.{class_of};
 
+use crate::descending::marked_right;
 use crate::setters::{attach_all, set_key};
 use crate::tree::Tree;
 use memory::Refused;
@@ -26,7 +27,20 @@ impl<C: KeyClass, A: Allocator + Copy> Tree<C, A> {
         Ok(())
     }
 
-    // Attaches searches to a marked child whose entry does not lead them on, and to its right node first. Where there is no memory the right node may have got them already; no caller can tell.
+    // Attaches searches to a child whose entry does not lead them on, and to its right node first where the child is marked. Where there is no memory the right node may have got them already; no caller can tell.
+    fn join_below(&mut self, child: Handle, searches: &[u64]) -> Result<(), Refused>
+        requires may { MayJoinBelow (class_of C.covered C.may_match C.is_match C.key_with C.united) self.old child searches.now }
+        requires few { length searches.now ≤ MAX_ROOM }
+        ensures ok { OnOk result (HasJoinedBelow (class_of C.covered C.may_match C.is_match C.key_with C.united) self.old self.new child searches.now) }
+        ensures err { OnErr result (IsAlike (class_of C.covered C.may_match C.is_match C.key_with C.united) self.old self.new) }
+    {
+        match marked_right(&self.nodes, child) {
+            Some(right) => self.join_both(child, right, searches),
+            None => self.join(child, searches),
+        }
+    }
+
+    // The same for a marked child and this right node of it.
     fn join_both(&mut self, child: Handle, right: Handle, searches: &[u64]) -> Result<(), Refused>
         requires may { MayJoinBelow (class_of C.covered C.may_match C.is_match C.key_with C.united) self.old child searches.now }
         requires leads { right_of_marked (value_at self.old.nodes child) ≡ Some right }
