@@ -17,7 +17,7 @@ use Rattle.tree_theory.specs.declared.place.Place.TheVariants.{Unlinked}
 use Rattle.search_tree.specs.Arenas.{IsChanged}
 use Rattle.search_tree.specs.Calls.{IsAlike}
 use Rattle.search_tree.specs.Trees.{PlainProgress, PlainTree, IsSound, progress_at, tree_of}
-use Rattle.search_tree.specs.Walks.{IsNotLed, HasMore, MoreAttached, MayJoinAll, HasJoined, MayJoinBelow, HasJoinedBelow, marked_right}
+use Rattle.search_tree.specs.Walks.{HasMore, MoreAttached, MayJoinAll, HasJoined, MayJoinBelow, HasJoinedBelow, marked_right}
 use Rattle.search_tree.proofs.Kept.{filter_from, all_join}
 use Rattle.search_tree.proofs.TendSteps.{some_one}
 use Rattle.search_tree.proofs.WalkSteps.{joined_sound, joined_call}

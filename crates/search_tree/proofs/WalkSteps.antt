@@ -1,7 +1,7 @@
 -- The steps of a walk keep what every tree keeps.
 use Rattle.std.proofs.Common.{◌≡◌, ◌∙◌, ℕ, ◌<◌, List, [], ◌∷◌, ◌++◌, filter, slice_get, slice_set, Some, refl, sym, ap, subst, inl, inr}
 use Rattle.std.proofs.lemmas.Option.{slice_get_within}
-use Rattle.node_arena.specs.Slots.{Slots, value_at}
+use Rattle.node_arena.specs.Slots.{Slots}
 use Rattle.node_arena.specs.declared.handle.Handle.{Handle}
 use Rattle.predicate_locks.specs.Numbers.{with_numbers}
 use Rattle.predicate_locks.specs.Searches.{search_at, does_run}
