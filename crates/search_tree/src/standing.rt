@@ -23,7 +23,7 @@ pub(crate) enum Standing {
     Here,
 }
 
-/// How a node with this key stands to a walk.
+/// How the node at this handle stands to a walk whose item has this key.
 pub(crate) fn standing_at<C: KeyClass, A: Allocator>(
     nodes: &Nodes<C::Key, C::Item, A>,
     at: Handle,
