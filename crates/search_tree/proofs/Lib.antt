@@ -15,6 +15,8 @@ pub mod VisitSteps
 pub mod VisitCalls
 pub mod Complete
 pub mod WalkSteps
+pub mod StandingLemmas
+pub mod DescentLemmas
 pub mod TendSteps
 pub mod InstallSteps
 pub mod CleanSteps

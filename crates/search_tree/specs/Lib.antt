@@ -14,3 +14,4 @@ pub mod Walks
 pub mod Tends
 pub mod Unions
 pub mod Needs
+pub mod Standings
