@@ -1,9 +1,9 @@
 -- The cleaning of a leaf keeps what every tree keeps.
-use Rattle.std.proofs.Common.{◌≡◌, ℕ, Bool, true, false, List, [], ◌∷◌, Contains, IsTrue, cond, filter, Some, refl, sym, subst, ◌∙◌, inl, inr, arith}
-use Rattle.node_arena.specs.Slots.{Slots, value_at}
+use Rattle.std.proofs.Common.{◌≡◌, ℕ, Bool, true, false, List, [], ◌∷◌, IsTrue, cond, filter, refl, sym, subst, ◌∙◌, inl, inr, arith}
+use Rattle.node_arena.specs.Slots.{Slots}
 use Rattle.node_arena.specs.declared.handle.Handle.{Handle}
 use Rattle.tree_theory.proofs.ContentsKept.{contents_cleaned}
-use Rattle.tree_theory.proofs.ListLemmas.{first_in, later_in, in_cases, picked_none}
+use Rattle.tree_theory.proofs.ListLemmas.{in_cases, picked_none}
 use Rattle.tree_theory.proofs.SearchPlace.{searches_cleaned}
 use Rattle.tree_theory.proofs.ShapePlace.{shape_cleaned}
 use Rattle.tree_theory.specs.Changes.{IsCleaned}

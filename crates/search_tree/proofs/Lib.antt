@@ -15,6 +15,10 @@ pub mod VisitSteps
 pub mod VisitCalls
 pub mod Complete
 pub mod WalkSteps
+pub mod StandingLemmas
+pub mod DescentLemmas
 pub mod TendSteps
 pub mod InstallSteps
 pub mod CleanSteps
+pub mod UnionLemmas
+pub mod NeedLemmas

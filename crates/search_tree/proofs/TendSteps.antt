@@ -12,13 +12,13 @@ use Rattle.tree_theory.proofs.ShapeFree.{shape_freed}
 use Rattle.tree_theory.proofs.ShapeRetire.{shape_retired}
 use Rattle.tree_theory.specs.Changes.{IsRetired, IsFreed}
 use Rattle.tree_theory.specs.KeyClasses.{Class}
-use Rattle.tree_theory.specs.Nodes.{PlainBody, PlainNode, Node, Search, entries_of, size_of}
+use Rattle.tree_theory.specs.Nodes.{PlainNode, Node, entries_of, size_of}
 use Rattle.tree_theory.specs.Nodes.PlainBody.{Leaf, Inner}
-use Rattle.tree_theory.specs.declared.place.Place.TheVariants.{Linked, Retired as AtRest}
+use Rattle.tree_theory.specs.declared.place.Place.TheVariants.{Retired as AtRest}
 use Rattle.search_tree.specs.Arenas.{IsChanged, Holds}
 use Rattle.search_tree.specs.Calls.{SameContents}
 use Rattle.search_tree.specs.Tends.{HasTended, MayFree, MayRetire}
-use Rattle.search_tree.specs.Trees.{PlainTree, IsSound, IsInner, search_of, progress_at, level_of, tree_of}
+use Rattle.search_tree.specs.Trees.{PlainTree, IsSound, IsInner, progress_at, level_of, tree_of}
 use Rattle.search_tree.specs.declared.answers.Tending.TheVariants.{Freed, Retired}
 use Rattle.search_tree.proofs.Kept.{parts_of}
 use Rattle.predicate_locks.specs.Searches.{search_at}

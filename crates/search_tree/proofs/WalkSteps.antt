@@ -1,22 +1,27 @@
 -- The steps of a walk keep what every tree keeps.
-use Rattle.std.proofs.Common.{◌≡◌, ℕ, List, [], ◌∷◌, ◌++◌, filter, slice_set, Some, refl, sym, subst, inl, inr}
-use Rattle.node_arena.specs.Slots.{Slots, value_at}
+use Rattle.std.proofs.Common.{◌≡◌, ◌∙◌, ℕ, ◌<◌, List, [], ◌∷◌, ◌++◌, filter, slice_get, slice_set, Some, refl, sym, ap, subst, inl, inr}
+use Rattle.std.proofs.lemmas.Option.{slice_get_within}
+use Rattle.node_arena.specs.Slots.{Slots}
 use Rattle.node_arena.specs.declared.handle.Handle.{Handle}
 use Rattle.predicate_locks.specs.Numbers.{with_numbers}
 use Rattle.predicate_locks.specs.Searches.{search_at, does_run}
-use Rattle.tree_theory.proofs.ContentsKept.{contents_placed, contents_enlarged}
-use Rattle.tree_theory.proofs.SearchPlace.{searches_placed, searches_enlarged}
+use Rattle.tree_theory.proofs.ContentsKept.{contents_closed, contents_placed, contents_joined, contents_enlarged}
+use Rattle.tree_theory.proofs.SearchPlace.{searches_placed, searches_joined, searches_enlarged}
+use Rattle.tree_theory.proofs.SearchVisit.{searches_closed}
+use Rattle.tree_theory.proofs.ShapeKept.{shape_closed, shape_joined}
 use Rattle.tree_theory.proofs.ShapePlace.{shape_placed}
 use Rattle.tree_theory.proofs.ShapeEnlarge.{shape_enlarged}
-use Rattle.tree_theory.specs.Changes.{IsPlaced, IsJoined, IsEnlarged, MayJoin}
+use Rattle.tree_theory.specs.Changes.{IsClosed, IsPlaced, IsJoined, IsEnlarged, MayJoin}
 use Rattle.tree_theory.specs.KeyClasses.{Class, Laws}
-use Rattle.tree_theory.specs.Nodes.{Node, Search, entries_of, pairs_of}
+use Rattle.tree_theory.specs.Nodes.{Node, Search, entries_of, pairs_of, size_of}
 use Rattle.tree_theory.specs.Nodes.PlainBody.{Leaf, Inner}
-use Rattle.search_tree.specs.Arenas.{IsChanged}
+use Rattle.search_tree.specs.Arenas.{IsChanged, AreSame, Holds}
 use Rattle.search_tree.specs.Calls.{IsAlike}
-use Rattle.search_tree.specs.Trees.{PlainTree, IsSound, search_of, progress_at, tree_of}
-use Rattle.search_tree.specs.Walks.{MayPlace, HasPlaced, MayJoinAll, MayEnlarge}
+use Rattle.search_tree.specs.Trees.{PlainTree, IsSound, IsInner, level_of, search_of, progress_at, tree_of}
+use Rattle.search_tree.specs.Walks.{MayPlace, HasPlaced, MayJoinAll, HasJoined, MayEnlarge}
 use Rattle.search_tree.proofs.Kept.{Parts, parts_of, with_all_kept}
+use Rattle.search_tree.proofs.TendSteps.{some_one}
+use Rattle.search_tree.proofs.TreeSteps.{same_tree}
 use Rattle.search_tree.proofs.VisitSteps.{level_kept}
 
 module _ (C : Class) (t : PlainTree C.Key C.Query C.Item) (nodes : Slots (Node C)) where
@@ -61,15 +66,59 @@ module _ (C : Class) (t : PlainTree C.Key C.Query C.Item) (nodes : Slots (Node C
         counts = record { counter = refl; limit = refl; level = level_kept C t 0 0 nodes at _ changed (λ n. refl); taken = changed.counts.taken; slots = changed.counts.slots };
       }
 
-  joined_step : (at : Handle) (more : List ℕ) (node : Node C) → value_at t.nodes at ≡ Some node → MayJoinAll C t at more → IsChanged t.nodes nodes at (λ n. record n { attached = filter (does_run t.running) (with_numbers more n.attached) }) → IsJoined (tree_of C t) (tree_of C now) at
-  joined_step at more node is may changed =
+  joined_step : (at : Handle) (more : List ℕ) → MayJoinAll C t at more → IsChanged t.nodes nodes at (λ n. record n { attached = filter (does_run t.running) (with_numbers more n.attached) }) → IsJoined (tree_of C t) (tree_of C now) at
+  joined_step at more may changed =
       record {
-        node = node;
+        node = may.node;
         attached = _;
-        numbers = with_all_kept C t (MayJoin (tree_of C t) at node) more node.attached (may node is);
-        nodes = record { before = is; after = rw (changed.here, is) refl; others = changed.others };
+        numbers = with_all_kept C t (MayJoin (tree_of C t) at may.node) more may.node.attached may.each;
+        nodes = record { before = may.is; after = rw (changed.here, may.is) refl; others = changed.others };
         searches = record { search = λ s. refl };
         clock = record { root = refl; counter = refl; next = refl };
+      }
+
+  pub joined_sound : Laws C → (at : Handle) (more : List ℕ) → MayJoinAll C t at more → IsChanged t.nodes nodes at (λ n. record n { attached = filter (does_run t.running) (with_numbers more n.attached) }) → IsSound C t → IsSound C now
+  joined_sound laws at more may changed sound =
+      let step = joined_step at more may changed in
+      record {
+        invariant = record { shape = shape_joined sound.invariant.shape step; searches = searches_joined laws sound.invariant.shape sound.invariant.searches step };
+        progress_of_each = sound.progress_of_each;
+      }
+
+  pub joined_call : (at : Handle) (more : List ℕ) → MayJoinAll C t at more → IsChanged t.nodes nodes at (λ n. record n { attached = filter (does_run t.running) (with_numbers more n.attached) }) → HasJoined C t now at more
+  joined_call at more may changed =
+      record {
+        only_nodes = refl;
+        changed = changed;
+        alike = record {
+          searches = λ s. refl;
+          steps = λ s. refl;
+          next = refl;
+          contents = λ xs. contents_joined (joined_step at more may changed);
+          counts = record { counter = refl; limit = refl; level = level_kept C t 0 0 nodes at _ changed (λ n. refl); taken = changed.counts.taken; slots = changed.counts.slots };
+        };
+      }
+
+  -- where no node has changed
+  same_step : AreSame t.nodes nodes → IsSound C t → IsClosed (tree_of C t) (tree_of C now) t.running.next
+  same_step same sound = same_tree C (tree_of C t) (tree_of C now) sound.invariant same.each refl refl refl (λ s. refl)
+
+  pub same_sound : AreSame t.nodes nodes → IsSound C t → IsSound C now
+  same_sound same sound =
+      let step = same_step same sound in
+      record {
+        invariant = record { shape = shape_closed sound.invariant.shape step; searches = searches_closed sound.invariant.shape sound.invariant.searches step };
+        progress_of_each = sound.progress_of_each;
+      }
+
+  pub same_call : AreSame t.nodes nodes → IsSound C t → IsAlike C t now
+  same_call same sound =
+      record {
+        searches = λ s. refl;
+        steps = λ s. refl;
+        next = refl;
+        contents = λ xs. contents_closed (same_step same sound);
+        counts = record { counter = refl; limit = refl; level = ap level_of (same.each t.root); taken = same.counts.taken; slots = same.counts.slots };
       }
 
   enlarged_step : (p : Handle) (place : ℕ) (old key : C.Key) (child : Handle) → MayEnlarge C t p place old key child → IsChanged t.nodes nodes p (λ n. record n { body = Inner (slice_set (entries_of n.body) place (C.united old key, child)) }) → IsEnlarged (tree_of C t) (tree_of C now) p key
@@ -111,3 +160,13 @@ module _ (C : Class) (t : PlainTree C.Key C.Query C.Item) (nodes : Slots (Node C
         contents = λ xs. contents_enlarged (enlarged_step p place old key child may changed);
         counts = record { counter = refl; limit = refl; level = level_kept C t 0 0 nodes p _ changed (λ n. refl); taken = changed.counts.taken; slots = changed.counts.slots };
       }
+
+module _ (C : Class) (t : PlainTree C.Key C.Query C.Item) (p : Handle) (place : ℕ) (old key : C.Key) (child : Handle) (may : MayEnlarge C t p place old key child) where
+  pub entry_inner : Holds t.nodes p (λ n. IsInner n.body)
+  entry_inner node is = (may.entries, ap (λ (n : Node C). n.body) (some_one is may.is) ∙ may.body)
+
+  pub entry_within : Holds t.nodes p (λ n. place < size_of n.body)
+  entry_within node is = subst (λ (n : Node C). place < size_of n.body) (some_one may.is is) (rw may.body (slice_get_within may.entries place (old, child) may.entry))
+
+  pub entry_there : Holds t.nodes p (λ n. slice_get (entries_of n.body) place ≡ Some (old, child))
+  entry_there node is = subst (λ (n : Node C). slice_get (entries_of n.body) place ≡ Some (old, child)) (some_one may.is is) (rw may.body may.entry)

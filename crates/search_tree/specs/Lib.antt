@@ -12,3 +12,6 @@ pub mod States
 pub mod Visits
 pub mod Walks
 pub mod Tends
+pub mod Unions
+pub mod Needs
+pub mod Standings

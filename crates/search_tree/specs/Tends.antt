@@ -3,6 +3,7 @@ use Rattle.std.specs.Prelude.{◌≡◌, ◌+◌, ◌<◌, ◌≤◌, ℕ, true,
 use Rattle.node_arena.specs.Slots.{value_at, slot_count, taken_count}
 use Rattle.node_arena.specs.declared.handle.Handle.{Handle}
 use Rattle.predicate_locks.specs.Searches.{AllBegunSince}
+use Rattle.search_tree.specs.Calls.{SameContents}
 use Rattle.search_tree.specs.Trees.{PlainTree, search_in, steps_in, root_level, tree_of}
 use Rattle.search_tree.specs.declared.answers.Tending.{Tending}
 use Rattle.search_tree.specs.declared.answers.Tending.TheVariants.{Idle, Freed, Installed, Cleaned, Retired}
@@ -46,6 +47,14 @@ module _ (C : Class) (t : PlainTree C.Key C.Query C.Item) where
   -- the contents without some pairs, none of which is in Kept
   abbrev pub ContentsLess : PlainTree C.Key C.Query C.Item → (ℕ × C.Item → Type 0) → Type 0
   ContentsLess u Kept = (xs ys : List (ℕ × C.Item)) → IsContents (tree_of C t) xs → IsContents (tree_of C u) ys → LosesPairs Kept xs ys
+
+  -- the contents lose pairs only where a leaf is cleaned
+  abbrev pub ContentsTended : (ℕ × C.Item → Type 0) → PlainTree C.Key C.Query C.Item → Tending → Type 0
+  ContentsTended Kept u Idle = SameContents C t u
+  ContentsTended Kept u Freed = SameContents C t u
+  ContentsTended Kept u Installed = SameContents C t u
+  ContentsTended Kept u Cleaned = ContentsLess u Kept
+  ContentsTended Kept u Retired = SameContents C t u
 
   -- a leaf
   pub record MayClean (at : Handle) : Type 0 where

@@ -1,17 +1,59 @@
 -- What a step of a walk needs, and what it leaves.
-use Rattle.std.specs.Prelude.{◌≡◌, ◌⊎◌, ◌++◌, ◌∷◌, ◌<◌, ℕ, List, [], Contains, Some, length, slice_get}
-use Rattle.node_arena.specs.Slots.{value_at}
+use Rattle.std.specs.Prelude.{◌≡◌, ◌⊎◌, ◌++◌, ◌∷◌, ◌<◌, ℕ, List, [], Contains, Option, None, Some, if◌then◌else◌, filter, length, slice_get}
+use Rattle.node_arena.specs.Slots.{Slots, value_at}
 use Rattle.node_arena.specs.declared.handle.Handle.{Handle}
-use Rattle.predicate_locks.specs.Searches.{search_at}
+use Rattle.predicate_locks.specs.Numbers.{with_numbers}
+use Rattle.predicate_locks.specs.Searches.{Searches, does_run, search_at}
 use Rattle.predicate_locks.specs.declared.running.RunningSearch.{RunningSearch}
 use Rattle.tree_theory.specs.Changes.{MayTake, MayJoin}
 use Rattle.tree_theory.specs.Contents.{IsContents}
 use Rattle.tree_theory.specs.KeyClasses.{Class}
-use Rattle.tree_theory.specs.Nodes.{Node}
+use Rattle.tree_theory.specs.Nodes.{PlainNode, Node, entries_of, is_marked}
 use Rattle.tree_theory.specs.Nodes.PlainBody.{Leaf, Inner}
+use Rattle.tree_theory.specs.Walks.{Done}
 use Rattle.tree_theory.specs.declared.TheConstants.{NODE_SIZE}
-use Rattle.search_tree.specs.Calls.{SameCounts}
+use Rattle.search_tree.specs.Arenas.{IsChanged}
+use Rattle.search_tree.specs.Calls.{IsAlike, SameCounts}
 use Rattle.search_tree.specs.Trees.{PlainTree, search_in, steps_in, tree_of}
+
+module _ (C : Class) (s : Searches C.Query) (attached : List ℕ) (item : C.Item) where
+  -- the search of this number runs, is attached and looks for the item, and none of a lesser number does
+  pub record IsHolder (number : ℕ) : Type 0 where
+    pub search : RunningSearch C.Query
+    pub runs : search_at s number ≡ Some search
+    pub is_attached : Contains attached number
+    pub matches : C.Matches item search.query
+    pub least : (other : ℕ) (smaller : RunningSearch C.Query) → other < number → search_at s other ≡ Some smaller → Contains attached other → C.Matches item smaller.query → ⊥
+
+  -- no running search that is attached looks for the item
+  abbrev pub NoneHolds : Type 0
+  NoneHolds = (number : ℕ) (search : RunningSearch C.Query) → search_at s number ≡ Some search → Contains attached number → C.Matches item search.query → ⊥
+
+module _ (C : Class) (s : Searches C.Query) (old : C.Key) where
+  -- a search runs that this key does not lead on
+  pub record IsNotLed (number : ℕ) : Type 0 where
+    pub search : RunningSearch C.Query
+    pub runs : search_at s number ≡ Some search
+    pub inconsistent : C.Consistent old search.query → ⊥
+
+  -- the attached searches that run and that a wider key leads on, but not the old one
+  pub record AreLed (wider : C.Key) (attached led : List ℕ) : Type 0 where
+    pub listed : (number : ℕ) → Contains led number → IsNotLed number
+    pub missed : (number : ℕ) (search : RunningSearch C.Query) → search_at s number ≡ Some search → Contains attached number → (Contains led number → ⊥) → C.Consistent wider search.query → C.Consistent old search.query
+
+-- the right node of a marked node
+abbrev pub marked_right : {Key Item : Type 0} → Option (PlainNode Key Item) → Option Handle
+marked_right None = None
+marked_right (Some node) = if is_marked node.place then node.right else None
+
+-- a node has got some of these searches attached, and may have lost others; nothing else of it changes
+pub record HasMore {Key Item : Type 0} (searches : List ℕ) (old new : PlainNode Key Item) : Type 0 where
+  pub same : new ≡ record old { attached = new.attached }
+  pub only : (s : ℕ) → Contains new.attached s → Contains old.attached s ⊎ Contains searches s
+
+-- nodes have got some of these searches attached
+pub record MoreAttached (C : Class) (searches : List ℕ) (old new : Slots (Node C)) : Type 0 where
+  pub forth : (h : Handle) (node : Node C) → value_at old h ≡ Some node → (now : Node C) × (value_at new h ≡ Some now) × HasMore searches node now
 
 module _ (C : Class) (t : PlainTree C.Key C.Query C.Item) where
   -- a leaf with room may take the pair: its entry covers the item, and no search that has seen it looks for the item
@@ -33,8 +75,16 @@ module _ (C : Class) (t : PlainTree C.Key C.Query C.Item) where
     pub counts : SameCounts C t u
 
   -- searches that have nothing to look for in a node may be attached to it
-  abbrev pub MayJoinAll : Handle → List ℕ → Type 0
-  MayJoinAll at searches = (node : Node C) → value_at t.nodes at ≡ Some node → (s : ℕ) → Contains searches s → MayJoin (tree_of C t) at node s
+  pub record MayJoinAll (at : Handle) (searches : List ℕ) : Type 0 where
+    pub node : Node C
+    pub is : value_at t.nodes at ≡ Some node
+    pub each : (s : ℕ) → Contains searches s → MayJoin (tree_of C t) at node s
+
+  -- these searches are attached to the node too, and those that do not run are let go. No other node changes
+  pub record HasJoined (u : PlainTree C.Key C.Query C.Item) (at : Handle) (searches : List ℕ) : Type 0 where
+    pub only_nodes : u ≡ record t { nodes = u.nodes }
+    pub changed : IsChanged t.nodes u.nodes at (λ n. record n { attached = filter (does_run t.running) (with_numbers searches n.attached) })
+    pub alike : IsAlike C t u
 
   -- an entry of p may take a key: it becomes the union
   pub record MayEnlarge (p : Handle) (place : ℕ) (old key : C.Key) (child : Handle) : Type 0 where
@@ -45,3 +95,19 @@ module _ (C : Class) (t : PlainTree C.Key C.Query C.Item) where
     pub entry : slice_get entries place ≡ Some (old, child)
     pub may_take : MayTake (tree_of C t) p node key
     pub seen : (s : ℕ) (run : RunningSearch C.Query) → search_at t.running s ≡ Some run → Contains node.attached s → C.Consistent (C.united old key) run.query → C.Consistent old run.query ⊎ ((below : Node C) × (value_at t.nodes child ≡ Some below) × Contains below.attached s)
+
+  -- searches that the key of a child's entry does not lead on
+  pub record MayJoinBelow (child : Handle) (searches : List ℕ) : Type 0 where
+    pub parent : Handle
+    pub node : Node C
+    pub is : value_at t.nodes parent ≡ Some node
+    pub key : C.Key
+    pub entry : Contains (entries_of node.body) (key, child)
+    pub each : (s : ℕ) → Contains searches s → IsNotLed C t.running key s
+
+  -- the child has them attached. Other nodes may have got some of them too, and nothing else changes
+  pub record HasJoinedBelow (u : PlainTree C.Key C.Query C.Item) (child : Handle) (searches : List ℕ) : Type 0 where
+    pub only_nodes : u ≡ record t { nodes = u.nodes }
+    pub more : MoreAttached C searches t.nodes u.nodes
+    pub done : (s : ℕ) → Contains searches s → Done (tree_of C u) s child
+    pub alike : IsAlike C t u

@@ -3,21 +3,29 @@
 
 mod answers;
 mod bits;
+mod descending;
 mod entries;
 mod fault;
 mod frames;
 mod installing;
+mod joining;
 mod keeper;
+mod keys;
 mod laws;
 mod measure;
+mod needs;
 mod node;
 mod opening;
 mod progress;
 mod setters;
 mod split;
+mod standing;
+mod starting;
 mod tending;
 mod tree;
 mod visiting;
+mod walk;
+mod walking;
 
 pub use answers::{Step, Tending, Visit};
 pub use fault::TreeFault;
@@ -25,3 +33,4 @@ pub use frames::Frames;
 pub use keeper::Keeper;
 pub use laws::frames_cover_by_ends;
 pub use tree::{MAX_STEPS, Tree};
+pub use walk::Walk;

@@ -2,8 +2,9 @@
 
 ghost use Rattle.std.specs.Prelude.{◌≡◌, ◌↔◌, ◌∷◌, ◌++◌, ◌<◌, ◌≤◌, [], ℕ, None, Some, false, IsTrue, IsSome, IfOk, OnOk, OnErr, filter, length, map, slice_get, slice_set, remove};
 ghost use Rattle.node_arena.specs.declared.handle.Handle.{Handle};
-ghost use Rattle.predicate_locks.specs.Numbers.{with_number};
+ghost use Rattle.predicate_locks.specs.Numbers.{with_number, with_numbers};
 ghost use Rattle.predicate_locks.specs.Searches.{does_run};
+ghost use Rattle.predicate_locks.specs.declared.TheConstants.{MAX_ROOM};
 ghost use Rattle.tree_theory.specs.Nodes.{PlainNode, entries_of, pairs_of, children_of, size_of};
 ghost use Rattle.tree_theory.specs.Nodes.PlainBody.{Leaf, Inner};
 ghost use Rattle.tree_theory.specs.declared.TheConstants.{NODE_SIZE};
@@ -255,6 +256,28 @@ impl<K: Copy, I: Copy, A: Allocator> TreeNode<K, I, A> {
         ensures err { OnErr result (self.new ≡ self.old) }
     {
         match self.attached.attach(search) {
+            Ok(()) => {
+                self.attached.prune(running);
+                Ok(())
+            }
+            Err(LockFault::Memory(refused)) => Err(refused),
+            Err(_) => unreachable!(),
+        }
+    }
+
+    /// Attaches each of these searches. Numbers that do not run are let go. Where there is no memory nothing changes.
+    pub fn attach_all<Q: Copy, B: Allocator>(
+        &mut self,
+        running: &Running<Q, B>,
+        searches: &[u64],
+    ) -> Result<(), Refused>
+    where
+        A: Copy,
+        requires { length searches.now ≤ MAX_ROOM }
+        ensures ok { OnOk result (self.new ≡ record self.old { attached = filter (does_run running.now) (with_numbers searches.now self.old.attached) }) }
+        ensures err { OnErr result (self.new ≡ self.old) }
+    {
+        match self.attached.attach_all(searches) {
             Ok(()) => {
                 self.attached.prune(running);
                 Ok(())

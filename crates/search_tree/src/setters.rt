@@ -1,9 +1,10 @@
 //! Changes of one node of the tree's arena. Where no node stands at the handle nothing happens.
 
-ghost use Rattle.std.specs.Prelude.{◌≡◌, ◌∷◌, ◌++◌, ◌<◌, [], ℕ, Some, OnOk, OnErr, filter, slice_get, slice_set, remove};
+ghost use Rattle.std.specs.Prelude.{◌≡◌, ◌∷◌, ◌++◌, ◌<◌, ◌≤◌, [], ℕ, Some, OnOk, OnErr, filter, length, slice_get, slice_set, remove};
 ghost use Rattle.node_arena.specs.declared.handle.Handle.{Handle};
-ghost use Rattle.predicate_locks.specs.Numbers.{with_number};
+ghost use Rattle.predicate_locks.specs.Numbers.{with_number, with_numbers};
 ghost use Rattle.predicate_locks.specs.Searches.{does_run};
+ghost use Rattle.predicate_locks.specs.declared.TheConstants.{MAX_ROOM};
 ghost use Rattle.search_tree.specs.Arenas.{IsChanged, AreSame, Holds};
 ghost use Rattle.search_tree.specs.Trees.{IsLeaf, IsInner};
 ghost use Rattle.tree_theory.specs.Nodes.{entries_of, pairs_of, size_of};
@@ -145,6 +146,23 @@ pub fn attach<K: Copy, I: Copy, Q: Copy, A: Allocator + Copy>(
 {
     match nodes.get_mut(at) {
         Some(node) => node.attach(running, search),
+        None => Ok(()),
+    }
+}
+
+/// Attaches each of these searches to a node, and lets numbers go that do not run. Where there is no memory nothing changes.
+pub fn attach_all<K: Copy, I: Copy, Q: Copy, A: Allocator + Copy>(
+    nodes: &mut Nodes<K, I, A>,
+    running: &Running<Q, A>,
+    at: Handle,
+    searches: &[u64],
+) -> Result<(), Refused>
+    requires { length searches.now ≤ MAX_ROOM }
+    ensures ok { OnOk result (IsChanged nodes.old nodes.new at (λ node. record node { attached = filter (does_run running.now) (with_numbers searches.now node.attached) })) }
+    ensures err { OnErr result (AreSame nodes.old nodes.new) }
+{
+    match nodes.get_mut(at) {
+        Some(node) => node.attach_all(running, searches),
         None => Ok(()),
     }
 }

@@ -1,12 +1,18 @@
 //! Tending: slot by slot a tree lets go of what it no longer needs.
 
-ghost use Rattle.std.specs.Prelude.{◌≡◌, ◌+◌, IsTrue};
+ghost use Rattle.std.specs.Prelude.{◌≡◌, ◌↔◌, ◌+◌, ℕ, Some, Ok, IsTrue, IfOk, IfErr, OnErr};
+ghost use Rattle.node_arena.specs.Slots.{value_at};
+ghost use Rattle.node_arena.specs.declared.handle.Handle.{Handle};
+ghost use Rattle.predicate_locks.specs.Searches.{AllBegunSince, last_number};
 ghost use Rattle.search_tree.specs.Calls.{SameContents};
-ghost use Rattle.search_tree.specs.Tends.{HasTended, ContentsLess, MayClean, MayFree, MayRetire};
+ghost use Rattle.search_tree.specs.Needs.{stamp_at};
+ghost use Rattle.search_tree.specs.Tends.{HasTended, ContentsLess, ContentsTended, MayClean, MayFree, MayRetire};
 ghost use Rattle.tree_theory.specs.KeyClasses.{class_of};
 
 use crate::answers::Tending;
+use crate::fault::TreeFault;
 use crate::keeper::Keeper;
+use crate::needs::Due;
 use crate::setters::{keep, remove_entry, set_place};
 use crate::tree::Tree;
 use node_arena::Handle;
@@ -14,6 +20,66 @@ use std::alloc::Allocator;
 use tree_theory::{KeyClass, Place};
 
 impl<C: KeyClass, A: Allocator> Tree<C, A> {
+    /// Tends one slot: it lets go of what stands there and is no longer needed, or gives a right node its entry. Where there is nothing to do it answers Idle.
+    ///
+    /// A retired node goes (Freed) where every running search began since it was retired. A marked node's right node gets its entry where their parent has room (Installed). A leaf loses the pairs that are not kept (Cleaned). An empty leaf that is not its parent's only child is retired (Retired). It takes no memory, and changes no search.
+    ///
+    /// S6 where a node is to be installed or retired and the counter is at its end. Then nothing has changed.
+    pub fn tend<K: Keeper<C::Item>>(&mut self, slot: u32, keeper: &K) -> Result<Tending, TreeFault>
+        ensures tended { IfOk result (HasTended (class_of C.covered C.may_match C.is_match C.key_with C.united) self.old self.new) }
+        ensures contents { IfOk result (ContentsTended (class_of C.covered C.may_match C.is_match C.key_with C.united) self.old (λ pair. IsTrue (K.kept keeper.now pair.0 pair.1)) self.new) }
+        ensures freed { (at : Handle) (stamp : ℕ) → at.slot ≡ slot → stamp_at (value_at self.old.nodes at) ≡ Some stamp → ((result ≡ Ok Tending.Freed) ↔ AllBegunSince self.old.running stamp) }
+        ensures spent { IfErr result (λ fault. (fault ≡ TreeFault.Spent) × (self.old.counter ≡ last_number)) }
+        ensures err { OnErr result (self.new ≡ self.old) }
+    {
+        match self.nodes.at_slot(slot) {
+            Some(at) => self.tend_at(at, keeper),
+            None => Ok(Tending::Idle),
+        }
+    }
+
+    // Does what is due at a node.
+    fn tend_at<K: Keeper<C::Item>>(&mut self, at: Handle, keeper: &K) -> Result<Tending, TreeFault>
+        ensures tended { IfOk result (HasTended (class_of C.covered C.may_match C.is_match C.key_with C.united) self.old self.new) }
+        ensures contents { IfOk result (ContentsTended (class_of C.covered C.may_match C.is_match C.key_with C.united) self.old (λ pair. IsTrue (K.kept keeper.now pair.0 pair.1)) self.new) }
+        ensures freed { (stamp : ℕ) → stamp_at (value_at self.old.nodes at) ≡ Some stamp → ((result ≡ Ok Tending.Freed) ↔ AllBegunSince self.old.running stamp) }
+        ensures spent { IfErr result (λ fault. (fault ≡ TreeFault.Spent) × (self.old.counter ≡ last_number)) }
+        ensures err { OnErr result (self.new ≡ self.old) }
+    {
+        match self.first_due(at, keeper) {
+            Due::Nothing => Ok(Tending::Idle),
+            Due::Free => {
+                self.free(at);
+                Ok(Tending::Freed)
+            }
+            Due::Install(entry) => {
+                let seq = self.next_count()?;
+                self.install(&entry, seq);
+                Ok(Tending::Installed)
+            }
+            Due::Clean => {
+                self.clean(at, keeper);
+                Ok(Tending::Cleaned)
+            }
+            Due::Retire { parent, place } => {
+                let stamp = self.next_count()?;
+                self.retire(at, parent, place, stamp);
+                Ok(Tending::Retired)
+            }
+        }
+    }
+
+    // The number to which the counter rises.
+    fn next_count(&self) -> Result<u64, TreeFault>
+        ensures ok { IfOk result (λ next. next ≡ self.now.counter + 1) }
+        ensures err { IfErr result (λ fault. (fault ≡ TreeFault.Spent) × (self.now.counter ≡ last_number)) }
+    {
+        match self.counter.checked_add(1) {
+            Some(next) => Ok(next),
+            None => Err(TreeFault::Spent),
+        }
+    }
+
     // Lets a retired node go.
     fn free(&mut self, at: Handle)
         requires { MayFree (class_of C.covered C.may_match C.is_match C.key_with C.united) self.old at }

@@ -1,0 +1,262 @@
+-- A walk's way down: searches join the child, and its right node where it is marked, before the entry is enlarged.
+use Rattle.std.proofs.Common.{◌≡◌, ◌⊎◌, ◌∙◌, ℕ, List, [], ◌∷◌, Contains, Bool, true, false, if◌then◌else◌, filter, IsTrue, Option, None, Some, is_some, refl, sym, ap, subst, inl, inr, Result, Ok, Err, OnOk}
+use Rattle.std.proofs.lemmas.Bool.{cases_eq}
+use Rattle.std.specs.Option.{option_map}
+use Rattle.node_arena.specs.Slots.{Slots, value_at}
+use Rattle.node_arena.specs.declared.handle.Handle.{Handle}
+use Rattle.predicate_locks.proofs.NumberLemmas.{with_all}
+use Rattle.predicate_locks.specs.Numbers.{with_numbers}
+use Rattle.predicate_locks.specs.Searches.{Searches, does_run, search_at}
+use Rattle.predicate_locks.specs.declared.running.RunningSearch.{RunningSearch}
+use Rattle.tree_theory.proofs.ListLemmas.{first_in, later_in, in_cases, nothing_in, handle_cases}
+use Rattle.tree_theory.specs.KeyClasses.{Class, Laws}
+use Rattle.tree_theory.specs.Nodes.{PlainNode, Node, Search, entries_of, is_marked}
+use Rattle.tree_theory.specs.Walks.{Done}
+use Rattle.tree_theory.specs.declared.place.Place.{Place}
+use Rattle.tree_theory.specs.declared.place.Place.TheVariants.{Unlinked}
+use Rattle.search_tree.specs.Arenas.{IsChanged}
+use Rattle.search_tree.specs.Calls.{IsAlike}
+use Rattle.search_tree.specs.Trees.{PlainProgress, PlainTree, IsSound, progress_at, tree_of}
+use Rattle.search_tree.specs.Walks.{HasMore, MoreAttached, MayJoinAll, HasJoined, MayJoinBelow, HasJoinedBelow, marked_right}
+use Rattle.search_tree.proofs.Kept.{filter_from, all_join}
+use Rattle.search_tree.proofs.TendSteps.{some_one}
+use Rattle.search_tree.proofs.WalkSteps.{joined_sound, joined_call}
+
+-- a node that is not linked has no mark
+no_mark : (place : Place) (left : Handle) → place ≡ Unlinked left → IsTrue (is_marked place) → ⊥
+no_mark place left is marked = let no : false ≡ true = (rw is at marked) in absurd (cc (no))
+
+module _ (C : Class) where
+  -- a tree like another, and a third like that
+  pub alike_both : (t u v : PlainTree C.Key C.Query C.Item) → IsAlike C t u → IsAlike C u v → IsAlike C t v
+  alike_both t u v one two =
+      record {
+        searches = λ s. two.searches s ∙ one.searches s;
+        steps = λ s. two.steps s ∙ one.steps s;
+        next = two.next ∙ one.next;
+        contents = λ xs is. two.contents xs (one.contents xs is);
+        counts = record {
+          counter = two.counts.counter ∙ one.counts.counter;
+          limit = two.counts.limit ∙ one.counts.limit;
+          level = two.counts.level ∙ one.counts.level;
+          taken = two.counts.taken ∙ one.counts.taken;
+          slots = two.counts.slots ∙ one.counts.slots;
+        };
+      }
+
+module _ (C : Class) (t : PlainTree C.Key C.Query C.Item) (sound : IsSound C t) where
+  -- a search that runs, as the theory has it
+  pub record Known (s : ℕ) (run : RunningSearch C.Query) : Type 0 where
+    pub search : Search C
+    pub is : (tree_of C t).searches s ≡ Some search
+    pub query : search.query ≡ run.query
+
+  pub known : (s : ℕ) (run : RunningSearch C.Query) → search_at t.running s ≡ Some run → Known s run
+  known s run is = by (progress_at s t.progress) refl
+    where
+      by : (o : Option (PlainProgress C.Item)) → progress_at s t.progress ≡ o → Known s run
+      by (Some p) e = record { search = record { query = run.query; begun = run.begun; stack = p.stack; found = p.found }; is = rw (is, e) refl; query = refl }
+      by None e = let no : false ≡ true = sym (ap is_some e) ∙ (sound.progress_of_each s ∙ ap is_some is) in absurd (cc (no))
+
+  module _ (child : Handle) (searches : List ℕ) (may : MayJoinBelow C t child searches) (node : Node C) (is : value_at t.nodes child ≡ Some node) where
+    -- the right node of a marked child
+    pub may_right : IsTrue (is_marked node.place) → (r : Handle) → node.right ≡ Some r → MayJoinAll C t r searches
+    may_right marked r leads =
+        let right = sound.invariant.shape.mark_right child node is marked in
+        record {
+          node = right.node;
+          is = subst (λ h. value_at t.nodes h ≡ Some right.node) (some_one right.is_right leads) right.is;
+          each = λ s has.
+              let led = may.each s has in
+              let there = known s led.search led.runs in
+              record {
+                search = there.search;
+                running = there.is;
+                key = may.key;
+                stands = record { parent = may.parent; node = may.node; is = may.is; child = child; entry = may.entry; behind = inr (node, is, marked, leads) };
+                inconsistent = λ c. led.inconsistent (subst (λ q. C.Consistent may.key q) there.query c);
+                right_done = λ twice. absurd (no_mark right.node.place child right.place twice);
+              };
+        }
+
+    -- the child, once its right node is joined
+    pub may_child : ((s : ℕ) → Contains searches s → IsTrue (is_marked node.place) → (r : Handle) → node.right ≡ Some r → Done (tree_of C t) s r) → MayJoinAll C t child searches
+    may_child done =
+        record {
+          node = node;
+          is = is;
+          each = λ s has.
+              let led = may.each s has in
+              let there = known s led.search led.runs in
+              record {
+                search = there.search;
+                running = there.is;
+                key = may.key;
+                stands = record { parent = may.parent; node = may.node; is = may.is; child = child; entry = may.entry; behind = inl refl };
+                inconsistent = λ c. led.inconsistent (subst (λ q. C.Consistent may.key q) there.query c);
+                right_done = done s has;
+              };
+        }
+
+-- what is said of a success, by what was said of it
+pub on_ok : {T E : Type 0} (r : Result T E) (P Q : Type 0) → (P → Q) → OnOk r P → OnOk r Q
+on_ok (Ok x) P Q goes p = goes p
+on_ok (Err e) P Q goes p = tt
+
+-- a number is in a list or not
+pub held_or_not : (n : ℕ) (xs : List ℕ) → Contains xs n ⊎ (Contains xs n → ⊥)
+held_or_not n [] = inr (λ h. nothing_in n h)
+held_or_not n (x ∷ xs) = elim (cases_eq x n) [
+  | inl same ↦ inl (subst (Contains (x ∷ xs)) same (first_in x xs))
+  | inr other ↦ elim (held_or_not n xs) [
+    | inl there ↦ inl (later_in x xs n there)
+    | inr not_there ↦ inr (λ h. elim (in_cases x xs n h) [ inl same ↦ other same | inr rest ↦ not_there rest ])
+  ]
+]
+
+-- the right node of a marked node, in parts
+pub record MarkedRight {Key Item : Type 0} (o : Option (PlainNode Key Item)) (r : Handle) : Type 0 where
+  pub node : PlainNode Key Item
+  pub is : o ≡ Some node
+  pub marked : IsTrue (is_marked node.place)
+  pub leads : node.right ≡ Some r
+
+pub marked_parts : {Key Item : Type 0} (o : Option (PlainNode Key Item)) (r : Handle) → marked_right o ≡ Some r → MarkedRight o r
+marked_parts None r e = absurd (cc (e))
+marked_parts (Some node) r e = by (is_marked node.place) refl e
+  where
+    by : (b : Bool) → is_marked node.place ≡ b → (if b then node.right else None) ≡ Some r → MarkedRight (Some node) r
+    by true test leads = record { node = node; is = refl; marked = test; leads = leads }
+    by false test leads = absurd (cc (leads))
+
+-- where there is none, a node that is marked leads nowhere
+pub marked_none : {Key Item : Type 0} (node : PlainNode Key Item) → marked_right (Some node) ≡ None → IsTrue (is_marked node.place) → (r : Handle) → node.right ≡ Some r → ⊥
+marked_none node e marked r leads = by (is_marked node.place) marked e
+  where
+    by : (b : Bool) → b ≡ true → (if b then node.right else None) ≡ None → ⊥
+    by true test none = absurd (cc (none, leads))
+    by false test none = absurd (cc (test))
+
+module _ (C : Class) where
+  more_twice : (searches : List ℕ) (one two three : Node C) → HasMore searches one two → HasMore searches two three → HasMore searches one three
+  more_twice searches one two three first second =
+      record {
+        same = second.same ∙ ap (λ (n : Node C). record n { attached = three.attached }) first.same;
+        only = λ s has. elim (second.only s has) [ inl before ↦ first.only s before | inr new ↦ inr new ];
+      }
+
+  pub more_both : (searches : List ℕ) (a b c : Slots (Node C)) → MoreAttached C searches a b → MoreAttached C searches b c → MoreAttached C searches a c
+  more_both searches a b c one two =
+      record {
+        forth = λ h n is.
+            let first = one.forth h n is in
+            let second = two.forth h first.0 first.1 in
+            (second.0, second.1, more_twice searches n first.0 second.0 first.2 second.2);
+      }
+
+  module _ (running : Searches C.Query) (searches : List ℕ) (old new : Slots (Node C)) (at : Handle) where
+    abbrev joined : Node C → Node C
+    joined n = record n { attached = filter (does_run running) (with_numbers searches n.attached) }
+
+    has_more : (n : Node C) → HasMore searches n (joined n)
+    has_more n = record { same = refl; only = λ s has. (with_all searches n.attached s).0 (filter_from (does_run running) (with_numbers searches n.attached) s has) }
+
+    pub more_from : IsChanged old new at (λ n. record n { attached = filter (does_run running) (with_numbers searches n.attached) }) → MoreAttached C searches old new
+    more_from changed =
+        record {
+          forth = λ h n is. elim (handle_cases h at) [
+            | inl same ↦ (joined n, subst (λ x. value_at new x ≡ Some (joined n)) (sym same) (changed.here ∙ ap (option_map joined) (subst (λ x. value_at old x ≡ Some n) same is)), has_more n)
+            | inr apart ↦ (n, changed.others h apart ∙ is, record { same = refl; only = λ s has. inl has })
+          ];
+        }
+
+module _ (C : Class) (t : PlainTree C.Key C.Query C.Item) where
+  abbrev with_nodes : Slots (Node C) → PlainTree C.Key C.Query C.Item
+  with_nodes nodes = record t { nodes = nodes }
+
+  -- who has joined a node has seen it
+  joined_done : (nodes : Slots (Node C)) (at : Handle) (searches : List ℕ) (n : Node C) → value_at t.nodes at ≡ Some n → IsChanged t.nodes nodes at (λ n. record n { attached = filter (does_run t.running) (with_numbers searches n.attached) }) → (s : ℕ) → Contains searches s → does_run t.running s ≡ true → Done (tree_of C (with_nodes nodes)) s at
+  joined_done nodes at searches n is changed s has runs =
+      record {
+        node = record n { attached = filter (does_run t.running) (with_numbers searches n.attached) };
+        is = rw (changed.here, is) refl;
+        attached = all_join C t searches n.attached s has runs;
+      }
+
+  -- what the child's entry says stays
+  below_still : (nodes : Slots (Node C)) (child : Handle) (searches : List ℕ) → MoreAttached C searches t.nodes nodes → MayJoinBelow C t child searches → MayJoinBelow C (with_nodes nodes) child searches
+  below_still nodes child searches more may =
+      let there = more.forth may.parent may.node may.is in
+      record {
+        parent = may.parent;
+        node = there.0;
+        is = there.1;
+        key = may.key;
+        entry = subst (λ b. Contains (entries_of b) (may.key, child)) (sym (ap (λ (n : Node C). n.body) there.2.same)) may.entry;
+        each = may.each;
+      }
+
+  module _ (laws : Laws C) (sound : IsSound C t) (child right : Handle) (searches : List ℕ) (may : MayJoinBelow C t child searches) (leads : marked_right (value_at t.nodes child) ≡ Some right) (one two : Slots (Node C)) (first : IsChanged t.nodes one right (λ n. record n { attached = filter (does_run t.running) (with_numbers searches n.attached) })) where
+    parts : MarkedRight (value_at t.nodes child) right
+    parts = marked_parts (value_at t.nodes child) right leads
+
+    may_first : MayJoinAll C t right searches
+    may_first = may_right C t sound child searches may parts.node parts.is parts.marked right parts.leads
+
+    pub first_sound : IsSound C (with_nodes one)
+    first_sound = joined_sound C t one laws right searches may_first first sound
+
+    pub first_alike : IsAlike C t (with_nodes one)
+    first_alike = (joined_call C t one right searches may_first first).alike
+
+    first_more : MoreAttached C searches t.nodes one
+    first_more = more_from C t.running searches t.nodes one right first
+
+    may_second : MayJoinAll C (with_nodes one) child searches
+    may_second =
+        let there = first_more.forth child parts.node parts.is in
+        may_child C (with_nodes one) first_sound child searches (below_still one child searches first_more may) there.0 there.1
+        (λ s has marked r to.
+        let same : right ≡ r = some_one parts.leads (sym (ap (λ (n : Node C). n.right) there.2.same) ∙ to) in
+        subst (Done (tree_of C (with_nodes one)) s) same (joined_done one right searches may_first.node may_first.is first s has (ap is_some (may.each s has).runs)))
+
+    pub second_sound : IsChanged one two child (λ n. record n { attached = filter (does_run t.running) (with_numbers searches n.attached) }) → IsSound C (with_nodes two)
+    second_sound second = joined_sound C (with_nodes one) two laws child searches may_second second first_sound
+
+    pub both_joined : IsChanged one two child (λ n. record n { attached = filter (does_run t.running) (with_numbers searches n.attached) }) → HasJoinedBelow C t (with_nodes two) child searches
+    both_joined second =
+        record {
+          only_nodes = refl;
+          more = more_both C searches t.nodes one two first_more (more_from C t.running searches one two child second);
+          done = λ s has. let seen = joined_done2 s has second in seen;
+          alike = alike_both C t (with_nodes one) (with_nodes two) first_alike (joined_call C (with_nodes one) two child searches may_second second).alike;
+        }
+      where
+        joined_done2 : (s : ℕ) → Contains searches s → IsChanged one two child (λ n. record n { attached = filter (does_run t.running) (with_numbers searches n.attached) }) → Done (tree_of C (with_nodes two)) s child
+        joined_done2 s has second =
+            record {
+              node = record may_second.node { attached = filter (does_run t.running) (with_numbers searches may_second.node.attached) };
+              is = rw (second.here, may_second.is) refl;
+              attached = all_join C t searches may_second.node.attached s has (ap is_some (may.each s has).runs);
+            }
+
+  module _ (laws : Laws C) (sound : IsSound C t) (child : Handle) (searches : List ℕ) (may : MayJoinBelow C t child searches) (alone : marked_right (value_at t.nodes child) ≡ None) where
+    -- a child that is not marked
+    pub may_alone : MayJoinAll C t child searches
+    may_alone =
+        let down = sound.invariant.shape.entry_down may.parent may.node may.is may.key child may.entry in
+        may_child C t sound child searches may down.node down.is
+        (λ s has marked r to. absurd (marked_none down.node (sym (ap marked_right down.is) ∙ alone) marked r to))
+
+    pub alone_joined : (u : PlainTree C.Key C.Query C.Item) → HasJoined C t u child searches → HasJoinedBelow C t u child searches
+    alone_joined u join =
+        record {
+          only_nodes = join.only_nodes;
+          more = more_from C t.running searches t.nodes u.nodes child join.changed;
+          done = λ s has. record {
+            node = record may_alone.node { attached = filter (does_run t.running) (with_numbers searches may_alone.node.attached) };
+            is = rw (join.changed.here, may_alone.is) refl;
+            attached = all_join C t searches may_alone.node.attached s has (ap is_some (may.each s has).runs);
+          };
+          alike = join.alike;
+        }

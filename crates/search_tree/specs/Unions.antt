@@ -1,0 +1,12 @@
+-- The union of several keys.
+use Rattle.std.specs.Prelude.{◌≡◌, ◌⊎◌, List, [], Contains}
+use Rattle.tree_theory.specs.KeyClasses.{Class}
+
+-- it covers each key, and whatever covers each of them covers it
+pub record IsUnionOf (C : Class) (keys : List C.Key) (union : C.Key) : Type 0 where
+  pub covers : (key : C.Key) → Contains keys key → C.Covers union key
+  pub least : (cover : C.Key) → ((key : C.Key) → Contains keys key → C.Covers cover key) → C.Covers cover union
+
+-- the union of these keys, or the old key where there is none
+abbrev pub IsUnionFor : (C : Class) → List C.Key → C.Key → C.Key → Type 0
+IsUnionFor C keys old union = IsUnionOf C keys union ⊎ ((keys ≡ []) × (union ≡ old))

@@ -1,0 +1,66 @@
+//! What a walk changes on its way down: searches join a node, and an entry takes in the item's key.
+
+ghost use Rattle.std.specs.Prelude.{◌≡◌, ◌≤◌, Some, OnOk, OnErr, length};
+ghost use Rattle.node_arena.specs.Slots.{value_at};
+ghost use Rattle.predicate_locks.specs.declared.TheConstants.{MAX_ROOM};
+ghost use Rattle.search_tree.specs.Calls.{IsAlike};
+ghost use Rattle.search_tree.specs.Walks.{MayJoinAll, HasJoined, MayJoinBelow, HasJoinedBelow, MayEnlarge, marked_right as right_of_marked};
+ghost use Rattle.tree_theory.specs.KeyClasses.{class_of};
+
+use crate::descending::marked_right;
+use crate::setters::{attach_all, set_key};
+use crate::tree::Tree;
+use memory::Refused;
+use node_arena::Handle;
+use std::alloc::Allocator;
+use tree_theory::KeyClass;
+
+impl<C: KeyClass, A: Allocator + Copy> Tree<C, A> {
+    // Attaches searches to a node in which they have nothing to look for. Where there is no memory nothing changes.
+    fn join(&mut self, at: Handle, searches: &[u64]) -> Result<(), Refused>
+        requires may { MayJoinAll (class_of C.covered C.may_match C.is_match C.key_with C.united) self.old at searches.now }
+        requires few { length searches.now ≤ MAX_ROOM }
+        ensures ok { OnOk result (HasJoined (class_of C.covered C.may_match C.is_match C.key_with C.united) self.old self.new at searches.now) }
+        ensures err { OnErr result (IsAlike (class_of C.covered C.may_match C.is_match C.key_with C.united) self.old self.new) }
+    {
+        attach_all(&mut self.nodes, &self.running, at, searches)?;
+        Ok(())
+    }
+
+    // Attaches searches to a child whose entry does not lead them on, and to its right node first where the child is marked. Where there is no memory the right node may have got them already; no caller can tell.
+    fn join_below(&mut self, child: Handle, searches: &[u64]) -> Result<(), Refused>
+        requires may { MayJoinBelow (class_of C.covered C.may_match C.is_match C.key_with C.united) self.old child searches.now }
+        requires few { length searches.now ≤ MAX_ROOM }
+        ensures ok { OnOk result (HasJoinedBelow (class_of C.covered C.may_match C.is_match C.key_with C.united) self.old self.new child searches.now) }
+        ensures err { OnErr result (IsAlike (class_of C.covered C.may_match C.is_match C.key_with C.united) self.old self.new) }
+    {
+        match marked_right(&self.nodes, child) {
+            Some(right) => self.join_both(child, right, searches),
+            None => self.join(child, searches),
+        }
+    }
+
+    // The same for a marked child and this right node of it.
+    fn join_both(&mut self, child: Handle, right: Handle, searches: &[u64]) -> Result<(), Refused>
+        requires may { MayJoinBelow (class_of C.covered C.may_match C.is_match C.key_with C.united) self.old child searches.now }
+        requires leads { right_of_marked (value_at self.old.nodes child) ≡ Some right }
+        requires few { length searches.now ≤ MAX_ROOM }
+        ensures ok { OnOk result (HasJoinedBelow (class_of C.covered C.may_match C.is_match C.key_with C.united) self.old self.new child searches.now) }
+        ensures err { OnErr result (IsAlike (class_of C.covered C.may_match C.is_match C.key_with C.united) self.old self.new) }
+    {
+        attach_all(&mut self.nodes, &self.running, right, searches)?;
+        attach_all(&mut self.nodes, &self.running, child, searches)?;
+        Ok(())
+    }
+}
+
+impl<C: KeyClass, A: Allocator> Tree<C, A> {
+    // Makes the key of a child's entry, which stands at the place, its union with another key.
+    fn enlarge(&mut self, parent: Handle, place: usize, old: C::Key, key: C::Key, child: Handle)
+        requires { MayEnlarge (class_of C.covered C.may_match C.is_match C.key_with C.united) self.old parent place old key child }
+        ensures { IsAlike (class_of C.covered C.may_match C.is_match C.key_with C.united) self.old self.new }
+    {
+        let union = C::union(old, key);
+        set_key(&mut self.nodes, parent, place, union);
+    }
+}

@@ -1,0 +1,208 @@
+//! What tending finds to do at a node. Nothing here changes anything.
+
+ghost use Rattle.std.specs.Prelude.{◌≡◌, ◌↔◌, ◌<◌, ℕ, Some, IsTrue, IfSome, slice_get};
+ghost use Rattle.node_arena.specs.Slots.{value_at};
+ghost use Rattle.predicate_locks.specs.Searches.{AllBegunSince};
+ghost use Rattle.search_tree.specs.Needs.{MayDo, stamp_at, stamp_in};
+ghost use Rattle.search_tree.specs.Tends.{MayClean, MayInstall, MayRetire};
+ghost use Rattle.search_tree.specs.Trees.{IsLeaf, IsInner};
+ghost use Rattle.tree_theory.specs.KeyClasses.{class_of};
+ghost use Rattle.tree_theory.specs.Nodes.{size_of};
+ghost use Rattle.tree_theory.specs.declared.TheConstants.{NODE_SIZE};
+
+use crate::installing::NewEntry;
+use crate::keeper::Keeper;
+use crate::keys::key_for;
+use crate::node::TreeNode;
+use crate::setters::Nodes;
+use crate::tree::Tree;
+use node_arena::Handle;
+use std::alloc::Allocator;
+use tree_theory::{KeyClass, NODE_SIZE, Place};
+
+/// What is to be done at a node.
+pub(crate) enum Due<K> {
+    Nothing,
+    /// It is retired, and no running search can come to it any more.
+    Free,
+    /// It is marked, and its right node can have an entry.
+    Install(NewEntry<K>),
+    /// It is a leaf with pairs that are not kept.
+    Clean,
+    /// It is an empty leaf, whose entry stands at this place of its parent.
+    Retire { parent: Handle, place: usize },
+}
+
+impl<C: KeyClass, A: Allocator> Tree<C, A> {
+    // What is to be done at a node: the first of the cases that holds.
+    pub(crate) fn first_due<K: Keeper<C::Item>>(&self, at: Handle, keeper: &K) -> Due<C::Key>
+        ensures may { MayDo (class_of C.covered C.may_match C.is_match C.key_with C.united) self.now at result }
+        ensures retired { (stamp : ℕ) → stamp_at (value_at self.now.nodes at) ≡ Some stamp → ((result ≡ Due.Free) ↔ AllBegunSince self.now.running stamp) }
+    {
+        match stamp_of(&self.nodes, at) {
+            Some(stamp) => {
+                if self.running.all_begun_since(stamp) {
+                    Due::Free
+                } else {
+                    Due::Nothing
+                }
+            }
+            None => self.due_in_place(at, keeper),
+        }
+    }
+
+    // What is to be done at a node that is not retired.
+    fn due_in_place<K: Keeper<C::Item>>(&self, at: Handle, keeper: &K) -> Due<C::Key>
+        ensures { MayDo (class_of C.covered C.may_match C.is_match C.key_with C.united) self.now at result }
+    {
+        if let Some(entry) = self.lacking(at) {
+            return Due::Install(entry);
+        }
+        if self.has_unkept(at, keeper) {
+            return Due::Clean;
+        }
+        match self.empty_below(at) {
+            Some((parent, place)) => Due::Retire { parent, place },
+            None => Due::Nothing,
+        }
+    }
+
+    // The entry that the right node of a marked node lacks, where their parent has room for it.
+    fn lacking(&self, at: Handle) -> Option<NewEntry<C::Key>>
+        ensures { IfSome result (MayInstall (class_of C.covered C.may_match C.is_match C.key_with C.united) self.now) }
+    {
+        let left = self.nodes.get(at)?;
+        let parent = parent_of(left.place(), true)?;
+        let node = self.nodes.get(parent)?;
+        if !has_room(node) {
+            return None;
+        }
+        let place = place_among(node.children(), at)?;
+        let beside = left.right()?;
+        let right = self.nodes.get(beside)?;
+        let old = node.keys()[place];
+        Some(NewEntry {
+            parent,
+            place,
+            left: at,
+            left_key: key_for::<C, A>(left, old),
+            right: beside,
+            right_key: key_for::<C, A>(right, old),
+        })
+    }
+
+    // Whether a leaf has a pair that is not kept.
+    fn has_unkept<K: Keeper<C::Item>>(&self, at: Handle, keeper: &K) -> bool
+        ensures { IsTrue result → MayClean (class_of C.covered C.may_match C.is_match C.key_with C.united) self.now at }
+    {
+        let Some(node) = self.nodes.get(at) else {
+            return false;
+        };
+        if !node.is_leaf() {
+            return false;
+        }
+        is_one_unkept(node.pairs(), keeper)
+    }
+
+    // The parent of an empty unmarked leaf that is not its only child, and the place of the leaf's entry.
+    fn empty_below(&self, at: Handle) -> Option<(Handle, usize)>
+        ensures { IfSome result (λ found. MayRetire (class_of C.covered C.may_match C.is_match C.key_with C.united) self.now at found.0 found.1) }
+    {
+        let leaf = self.nodes.get(at)?;
+        if !is_empty_leaf(leaf) {
+            return None;
+        }
+        let parent = parent_of(leaf.place(), false)?;
+        let node = self.nodes.get(parent)?;
+        if !has_others(node) {
+            return None;
+        }
+        let place = place_among(node.children(), at)?;
+        Some((parent, place))
+    }
+}
+
+// The stamp of a node, where one stands there and is retired.
+fn stamp_of<K: Copy, I: Copy, A: Allocator>(nodes: &Nodes<K, I, A>, at: Handle) -> Option<u64>
+    ensures { result ≡ stamp_at (value_at nodes.now at) }
+{
+    match nodes.get(at) {
+        Some(node) => stamp_in_place(node.place()),
+        None => None,
+    }
+}
+
+// The stamp of what is retired.
+fn stamp_in_place(place: Place) -> Option<u64>
+    ensures { result ≡ stamp_in place }
+{
+    match place {
+        Place::Root | Place::Linked { .. } | Place::Unlinked { .. } => None,
+        Place::Retired { stamp } => Some(stamp),
+    }
+}
+
+// Whether one of the pairs is not kept.
+fn is_one_unkept<I: Copy, K: Keeper<I>>(pairs: &[(u64, I)], keeper: &K) -> bool {
+    for pair in pairs {
+        if !keeper.keeps(pair.0, &pair.1) {
+            return true;
+        }
+    }
+    false
+}
+
+// Whether it is a leaf without pairs.
+fn is_empty_leaf<K: Copy, I: Copy, A: Allocator>(node: &TreeNode<K, I, A>) -> bool
+    ensures leaf { IsTrue result → IsLeaf node.now.body }
+    ensures empty { IsTrue result → size_of node.now.body ≡ 0 }
+{
+    if !node.is_leaf() {
+        return false;
+    }
+    node.size() == 0
+}
+
+// Whether it is an inner node with more than one entry.
+fn has_others<K: Copy, I: Copy, A: Allocator>(node: &TreeNode<K, I, A>) -> bool
+    ensures inner { IsTrue result → IsInner node.now.body }
+    ensures more { IsTrue result → 1 < size_of node.now.body }
+{
+    if node.is_leaf() {
+        return false;
+    }
+    1 < node.size()
+}
+
+// Whether it is an inner node that one entry more goes into.
+fn has_room<K: Copy, I: Copy, A: Allocator>(node: &TreeNode<K, I, A>) -> bool
+    ensures inner { IsTrue result → IsInner node.now.body }
+    ensures room { IsTrue result → size_of node.now.body < NODE_SIZE }
+{
+    if node.is_leaf() {
+        return false;
+    }
+    node.size() < NODE_SIZE
+}
+
+// The parent of a node at this place, where it is marked or not as told.
+fn parent_of(place: Place, wanted: bool) -> Option<Handle>
+    ensures { IfSome result (λ parent. place ≡ Place.Linked parent wanted) }
+{
+    match place {
+        Place::Linked { parent, marked } if marked == wanted => Some(parent),
+        _ => None,
+    }
+}
+
+// Where a child stands among others.
+fn place_among(children: &[Handle], child: Handle) -> Option<usize>
+    ensures { IfSome result (λ place. slice_get children.now place ≡ Some child) }
+{
+    for (place, other) in children.iter().enumerate() {
+        if *other == child {
+            return Some(place);
+        }
+    }
+    None
+}

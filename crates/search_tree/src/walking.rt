@@ -1,0 +1,38 @@
+//! The steps of a walk at a leaf: the pair is held back, or placed.
+
+ghost use Rattle.std.specs.Prelude.{IfSome, IfNone};
+ghost use Rattle.search_tree.specs.Walks.{IsHolder, NoneHolds, MayPlace, HasPlaced};
+ghost use Rattle.tree_theory.specs.KeyClasses.{class_of};
+
+use crate::setters::push_pair;
+use crate::tree::Tree;
+use node_arena::Handle;
+use predicate_locks::{Attached, Running};
+use std::alloc::Allocator;
+use tree_theory::KeyClass;
+
+/// The least number of a running search that is attached and looks for the item.
+pub(crate) fn holder_of<C: KeyClass, A: Allocator>(
+    running: &Running<C::Query, A>,
+    attached: &Attached<A>,
+    item: C::Item,
+) -> Option<u64>
+    ensures held { IfSome result (IsHolder (class_of C.covered C.may_match C.is_match C.key_with C.united) running.now attached.now.numbers item) }
+    ensures free { IfNone result (NoneHolds (class_of C.covered C.may_match C.is_match C.key_with C.united) running.now attached.now.numbers item) }
+{
+    let first = running.first_meeting(attached, &|query: &C::Query| C::matches(item, *query));
+    match first {
+        Some(number) => Some(number),
+        None => None,
+    }
+}
+
+impl<C: KeyClass, A: Allocator> Tree<C, A> {
+    // Puts a pair into a leaf that may take it.
+    fn place(&mut self, at: Handle, key: u64, item: C::Item)
+        requires { MayPlace (class_of C.covered C.may_match C.is_match C.key_with C.united) self.old at (key, item) }
+        ensures { HasPlaced (class_of C.covered C.may_match C.is_match C.key_with C.united) self.old self.new (key, item) }
+    {
+        push_pair(&mut self.nodes, at, key, item);
+    }
+}
