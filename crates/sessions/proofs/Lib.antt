@@ -1,8 +1,7 @@
 pub mod WordLemmas
+pub mod SearchLemmas
 pub mod CommitLemmas
-pub mod DeskLemmas
+pub mod PolicyLemmas
 pub mod WritingLemmas
-pub mod ListingLemmas
-pub mod RowLemmas
 pub mod ScriptLemmas
 pub mod StreamLemmas

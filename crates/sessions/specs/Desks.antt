@@ -1,103 +1,105 @@
--- What a session's line does, as plain states.
-use Rattle.std.specs.Prelude.{◌≡◌, ℕ, ◌==◌, Bool, nat_le, is_some, List, [], ◌∷◌, ◌++◌, length, Option, None, Some, Result, Ok, Err, if◌then◌else◌}
+-- What a session's line does.
+use Rattle.std.specs.Prelude.{◌≡◌, ℕ, ◌==◌, nat_le, Bool, true, false, is_some, List, [], ◌∷◌, ◌++◌, length, Option, None, Some, Result, Ok, Err, MatchOption, MatchResult, if◌then◌else◌}
 use Rattle.std.specs.Bool.{MatchBool}
-use Rattle.std.specs.List.{list_any}
-use Rattle.features.specs.declared.actors.Subject.{Subject}
 use Rattle.features.specs.declared.rows.Change.{Change}
-use Rattle.features.specs.declared.rows.Change.TheVariants.{Add}
 use Rattle.features.specs.Changes.{change_id}
+use Rattle.plane.specs.declared.point.Point.{Point}
+use Rattle.transactions.specs.declared.faults.Fault.{Fault as WorldFault}
+use Rattle.transactions.specs.declared.faults.Fault.TheVariants as refusals
+use Rattle.transactions.specs.declared.settings.TheConstants.{CHANGE_LIMIT}
+use Rattle.transactions.specs.Answers.{AnswerData}
+use Rattle.transactions.specs.Events.{Rows as RowsReply, reply_of}
+use Rattle.transactions.specs.Staging.{names}
+use Rattle.transactions.specs.States.{WorldData}
+use Rattle.sessions.specs.declared.commands.Asking.{Asking}
 use Rattle.sessions.specs.declared.commands.Command.{Command}
-use Rattle.sessions.specs.declared.commands.Command.TheVariants.{Hello as HelloCommand, Add as AddCommand, Search as SearchCommand, Commit as CommitCommand, Bye as ByeCommand}
-use Rattle.sessions.specs.declared.lists.TheConstants.{CHANGE_LIMIT}
+use Rattle.sessions.specs.declared.commands.Command.TheVariants as commands
+use Rattle.sessions.specs.declared.commands.Verb.{Verb}
+use Rattle.sessions.specs.declared.commands.Verb.TheVariants as verbs
 use Rattle.sessions.specs.declared.faults.Fault.{Fault}
-use Rattle.sessions.specs.declared.faults.Fault.TheVariants.{BeforeHello, NothingStaged, NamedTwice, TooManyChanges}
+use Rattle.sessions.specs.declared.faults.Fault.TheVariants.{BeforeHello, NothingStaged, World}
 use Rattle.sessions.specs.declared.replies.Reply.{Reply}
-use Rattle.sessions.specs.declared.replies.Reply.TheVariants.{Hello, Staged, Rows, Applied, Bye, Error}
-use Rattle.sessions.specs.Commands.{command_of}
-use Rattle.sessions.specs.Replies.{is_memory, ends_list}
-use Rattle.sessions.specs.States.{PlainState, SessionState}
-use Rattle.sessions.specs.Worlds.{committed, seat_of, seated}
+use Rattle.sessions.specs.declared.replies.Reply.TheVariants.{Staged, Aborted, Bye, Error}
+use Rattle.sessions.specs.Commands.{verb_for, arguments_at}
+use Rattle.sessions.specs.Replies.{SaidData, line, rows, ends_list, told}
+use Rattle.sessions.specs.Services.{Searches, CommitsSaying, Begins, Governs, Explains}
+use Rattle.sessions.specs.States.{SessionState, WhereIdle}
 
--- a label's session before HELLO
+-- a session before HELLO
 abbrev pub fresh : List ℕ → SessionState
-fresh label = record { label = label; subject = None; staged = [] }
+fresh label = record { label = label; seat = None; staged = [] }
 
-abbrev pub begun : Subject → SessionState → SessionState
-begun subject session = record session { subject = Some subject }
-
+-- after BYE the label stands for a new one
 abbrev pub ended : SessionState → SessionState
-ended session = record session { subject = None; staged = [] }
+ended session = fresh session.label
 
--- a change of the list names this feature
-abbrev pub names : ℕ → List Change → Bool
-names id changes = list_any (λ change. change_id change == id) changes
+-- nothing changes, and this is said
+abbrev pub OnlySays : Reply → SessionState → WorldData → SessionState → WorldData → Reply → Type 0
+OnlySays due session old new_session new reply = (new_session ≡ session) × (new ≡ old) × (reply ≡ due)
 
--- one more change staged
+-- one more change staged, where there is room and none of those before names its feature
 abbrev pub staged_with : Change → SessionState → SessionState × Reply
 staged_with change session =
-    if nat_le CHANGE_LIMIT (length session.staged) then (session, Error TooManyChanges)
-    else if names (change_id change) session.staged then (session, Error NamedTwice)
+    if nat_le CHANGE_LIMIT (length session.staged) then (session, Error (World refusals.TooManyChanges))
+    else if names (change_id change) session.staged then (session, Error (World refusals.NamedTwice))
     else (record session { staged = session.staged ++ change ∷ [] }, Staged)
-
--- a reply that says that the store was changed, for which memory may be wanted
-abbrev pub IsChange : Reply → Type 0
-IsChange (Applied version) = Unit {0}
-IsChange _ = ⊥
 
 -- a session after its list was committed with this reply
 abbrev pub without_list : Reply → SessionState → SessionState
 without_list reply session = if ends_list reply then record session { staged = [] } else session
 
-abbrev pub closed_by : PlainState × Reply → SessionState → SessionState × PlainState × Reply
-closed_by end session = (without_list end.1 session, end.0, end.1)
+-- A session's COMMIT. Before HELLO none comes here, since `verb_for` refuses it.
+abbrev pub Closes : SessionState → WorldData → SessionState → WorldData → Reply → Type 0
+Closes session old new_session new reply =
+    MatchOption session.seat (OnlySays (Error BeforeHello) session old new_session new reply)
+    (λ seat. MatchBool (length session.staged == 0) (OnlySays (Error NothingStaged) session old new_session new reply)
+    ((new_session ≡ without_list reply session) × CommitsSaying seat session.staged old new reply))
 
--- a session's COMMIT, where no memory is wanted; before HELLO none comes here, since `command_of` refuses it
-abbrev pub closed : Option Subject → SessionState → PlainState → SessionState × PlainState × Reply
-closed None session state = (session, state, Error BeforeHello)
-closed (Some subject) session state =
-    if length session.staged == 0 then (session, state, Error NothingStaged)
-    else closed_by (committed subject.office session.staged state) session
+-- a session's SEARCH
+abbrev pub Looks : List Point → Option ℕ → WorldData → WorldData → SaidData → Type 0
+Looks window None old new said = (new ≡ old) × (said ≡ line (Error BeforeHello))
+Looks window (Some seat) old new said =
+    (end : Result AnswerData WorldFault) × Searches seat window old new (reply_of RowsReply end) × (said ≡ told rows end)
 
--- A session's COMMIT with this reply. Want of memory comes only where the list would be applied, and changes nothing.
-abbrev pub Closes : SessionState → PlainState → SessionState → PlainState → Reply → Type 0
-Closes session state new_session new_state reply =
-    MatchBool (is_memory reply)
-    ((new_session ≡ session) × (new_state ≡ state) × IsChange (closed session.subject session state).2)
-    ((new_session, new_state, reply) ≡ closed session.subject session state)
+-- a session's EXPLAIN
+abbrev pub Explained : Asking → Option ℕ → WorldData → Reply → Type 0
+Explained asking None w reply = reply ≡ Error BeforeHello
+Explained asking (Some seat) w reply = Explains seat asking w reply
 
--- HELLO, where the seat is given or not
-abbrev pub seated_as : List ℕ → Result Subject Fault → SessionState → PlainState → SessionState × PlainState × Reply
-seated_as name (Ok subject) session state = (begun subject session, seated state, Hello name)
-seated_as name (Err fault) session state = (session, state, Error fault)
+-- a session's POLICY
+abbrev pub Governed : List ℕ → Option ℕ → WorldData → WorldData → Reply → Type 0
+Governed text None old new reply = (new ≡ old) × (reply ≡ Error BeforeHello)
+Governed text (Some seat) old new reply = Governs seat text old new reply
 
-abbrev pub staged_in : SessionState × Reply → PlainState → SessionState × PlainState × Reply
-staged_in end state = (end.0, state, end.1)
+-- this is said in one line
+abbrev pub Says : (Reply → Type 0) → SaidData → Type 0
+Says Does (line reply) = Does reply
+Says Does (rows answer) = ⊥
 
--- what a command makes of its session and the state, and its reply, where no memory is wanted
-unfoldable pub obeyed : Command → SessionState → PlainState → SessionState × PlainState × Reply
-obeyed (HelloCommand name) session state = seated_as name (seat_of name state) session state
-obeyed (AddCommand id class shape) session state = staged_in (staged_with (Add id class shape) session) state
-obeyed (SearchCommand window) session state = (session, state, Rows window)
-obeyed CommitCommand session state = closed session.subject session state
-obeyed ByeCommand session state = (ended session, state, Bye)
+-- what a command makes of its session and the world, and what is said
+abbrev pub Obeys : Command → SessionState → WorldData → SessionState → WorldData → SaidData → Type 0
+Obeys (commands.Hello name) session old new_session new said = Says (λ reply. Begins name session old new_session new reply) said
+Obeys (commands.Search window) session old new_session new said = (new_session ≡ session) × Looks window session.seat old new said
+Obeys (commands.Stage change) session old new_session new said = (new ≡ old) × Says (λ reply. (new_session, reply) ≡ staged_with change session) said
+Obeys commands.Commit session old new_session new said = Says (λ reply. Closes session old new_session new reply) said
+Obeys commands.Abort session old new_session new said = (new_session ≡ record session { staged = [] }) × (new ≡ old) × (said ≡ line Aborted)
+Obeys (commands.Explain asking) session old new_session new said = (new_session ≡ session) × (new ≡ old) × Says (λ reply. Explained asking session.seat old reply) said
+Obeys commands.Bye session old new_session new said = (new_session ≡ ended session) × (new ≡ old) × (said ≡ line Bye)
 
-abbrev pub Obeys : Command → SessionState → PlainState → SessionState → PlainState → Reply → Type 0
-Obeys command session state new_session new_state reply =
-    MatchBool (is_memory reply)
-    ((new_session ≡ session) × (new_state ≡ state) × IsChange (obeyed command session state).2)
-    ((new_session, new_state, reply) ≡ obeyed command session state)
+abbrev pub is_policy : Verb → Bool
+is_policy verbs.Policy = true
+is_policy _ = false
 
-abbrev pub obeyed_or_refused : Result Command Fault → SessionState → PlainState → SessionState × PlainState × Reply
-obeyed_or_refused (Ok command) session state = obeyed command session state
-obeyed_or_refused (Err fault) session state = (session, state, Error fault)
+-- a line whose command is this one; POLICY takes all that stands behind it, the others have words
+abbrev pub Does : Verb → List ℕ → SessionState → WorldData → SessionState → WorldData → SaidData → Type 0
+Does verb text session old new_session new said =
+    MatchBool (is_policy verb) ((new_session ≡ session) × Says (λ reply. Governed text session.seat old new reply) said)
+    (MatchResult (arguments_at verb text) (λ command. Obeys command session old new_session new said)
+    (λ fault. (new_session ≡ session) × (new ≡ old) × (said ≡ line (Error fault))))
 
--- what stands behind a session's label makes of the session and the state, and its reply, where no memory is wanted
-unfoldable pub answered : List ℕ → SessionState → PlainState → SessionState × PlainState × Reply
-answered text session state = obeyed_or_refused (command_of (is_some session.subject) text) session state
-
--- A line answered with this reply. Want of memory comes only where something would be changed, and changes nothing.
-abbrev pub Answers : List ℕ → SessionState → PlainState → SessionState → PlainState → Reply → Type 0
-Answers text session state new_session new_state reply =
-    MatchBool (is_memory reply)
-    ((new_session ≡ session) × (new_state ≡ state) × IsChange (answered text session state).2)
-    ((new_session, new_state, reply) ≡ answered text session state)
+-- What stands behind a session's label makes of the session and the world, and what is said. Where nothing is under way
+-- before, nothing is afterwards.
+abbrev pub Answers : List ℕ → SessionState → WorldData → SessionState → WorldData → SaidData → Type 0
+Answers text session old new_session new said =
+    WhereIdle old new (MatchResult (verb_for (is_some session.seat) text) (λ verb. Does verb.0 verb.1 session old new_session new said)
+    (λ fault. (new_session ≡ session) × (new ≡ old) × (said ≡ line (Error fault))))

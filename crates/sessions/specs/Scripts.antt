@@ -5,21 +5,22 @@ use Rattle.std.specs.Cmp.Lexicographic.{pointwise}
 use Rattle.std.specs.List.{prefix_len}
 use Rattle.features.specs.Names.{name_of}
 use Rattle.sessions.specs.declared.faults.Fault.TheVariants.{LineTooLong, NoLabel}
-use Rattle.sessions.specs.declared.replies.Reply.{Reply}
 use Rattle.sessions.specs.declared.replies.Reply.TheVariants.{Error}
 use Rattle.sessions.specs.Desks.{Answers, fresh}
 use Rattle.sessions.specs.Lines.{is_too_long, lines_of}
-use Rattle.sessions.specs.Printed.{Shows, led, reply_text}
-use Rattle.sessions.specs.States.{PlainState, SessionState}
+use Rattle.sessions.specs.Printed.{led, reply_text, said_text}
+use Rattle.sessions.specs.Replies.{SaidData}
+use Rattle.sessions.specs.States.{SessionState}
+use Rattle.transactions.specs.States.{WorldData}
 use Rattle.sessions.specs.Streams.{LinesTell}
 use Rattle.sessions.specs.declared.scripts.TheConstants.{LABEL_LIMIT}
 
 -- a world, and the sessions of the labels that have come, in their order
 pub record Script : Type 0 where
-  pub world : PlainState
+  pub world : WorldData
   pub sessions : List SessionState
 
-abbrev pub script : PlainState → List SessionState → Script
+abbrev pub script : WorldData → List SessionState → Script
 script world sessions = record { world = world; sessions = sessions }
 
 -- an empty line, or a comment
@@ -52,10 +53,10 @@ IsRefused text old new said = (new ≡ old) × (said ≡ led (codes "?") text)
 -- the session of a label answers what stands behind it
 pub record SessionTells (label text : List ℕ) (old new : Script) (said : List ℕ) : Type 0 where
   pub session : SessionState
-  pub reply : Reply
+  pub reply : SaidData
   pub answers : Answers text (slice_index_or (with_label label old.sessions) (place label old.sessions) (fresh label)) old.world session new.world reply
   pub stays : new.sessions ≡ slice_set (with_label label old.sessions) (place label old.sessions) session
-  pub shows : Shows label reply new.world.features said
+  pub shows : said ≡ said_text label reply
 
 -- a script has 64 labels at most
 abbrev pub LabelTells : List ℕ → List ℕ → Script → Script → List ℕ → Type 0
@@ -75,7 +76,8 @@ LineTells line old new said =
 abbrev pub Tells : Script → List (List ℕ) → Script → List ℕ → Type 0
 Tells old lines new text = LinesTell LineTells old lines new text
 
--- the script text of an input, from one world to another
-pub record IsScriptText (world : PlainState) (input : List ℕ) (end : PlainState) (text : List ℕ) : Type 0 where
+-- The script text of an input, from one world to another. It says what each line is answered where nothing was under way at
+-- the beginning, as in a world that has just been opened.
+pub record IsScriptText (world : WorldData) (input : List ℕ) (end : WorldData) (text : List ℕ) : Type 0 where
   pub sessions : List SessionState
   pub tells : Tells (script world []) (lines_of input) (script end sessions) text

@@ -1,33 +1,39 @@
-ghost use Rattle.std.specs.Prelude.{◌≡◌, ◌==◌, is_some, length};
-ghost use Rattle.std.specs.List.{list_any};
-ghost use Rattle.features.specs.Changes.{change_id};
-ghost use Rattle.sessions.specs.Desks.{Answers, Closes, Obeys, begun, ended, fresh, names, staged_with};
+//! Sessions: what stands of one between two lines, and how a line is answered.
 
-use crate::commands::{Command, read_command};
+ghost use Rattle.std.specs.Prelude.{◌≡◌, [], is_some};
+ghost use Rattle.transactions.specs.Staging.{names};
+ghost use Rattle.sessions.specs.Desks.{Answers, Closes, Explained, Governed, Looks, Obeys, Does, ended, fresh, is_policy, staged_with};
+ghost use Rattle.sessions.specs.Replies.{said_view};
+ghost use Rattle.sessions.specs.Services.{Begins};
+ghost use Rattle.sessions.specs.States.{WhereIdle};
+
+use crate::commands::{Asking, Command, Verb, read_arguments, read_verb};
 use crate::faults::Fault;
-use crate::lists::{CHANGE_LIMIT, ChangeList};
-use crate::replies::Reply;
-use crate::worlds::PlainWorld;
-use features::{Change, Name, Subject};
-use std::alloc::Allocator;
+use crate::lists::ChangeList;
+use crate::replies::{Reply, Said, fault_reply};
+use crate::services::{commit_list, explain, govern, search};
+use features::{Change, Name};
+use plane::Shape;
+use std::alloc::{Allocator, Global};
 use std::marker::Model;
+use transactions::{CHANGE_LIMIT, Fault as WorldFault, World};
 
-/// A session of a script. A contract sees its label, its subject and the changes that it has staged. Its list stands in
-/// itself, so staging takes no memory.
+/// A session. A contract sees its label, its seat and the changes that it has staged. Its list stands in itself, so staging
+/// takes no memory.
 #[derive(Debug, Drop)]
 pub(crate) struct Session {
     label: Name,
-    subject: Option<Subject>,
+    seat: Option<u32>,
     staged: ChangeList,
 }
 
 impl Model for Session {
     ghost use Rattle.sessions.specs.States.{SessionState};
-    ghost use Rattle.sessions.specs.Worlds.{AreDistinct};
+    ghost use Rattle.audit_trail.specs.Judging.{AreDistinct};
 
     ghost Value = { SessionState };
 
-    ghost view = { λ s. record { label = s.label; subject = s.subject; staged = s.staged } };
+    ghost view = { λ s. record { label = s.label; seat = s.seat; staged = s.staged } };
 
     ghost invariant = { λ s. AreDistinct s.staged };
 }
@@ -39,7 +45,7 @@ impl Session {
     {
         Session {
             label,
-            subject: None,
+            seat: None,
             staged: ChangeList::new(),
         }
     }
@@ -51,58 +57,103 @@ impl Session {
         self.label
     }
 
-    /// Whether HELLO has given the session its subject.
+    /// Whether HELLO has given the session a seat.
     pub fn has_begun(&self) -> bool
-        ensures { result ≡ is_some self.now.subject }
+        ensures { result ≡ is_some self.now.seat }
     {
-        self.subject.is_some()
+        self.seat.is_some()
     }
 
-    /// Gives the session its subject.
-    fn begin(&mut self, subject: Subject)
-        ensures { self.new ≡ begun subject self.old }
+    /// Takes a seat for the subject of a name. H1 where there is no such subject, H2 where all seats are given, `memory`.
+    fn begin<A: Allocator>(&mut self, world: &mut World<A>, name: Name) -> Reply
+        ensures { WhereIdle world.old world.new (Begins name self.old world.old self.new world.new result) }
     {
-        self.subject = Some(subject);
+        match world.seat(name) {
+            Err(fault) => fault_reply(fault),
+            Ok(seat) => {
+                self.seat = Some(seat);
+                Reply::Hello(name)
+            }
+        }
     }
 
     /// Ends the session: the label stands for a new one.
     fn end(&mut self)
         ensures { self.new ≡ ended self.old }
     {
-        self.subject = None;
+        self.seat = None;
         self.staged.clear();
     }
 
-    /// Stages a change. `TooManyChanges` where 16 are staged, then `NamedTwice` where one of them names the same
-    /// feature.
+    /// Drops the staged list.
+    fn drop_list(&mut self)
+        ensures { self.new ≡ record self.old { staged = [] } }
+    {
+        self.staged.clear();
+    }
+
+    /// Stages a change. X6 where 16 are staged, then X5 where one of them names the same feature.
     fn stage(&mut self, change: Change) -> Reply
         ensures { (self.new, result) ≡ staged_with change self.old }
     {
         if self.staged.len() >= CHANGE_LIMIT {
-            return Reply::Error(Fault::TooManyChanges);
+            return Reply::Error(Fault::World(WorldFault::TooManyChanges));
         }
         if is_named(self.staged.as_slice(), change.id()) {
-            return Reply::Error(Fault::NamedTwice);
+            return Reply::Error(Fault::World(WorldFault::NamedTwice));
         }
         self.staged.push(change);
         Reply::Staged
     }
 
-    /// Commits the staged list. It is dropped once it is applied, or found to add what is there already.
-    fn commit<A: Allocator>(&mut self, world: &mut PlainWorld<A>) -> Reply
-        ensures { Closes self.old world.old self.new world.new result }
+    /// Commits the staged list. It is dropped once it is judged. E7 where it is empty.
+    fn commit<A: Allocator + Copy>(&mut self, world: &mut World<A>) -> Reply
+        ensures { WhereIdle world.old world.new (Closes self.old world.old self.new world.new result) }
     {
-        let Some(subject) = self.subject else {
+        let Some(seat) = self.seat else {
             return Reply::Error(Fault::BeforeHello);
         };
         if self.staged.len() == 0 {
             return Reply::Error(Fault::NothingStaged);
         }
-        let reply = world.commit(subject.office, self.staged.as_slice());
+        let reply = commit_list(world, seat, self.staged.as_slice());
         if reply.ends_list() {
             self.staged.clear();
         }
         reply
+    }
+
+    /// What is listed for the session's subject and a window.
+    fn look<A: Allocator + Copy>(&self, world: &mut World<A>, window: Shape) -> Said<A>
+        ensures { WhereIdle world.old world.new (Looks window self.now.seat world.old world.new (said_view result)) }
+    {
+        match self.seat {
+            None => Said::Line(Reply::Error(Fault::BeforeHello)),
+            Some(seat) => match search(world, seat, window) {
+                Ok(answer) => Said::Rows(answer),
+                Err(fault) => Said::Line(fault_reply(fault)),
+            },
+        }
+    }
+
+    /// How the document in force rules of what the session's subject asks.
+    fn explain<A: Allocator>(&self, world: &World<A>, asking: &Asking) -> Reply
+        ensures { Explained asking.now self.now.seat world.now result }
+    {
+        match self.seat {
+            None => Reply::Error(Fault::BeforeHello),
+            Some(seat) => explain(world, seat, asking),
+        }
+    }
+
+    /// Puts the document in force that a text spells, if the session's subject is a steward.
+    fn govern<A: Allocator + Copy>(&self, world: &mut World<A>, heap: Global, text: &[u8]) -> Reply
+        ensures { WhereIdle world.old world.new (Governed text.now self.now.seat world.old world.new result) }
+    {
+        match self.seat {
+            None => Reply::Error(Fault::BeforeHello),
+            Some(seat) => govern(world, heap, seat, text),
+        }
     }
 }
 
@@ -113,40 +164,68 @@ fn is_named(changes: &[Change], id: u64) -> bool
     changes.iter().any(|change| change.id() == id)
 }
 
-/// Answers what stands behind the label of a session's line.
-#[tactic(auto, unfolding(crate::specs::Desks::answered))]
-pub(crate) fn answer<A: Allocator>(
-    world: &mut PlainWorld<A>,
+/// Whether the command is POLICY, which takes all the rest of its line.
+fn is_policy(verb: &Verb) -> bool
+    ensures { result ≡ is_policy verb.now }
+{
+    matches!(verb, Verb::Policy)
+}
+
+/// Answers a line of a session, without its label and its end.
+pub(crate) fn answer<A: Allocator + Copy>(
+    world: &mut World<A>,
+    heap: Global,
     session: &mut Session,
     text: &[u8],
-) -> Reply
-    ensures { Answers text.now session.old world.old session.new world.new result }
+) -> Said<A>
+    ensures { Answers text.now session.old world.old session.new world.new (said_view result) }
 {
-    match read_command(session.has_begun(), text) {
-        Err(fault) => Reply::Error(fault),
+    match read_verb(session.has_begun(), text) {
+        Err(fault) => Said::Line(Reply::Error(fault)),
+        Ok((verb, rest)) => take_command(world, heap, session, verb, rest),
+    }
+}
+
+/// Answers a line whose command is this one.
+fn take_command<A: Allocator + Copy>(
+    world: &mut World<A>,
+    heap: Global,
+    session: &mut Session,
+    verb: Verb,
+    rest: &[u8],
+) -> Said<A>
+    ensures { WhereIdle world.old world.new (Does verb rest.now session.old world.old session.new world.new (said_view result)) }
+{
+    if is_policy(&verb) {
+        return Said::Line(session.govern(world, heap, rest));
+    }
+    match read_arguments(verb, rest) {
+        Err(fault) => Said::Line(Reply::Error(fault)),
         Ok(command) => obey(world, session, command),
     }
 }
 
-/// Does what a line asks.
-#[tactic(auto, unfolding(crate::specs::Desks::obeyed))]
-fn obey<A: Allocator>(world: &mut PlainWorld<A>, session: &mut Session, command: Command) -> Reply
-    ensures { Obeys command session.old world.old session.new world.new result }
+/// Does what a command asks.
+fn obey<A: Allocator + Copy>(
+    world: &mut World<A>,
+    session: &mut Session,
+    command: Command,
+) -> Said<A>
+    ensures { WhereIdle world.old world.new (Obeys command session.old world.old session.new world.new (said_view result)) }
 {
     match command {
-        Command::Hello(name) => match world.seat(name) {
-            Err(fault) => Reply::Error(fault),
-            Ok(subject) => {
-                session.begin(subject);
-                Reply::Hello(name)
-            }
-        },
-        Command::Add { id, class, shape } => session.stage(Change::Add { id, class, shape }),
-        Command::Search(window) => Reply::Rows(window),
-        Command::Commit => session.commit(world),
+        Command::Hello(name) => Said::Line(session.begin(world, name)),
+        Command::Search(window) => session.look(world, window),
+        Command::Stage(change) => Said::Line(session.stage(change)),
+        Command::Commit => Said::Line(session.commit(world)),
+        Command::Abort => {
+            session.drop_list();
+            Said::Line(Reply::Aborted)
+        }
+        Command::Explain(asking) => Said::Line(session.explain(world, &asking)),
         Command::Bye => {
             session.end();
-            Reply::Bye
+            Said::Line(Reply::Bye)
         }
     }
 }

@@ -1,10 +1,14 @@
+//! Why a line is answered `error`.
+
 ghost use Rattle.std.specs.Prelude.{◌≡◌};
 
+use policy_text::TextFault;
 use std::fmt;
+use transactions::Fault as WorldFault;
 use wkt::WktFault;
 
 /// Why a line is answered `error`.
-#[derive(Clone, Copy, Debug, PartialEq, Eq)]
+#[derive(Debug, Drop)]
 pub enum Fault {
     /// E1: the line is longer than 65,536 bytes.
     LineTooLong,
@@ -12,7 +16,7 @@ pub enum Fault {
     Command,
     /// E3: a word is no number of 1 to 20 digits below 2^64.
     Number,
-    /// E4: a word is no name.
+    /// E4: a word is no name, or no action.
     Name,
     /// E5: the session has not begun.
     BeforeHello,
@@ -26,24 +30,20 @@ pub enum Fault {
     NoSubject,
     /// H2: all seats are given.
     NoPlace,
-    /// X5: the staged list names the feature already.
-    NamedTwice,
-    /// X6: the staged list has 16 changes already.
-    TooManyChanges,
-    /// X8: the version is at its end.
-    Spent,
-    /// X11: more features would stand than a store holds.
-    StoreFull,
     /// K1 to K5, P1 to P9: the text spells no shape.
     Shape(WktFault),
+    /// D1 to D8: the text is no policy document.
+    Policy(TextFault),
+    /// X1 to X15, S1 to S7: the world refuses the call.
+    World(WorldFault),
 }
 
 impl Fault {
     ghost use Rattle.sessions.specs.Faults.{code_of};
 
     /// The code that the reply shows.
-    pub fn code(self) -> &'static str
-        ensures { result.now ≡ code_of self }
+    pub fn code(&self) -> &'static str
+        ensures { result.now ≡ code_of self.now }
     {
         match self {
             Fault::LineTooLong => "E1",
@@ -56,11 +56,9 @@ impl Fault {
             Fault::NoLabel => "E9",
             Fault::NoSubject => "H1",
             Fault::NoPlace => "H2",
-            Fault::NamedTwice => "X5",
-            Fault::TooManyChanges => "X6",
-            Fault::Spent => "X8",
-            Fault::StoreFull => "X11",
             Fault::Shape(fault) => fault.code(),
+            Fault::Policy(fault) => fault.code(),
+            Fault::World(fault) => fault.code(),
         }
     }
 }

@@ -1,6 +1,24 @@
 //! A worked script, and readers and writers that fail.
+use policy_text::read_document;
+use sessions::built_in_subjects;
+use std::alloc::{Allocator, Global};
 use std::io;
 use std::io::{ErrorKind, Read, Write};
+use std::process::Abort;
+use transactions::World;
+
+/// The document by which everything is permitted.
+pub const OPEN: &str =
+    r#"{"root":{"combine":"first-applicable","policy":"start","rules":[{"effect":"permit","rule":"open"}]}}"#;
+
+/// A world of the built-in subjects, in which everything is permitted.
+pub fn opened<A: Allocator + Copy>(rt: &impl Abort, alloc: A, heap: Global) -> World<A> {
+    let read = read_document(heap, heap, OPEN.as_bytes());
+    assert!(rt; read.is_ok());
+    let world = World::open(alloc, heap, built_in_subjects(), read.unwrap());
+    assert!(rt; world.is_ok());
+    world.unwrap()
+}
 
 /// The worked script of a point that is added and found again.
 pub const FIRST_POINT: &str =

@@ -10,6 +10,8 @@ mod fakes;
 #[cfg(test)]
 mod fault_tests;
 #[cfg(test)]
+mod line_tests;
+#[cfg(test)]
 mod program_tests;
 #[cfg(test)]
 mod script_tests;
