@@ -16,7 +16,7 @@ use Rattle.transactions.specs.declared.faults.Fault.TheVariants as faults
 use Rattle.transactions.specs.declared.faults.TreeFault.{TreeFault}
 use Rattle.transactions.specs.declared.faults.TreeFault.TheVariants as tree
 use Rattle.sessions.specs.declared.faults.Fault.{Fault}
-use Rattle.sessions.specs.declared.faults.Fault.TheVariants.{Shape, Policy, World}
+use Rattle.sessions.specs.declared.faults.Fault.TheVariants.{Shape}
 use Rattle.sessions.specs.Faults.{code_of}
 use Rattle.std.specs.Result.{IsErr}
 use Rattle.sessions.specs.Streams.{Took}
@@ -51,17 +51,15 @@ tree_code_short tree.Spent = lit≤ tt
 tree_code_short tree.Overrun = lit≤ tt
 tree_code_short (tree.Memory refused) = lit≤ tt
 
-world_code_short : (fault : WorldFault) → length (fault_code fault) ≤ 3
+pub world_code_short : (fault : WorldFault) → length (fault_code fault) ≤ 3
 world_code_short (faults.Tree fault) = tree_code_short fault
 world_code_short _ = lit≤ tt
 
-policy_code_short : (fault : TextFault) → length (policy_code_of fault) ≤ 3
+pub policy_code_short : (fault : TextFault) → length (policy_code_of fault) ≤ 3
 policy_code_short _ = lit≤ tt
 
 pub code_short : (fault : Fault) → length (code_of fault) ≤ 3
 code_short (Shape fault) = wkt_code_short fault
-code_short (Policy fault) = policy_code_short fault
-code_short (World fault) = world_code_short fault
 code_short _ = lit≤ tt
 
 -- two writes, one after the other

@@ -17,9 +17,9 @@ use Rattle.sessions.specs.declared.commands.Command.TheVariants as commands
 use Rattle.sessions.specs.declared.commands.Verb.{Verb}
 use Rattle.sessions.specs.declared.commands.Verb.TheVariants as verbs
 use Rattle.sessions.specs.declared.faults.Fault.{Fault}
-use Rattle.sessions.specs.declared.faults.Fault.TheVariants.{BeforeHello, NothingStaged, World}
+use Rattle.sessions.specs.declared.faults.Fault.TheVariants.{BeforeHello, NothingStaged}
 use Rattle.sessions.specs.declared.replies.Reply.{Reply}
-use Rattle.sessions.specs.declared.replies.Reply.TheVariants.{Staged, Aborted, Bye, Error}
+use Rattle.sessions.specs.declared.replies.Reply.TheVariants.{Staged, Aborted, Bye, Error, Refused}
 use Rattle.sessions.specs.Commands.{verb_for, arguments_at}
 use Rattle.sessions.specs.Replies.{SaidData, line, rows, ends_list, told}
 use Rattle.sessions.specs.Services.{Searches, CommitsSaying, Begins, Governs, Explains}
@@ -40,8 +40,8 @@ OnlySays due session old new_session new reply = (new_session ≡ session) × (n
 -- one more change staged, where there is room and none of those before names its feature
 abbrev pub staged_with : Change → SessionState → SessionState × Reply
 staged_with change session =
-    if nat_le CHANGE_LIMIT (length session.staged) then (session, Error (World refusals.TooManyChanges))
-    else if names (change_id change) session.staged then (session, Error (World refusals.NamedTwice))
+    if nat_le CHANGE_LIMIT (length session.staged) then (session, Refused refusals.TooManyChanges)
+    else if names (change_id change) session.staged then (session, Refused refusals.NamedTwice)
     else (record session { staged = session.staged ++ change ∷ [] }, Staged)
 
 -- a session after its list was committed with this reply

@@ -1,10 +1,8 @@
 -- The codes of the faults that a line can be answered.
 use Rattle.std.specs.Prelude.{ℕ, List, codes}
 use Rattle.wkt.specs.Faults.{code_of as wkt_code_of}
-use Rattle.policy_text.specs.FaultCodes.{code_of as policy_code_of}
-use Rattle.transactions.specs.FaultCodes.{fault_code as world_code_of}
 use Rattle.sessions.specs.declared.faults.Fault.{Fault}
-use Rattle.sessions.specs.declared.faults.Fault.TheVariants.{LineTooLong, Command, Number, Name, BeforeHello, HelloAgain, NothingStaged, NoLabel, NoSubject, NoPlace, Shape, Policy, World}
+use Rattle.sessions.specs.declared.faults.Fault.TheVariants.{LineTooLong, Command, Number, Name, BeforeHello, HelloAgain, NothingStaged, NoLabel, NoSubject, NoPlace, Shape}
 use Rattle.sessions.specs.declared.streams.ServeFault.{ServeFault}
 use Rattle.sessions.specs.declared.streams.ServeFault.TheVariants.{Read, Write, TooManyTurns, Memory}
 
@@ -20,8 +18,6 @@ code_of NoLabel = codes "E9"
 code_of NoSubject = codes "H1"
 code_of NoPlace = codes "H2"
 code_of (Shape fault) = wkt_code_of fault
-code_of (Policy fault) = policy_code_of fault
-code_of (World fault) = world_code_of fault
 
 -- the codes of the faults by which a run ends before its input does
 abbrev pub serve_code_of : ServeFault → List ℕ

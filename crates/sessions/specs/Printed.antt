@@ -4,7 +4,9 @@ use Rattle.std.specs.List.{flat_map}
 use Rattle.wkt.specs.Printing.{printed}
 use Rattle.features.specs.declared.rows.Feature.{Feature}
 use Rattle.sessions.specs.declared.replies.Reply.{Reply}
-use Rattle.sessions.specs.declared.replies.Reply.TheVariants.{Hello, Staged, Applied, Denied, Absent, Exists, Stale, Held, Aborted, Edition, Permitted, Forbidden, Bye, Memory, Error}
+use Rattle.sessions.specs.declared.replies.Reply.TheVariants.{Hello, Staged, Applied, Denied, Absent, Exists, Stale, Held, Aborted, Edition, Permitted, Forbidden, Bye, Memory, Error, Unread, Refused}
+use Rattle.policy_text.specs.FaultCodes.{code_of as policy_code_of}
+use Rattle.transactions.specs.FaultCodes.{fault_code}
 use Rattle.sessions.specs.Faults.{code_of}
 use Rattle.sessions.specs.Replies.{SaidData, line, rows}
 
@@ -39,6 +41,8 @@ reply_text (Forbidden rule edition) = codes "denied" ++ rule_text rule ++ codes 
 reply_text Bye = codes "bye"
 reply_text (Memory refused) = codes "memory"
 reply_text (Error fault) = codes "error " ++ code_of fault
+reply_text (Unread fault) = codes "error " ++ policy_code_of fault
+reply_text (Refused fault) = codes "error " ++ fault_code fault
 
 -- the first line of a listing
 abbrev pub rows_head : ℕ → List ℕ

@@ -14,9 +14,9 @@ use Rattle.transactions.specs.declared.faults.Fault.TheVariants as refusals
 use Rattle.transactions.specs.declared.faults.TreeFault.TheVariants as tree
 use Rattle.transactions.specs.declared.outcomes.Outcome.{Outcome}
 use Rattle.transactions.specs.declared.outcomes.Outcome.TheVariants as outcomes
-use Rattle.sessions.specs.declared.faults.Fault.TheVariants.{NoSubject, NoPlace, Policy, World}
+use Rattle.sessions.specs.declared.faults.Fault.TheVariants.{NoSubject, NoPlace}
 use Rattle.sessions.specs.declared.replies.Reply.{Reply}
-use Rattle.sessions.specs.declared.replies.Reply.TheVariants.{Applied, Denied, Absent, Exists, Stale, Held, Edition, Permitted, Forbidden, Memory, Error}
+use Rattle.sessions.specs.declared.replies.Reply.TheVariants.{Applied, Denied, Absent, Exists, Stale, Held, Edition, Permitted, Forbidden, Memory, Error, Unread, Refused}
 use Rattle.sessions.specs.declared.replies.Said.{Said}
 use Rattle.sessions.specs.declared.replies.Said.TheVariants as code
 
@@ -45,12 +45,12 @@ fault_reply (refusals.Tree (tree.Memory refused)) = Memory refused
 fault_reply (refusals.Tree (tree.Held search)) = Held
 fault_reply refusals.NoSubject = Error NoSubject
 fault_reply refusals.NoPlace = Error NoPlace
-fault_reply other = Error (World other)
+fault_reply other = Refused other
 
 -- what a text is answered that is no document
 abbrev pub policy_reply : TextFault → Reply
 policy_reply (unread.Memory refused) = Memory refused
-policy_reply other = Error (Policy other)
+policy_reply other = Unread other
 
 -- the name of a rule that a decider's document has, where there is such a rule
 abbrev pub name_of_rule : DeciderData → Option ℕ → Option (List ℕ)

@@ -97,10 +97,10 @@ impl Session {
         ensures { (self.new, result) ≡ staged_with change self.old }
     {
         if self.staged.len() >= CHANGE_LIMIT {
-            return Reply::Error(Fault::World(WorldFault::TooManyChanges));
+            return Reply::Refused(WorldFault::TooManyChanges);
         }
         if is_named(self.staged.as_slice(), change.id()) {
-            return Reply::Error(Fault::World(WorldFault::NamedTwice));
+            return Reply::Refused(WorldFault::NamedTwice);
         }
         self.staged.push(change);
         Reply::Staged

@@ -2,13 +2,11 @@
 
 ghost use Rattle.std.specs.Prelude.{◌≡◌};
 
-use policy_text::TextFault;
 use std::fmt;
-use transactions::Fault as WorldFault;
 use wkt::WktFault;
 
-/// Why a line is answered `error`.
-#[derive(Debug, Drop)]
+/// Why a line asks nothing, or is not its session's.
+#[derive(Clone, Copy, Debug, PartialEq, Eq)]
 pub enum Fault {
     /// E1: the line is longer than 65,536 bytes.
     LineTooLong,
@@ -32,18 +30,14 @@ pub enum Fault {
     NoPlace,
     /// K1 to K5, P1 to P9: the text spells no shape.
     Shape(WktFault),
-    /// D1 to D8: the text is no policy document.
-    Policy(TextFault),
-    /// X1 to X15, S1 to S7: the world refuses the call.
-    World(WorldFault),
 }
 
 impl Fault {
     ghost use Rattle.sessions.specs.Faults.{code_of};
 
     /// The code that the reply shows.
-    pub fn code(&self) -> &'static str
-        ensures { result.now ≡ code_of self.now }
+    pub fn code(self) -> &'static str
+        ensures { result.now ≡ code_of self }
     {
         match self {
             Fault::LineTooLong => "E1",
@@ -57,8 +51,6 @@ impl Fault {
             Fault::NoSubject => "H1",
             Fault::NoPlace => "H2",
             Fault::Shape(fault) => fault.code(),
-            Fault::Policy(fault) => fault.code(),
-            Fault::World(fault) => fault.code(),
         }
     }
 }

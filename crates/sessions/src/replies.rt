@@ -42,8 +42,12 @@ pub enum Reply {
     Bye,
     /// `memory`: an allocation was refused.
     Memory(Refused),
-    /// `error CODE`
+    /// `error CODE`: the line asks nothing, or is not its session's.
     Error(Fault),
+    /// `error CODE`, D1 to D8: the text is no policy document.
+    Unread(TextFault),
+    /// `error CODE`, X1 to X15 and S1 to S7: the world refuses the call.
+    Refused(WorldFault),
 }
 
 impl Reply {
@@ -81,7 +85,7 @@ pub(crate) fn fault_reply(fault: WorldFault) -> Reply
         WorldFault::Tree(TreeFault::Held(_)) => Reply::Held,
         WorldFault::NoSubject => Reply::Error(Fault::NoSubject),
         WorldFault::NoPlace => Reply::Error(Fault::NoPlace),
-        other => Reply::Error(Fault::World(other)),
+        other => Reply::Refused(other),
     }
 }
 
@@ -91,7 +95,7 @@ pub(crate) fn policy_reply(fault: TextFault) -> Reply
 {
     match fault {
         TextFault::Memory(refusal) => Reply::Memory(refusal),
-        other => Reply::Error(Fault::Policy(other)),
+        other => Reply::Unread(other),
     }
 }
 

@@ -3,12 +3,10 @@
 ghost use Rattle.std.specs.Prelude.{◌≡◌, ◌+◌, ◌≤◌, ◌++◌, codes, decimal, length};
 ghost use Rattle.std.specs.List.{flat_map};
 ghost use Rattle.arrayvec.specs.ArrayVec.{array_vec_len};
-ghost use Rattle.sessions.specs.Faults.{code_of};
 ghost use Rattle.sessions.specs.Streams.{Took, WriteTook};
 ghost use Rattle.sessions.specs.Printed.{lead_text, led, reply_text, row_text, rows_text, rule_text, said_text};
 ghost use Rattle.sessions.specs.Replies.{said_view};
 
-use crate::faults::Fault;
 use crate::replies::{Reply, Said};
 use arrayvec::ArrayVec;
 use features::{Feature, Name};
@@ -75,13 +73,14 @@ fn begin(lead: &[u8]) -> Line
 }
 
 /// `error`, and the code of a fault.
-fn push_fault(line: &mut Line, fault: &Fault)
+fn push_error(line: &mut Line, code: &str)
     requires room { array_vec_len line.old ≤ 34 }
-    ensures items { line.new.items ≡ line.old.items ++ (codes "error " ++ code_of fault.now) }
+    requires code { length code.now ≤ 3 }
+    ensures items { line.new.items ≡ line.old.items ++ (codes "error " ++ code.now) }
     ensures len { array_vec_len line.new ≤ 100 }
 {
     push_bytes(line, b"error ");
-    push_bytes(line, fault.code().as_bytes());
+    push_bytes(line, code.as_bytes());
 }
 
 /// `hello`, and a name.
@@ -168,7 +167,9 @@ fn push_reply(line: &mut Line, reply: &Reply)
         }
         Reply::Bye => push_bytes(line, b"bye"),
         Reply::Memory(_) => push_bytes(line, b"memory"),
-        Reply::Error(fault) => push_fault(line, fault),
+        Reply::Error(fault) => push_error(line, fault.code()),
+        Reply::Unread(fault) => push_error(line, fault.code()),
+        Reply::Refused(fault) => push_error(line, fault.code()),
     }
 }
 
