@@ -1,5 +1,5 @@
 -- A commit from its beginning to its end, over a world in which nothing else is under way.
-use Rattle.std.proofs.Common.{◌≡◌, ◌≢◌, ◌⊎◌, ℕ, zero, suc, ◌+◌, ◌<◌, ◌≤◌, ◌==◌, ◌||◌, nat_le, nat_lt, not, Bool, true, false, List, [], ◌∷◌, ◌++◌, length, filter, take, get_or, slice_get, Option, None, Some, MatchOption, Result, Ok, Err, if◌then◌else◌, refl, sym, ap, subst, ◌∙◌, inl, inr, arith}
+use Rattle.std.proofs.Common.{◌≡◌, ◌≢◌, ◌⊎◌, ℕ, zero, suc, ◌+◌, ◌<◌, ◌≤◌, ◌==◌, ◌||◌, nat_le, nat_lt, not, Bool, true, false, List, [], ◌∷◌, ◌++◌, length, filter, take, get_or, slice_get, Option, None, Some, MatchOption, Result, Ok, Err, if◌stopped◌else◌, refl, sym, ap, subst, ◌∙◌, inl, inr, arith}
 use Rattle.std.specs.Bool.{MatchBool}
 use Rattle.std.proofs.lemmas.Bool.{ne_eqb}
 use Rattle.std.proofs.lemmas.Bool.Decides.{nat_tests}
@@ -49,8 +49,8 @@ distinct_at (first ∷ changes) (suc i) d distinct lt =
 pub may_add_at : (change : Change) (changes : List Change) → length changes < CHANGE_LIMIT → names (change_id change) changes ≡ false → may_add change changes ≡ Ok tt
 may_add_at change changes few other =
     let room : nat_le CHANGE_LIMIT (length changes) ≡ false = grind (arith, nat_tests, few) in
-    ap (λ (b : Bool). if b then Err faults.TooManyChanges else if names (change_id change) changes then Err faults.NamedTwice else Ok tt) room
-    ∙ ap (λ (b : Bool). if b then Err faults.NamedTwice else Ok tt) other
+    ap (λ (b : Bool). if b stopped Err faults.TooManyChanges else if names (change_id change) changes stopped Err faults.NamedTwice else Ok tt) room
+    ∙ ap (λ (b : Bool). if b stopped Err faults.NamedTwice else Ok tt) other
 
 -- a place behind a list's end
 not_within : {T : Type 0} (xs : List T) (n : ℕ) → slice_get xs n ≡ None → nat_lt n (length xs) ≡ false
@@ -66,17 +66,17 @@ module _ (number seat : ℕ) (w : WorldData) (subject : Subject) (seated : subje
 
   own : (changes : List Change) (placed : ℕ) → own_transaction seat number (under number seat changes placed w) ≡ Ok (one changes placed)
   own changes placed =
-      ap (λ (b : Bool). and_then (given (if b then Some (one changes placed) else None)) (transaction_owned seat)) (same_number number)
-      ∙ ap (λ (b : Bool). if b then Ok (one changes placed) else Err faults.NotYours) (same_number seat)
+      ap (λ (b : Bool). and_then (given (if b stopped Some (one changes placed) else None)) (transaction_owned seat)) (same_number number)
+      ∙ ap (λ (b : Bool). if b stopped Ok (one changes placed) else Err faults.NotYours) (same_number seat)
 
   stepped : (changes : List Change) (placed : ℕ) → may_step seat number (under number seat changes placed w) ≡ Ok (one changes placed)
   stepped changes placed = ap (λ (r : Result Subject Fault). and_then r (λ _. own_transaction seat number (under number seat changes placed w))) seated ∙ own changes placed
 
   gone : (changes : List Change) (placed : ℕ) → ended number (one changes placed ∷ []) ≡ []
-  gone changes placed = ap (λ (b : Bool). if not b then one changes placed ∷ [] else []) (same_number number)
+  gone changes placed = ap (λ (b : Bool). if not b stopped one changes placed ∷ [] else []) (same_number number)
 
   next_step : (step : TransactionData → TransactionData) (t : TransactionData) → t.number ≡ number → with_step step number (t ∷ []) ≡ step t ∷ []
-  next_step step t e = ap (λ (n : ℕ). if n == number then step t ∷ [] else t ∷ []) e ∙ ap (λ (b : Bool). if b then step t ∷ [] else t ∷ []) (same_number number)
+  next_step step t e = ap (λ (n : ℕ). if n == number stopped step t ∷ [] else t ∷ []) e ∙ ap (λ (b : Bool). if b stopped step t ∷ [] else t ∷ []) (same_number number)
 
   -- one more change is staged
   pub stage_one : (changes : List Change) (placed : ℕ) (change : Change) (new : WorldData) (result : Result (Unit {0}) Fault) → may_add change changes ≡ Ok tt
@@ -184,7 +184,7 @@ module _ (number seat : ℕ) (w : WorldData) (subject : Subject) (seated : subje
     committed reply none h = go (is_full w) refl h
       where
         all : all_placed (one changes placed) ≡ Ok tt
-        all = ap (λ (b : Bool). if b then Err faults.NotPlaced else Ok tt) (not_within (placements changes) placed none)
+        all = ap (λ (b : Bool). if b stopped Err faults.NotPlaced else Ok tt) (not_within (placements changes) placed none)
 
         admitted : may_commit seat number there ≡ and_then (may_record w) (λ _. Ok subject)
         admitted =
@@ -192,14 +192,14 @@ module _ (number seat : ℕ) (w : WorldData) (subject : Subject) (seated : subje
             ∙ ap (λ (r : Result TransactionData Fault). and_then r (λ t. and_then (all_placed t) (λ _. and_then (may_record there) (λ _. Ok subject)))) (own changes placed)
             ∙ ap (λ (r : Result (Unit {0}) Fault). and_then r (λ _. and_then (may_record there) (λ _. Ok subject))) all
 
-        staged_is : (b : Bool) → b ≡ true → (if b then changes else []) ≡ changes
+        staged_is : (b : Bool) → b ≡ true → (if b stopped changes else []) ≡ changes
         staged_is true e = refl
         staged_is false e = absurd cc
 
         judged : is_full w ≡ false → CommitsEvent seat number subject there new reply → Committed changes placed new reply
         judged room d =
             let d = subst (λ (list : List Change). (judgement : Judgement) × Judged w.state subject list judgement × CommitsAs judgement seat number subject list there new reply) (staged_is (number == number) (same_number number)) d in
-            inr (inr (room, d.0, d.1, ends_so reply d.0 d.2))
+            inr (inr (room, (d.0, d.1, ends_so reply d.0 d.2)))
 
         ends : is_full w ≡ false → (b : Bool) → is_memory reply ≡ b → MatchBool b (new ≡ there) (CommitsEvent seat number subject there new reply) → Committed changes placed new reply
         ends room true e d = wants reply e d
@@ -211,11 +211,11 @@ module _ (number seat : ℕ) (w : WorldData) (subject : Subject) (seated : subje
 
         go : (full : Bool) → is_full w ≡ full → Happens (Commit seat number) there new reply → Committed changes placed new reply
         go true e h =
-            let left = refuses _ faults.TrailFull there new reply _ (admitted ∙ ap (λ (b : Bool). and_then (if b then Err faults.TrailFull else Ok tt) (λ _. Ok subject)) e) h in
+            let left = refuses _ faults.TrailFull there new reply _ (admitted ∙ ap (λ (b : Bool). and_then (if b stopped Err faults.TrailFull else Ok tt) (λ _. Ok subject)) e) h in
             inr (inl (e, left.1, left.0))
         go false e h =
             ends e (is_memory reply) refl (does _ subject there new reply (λ s. UnlessMemory there new reply (CommitsEvent seat number s there new reply))
-            (admitted ∙ ap (λ (b : Bool). and_then (if b then Err faults.TrailFull else Ok tt) (λ _. Ok subject)) e) h)
+            (admitted ∙ ap (λ (b : Bool). and_then (if b stopped Err faults.TrailFull else Ok tt) (λ _. Ok subject)) e) h)
 
 -- ---- commits from the beginning
 
@@ -246,14 +246,14 @@ begin_refused seat changes old new fault still h =
     go : (who : Result Subject Fault) (last : Bool) → subject_at seat old ≡ who → (old.next_transaction == LAST) ≡ last → Happens (Begin seat) (idle old) new (Refused fault) → (new ≡ idle old) × Commits seat changes (idle old) new (Refused fault)
     go (Err f) last e l h =
         let left = refuses _ f (idle old) new (Refused fault) _ (ap (λ (r : Result Subject Fault). and_then r (λ _. next_transaction (idle old))) e) h in
-        (left.0, turned _ f (idle old) new (Refused fault) Does (ap (λ (r : Result Subject Fault). and_then r (λ subject. if old.next_transaction == LAST then Err faults.Spent else Ok subject)) e) left)
+        (left.0, turned _ f (idle old) new (Refused fault) Does (ap (λ (r : Result Subject Fault). and_then r (λ subject. if old.next_transaction == LAST stopped Err faults.Spent else Ok subject)) e) left)
     go (Ok subject) true e l h =
-        let left = refuses _ faults.Spent (idle old) new (Refused fault) _ (ap (λ (r : Result Subject Fault). and_then r (λ _. next_transaction (idle old))) e ∙ ap (λ (b : Bool). if b then Err faults.Spent else Ok old.next_transaction) l) h in
-        (left.0, turned _ faults.Spent (idle old) new (Refused fault) Does (ap (λ (r : Result Subject Fault). and_then r (λ subject. if old.next_transaction == LAST then Err faults.Spent else Ok subject)) e ∙ ap (λ (b : Bool). if b then Err faults.Spent else Ok subject) l) left)
+        let left = refuses _ faults.Spent (idle old) new (Refused fault) _ (ap (λ (r : Result Subject Fault). and_then r (λ _. next_transaction (idle old))) e ∙ ap (λ (b : Bool). if b stopped Err faults.Spent else Ok old.next_transaction) l) h in
+        (left.0, turned _ faults.Spent (idle old) new (Refused fault) Does (ap (λ (r : Result Subject Fault). and_then r (λ subject. if old.next_transaction == LAST stopped Err faults.Spent else Ok subject)) e ∙ ap (λ (b : Bool). if b stopped Err faults.Spent else Ok subject) l) left)
     go (Ok subject) false e l h =
-        let d = does _ old.next_transaction (idle old) new (Refused fault) _ (ap (λ (r : Result Subject Fault). and_then r (λ _. next_transaction (idle old))) e ∙ ap (λ (b : Bool). if b then Err faults.Spent else Ok old.next_transaction) l) h in
+        let d = does _ old.next_transaction (idle old) new (Refused fault) _ (ap (λ (r : Result Subject Fault). and_then r (λ _. next_transaction (idle old))) e ∙ ap (λ (b : Bool). if b stopped Err faults.Spent else Ok old.next_transaction) l) h in
         let ends = wants subject (is_want fault) refl d in
-        (ends.0, done _ subject (idle old) new (Refused fault) Does (ap (λ (r : Result Subject Fault). and_then r (λ subject. if old.next_transaction == LAST then Err faults.Spent else Ok subject)) e ∙ ap (λ (b : Bool). if b then Err faults.Spent else Ok subject) l) ends.1)
+        (ends.0, done _ subject (idle old) new (Refused fault) Does (ap (λ (r : Result Subject Fault). and_then r (λ subject. if old.next_transaction == LAST stopped Err faults.Spent else Ok subject)) e ∙ ap (λ (b : Bool). if b stopped Err faults.Spent else Ok subject) l) ends.1)
 
 -- a transaction that is opened
 pub record Begun (seat : ℕ) (old new : WorldData) (number : ℕ) : Type 0 where
@@ -269,9 +269,9 @@ begins seat old new number still h = go (subject_at seat old) (old.next_transact
     go (Err f) last e l h =
         (let left = refuses _ f (idle old) new (Number number) _ (ap (λ (r : Result Subject Fault). and_then r (λ _. next_transaction (idle old))) e) h in let wrong = left.1 in absurd cc)
     go (Ok subject) true e l h =
-        (let left = refuses _ faults.Spent (idle old) new (Number number) _ (ap (λ (r : Result Subject Fault). and_then r (λ _. next_transaction (idle old))) e ∙ ap (λ (b : Bool). if b then Err faults.Spent else Ok old.next_transaction) l) h in let wrong = left.1 in absurd cc)
+        (let left = refuses _ faults.Spent (idle old) new (Number number) _ (ap (λ (r : Result Subject Fault). and_then r (λ _. next_transaction (idle old))) e ∙ ap (λ (b : Bool). if b stopped Err faults.Spent else Ok old.next_transaction) l) h in let wrong = left.1 in absurd cc)
     go (Ok subject) false e l h =
-        let d = does _ old.next_transaction (idle old) new (Number number) _ (ap (λ (r : Result Subject Fault). and_then r (λ _. next_transaction (idle old))) e ∙ ap (λ (b : Bool). if b then Err faults.Spent else Ok old.next_transaction) l) h in
+        let d = does _ old.next_transaction (idle old) new (Number number) _ (ap (λ (r : Result Subject Fault). and_then r (λ _. next_transaction (idle old))) e ∙ ap (λ (b : Bool). if b stopped Err faults.Spent else Ok old.next_transaction) l) h in
         let is : number ≡ old.next_transaction = cc (d.1) in
         record { subject = subject; seated = e; left = l; stands = d.0 ∙ ap (λ (n : ℕ). under n seat [] 0 (begun old)) (sym is) }
 
@@ -281,8 +281,8 @@ module _ (seat : ℕ) (changes : List Change) (old mid : WorldData) (number : �
 
   admits : may_conclude seat (idle old) ≡ Ok started.subject
   admits =
-      ap (λ (r : Result Subject Fault). and_then r (λ subject. if old.next_transaction == LAST then Err faults.Spent else Ok subject)) started.seated
-      ∙ ap (λ (b : Bool). if b then Err faults.Spent else Ok started.subject) started.left
+      ap (λ (r : Result Subject Fault). and_then r (λ subject. if old.next_transaction == LAST stopped Err faults.Spent else Ok subject)) started.seated
+      ∙ ap (λ (b : Bool). if b stopped Err faults.Spent else Ok started.subject) started.left
 
   abbrev Does : WorldData → Reply → Subject → Type 0
   Does new reply subject =
@@ -304,15 +304,15 @@ module _ (seat : ℕ) (changes : List Change) (old mid : WorldData) (number : �
       subst (λ (b : Bool). MatchBool b ((reply ≡ Refused faults.TrailFull) × (new ≡ begun (idle old)))
       ((judgement : Judgement) × Judged old.state started.subject changes judgement × EndsAs judgement seat started.subject changes (idle old) new reply)) (sym room) d
 
-  concluded : (then : WorldData) (reply : Reply) → Concludes seat number changes mid then reply → ConcludesAll seat number changes (begun old) then reply
-  concluded then reply all = all (begun old) started.subject started.seated started.stands
+  concluded : (stopped : WorldData) (reply : Reply) → Concludes seat number changes mid stopped reply → ConcludesAll seat number changes (begun old) stopped reply
+  concluded stopped reply all = all (begun old) started.subject started.seated started.stands
 
   -- a commit that comes to nothing, whose transaction is given up
-  pub commit_refused : (then new : WorldData) (fault : Fault) (reply : Reply) → Concludes seat number changes mid then (Refused fault) → Happens (Abort seat number) then new reply → IsIdle new × Commits seat changes old new (Refused fault)
-  commit_refused then new fault reply all drops = go (concluded then (Refused fault) all)
+  pub commit_refused : (stopped new : WorldData) (fault : Fault) (reply : Reply) → Concludes seat number changes mid stopped (Refused fault) → Happens (Abort seat number) stopped new reply → IsIdle new × Commits seat changes old new (Refused fault)
+  commit_refused stopped new fault reply all drops = go (concluded stopped (Refused fault) all)
     where
-      leaves : Stands seat number changes (begun old) then → new ≡ begun (idle old)
-      leaves stands = aborted number seat (begun old) started.subject started.seated changes then new reply stands drops
+      leaves : Stands seat number changes (begun old) stopped → new ≡ begun (idle old)
+      leaves stands = aborted number seat (begun old) started.subject started.seated changes stopped new reply stands drops
 
       stuck : (fault : Fault) → IsStuck fault → new ≡ begun (idle old) → Does new (Refused fault) started.subject
       stuck (faults.Memory refusal) s e = inr e
@@ -323,16 +323,16 @@ module _ (seat : ℕ) (changes : List Change) (old mid : WorldData) (number : �
       stuck _ s e = absurd s
 
       refused_so : (fault : Fault) (placed : ℕ) (judgement : Judgement) → is_full old ≡ false → Judged old.state started.subject changes judgement
-          → EndsSo number seat (begun old) started.subject started.seated changes placed judgement then (Refused fault)
-          → (then ≡ under number seat changes placed (begun old) → new ≡ begun (idle old))
+          → EndsSo number seat (begun old) started.subject started.seated changes placed judgement stopped (Refused fault)
+          → (stopped ≡ under number seat changes placed (begun old) → new ≡ begun (idle old))
           → IsIdle new × Does new (Refused fault) started.subject
       refused_so fault placed judgements.Accepted room accepted d last_of =
           decide (old.state.version == LAST) (nat_lt old.limits.features (length (after (old.state.version + 1) started.subject.office changes old.state.features))) refl refl d
         where
           decide : (last over : Bool) → (old.state.version == LAST) ≡ last → nat_lt old.limits.features (length (after (old.state.version + 1) started.subject.office changes old.state.features)) ≡ over
-              → MatchBool last ((Refused fault ≡ Refused faults.Spent) × (then ≡ under number seat changes placed (begun old)))
-              (MatchBool over ((Refused fault ≡ Refused faults.StoreFull) × (then ≡ under number seat changes placed (begun old)))
-              ((Refused fault ≡ Ended (outcomes.Applied (old.state.version + 1))) × (then ≡ idle (recorded seat (applied started.subject (old.state.version + 1) changes) (begun old)))))
+              → MatchBool last ((Refused fault ≡ Refused faults.Spent) × (stopped ≡ under number seat changes placed (begun old)))
+              (MatchBool over ((Refused fault ≡ Refused faults.StoreFull) × (stopped ≡ under number seat changes placed (begun old)))
+              ((Refused fault ≡ Ended (outcomes.Applied (old.state.version + 1))) × (stopped ≡ idle (recorded seat (applied started.subject (old.state.version + 1) changes) (begun old)))))
               → IsIdle new × Does new (Refused fault) started.subject
           decide true over e f d =
               let left = last_of d.1 in (
@@ -353,7 +353,7 @@ module _ (seat : ℕ) (changes : List Change) (old mid : WorldData) (number : �
           decide false false e f d = (let wrong = d.0 in absurd cc)
       refused_so fault placed (judgements.Refused refusal question) room accepted d last_of = (let wrong = d.0 in absurd cc)
 
-      ended_so : (placed : ℕ) → Committed number seat (begun old) started.subject started.seated changes placed then (Refused fault) → IsIdle new × Does new (Refused fault) started.subject
+      ended_so : (placed : ℕ) → Committed number seat (begun old) started.subject started.seated changes placed stopped (Refused fault) → IsIdle new × Does new (Refused fault) started.subject
       ended_so placed (inl (refusal, e, stands)) =
           let left = leaves (inl (placed, stands)) in
           (is_idle (begun old) new left, subst (λ (r : Reply). Does new r started.subject) (sym e) (inr left))
@@ -364,14 +364,14 @@ module _ (seat : ℕ) (changes : List Change) (old mid : WorldData) (number : �
                 (subst (λ (b : Bool). MatchBool b ((Refused faults.TrailFull ≡ Refused faults.TrailFull) × (new ≡ begun (idle old)))
                 ((judgement : Judgement) × Judged old.state started.subject changes judgement × EndsAs judgement seat started.subject changes (idle old) new (Refused faults.TrailFull))) (sym full) (refl, left)),
           )
-      ended_so placed (inr (inr (room, judgement, is_judged, d))) = refused_so fault placed judgement room is_judged d (λ stands. leaves (inl (placed, stands)))
+      ended_so placed (inr (inr (room, (judgement, is_judged, d)))) = refused_so fault placed judgement room is_judged d (λ stands. leaves (inl (placed, stands)))
 
-      go : ConcludesAll seat number changes (begun old) then (Refused fault) → IsIdle new × Commits seat changes old new (Refused fault)
+      go : ConcludesAll seat number changes (begun old) stopped (Refused fault) → IsIdle new × Commits seat changes old new (Refused fault)
       go (inl (f, is_stuck, stands, e)) =
           let left = leaves stands in
           (is_idle (begun old) new left, whole new (Refused fault) (subst (λ (r : Reply). Does new r started.subject) (sym e) (stuck f is_stuck left)))
       go (inr (placed, none, happens)) =
-          let ends = ended_so placed (committed number seat (begun old) started.subject started.seated changes placed then (Refused fault) none happens) in
+          let ends = ended_so placed (committed number seat (begun old) started.subject started.seated changes placed stopped (Refused fault) none happens) in
           (ends.0, whole new (Refused fault) ends.1)
 
   -- a list that is judged
@@ -393,13 +393,13 @@ module _ (seat : ℕ) (changes : List Change) (old mid : WorldData) (number : �
               ((Ended outcome ≡ Ended (outcomes.Applied (old.state.version + 1))) × (new ≡ begun (recorded seat (applied started.subject (old.state.version + 1) changes) (idle old)))))
           decide true over d = (let wrong = d.0 in absurd cc)
           decide false true d = (let wrong = d.0 in absurd cc)
-          decide false false d = (is_idle _ new d.1, d)
-      ends placed (judgements.Refused refusal question) d = (is_idle _ new d.1, d)
+          decide false false d = (is_idle (recorded seat (applied started.subject (old.state.version + 1) changes) (begun old)) new d.1, d)
+      ends placed (judgements.Refused refusal question) d = (is_idle (recorded seat (turned_away started.subject changes refusal) (begun old)) new d.1, d)
 
       ended_so : (placed : ℕ) → Committed number seat (begun old) started.subject started.seated changes placed new (Ended outcome) → IsIdle new × Does new (Ended outcome) started.subject
       ended_so placed (inl (refusal, e, stands)) = absurd cc
       ended_so placed (inr (inl (full, e, stands))) = absurd cc
-      ended_so placed (inr (inr (room, judgement, is_judged, d))) =
+      ended_so placed (inr (inr (room, (judgement, is_judged, d)))) =
           let end = ends placed judgement d in
           (end.0, judged new (Ended outcome) room (judgement, is_judged, end.1))
 

@@ -9,6 +9,7 @@ use Rattle.wkt.specs.declared.fault.WktFault.TheVariants.{UnknownWord, LeftOut, 
 use Rattle.plane.specs.FaultCodes.{code_of as shape_code_of}
 use Rattle.wkt.specs.Faults.{code_of as wkt_code_of}
 use Rattle.policy_text.specs.declared.faults.TextFault.{TextFault}
+use Rattle.policy_text.specs.declared.faults.TextFault.TheVariants as unread
 use Rattle.policy_text.specs.FaultCodes.{code_of as policy_code_of}
 use Rattle.transactions.specs.FaultCodes.{fault_code, tree_code}
 use Rattle.transactions.specs.declared.faults.Fault.{Fault as WorldFault}
@@ -56,7 +57,15 @@ world_code_short (faults.Tree fault) = tree_code_short fault
 world_code_short _ = lit≤ tt
 
 pub policy_code_short : (fault : TextFault) → length (policy_code_of fault) ≤ 3
-policy_code_short _ = lit≤ tt
+policy_code_short unread.NotJson = lit≤ tt
+policy_code_short (unread.Form path) = lit≤ tt
+policy_code_short (unread.UnknownKey path) = lit≤ tt
+policy_code_short (unread.NameTwice name) = lit≤ tt
+policy_code_short (unread.NoZone name) = lit≤ tt
+policy_code_short (unread.BadZone name fault) = lit≤ tt
+policy_code_short unread.TooDeep = lit≤ tt
+policy_code_short unread.TooMany = lit≤ tt
+policy_code_short (unread.Memory refused) = lit≤ tt
 
 pub code_short : (fault : Fault) → length (code_of fault) ≤ 3
 code_short (Shape fault) = wkt_code_short fault
