@@ -1,0 +1,101 @@
+//! A walk: a pair on its way to its leaf.
+
+ghost use Rattle.std.specs.Prelude.{◌≡◌, ◌+◌, ◌<◌, false, true};
+ghost use Rattle.predicate_locks.specs.Searches.{last_number};
+ghost use Rattle.node_arena.specs.declared.handle.Handle.{Handle};
+
+use node_arena::Handle;
+use std::marker::Model;
+
+/// A pair on its way from the root to its leaf. Between two steps it stands at a node, and is kept by the caller alone: a tree does not know of it.
+#[derive(Drop)]
+pub struct Walk<I> {
+    key: u64,
+    item: I,
+    at: Handle,
+    steps: u64,
+    placed: bool,
+}
+
+impl<I> Model for Walk<I> {
+    ghost use Rattle.search_tree.specs.Trees.{PlainWalk};
+
+    ghost Value = { PlainWalk I };
+
+    ghost view = { λ w. record { key = w.key; item = w.item; at = w.at; steps = w.steps; placed = w.placed } };
+}
+
+impl<I: Copy> Walk<I> {
+    /// A walk that stands at the root.
+    pub(crate) fn at_root(key: u64, item: I, root: Handle) -> Self
+        ensures { result ≡ record { key = key; item = item; at = root; steps = 0; placed = false } }
+    {
+        Walk {
+            key,
+            item,
+            at: root,
+            steps: 0,
+            placed: false,
+        }
+    }
+
+    /// The slot where it stands.
+    pub fn slot(&self) -> u32
+        ensures { result ≡ self.now.at.slot }
+    {
+        self.at.slot
+    }
+
+    /// Whether its pair is placed.
+    pub fn placed(&self) -> bool
+        ensures { result ≡ self.now.placed }
+    {
+        self.placed
+    }
+
+    /// The number of its pair.
+    pub fn key(&self) -> u64
+        ensures { result ≡ self.now.key }
+    {
+        self.key
+    }
+
+    /// The item of its pair.
+    pub fn item(&self) -> I
+        ensures { result ≡ self.now.item }
+    {
+        self.item
+    }
+
+    /// Where it stands.
+    pub(crate) fn at(&self) -> Handle
+        ensures { result ≡ self.now.at }
+    {
+        self.at
+    }
+
+    /// How many steps it has made.
+    pub(crate) fn steps(&self) -> u64
+        ensures { result ≡ self.now.steps }
+    {
+        self.steps
+    }
+
+    /// Counts a step, after which it stands here.
+    pub(crate) fn step_to(&mut self, at: Handle)
+        requires { self.old.steps < last_number }
+        ensures { self.new ≡ record self.old { at = at; steps = self.old.steps + 1 } }
+    {
+        self.at = at;
+        self.steps += 1;
+    }
+
+    /// Counts the step that placed its pair.
+    pub(crate) fn step_placed(&mut self)
+        requires { self.old.steps < last_number }
+        ensures { self.new ≡ record self.old { placed = true; steps = self.old.steps + 1 } }
+    {
+        self.placed = true;
+        self.steps += 1;
+    }
+}
