@@ -4,6 +4,8 @@
 #[cfg(test)]
 mod audit_trail_tests;
 #[cfg(test)]
+mod decider_tests;
+#[cfg(test)]
 mod event_tests;
 #[cfg(test)]
 mod fakes;
