@@ -15,10 +15,10 @@ const TWO: &str = r#"{"policies":{"root":{"policy":"p","combine":"deny-overrides
 
 /// The code of the fault of a text; `ok` where it is a configuration.
 fn code_of(heap: Global, text: &str) -> &'static str {
-    match read_config(heap, heap, text.as_bytes()) {
-        Ok(_) => "ok",
-        Err(fault) => fault.code(),
-    }
+    let Err(fault) = read_config(heap, heap, text.as_bytes()) else {
+        return "ok";
+    };
+    fault.code()
 }
 
 /// Each text has this code.
