@@ -1,6 +1,6 @@
 //! Where a world's numbers start, and its limits.
 
-/// Where the numbers of a world start. A world that `open` gives starts as `Starts::default()` says.
+/// Where the numbers of a world start. In a world that `open` gives, searches and editions start at 1, all else at 0.
 #[derive(Clone, Copy, Debug, PartialEq, Eq)]
 pub struct Starts {
     /// The generation at which each slot of the index starts.
