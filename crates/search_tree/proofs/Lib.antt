@@ -1,8 +1,3 @@
-pub mod Growth
-pub mod MaskBits
-pub mod Middles
-pub mod MaskHulls
-pub mod Stretches
 pub mod Zips
 pub mod ListEnds
 pub mod ProgressLemmas

@@ -1,7 +1,3 @@
-pub mod Keys
-pub mod Measures
-pub mod Laws
-pub mod Splits
 pub mod Rooms
 pub mod Faults
 pub mod Arenas
