@@ -17,3 +17,4 @@ pub mod InstallSteps
 pub mod CleanSteps
 pub mod UnionLemmas
 pub mod NeedLemmas
+pub mod DueLemmas

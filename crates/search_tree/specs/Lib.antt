@@ -10,4 +10,5 @@ pub mod Walks
 pub mod Tends
 pub mod Unions
 pub mod Needs
+pub mod Dues
 pub mod Standings
