@@ -17,6 +17,7 @@ pub mod Complete
 pub mod WalkSteps
 pub mod StandingLemmas
 pub mod DescentLemmas
+pub mod DescendSteps
 pub mod TendSteps
 pub mod InstallSteps
 pub mod CleanSteps

@@ -4,6 +4,7 @@
 mod answers;
 mod bits;
 mod descending;
+mod descents;
 mod entries;
 mod fault;
 mod frames;

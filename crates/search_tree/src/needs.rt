@@ -186,7 +186,7 @@ fn has_room<K: Copy, I: Copy, A: Allocator>(node: &TreeNode<K, I, A>) -> bool
 }
 
 // The parent of a node at this place, where it is marked or not as told.
-fn parent_of(place: Place, wanted: bool) -> Option<Handle>
+pub(crate) fn parent_of(place: Place, wanted: bool) -> Option<Handle>
     ensures { IfSome result (λ parent. place ≡ Place.Linked parent wanted) }
 {
     match place {
