@@ -15,3 +15,5 @@ pub mod Tends
 pub mod Unions
 pub mod Needs
 pub mod Standings
+pub mod Splitting
+pub mod Halvings
