@@ -18,6 +18,8 @@ pub mod WalkSteps
 pub mod StandingLemmas
 pub mod DescentLemmas
 pub mod DescendSteps
+pub mod NextLemmas
+pub mod AdvanceLemmas
 pub mod TendSteps
 pub mod InstallSteps
 pub mod CleanSteps

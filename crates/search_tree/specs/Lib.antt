@@ -16,4 +16,6 @@ pub mod Unions
 pub mod Needs
 pub mod Standings
 pub mod Splitting
+pub mod Nexts
+pub mod Advances
 pub mod Halvings

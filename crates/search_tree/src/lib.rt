@@ -1,6 +1,7 @@
 //! The search tree of features: the tree, and the class of its keys, frames.
 #![tactic(auto)]
 
+mod advancing;
 mod answers;
 mod bits;
 mod descending;
@@ -17,9 +18,11 @@ mod keys;
 mod laws;
 mod measure;
 mod needs;
+mod nexts;
 mod node;
 mod opening;
 mod progress;
+mod rooms;
 mod setters;
 mod split;
 mod splitting;

@@ -68,7 +68,7 @@ impl<C: KeyClass, A: Allocator> Tree<C, A> {
     }
 
     // The entry that the right node of a marked node lacks, where their parent has room for it.
-    fn lacking(&self, at: Handle) -> Option<NewEntry<C::Key>>
+    pub(crate) fn lacking(&self, at: Handle) -> Option<NewEntry<C::Key>>
         ensures { IfSome result (MayInstall (class_of C.covered C.may_match C.is_match C.key_with C.united) self.now) }
     {
         let left = self.nodes.get(at)?;
