@@ -1,20 +1,19 @@
 -- What is next for a walk may be done.
-use Rattle.std.proofs.Common.{◌≡◌, ◌∙◌, ℕ, ◌<◌, ◌≤◌, false, List, Contains, length, map, slice_get, slice_index_or, Some, sym, ap, subst, inl, inr, arith}
+use Rattle.std.proofs.Common.{◌≡◌, ◌∙◌, ℕ, ◌<◌, List, length, map, slice_get, slice_index_or, Some, sym, ap, subst, inl, inr, arith}
 use Rattle.std.proofs.lemmas.List.{length-map}
 use Rattle.std.proofs.lemmas.Option.{get_or_from_slice_get}
+use Rattle.std.specs.Option.{option_map}
 use Rattle.node_arena.specs.Slots.{value_at}
 use Rattle.node_arena.specs.declared.handle.Handle.{Handle}
 use Rattle.tree_theory.specs.Changes.{MayTake}
 use Rattle.tree_theory.specs.KeyClasses.{Class}
-use Rattle.tree_theory.specs.Nodes.{Body, Node, children_of, entries_of, pairs_of, size_of}
-use Rattle.tree_theory.specs.declared.TheConstants.{NODE_SIZE}
+use Rattle.tree_theory.specs.Nodes.{Body, Node, children_of, entries_of}
 use Rattle.tree_theory.specs.declared.place.Place.TheVariants.{Linked, Root}
-use Rattle.search_tree.specs.Nexts.{IsLookedFor}
-use Rattle.search_tree.specs.Splitting.{MayGrow, MaySplit}
+use Rattle.search_tree.specs.Advances.{IsHeldBy}
 use Rattle.search_tree.specs.Standings.{IsHere}
-use Rattle.search_tree.specs.Trees.{PlainTree, IsInner, IsLeaf, IsSound, tree_of}
-use Rattle.search_tree.specs.Walks.{IsHolder, MayDescend, MayPlace, NoneHolds}
-use Rattle.search_tree.specs.declared.descents.WayDown.{WayDown}
+use Rattle.search_tree.specs.Trees.{PlainTree, IsInner, IsSound, seen, tree_of}
+use Rattle.search_tree.specs.Walks.{IsHolder, MayDescend}
+use Rattle.search_tree.proofs.DescentLemmas.{known}
 use Rattle.search_tree.proofs.ListEnds.{both_at, get_some}
 use Rattle.search_tree.proofs.TendSteps.{some_one}
 
@@ -61,5 +60,12 @@ module _ (C : Class) (t : PlainTree C.Key C.Query C.Item) (sound : IsSound C t) 
       let inside : place < length children = omega (arith, first, second, within) in
       may_descend at key here node is inner place (slice_index_or children place none) (subst (λ (l : List Handle). slice_get l place ≡ Some (slice_index_or children place none)) children_are (get_some children place none inside)) keys old keys_are read
 
-  pub looked_for : (attached : List ℕ) (item : C.Item) (number : ℕ) → IsHolder C t.running attached item number → IsLookedFor C t item number
-  looked_for attached item number holder = record { search = holder.search; runs = holder.runs; matches = holder.matches }
+  -- who holds a pair back is seen by all who call
+  pub held_by : (attached : List ℕ) (item : C.Item) (number : ℕ) → IsHolder C t.running attached item number → IsHeldBy C t item number
+  held_by attached item number holder =
+      let there = known C t sound number holder.search holder.runs in
+      record {
+        seen = seen there.search;
+        runs = ap (option_map seen) there.is;
+        matches = subst (λ q. C.Matches item q) (sym there.query) holder.matches;
+      }

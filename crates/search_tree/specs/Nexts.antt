@@ -1,8 +1,7 @@
 -- What is next for a walk, and what its steps need.
-use Rattle.std.specs.Prelude.{◌≡◌, ℕ, Some, ⊤}
+use Rattle.std.specs.Prelude.{ℕ, ⊤}
 use Rattle.node_arena.specs.declared.handle.Handle.{Handle}
-use Rattle.predicate_locks.specs.Searches.{search_at}
-use Rattle.predicate_locks.specs.declared.running.RunningSearch.{RunningSearch}
+use Rattle.search_tree.specs.Advances.{IsHeldBy}
 use Rattle.search_tree.specs.Splitting.{MayGrow, MaySplit}
 use Rattle.search_tree.specs.Tends.{MayInstall}
 use Rattle.search_tree.specs.Trees.{PlainTree}
@@ -14,12 +13,6 @@ use Rattle.search_tree.specs.declared.rooms.Room.TheVariants.{Install, Split, Gr
 use Rattle.tree_theory.specs.KeyClasses.{Class}
 
 module _ (C : Class) (t : PlainTree C.Key C.Query C.Item) where
-  -- a running search looks for the item
-  pub record IsLookedFor (item : C.Item) (number : ℕ) : Type 0 where
-    pub search : RunningSearch C.Query
-    pub runs : search_at t.running number ≡ Some search
-    pub matches : C.Matches item search.query
-
   -- what makes room may be done
   abbrev pub MayMake : Room C.Key → Type 0
   MayMake (Install entry) = MayInstall C t entry
@@ -33,6 +26,6 @@ module _ (C : Class) (t : PlainTree C.Key C.Query C.Item) where
   MayGo at item Restart = ⊤
   MayGo at item (Climb parent) = ⊤
   MayGo at item (Descend way) = MayDescend C t way (C.key_of item)
-  MayGo at item (Hold number) = IsLookedFor item number
+  MayGo at item (Hold number) = IsHeldBy C t item number
   MayGo at item Place = (key : ℕ) → MayPlace C t at (key, item)
   MayGo at item (Make room) = MayMake room

@@ -1,6 +1,6 @@
 //! One step of a walk.
 
-ghost use Rattle.std.specs.Prelude.{ℕ, IfOk, IfErr, OnErr};
+ghost use Rattle.std.specs.Prelude.{◌≡◌, ℕ, IfOk, IfErr, OnErr};
 ghost use Rattle.search_tree.specs.Advances.{HasAdvanced, IsAdvance, MayRefuse};
 ghost use Rattle.search_tree.specs.Calls.{IsAlike};
 ghost use Rattle.search_tree.specs.Nexts.{MayMake};
