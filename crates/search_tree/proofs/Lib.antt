@@ -18,6 +18,7 @@ pub mod WalkSteps
 pub mod StandingLemmas
 pub mod DescentLemmas
 pub mod DescendSteps
+pub mod PenaltyLemmas
 pub mod NextLemmas
 pub mod AdvanceLemmas
 pub mod TendSteps

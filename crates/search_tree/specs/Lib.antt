@@ -16,6 +16,7 @@ pub mod Unions
 pub mod Needs
 pub mod Standings
 pub mod Splitting
+pub mod Penalties
 pub mod Nexts
 pub mod Advances
 pub mod Halvings

@@ -21,6 +21,7 @@ mod needs;
 mod nexts;
 mod node;
 mod opening;
+mod penalties;
 mod progress;
 mod rooms;
 mod setters;

@@ -8,8 +8,9 @@ ghost use Rattle.search_tree.specs.Walks.{MayDescend};
 ghost use Rattle.tree_theory.specs.KeyClasses.{class_of};
 
 use crate::descents::WayDown;
+use crate::penalties::best_entry;
 use crate::rooms::Room;
-use crate::standing::{Standing, best_entry, standing_at};
+use crate::standing::{Standing, standing_at};
 use crate::tree::Tree;
 use crate::walking::holder_of;
 use node_arena::Handle;
