@@ -22,3 +22,7 @@ pub mod InstallSteps
 pub mod CleanSteps
 pub mod UnionLemmas
 pub mod NeedLemmas
+pub mod Sharing
+pub mod Adoptions
+pub mod SplitSteps
+pub mod GrowSteps
