@@ -26,3 +26,7 @@ pub mod InstallSteps
 pub mod CleanSteps
 pub mod UnionLemmas
 pub mod NeedLemmas
+pub mod Sharing
+pub mod Adoptions
+pub mod SplitSteps
+pub mod GrowSteps

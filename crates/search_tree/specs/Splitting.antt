@@ -1,5 +1,5 @@
 -- What a split and the growth of the root need, and what they leave.
-use Rattle.std.specs.Prelude.{◌≡◌, ◌≢◌, ℕ, ◌+◌, ◌≤◌, false, true, List, [], ◌∷◌, Contains, Option, None, Some, IsSome}
+use Rattle.std.specs.Prelude.{◌≡◌, ◌≢◌, ℕ, ◌+◌, ◌<◌, ◌≤◌, false, true, List, [], ◌∷◌, Contains, Option, None, Some, IsSome}
 use Rattle.std.specs.Option.{option_map}
 use Rattle.node_arena.specs.Slots.{Slots, SameCounts, value_at, taken_count, slot_count}
 use Rattle.node_arena.specs.declared.handle.Handle.{Handle}
@@ -10,7 +10,7 @@ use Rattle.tree_theory.specs.Changes.{IsHalved, IsUnion}
 use Rattle.tree_theory.specs.KeyClasses.{Class}
 use Rattle.tree_theory.specs.Nodes.{PlainBody, PlainNode, Body, Node, children_of, size_of, under}
 use Rattle.tree_theory.specs.Nodes.PlainBody.{Inner}
-use Rattle.tree_theory.specs.declared.TheConstants.{NODE_SIZE}
+use Rattle.tree_theory.specs.declared.TheConstants.{NODE_SIZE, TOP_LEVEL}
 use Rattle.tree_theory.specs.declared.place.Place.TheVariants.{Root, Linked, Unlinked}
 
 module _ {Key Item : Type 0} where
@@ -28,7 +28,14 @@ module _ {Key Item : Type 0} where
     pub is : value_at nodes root ≡ Some node
     pub place : node.place ≡ Root
     pub full : size_of node.body ≡ NODE_SIZE
+    pub low : node.level ≤ TOP_LEVEL
     pub children : (child : Handle) → Contains (children_of node.body) child → IsSome (value_at nodes child)
+
+  -- a node below the highest level
+  pub record MayRise (nodes : Slots (PlainNode Key Item)) (at : Handle) : Type 0 where
+    pub node : PlainNode Key Item
+    pub is : value_at nodes at ≡ Some node
+    pub below_top : node.level < TOP_LEVEL
 
   -- a new right node of this one, with this body. No entry names it yet
   abbrev pub right_of : PlainNode Key Item → Handle → PlainBody Key Item → PlainNode Key Item
@@ -55,6 +62,7 @@ module _ {Key Item : Type 0} where
     pub adopted : (h : Handle) → Contains children h → value_at new h ≡ option_map (under parent) (value_at old h)
     pub others : (h : Handle) → (Contains children h → ⊥) → value_at new h ≡ value_at old h
     pub counts : SameCounts old new
+    pub places : new.places ≡ old.places
 
   -- a new node stands over these children. Nothing else changes
   pub record IsPutOver (old new : Slots (PlainNode Key Item)) (node : PlainNode Key Item) (children : List Handle) (at : Handle) : Type 0 where
@@ -108,6 +116,7 @@ pub record HasGrown (C : Class) (old new : Slots (Node C)) (root : Handle) (seq 
   pub node : Node C
   pub is : value_at old root ≡ Some node
   pub place : node.place ≡ Root
+  pub low : node.level < TOP_LEVEL
   pub a : Handle
   pub b : Handle
   pub one : Body C

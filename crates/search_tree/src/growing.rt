@@ -4,10 +4,10 @@ ghost use Rattle.std.specs.Prelude.{◌≡◌, ◌≢◌, ◌↔◌, ◌⊎◌, 
 ghost use Rattle.memory.specs.Refused.{refused};
 ghost use Rattle.node_arena.specs.Slots.{value_at, taken_count, HasRoomFor};
 ghost use Rattle.node_arena.specs.declared.TheConstants.{MAX_SLOTS};
-ghost use Rattle.search_tree.specs.Arenas.{AreSame, Holds};
+ghost use Rattle.search_tree.specs.Arenas.{AreSame};
 ghost use Rattle.search_tree.specs.Bodies.{plain_body};
 ghost use Rattle.search_tree.specs.Calls.{IsAlike};
-ghost use Rattle.search_tree.specs.Splitting.{HasGrown, HasMoreNodes, HasPutBelow, IsFullRoot, IsLower, MayGrow, below};
+ghost use Rattle.search_tree.specs.Splitting.{HasGrown, HasMoreNodes, HasPutBelow, IsFullRoot, IsLower, MayGrow, MayRise, below};
 ghost use Rattle.search_tree.specs.Trees.{level_of, root_level};
 ghost use Rattle.tree_theory.specs.KeyClasses.{class_of};
 ghost use Rattle.tree_theory.specs.Nodes.{size_of};
@@ -15,7 +15,7 @@ ghost use Rattle.tree_theory.specs.declared.TheConstants.{TOP_LEVEL};
 
 use crate::entries::Entries;
 use crate::fault::TreeFault;
-use crate::halves::{Halves, halves};
+use crate::halves::{Halves, shared_out};
 use crate::keys::key_for;
 use crate::node::{Body, TreeNode};
 use crate::setters::{Nodes, rise};
@@ -27,6 +27,7 @@ use std::alloc::Allocator;
 use tree_theory::{KeyClass, TOP_LEVEL};
 
 // A node that is to stand below the root, with the key of its entry and the handles of its children.
+#[derive(Drop)]
 struct Lower<K, I, A: Allocator> {
     key: K,
     children: Vec<Handle, A>,
@@ -45,10 +46,7 @@ impl<C: KeyClass, A: Allocator + Copy> Tree<C, A> {
         ensures faults { IfErr result (λ fault. (fault ≡ TreeFault.TooHigh) ⊎ (fault ≡ TreeFault.Full) ⊎ (fault ≡ TreeFault.Memory refused)) }
         ensures err { OnErr result (IsAlike (class_of C.covered C.may_match C.is_match C.key_with C.united) self.old self.new) }
     {
-        match grow_in::<C, A>(&mut self.nodes, self.alloc, self.root, self.counter) {
-            Ok(()) => Ok(()),
-            Err(fault) => Err(fault),
-        }
+        grow_in::<C, A>(&mut self.nodes, self.alloc, self.root, self.counter)
     }
 }
 
@@ -104,7 +102,7 @@ fn grow_root<C: KeyClass, A: Allocator + Copy>(
     let Some(node) = nodes.get(root) else {
         unreachable!();
     };
-    let Halves { left, right } = halves::<C, A>(node, alloc)?;
+    let Halves { left, right } = shared_out::<C, A>(node, alloc)?;
     let one = lower_half::<C, A>(node, root, seq, left, alloc)?;
     let two = lower_half::<C, A>(node, root, seq, right, alloc)?;
     let entries = Entries::with_places(alloc)?;
@@ -122,13 +120,21 @@ fn put_below<C: KeyClass, A: Allocator + Copy>(
 )
     requires none { entries ≡ [] }
     requires room { HasRoomFor nodes.old 2 }
-    requires level { Holds nodes.old root (λ node. node.level < TOP_LEVEL) }
+    requires rise { MayRise nodes.old root }
     ensures { HasPutBelow nodes.old nodes.new root one.node one.children.items one.key two.node two.children.items two.key }
 {
-    let Lower { key, children, node } = one;
+    let Lower {
+        key,
+        children,
+        node,
+    } = one;
     let first = put_over(nodes, node, &children);
     entries.push(key, first);
-    let Lower { key, children, node } = two;
+    let Lower {
+        key,
+        children,
+        node,
+    } = two;
     let second = put_over(nodes, node, &children);
     entries.push(key, second);
     rise(nodes, root, entries);

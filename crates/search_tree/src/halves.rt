@@ -17,13 +17,14 @@ use std::alloc::Allocator;
 use tree_theory::{KeyClass, NODE_SIZE};
 
 /// The two parts of what a full node has, each in lists of its own.
+#[derive(Drop)]
 pub(crate) struct Halves<K, I, A: Allocator> {
     pub(crate) left: Body<K, I, A>,
     pub(crate) right: Body<K, I, A>,
 }
 
 /// Shares out what a full node has: the part that the class picks goes right.
-pub(crate) fn halves<C: KeyClass, A: Allocator + Copy>(
+pub(crate) fn shared_out<C: KeyClass, A: Allocator + Copy>(
     node: &TreeNode<C::Key, C::Item, A>,
     alloc: A,
 ) -> Result<Halves<C::Key, C::Item, A>, Refused>

@@ -233,12 +233,7 @@ impl<K: Copy, I: Copy, A: Allocator> TreeNode<K, I, A> {
     }
 
     /// A new node with this part of what it has, which is to stand under it, with a number of its own and no rightlink.
-    pub fn lower_half(
-        &self,
-        at: Handle,
-        seq: u64,
-        body: Body<K, I, A>,
-    ) -> Result<Self, Refused>
+    pub fn lower_half(&self, at: Handle, seq: u64, body: Body<K, I, A>) -> Result<Self, Refused>
     where
         A: Copy,
         ensures { IfOk result (λ made. made ≡ below self.now at seq (plain_body body)) }

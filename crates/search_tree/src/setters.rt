@@ -205,7 +205,8 @@ pub fn set_parent<K: Copy, I: Copy, A: Allocator>(
     at: Handle,
     parent: Handle,
 )
-    ensures { IsChanged nodes.old nodes.new at (under parent) }
+    ensures changed { IsChanged nodes.old nodes.new at (under parent) }
+    ensures places { nodes.new.places ≡ nodes.old.places }
 {
     if let Some(node) = nodes.get_mut(at) {
         node.set_parent(parent);

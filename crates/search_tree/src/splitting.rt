@@ -1,6 +1,6 @@
 //! A full node splits.
 
-ghost use Rattle.std.specs.Prelude.{◌≡◌, ◌↔◌, ◌⊎◌, ◌+◌, ◌<◌, ◌≤◌, Some, Err, IfOk, IfErr, OnOk, OnErr};
+ghost use Rattle.std.specs.Prelude.{◌≡◌, ◌↔◌, ◌⊎◌, ◌+◌, ◌<◌, ◌≤◌, false, Some, Err, IfOk, IfErr, OnOk, OnErr};
 ghost use Rattle.memory.specs.Refused.{refused};
 ghost use Rattle.node_arena.specs.Slots.{value_at, taken_count, HasRoomFor, IsGiven, CountsGiven};
 ghost use Rattle.node_arena.specs.declared.TheConstants.{MAX_SLOTS, MOST_RESERVED};
@@ -12,7 +12,7 @@ ghost use Rattle.search_tree.specs.Walks.{marked_right as right_of_marked};
 ghost use Rattle.tree_theory.specs.KeyClasses.{class_of};
 
 use crate::fault::TreeFault;
-use crate::halves::{Halves, halves};
+use crate::halves::{Halves, shared_out};
 use crate::node::TreeNode;
 use crate::setters::{Nodes, adopt, leave_left};
 use crate::tree::Tree;
@@ -33,10 +33,7 @@ impl<C: KeyClass, A: Allocator + Copy> Tree<C, A> {
         ensures faults { IfErr result (λ fault. (fault ≡ TreeFault.Full) ⊎ (fault ≡ TreeFault.Memory refused)) }
         ensures err { OnErr result (IsAlike (class_of C.covered C.may_match C.is_match C.key_with C.united) self.old self.new) }
     {
-        match split_in::<C, A>(&mut self.nodes, self.alloc, at) {
-            Ok(right) => Ok(right),
-            Err(fault) => Err(fault),
-        }
+        split_in::<C, A>(&mut self.nodes, self.alloc, at)
     }
 }
 
@@ -95,7 +92,7 @@ fn split_node<C: KeyClass, A: Allocator + Copy>(
         unreachable!();
     };
     let parent = parent_of(node.place());
-    let Halves { left, right } = halves::<C, A>(node, alloc)?;
+    let Halves { left, right } = shared_out::<C, A>(node, alloc)?;
     let right = node.right_half(at, right)?;
     let moved = copied(alloc, right.children())?;
     let right = put_over(nodes, right, &moved);
@@ -131,7 +128,7 @@ pub(crate) fn put_over<K: Copy, I: Copy, A: Allocator>(
 }
 
 // Puts a node in, for which there is room.
-fn put_in<T, A: Allocator>(nodes: &mut Arena<T, A>, node: T) -> Handle
+fn put_in<T: Drop, A: Allocator>(nodes: &mut Arena<T, A>, node: T) -> Handle
     requires { HasRoomFor nodes.old 1 }
     ensures given { IsGiven nodes.old nodes.new result node }
     ensures counts { CountsGiven nodes.old nodes.new result }
