@@ -38,6 +38,10 @@ impl KeyClass for Frames {
 
     ghost whole_key = { whole_extent };
 
+    ghost growth = { λ key other. area (joined key other) - area key };
+
+    ghost second_growth = { λ key other. margin (joined key other) - margin key };
+
     fn known_key(key: Frame) {
         let _left = key.x0();
     }
@@ -80,17 +84,13 @@ impl KeyClass for Frames {
     }
 
     /// The growth of the area.
-    fn penalty(key: Frame, other: Frame) -> u64
-        ensures { result ≡ area (joined key other) - area key }
-    {
+    fn penalty(key: Frame, other: Frame) -> u64 {
         Self::known_key(key);
         area(hull(key, other)) - area(key)
     }
 
     /// The growth of the margin. A flat frame grows along its line by no area at all, so that a far one would tie with one that covers the item.
-    fn second_penalty(key: Frame, other: Frame) -> u64
-        ensures { result ≡ margin (joined key other) - margin key }
-    {
+    fn second_penalty(key: Frame, other: Frame) -> u64 {
         Self::known_key(key);
         margin(hull(key, other)) - margin(key)
     }

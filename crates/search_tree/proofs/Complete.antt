@@ -9,7 +9,8 @@ use Rattle.tree_theory.specs.Nodes.{Search}
 use Rattle.search_tree.specs.Calls.{IsComplete, found_in, found_of}
 use Rattle.search_tree.specs.Trees.{PlainTree, SeenSearch, IsSound, is_empty, search_of, progress_at, seen, tree_of}
 
-nothing_left : {T : Type 0} (xs : List T) → is_empty xs ≡ true → xs ≡ []
+-- a list that tells to be empty is
+pub nothing_left : {T : Type 0} (xs : List T) → is_empty xs ≡ true → xs ≡ []
 nothing_left [] e = refl
 nothing_left (x ∷ xs) e = absurd (cc (e))
 

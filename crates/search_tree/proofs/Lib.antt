@@ -12,9 +12,17 @@ pub mod Complete
 pub mod WalkSteps
 pub mod StandingLemmas
 pub mod DescentLemmas
+pub mod DescendSteps
+pub mod PenaltyLemmas
+pub mod NextLemmas
+pub mod AdvanceLemmas
 pub mod TendSteps
 pub mod InstallSteps
 pub mod CleanSteps
 pub mod UnionLemmas
 pub mod NeedLemmas
 pub mod DueLemmas
+pub mod Sharing
+pub mod Adoptions
+pub mod SplitSteps
+pub mod GrowSteps

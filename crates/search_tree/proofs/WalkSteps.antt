@@ -1,11 +1,13 @@
 -- The steps of a walk keep what every tree keeps.
-use Rattle.std.proofs.Common.{◌≡◌, ◌∙◌, ℕ, ◌<◌, List, [], ◌∷◌, ◌++◌, filter, slice_get, slice_set, Some, refl, sym, ap, subst, inl, inr}
+use Rattle.std.proofs.Common.{◌≡◌, ◌∙◌, ℕ, ◌<◌, List, [], ◌∷◌, ◌++◌, true, filter, slice_get, slice_set, Option, Some, None, refl, sym, ap, subst, inl, inr}
 use Rattle.std.proofs.lemmas.Option.{slice_get_within}
+use Rattle.std.specs.Option.{option_map}
 use Rattle.node_arena.specs.Slots.{Slots}
 use Rattle.node_arena.specs.declared.handle.Handle.{Handle}
 use Rattle.predicate_locks.specs.Numbers.{with_numbers}
 use Rattle.predicate_locks.specs.Searches.{search_at, does_run}
 use Rattle.tree_theory.proofs.ContentsKept.{contents_closed, contents_placed, contents_joined, contents_enlarged}
+use Rattle.tree_theory.proofs.Ready.{places_behind_none}
 use Rattle.tree_theory.proofs.SearchPlace.{searches_placed, searches_joined, searches_enlarged}
 use Rattle.tree_theory.proofs.SearchVisit.{searches_closed}
 use Rattle.tree_theory.proofs.ShapeKept.{shape_closed, shape_joined}
@@ -15,10 +17,12 @@ use Rattle.tree_theory.specs.Changes.{IsClosed, IsPlaced, IsJoined, IsEnlarged, 
 use Rattle.tree_theory.specs.KeyClasses.{Class, Laws}
 use Rattle.tree_theory.specs.Nodes.{Node, Search, entries_of, pairs_of, size_of}
 use Rattle.tree_theory.specs.Nodes.PlainBody.{Leaf, Inner}
+use Rattle.search_tree.specs.Advances.{HasPlacedBehindNone}
 use Rattle.search_tree.specs.Arenas.{IsChanged, AreSame, Holds}
 use Rattle.search_tree.specs.Calls.{IsAlike}
-use Rattle.search_tree.specs.Trees.{PlainTree, IsSound, IsInner, level_of, search_of, progress_at, tree_of}
+use Rattle.search_tree.specs.Trees.{PlainTree, SeenSearch, IsSound, IsInner, level_of, search_in, search_of, seen, progress_at, tree_of}
 use Rattle.search_tree.specs.Walks.{MayPlace, HasPlaced, MayJoinAll, HasJoined, MayEnlarge}
+use Rattle.search_tree.proofs.Complete.{nothing_left}
 use Rattle.search_tree.proofs.Kept.{Parts, parts_of, with_all_kept}
 use Rattle.search_tree.proofs.TendSteps.{some_one}
 use Rattle.search_tree.proofs.TreeSteps.{same_tree}
@@ -56,7 +60,7 @@ module _ (C : Class) (t : PlainTree C.Key C.Query C.Item) (nodes : Slots (Node C
         progress_of_each = sound.progress_of_each;
       }
 
-  pub placed_call : (at : Handle) (pair : ℕ × C.Item) → MayPlace C t at pair → IsChanged t.nodes nodes at (λ n. record n { body = Leaf (pairs_of n.body ++ pair ∷ []) }) → HasPlaced C t now pair
+  placed_call : (at : Handle) (pair : ℕ × C.Item) → MayPlace C t at pair → IsChanged t.nodes nodes at (λ n. record n { body = Leaf (pairs_of n.body ++ pair ∷ []) }) → HasPlaced C t now pair
   placed_call at pair may changed =
       record {
         contents = λ xs. contents_placed (placed_step at pair may changed);
@@ -65,6 +69,20 @@ module _ (C : Class) (t : PlainTree C.Key C.Query C.Item) (nodes : Slots (Node C
         next = refl;
         counts = record { counter = refl; limit = refl; level = level_kept C t 0 0 nodes at _ changed (λ n. refl); taken = changed.counts.taken; slots = changed.counts.slots };
       }
+
+  -- no search that is ready looks for what is placed
+  behind_none : Laws C → (at : Handle) (pair : ℕ × C.Item) → MayPlace C t at pair → IsChanged t.nodes nodes at (λ n. record n { body = Leaf (pairs_of n.body ++ pair ∷ []) }) → IsSound C t → (s : ℕ) (found : SeenSearch C.Query C.Item) → search_in t s ≡ Some found → found.ready ≡ true → C.Matches pair.1 found.query → ⊥
+  behind_none laws at pair may changed sound s found is ready matches = by (search_of (search_at t.running s) (progress_at s t.progress)) refl is
+    where
+      by : (o : Option (Search C)) → search_of (search_at t.running s) (progress_at s t.progress) ≡ o → option_map seen o ≡ Some found → ⊥
+      by None e none = absurd (cc (none))
+      by (Some plain) e some =
+          let same : seen plain ≡ found = cc (some) in
+          let empty : plain.stack ≡ [] = nothing_left plain.stack (ap (λ (x : SeenSearch C.Query C.Item). x.ready) same ∙ ready) in
+          places_behind_none laws (tree_of C t) sound.invariant (tree_of C now) at pair (placed_step at pair may changed) s plain (record { running = e; stack = empty }) (subst (λ q. C.Matches pair.1 q) (sym (ap (λ (x : SeenSearch C.Query C.Item). x.query) same)) matches)
+
+  pub placed_behind_none : Laws C → (at : Handle) (pair : ℕ × C.Item) → MayPlace C t at pair → IsChanged t.nodes nodes at (λ n. record n { body = Leaf (pairs_of n.body ++ pair ∷ []) }) → IsSound C t → HasPlacedBehindNone C t now pair
+  placed_behind_none laws at pair may changed sound = record { placed = placed_call at pair may changed; behind = behind_none laws at pair may changed sound }
 
   joined_step : (at : Handle) (more : List ℕ) → MayJoinAll C t at more → IsChanged t.nodes nodes at (λ n. record n { attached = filter (does_run t.running) (with_numbers more n.attached) }) → IsJoined (tree_of C t) (tree_of C now) at
   joined_step at more may changed =

@@ -12,3 +12,8 @@ pub mod Unions
 pub mod Needs
 pub mod Dues
 pub mod Standings
+pub mod Splitting
+pub mod Penalties
+pub mod Nexts
+pub mod Advances
+pub mod Halvings

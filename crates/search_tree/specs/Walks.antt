@@ -15,6 +15,7 @@ use Rattle.tree_theory.specs.declared.TheConstants.{NODE_SIZE}
 use Rattle.search_tree.specs.Arenas.{IsChanged}
 use Rattle.search_tree.specs.Calls.{IsAlike, SameCounts}
 use Rattle.search_tree.specs.Trees.{PlainTree, search_in, steps_in, tree_of}
+use Rattle.search_tree.specs.declared.descents.WayDown.{WayDown}
 
 module _ (C : Class) (s : Searches C.Query) (attached : List ℕ) (item : C.Item) where
   -- the search of this number runs, is attached and looks for the item, and none of a lesser number does
@@ -95,6 +96,15 @@ module _ (C : Class) (t : PlainTree C.Key C.Query C.Item) where
     pub entry : slice_get entries place ≡ Some (old, child)
     pub may_take : MayTake (tree_of C t) p node key
     pub seen : (s : ℕ) (run : RunningSearch C.Query) → search_at t.running s ≡ Some run → Contains node.attached s → C.Consistent (C.united old key) run.query → C.Consistent old run.query ⊎ ((below : Node C) × (value_at t.nodes child ≡ Some below) × Contains below.attached s)
+
+  -- an entry of an inner node, which may take in the item's key
+  pub record MayDescend (way : WayDown C.Key) (key : C.Key) : Type 0 where
+    pub node : Node C
+    pub is : value_at t.nodes way.parent ≡ Some node
+    pub entries : List (C.Key × Handle)
+    pub body : node.body ≡ Inner entries
+    pub entry : slice_get entries way.place ≡ Some (way.key, way.child)
+    pub may_take : MayTake (tree_of C t) way.parent node key
 
   -- searches that the key of a child's entry does not lead on
   pub record MayJoinBelow (child : Handle) (searches : List ℕ) : Type 0 where

@@ -28,7 +28,7 @@ impl<C: KeyClass, A: Allocator + Copy> Tree<C, A> {
     }
 
     // Attaches searches to a child whose entry does not lead them on, and to its right node first where the child is marked. Where there is no memory the right node may have got them already; no caller can tell.
-    fn join_below(&mut self, child: Handle, searches: &[u64]) -> Result<(), Refused>
+    pub(crate) fn join_below(&mut self, child: Handle, searches: &[u64]) -> Result<(), Refused>
         requires may { MayJoinBelow (class_of C.covered C.may_match C.is_match C.key_with C.united) self.old child searches.now }
         requires few { length searches.now ≤ MAX_ROOM }
         ensures ok { OnOk result (HasJoinedBelow (class_of C.covered C.may_match C.is_match C.key_with C.united) self.old self.new child searches.now) }
@@ -56,7 +56,14 @@ impl<C: KeyClass, A: Allocator + Copy> Tree<C, A> {
 
 impl<C: KeyClass, A: Allocator> Tree<C, A> {
     // Makes the key of a child's entry, which stands at the place, its union with another key.
-    fn enlarge(&mut self, parent: Handle, place: usize, old: C::Key, key: C::Key, child: Handle)
+    pub(crate) fn enlarge(
+        &mut self,
+        parent: Handle,
+        place: usize,
+        old: C::Key,
+        key: C::Key,
+        child: Handle,
+    )
         requires { MayEnlarge (class_of C.covered C.may_match C.is_match C.key_with C.united) self.old parent place old key child }
         ensures { IsAlike (class_of C.covered C.may_match C.is_match C.key_with C.united) self.old self.new }
     {

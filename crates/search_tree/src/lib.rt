@@ -1,19 +1,27 @@
 //! The search tree of features: a tree over any class of keys.
 #![tactic(auto)]
 
+mod advancing;
 mod answers;
 mod descending;
+mod descents;
 mod entries;
 mod fault;
+mod growing;
+mod halves;
 mod installing;
 mod joining;
 mod keeper;
 mod keys;
 mod needs;
+mod nexts;
 mod node;
 mod opening;
+mod penalties;
 mod progress;
+mod rooms;
 mod setters;
+mod splitting;
 mod standing;
 mod starting;
 mod tending;

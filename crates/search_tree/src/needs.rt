@@ -71,7 +71,7 @@ impl<C: KeyClass, A: Allocator> Tree<C, A> {
     }
 
     // The entry that the right node of a marked node lacks, where their parent has room for it.
-    fn lacking(&self, at: Handle) -> Option<NewEntry<C::Key>>
+    pub(crate) fn lacking(&self, at: Handle) -> Option<NewEntry<C::Key>>
         ensures may { IfSome result (MayInstall (class_of C.covered C.may_match C.is_match C.key_with C.united) self.now) }
         ensures due { IfSome result (λ entry. LacksEntry (class_of C.covered C.may_match C.is_match C.key_with C.united) self.now at) }
         ensures none { IfNone result (LacksEntry (class_of C.covered C.may_match C.is_match C.key_with C.united) self.now at → ⊥) }
@@ -200,7 +200,7 @@ fn has_room<K: Copy, I: Copy, A: Allocator>(node: &TreeNode<K, I, A>) -> bool
 }
 
 // The parent of a node at this place, where it is marked or not as told.
-fn parent_of(place: Place, wanted: bool) -> Option<Handle>
+pub(crate) fn parent_of(place: Place, wanted: bool) -> Option<Handle>
     ensures some { IfSome result (λ parent. place ≡ Place.Linked parent wanted) }
     ensures none { IfNone result ((parent : Handle) → place ≡ Place.Linked parent wanted → ⊥) }
 {

@@ -1,13 +1,15 @@
 //! A node of the tree.
 
-ghost use Rattle.std.specs.Prelude.{◌≡◌, ◌↔◌, ◌∷◌, ◌++◌, ◌<◌, ◌≤◌, [], ℕ, None, Some, false, IsTrue, IsSome, IfOk, OnOk, OnErr, filter, length, map, slice_get, slice_set, remove};
+ghost use Rattle.std.specs.Prelude.{◌≡◌, ◌↔◌, ◌∷◌, ◌++◌, ◌+◌, ◌<◌, ◌≤◌, [], ℕ, None, Some, false, IsTrue, IsSome, IfOk, OnOk, OnErr, filter, length, map, slice_get, slice_set, remove};
 ghost use Rattle.node_arena.specs.declared.handle.Handle.{Handle};
 ghost use Rattle.predicate_locks.specs.Numbers.{with_number, with_numbers};
 ghost use Rattle.predicate_locks.specs.Searches.{does_run};
 ghost use Rattle.predicate_locks.specs.declared.TheConstants.{MAX_ROOM};
-ghost use Rattle.tree_theory.specs.Nodes.{PlainNode, entries_of, pairs_of, children_of, size_of};
+ghost use Rattle.tree_theory.specs.Nodes.{PlainNode, entries_of, pairs_of, children_of, size_of, place_under, under};
 ghost use Rattle.tree_theory.specs.Nodes.PlainBody.{Leaf, Inner};
-ghost use Rattle.tree_theory.specs.declared.TheConstants.{NODE_SIZE};
+ghost use Rattle.tree_theory.specs.declared.TheConstants.{NODE_SIZE, TOP_LEVEL};
+ghost use Rattle.search_tree.specs.Bodies.{plain_body};
+ghost use Rattle.search_tree.specs.Splitting.{below, left_of, right_of};
 ghost use Rattle.search_tree.specs.Trees.{IsLeaf, IsInner, first_leaf};
 
 use crate::entries::{Entries, Pairs};
@@ -185,6 +187,71 @@ impl<K: Copy, I: Copy, A: Allocator> TreeNode<K, I, A> {
         self.place = place;
     }
 
+    /// Keeps this part of what it had, and is the marked left one of two nodes, under this parent.
+    pub fn become_left(&mut self, parent: Handle, right: Handle, body: Body<K, I, A>)
+        ensures { self.new ≡ left_of self.old parent right (plain_body body) }
+    {
+        self.body = body;
+        self.right = Some(right);
+        self.place = Place::Linked {
+            parent,
+            marked: true,
+        };
+    }
+
+    /// Stands one level higher, and has these entries in place of what it had.
+    pub fn rise(&mut self, entries: Entries<K, A>)
+        requires { self.old.level < TOP_LEVEL }
+        ensures { self.new ≡ record self.old { level = self.old.level + 1; body = Inner entries } }
+    {
+        self.level += 1;
+        self.body = Body::Entries(entries);
+    }
+
+    /// Stands under another parent, where it is linked.
+    pub fn set_parent(&mut self, parent: Handle)
+        ensures { self.new ≡ under parent self.old }
+    {
+        self.place = place_below(self.place, parent);
+    }
+
+    /// A new node with this part of what it has, to its right. No entry names that one yet.
+    pub fn right_half(&self, at: Handle, body: Body<K, I, A>) -> Result<Self, Refused>
+    where
+        A: Copy,
+        ensures { IfOk result (λ made. made ≡ right_of self.now at (plain_body body)) }
+    {
+        let attached = same_numbers(&self.attached)?;
+        Ok(TreeNode {
+            level: self.level,
+            body,
+            seq: self.seq,
+            right: self.right,
+            place: Place::Unlinked { left: at },
+            attached,
+        })
+    }
+
+    /// A new node with this part of what it has, which is to stand under it, with a number of its own and no rightlink.
+    pub fn lower_half(&self, at: Handle, seq: u64, body: Body<K, I, A>) -> Result<Self, Refused>
+    where
+        A: Copy,
+        ensures { IfOk result (λ made. made ≡ below self.now at seq (plain_body body)) }
+    {
+        let attached = same_numbers(&self.attached)?;
+        Ok(TreeNode {
+            level: self.level,
+            body,
+            seq,
+            right: None,
+            place: Place::Linked {
+                parent: at,
+                marked: false,
+            },
+            attached,
+        })
+    }
+
     /// Adds a pair to a leaf with room.
     pub fn push_pair(&mut self, key: u64, item: I)
         requires leaf { IsLeaf self.old.body }
@@ -285,5 +352,28 @@ impl<K: Copy, I: Copy, A: Allocator> TreeNode<K, I, A> {
             Err(LockFault::Memory(refused)) => Err(refused),
             Err(_) => unreachable!(),
         }
+    }
+}
+
+// The place under another parent, where it is linked.
+fn place_below(place: Place, parent: Handle) -> Place
+    ensures { result ≡ place_under parent place }
+{
+    match place {
+        Place::Linked { marked, .. } => Place::Linked { parent, marked },
+        Place::Root => Place::Root,
+        Place::Unlinked { left } => Place::Unlinked { left },
+        Place::Retired { stamp } => Place::Retired { stamp },
+    }
+}
+
+// The same attached numbers once more.
+fn same_numbers<A: Allocator + Copy>(attached: &Attached<A>) -> Result<Attached<A>, Refused>
+    ensures { IfOk result (λ made. made.numbers ≡ attached.now.numbers) }
+{
+    match attached.copy() {
+        Ok(copy) => Ok(copy),
+        Err(LockFault::Memory(refused)) => Err(refused),
+        Err(_) => unreachable!(),
     }
 }

@@ -1,18 +1,21 @@
 //! Changes of one node of the tree's arena. Where no node stands at the handle nothing happens.
 
-ghost use Rattle.std.specs.Prelude.{◌≡◌, ◌∷◌, ◌++◌, ◌<◌, ◌≤◌, [], ℕ, Some, OnOk, OnErr, filter, length, slice_get, slice_set, remove};
+ghost use Rattle.std.specs.Prelude.{◌≡◌, ◌∷◌, ◌++◌, ◌+◌, ◌<◌, ◌≤◌, [], ℕ, Some, OnOk, OnErr, filter, length, slice_get, slice_set, remove};
 ghost use Rattle.node_arena.specs.declared.handle.Handle.{Handle};
 ghost use Rattle.predicate_locks.specs.Numbers.{with_number, with_numbers};
 ghost use Rattle.predicate_locks.specs.Searches.{does_run};
 ghost use Rattle.predicate_locks.specs.declared.TheConstants.{MAX_ROOM};
 ghost use Rattle.search_tree.specs.Arenas.{IsChanged, AreSame, Holds};
+ghost use Rattle.search_tree.specs.Bodies.{plain_body};
+ghost use Rattle.search_tree.specs.Splitting.{HasAdopted, left_of};
 ghost use Rattle.search_tree.specs.Trees.{IsLeaf, IsInner};
-ghost use Rattle.tree_theory.specs.Nodes.{entries_of, pairs_of, size_of};
+ghost use Rattle.tree_theory.specs.Nodes.{entries_of, pairs_of, size_of, under};
 ghost use Rattle.tree_theory.specs.Nodes.PlainBody.{Leaf, Inner};
-ghost use Rattle.tree_theory.specs.declared.TheConstants.{NODE_SIZE};
+ghost use Rattle.tree_theory.specs.declared.TheConstants.{NODE_SIZE, TOP_LEVEL};
 
+use crate::entries::Entries;
 use crate::keeper::Keeper;
-use crate::node::TreeNode;
+use crate::node::{Body, TreeNode};
 use memory::Refused;
 use node_arena::{Arena, Handle};
 use predicate_locks::Running;
@@ -164,5 +167,61 @@ pub fn attach_all<K: Copy, I: Copy, Q: Copy, A: Allocator + Copy>(
     match nodes.get_mut(at) {
         Some(node) => node.attach_all(running, searches),
         None => Ok(()),
+    }
+}
+
+/// Makes a node the left one of two: it keeps this part of what it had, and leads to its right node.
+pub fn leave_left<K: Copy, I: Copy, A: Allocator>(
+    nodes: &mut Nodes<K, I, A>,
+    at: Handle,
+    parent: Handle,
+    right: Handle,
+    body: Body<K, I, A>,
+)
+    ensures { IsChanged nodes.old nodes.new at (λ node. left_of node parent right (plain_body body)) }
+{
+    if let Some(node) = nodes.get_mut(at) {
+        node.become_left(parent, right, body);
+    }
+}
+
+/// Raises a node by one level, and gives it these entries.
+pub fn rise<K: Copy, I: Copy, A: Allocator>(
+    nodes: &mut Nodes<K, I, A>,
+    at: Handle,
+    entries: Entries<K, A>,
+)
+    requires { Holds nodes.old at (λ node. node.level < TOP_LEVEL) }
+    ensures { IsChanged nodes.old nodes.new at (λ node. record node { level = node.level + 1; body = Inner entries }) }
+{
+    if let Some(node) = nodes.get_mut(at) {
+        node.rise(entries);
+    }
+}
+
+/// Puts a node under another parent, where it is linked.
+pub fn set_parent<K: Copy, I: Copy, A: Allocator>(
+    nodes: &mut Nodes<K, I, A>,
+    at: Handle,
+    parent: Handle,
+)
+    ensures changed { IsChanged nodes.old nodes.new at (under parent) }
+    ensures places { nodes.new.places ≡ nodes.old.places }
+{
+    if let Some(node) = nodes.get_mut(at) {
+        node.set_parent(parent);
+    }
+}
+
+/// Puts each of these nodes under another parent, where it is linked.
+pub fn adopt<K: Copy, I: Copy, A: Allocator>(
+    nodes: &mut Nodes<K, I, A>,
+    children: &[Handle],
+    parent: Handle,
+)
+    ensures { HasAdopted nodes.old nodes.new children.now parent }
+{
+    for child in children {
+        set_parent(nodes, *child, parent);
     }
 }

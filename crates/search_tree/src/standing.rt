@@ -1,6 +1,6 @@
 //! Where a walk stands, and what lies before it. Nothing here changes anything.
 
-ghost use Rattle.std.specs.Prelude.{◌≡◌, ◌<◌, Some, IsTrue, IfSome, length, slice_get};
+ghost use Rattle.std.specs.Prelude.{◌≡◌, Some, IsTrue, IfSome, slice_get};
 ghost use Rattle.node_arena.specs.declared.handle.Handle.{Handle};
 ghost use Rattle.search_tree.specs.Standings.{IsHere, IsUnlinked, IsCoveredBy};
 ghost use Rattle.tree_theory.specs.KeyClasses.{class_of};
@@ -77,35 +77,4 @@ pub(crate) fn place_of_child(children: &[Handle], child: Handle) -> Option<usize
         }
     }
     None
-}
-
-/// The place of the entry that an item's key is to go below: one of least penalty.
-pub(crate) fn best_entry<C: KeyClass>(keys: &[C::Key], key: C::Key) -> usize
-    requires { 0 < length keys.now }
-    ensures { result < length keys.now }
-{
-    let mut best = 0;
-    let mut least = penalties::<C>(keys[0], key);
-    for (place, other) in keys.iter().enumerate() {
-        let penalties = penalties::<C>(*other, key);
-        if is_less(penalties, least) {
-            best = place;
-            least = penalties;
-        }
-    }
-    best
-}
-
-// How much a key would grow, in three measures of falling weight.
-fn penalties<C: KeyClass>(held: C::Key, key: C::Key) -> (u64, u64, u64) {
-    (
-        C::penalty(held, key),
-        C::second_penalty(held, key),
-        C::penalty(key, held),
-    )
-}
-
-fn is_less(one: (u64, u64, u64), other: (u64, u64, u64)) -> bool {
-    one.0 < other.0
-        || (one.0 == other.0 && (one.1 < other.1 || (one.1 == other.1 && one.2 < other.2)))
 }

@@ -71,7 +71,7 @@ impl<C: KeyClass, A: Allocator> Tree<C, A> {
     }
 
     // The number to which the counter rises.
-    fn next_count(&self) -> Result<u64, TreeFault>
+    pub(crate) fn next_count(&self) -> Result<u64, TreeFault>
         ensures ok { IfOk result (λ next. next ≡ self.now.counter + 1) }
         ensures err { IfErr result (λ fault. (fault ≡ TreeFault.Spent) × (self.now.counter ≡ last_number)) }
     {

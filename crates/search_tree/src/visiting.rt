@@ -76,7 +76,7 @@ impl<C: KeyClass, A: Allocator + Copy> Tree<C, A> {
     }
 
     // How many steps a search makes at most.
-    fn step_limit(&self) -> u64
+    pub(crate) fn step_limit(&self) -> u64
         ensures { result ≡ self.now.limit }
     {
         self.limit

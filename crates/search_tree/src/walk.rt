@@ -1,9 +1,10 @@
 //! A walk: a pair on its way to its leaf.
 
-ghost use Rattle.std.specs.Prelude.{◌≡◌, ◌+◌, ◌<◌, false, true};
+ghost use Rattle.std.specs.Prelude.{◌≡◌, ◌<◌, false};
 ghost use Rattle.predicate_locks.specs.Searches.{last_number};
 ghost use Rattle.node_arena.specs.declared.handle.Handle.{Handle};
 
+use crate::answers::Step;
 use node_arena::Handle;
 use std::marker::Model;
 
@@ -26,6 +27,8 @@ impl<I> Model for Walk<I> {
 }
 
 impl<I: Copy> Walk<I> {
+    ghost use Rattle.search_tree.specs.Advances.{HasStepped};
+
     /// A walk that stands at the root.
     pub(crate) fn at_root(key: u64, item: I, root: Handle) -> Self
         ensures { result ≡ record { key = key; item = item; at = root; steps = 0; placed = false } }
@@ -81,21 +84,13 @@ impl<I: Copy> Walk<I> {
         self.steps
     }
 
-    /// Counts a step, after which it stands here.
-    pub(crate) fn step_to(&mut self, at: Handle)
+    /// Counts a step with this answer, after which it stands here.
+    pub(crate) fn count(&mut self, step: Step, at: Handle)
         requires { self.old.steps < last_number }
-        ensures { self.new ≡ record self.old { at = at; steps = self.old.steps + 1 } }
+        ensures { HasStepped self.old self.new step }
     {
         self.at = at;
         self.steps += 1;
-    }
-
-    /// Counts the step that placed its pair.
-    pub(crate) fn step_placed(&mut self)
-        requires { self.old.steps < last_number }
-        ensures { self.new ≡ record self.old { placed = true; steps = self.old.steps + 1 } }
-    {
-        self.placed = true;
-        self.steps += 1;
+        self.placed = matches!(step, Step::Placed);
     }
 }

@@ -1,7 +1,8 @@
 //! The steps of a walk at a leaf: the pair is held back, or placed.
 
 ghost use Rattle.std.specs.Prelude.{IfSome, IfNone};
-ghost use Rattle.search_tree.specs.Walks.{IsHolder, NoneHolds, MayPlace, HasPlaced};
+ghost use Rattle.search_tree.specs.Advances.{HasPlacedBehindNone};
+ghost use Rattle.search_tree.specs.Walks.{IsHolder, NoneHolds, MayPlace};
 ghost use Rattle.tree_theory.specs.KeyClasses.{class_of};
 
 use crate::setters::push_pair;
@@ -28,10 +29,10 @@ pub(crate) fn holder_of<C: KeyClass, A: Allocator>(
 }
 
 impl<C: KeyClass, A: Allocator> Tree<C, A> {
-    // Puts a pair into a leaf that may take it.
-    fn place(&mut self, at: Handle, key: u64, item: C::Item)
+    // Puts a pair into a leaf that may take it. No search that is ready looks for it.
+    pub(crate) fn place(&mut self, at: Handle, key: u64, item: C::Item)
         requires { MayPlace (class_of C.covered C.may_match C.is_match C.key_with C.united) self.old at (key, item) }
-        ensures { HasPlaced (class_of C.covered C.may_match C.is_match C.key_with C.united) self.old self.new (key, item) }
+        ensures { HasPlacedBehindNone (class_of C.covered C.may_match C.is_match C.key_with C.united) self.old self.new (key, item) }
     {
         push_pair(&mut self.nodes, at, key, item);
     }

@@ -1,4 +1,4 @@
-//! Tests of what the search tree stands on, and a caller of the arena.
+//! Tests of the search tree and of what it stands on, and a caller of the arena.
 #![tactic(auto)]
 
 pub mod arena_uses;
@@ -7,3 +7,5 @@ pub mod locks_uses;
 mod node_arena_tests;
 #[cfg(test)]
 mod predicate_locks_tests;
+#[cfg(test)]
+mod search_tree_tests;

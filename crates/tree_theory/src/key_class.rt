@@ -30,6 +30,10 @@ pub trait KeyClass {
 
     ghost whole_key: { Self.Key };
 
+    ghost growth: { Self.Key → Self.Key → ℕ };
+
+    ghost second_growth: { Self.Key → Self.Key → ℕ };
+
     /// Does nothing: each key in hand is one.
     fn known_key(key: Self::Key)
         ensures { is_key key };
@@ -65,12 +69,12 @@ pub trait KeyClass {
         ensures { IsTrue result ↔ is_match item query };
 
     /// How much a key grows where it takes in the other one. A tree prefers entries of least penalty.
-    fn penalty(key: Self::Key, other: Self::Key) -> u64;
+    fn penalty(key: Self::Key, other: Self::Key) -> u64
+        ensures { result ≡ growth key other };
 
-    /// Tells entries of equal penalty apart: the lesser is preferred.
-    fn second_penalty(key: Self::Key, other: Self::Key) -> u64 {
-        0
-    }
+    /// Tells entries of equal penalty apart: the lesser is preferred. A class with nothing to tell them apart by answers 0.
+    fn second_penalty(key: Self::Key, other: Self::Key) -> u64
+        ensures { result ≡ second_growth key other };
 
     /// Which of a full node's keys go to the right part of it: bit i for key i.
     fn pick_split(keys: &[Self::Key]) -> u16

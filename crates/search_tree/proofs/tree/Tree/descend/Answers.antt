@@ -1,0 +1,10 @@
+use Rattle.search_tree.proofs.DescendSteps.{may_join, may_enlarge}
+use Rattle.search_tree.proofs.tree.Tree.descend.Goals as goal
+
+pub join_below-requires-clause-may : goal.join_below-requires-clause-may
+join_below-requires-clause-may g c = rw c.as_slice.ensures.value (may_join _ _ c.args.way.now c.args.key c.requires c.led_by-led.result.items (rw c.union.ensures at (c.led_by-led.ensures.led c.requires.node c.requires.is)))
+
+pub enlarge-requires : goal.enlarge-requires
+enlarge-requires g c =
+    let below = rw c.as_slice.ensures.value at c.in_ok-join_below.ensures.ok in
+    may_enlarge _ _ c.args.way.now c.args.key c.requires c.led_by-led.result.items (rw c.union.ensures at (c.led_by-led.ensures.led c.requires.node c.requires.is)) c.join_below.new.self below

@@ -1,0 +1,160 @@
+-- What a split and the growth of the root need, and what they leave.
+use Rattle.std.specs.Prelude.{◌≡◌, ◌≢◌, ℕ, ◌+◌, ◌<◌, ◌≤◌, false, true, List, [], ◌∷◌, Contains, Option, None, Some, IsSome}
+use Rattle.std.specs.Option.{option_map}
+use Rattle.node_arena.specs.Slots.{Slots, SameCounts, value_at, taken_count, slot_count}
+use Rattle.node_arena.specs.declared.handle.Handle.{Handle}
+use Rattle.search_tree.specs.Arenas.{IsChanged}
+use Rattle.search_tree.specs.Calls.{SameContents}
+use Rattle.search_tree.specs.Trees.{PlainTree, search_in, steps_in, root_level}
+use Rattle.tree_theory.specs.Changes.{IsHalved, IsUnion}
+use Rattle.tree_theory.specs.KeyClasses.{Class}
+use Rattle.tree_theory.specs.Nodes.{PlainBody, PlainNode, Body, Node, children_of, size_of, under}
+use Rattle.tree_theory.specs.Nodes.PlainBody.{Inner}
+use Rattle.tree_theory.specs.declared.TheConstants.{NODE_SIZE, TOP_LEVEL}
+use Rattle.tree_theory.specs.declared.place.Place.TheVariants.{Root, Linked, Unlinked}
+
+module _ {Key Item : Type 0} where
+  -- a full node that is linked and not marked
+  pub record IsFullLinked (nodes : Slots (PlainNode Key Item)) (at : Handle) : Type 0 where
+    pub node : PlainNode Key Item
+    pub is : value_at nodes at ≡ Some node
+    pub parent : Handle
+    pub linked : node.place ≡ Linked parent false
+    pub full : size_of node.body ≡ NODE_SIZE
+
+  -- a full root, each of whose children stands
+  pub record IsFullRoot (nodes : Slots (PlainNode Key Item)) (root : Handle) : Type 0 where
+    pub node : PlainNode Key Item
+    pub is : value_at nodes root ≡ Some node
+    pub place : node.place ≡ Root
+    pub full : size_of node.body ≡ NODE_SIZE
+    pub low : node.level ≤ TOP_LEVEL
+    pub children : (child : Handle) → Contains (children_of node.body) child → IsSome (value_at nodes child)
+
+  -- a node below the highest level
+  pub record MayRise (nodes : Slots (PlainNode Key Item)) (at : Handle) : Type 0 where
+    pub node : PlainNode Key Item
+    pub is : value_at nodes at ≡ Some node
+    pub below_top : node.level < TOP_LEVEL
+
+  -- a new right node of this one, with this body. No entry names it yet
+  abbrev pub right_of : PlainNode Key Item → Handle → PlainBody Key Item → PlainNode Key Item
+  right_of node left body = record node { body = body; place = Unlinked left }
+
+  -- what is left of a node under this parent that has split
+  abbrev pub left_of : PlainNode Key Item → Handle → Handle → PlainBody Key Item → PlainNode Key Item
+  left_of node parent right body = record node { body = body; right = Some right; place = Linked parent true }
+
+  -- a new node under the root, with this body
+  abbrev pub below : PlainNode Key Item → Handle → ℕ → PlainBody Key Item → PlainNode Key Item
+  below root at seq body =
+      record {
+        level = root.level;
+        body = body;
+        seq = seq;
+        right = None;
+        place = Linked at false;
+        attached = root.attached;
+      }
+
+  -- these nodes stand under another parent, as far as they were linked. Nothing else changes
+  pub record HasAdopted (old new : Slots (PlainNode Key Item)) (children : List Handle) (parent : Handle) : Type 0 where
+    pub adopted : (h : Handle) → Contains children h → value_at new h ≡ option_map (under parent) (value_at old h)
+    pub others : (h : Handle) → (Contains children h → ⊥) → value_at new h ≡ value_at old h
+    pub counts : SameCounts old new
+    pub places : new.places ≡ old.places
+
+  -- a new node stands over these children. Nothing else changes
+  pub record IsPutOver (old new : Slots (PlainNode Key Item)) (node : PlainNode Key Item) (children : List Handle) (at : Handle) : Type 0 where
+    pub fresh : value_at old at ≡ None
+    pub here : (Contains children at → ⊥) → value_at new at ≡ Some node
+    pub here_under : Contains children at → value_at new at ≡ Some (under at node)
+    pub adopted : (h : Handle) → h ≢ at → Contains children h → value_at new h ≡ option_map (under at) (value_at old h)
+    pub others : (h : Handle) → h ≢ at → (Contains children h → ⊥) → value_at new h ≡ value_at old h
+
+  -- so many slots more are taken
+  pub record MoreTaken (old new : Slots (PlainNode Key Item)) (more : ℕ) : Type 0 where
+    pub taken : taken_count new ≡ taken_count old + more
+    pub slots_kept : slot_count old ≤ slot_count new
+    pub slots_most : slot_count new ≤ slot_count old + more
+
+  -- a full node has split: it has one part of what it had and is marked, and its new right node has the other part
+  pub record HasSplit (old new : Slots (PlainNode Key Item)) (at right : Handle) : Type 0 where
+    pub node : PlainNode Key Item
+    pub is : value_at old at ≡ Some node
+    pub parent : Handle
+    pub linked : node.place ≡ Linked parent false
+    pub kept : PlainBody Key Item
+    pub moved : PlainBody Key Item
+    pub halves : IsHalved node.body kept moved
+    pub fresh : value_at old right ≡ None
+    pub left_now : value_at new at ≡ Some (left_of node parent right kept)
+    pub right_now : value_at new right ≡ Some (right_of node at moved)
+    pub children : (h : Handle) → h ≢ at → h ≢ right → Contains (children_of moved) h → value_at new h ≡ option_map (under right) (value_at old h)
+    pub others : (h : Handle) → h ≢ at → h ≢ right → (Contains (children_of moved) h → ⊥) → value_at new h ≡ value_at old h
+    pub more : MoreTaken old new 1
+
+-- a node over these children, with this key for its entry
+pub record IsLower (C : Class) (made : Node C) (node : Node C) (children : List Handle) (key : C.Key) : Type 0 where
+  pub is : node ≡ made
+  pub children_are : children ≡ children_of made.body
+  pub union : IsUnion C made.body key
+
+-- two new nodes stand over their children, and the node at the root has entries for them, one level higher
+pub record HasPutBelow {Key Item : Type 0} (old new : Slots (PlainNode Key Item)) (root : Handle) (one : PlainNode Key Item) (one_children : List Handle) (one_key : Key) (two : PlainNode Key Item) (two_children : List Handle) (two_key : Key) : Type 0 where
+  pub a : Handle
+  pub b : Handle
+  pub mid : Slots (PlainNode Key Item)
+  pub last : Slots (PlainNode Key Item)
+  pub put_one : IsPutOver old mid one one_children a
+  pub put_two : IsPutOver mid last two two_children b
+  pub risen : IsChanged last new root (λ node. record node { level = node.level + 1; body = Inner ((one_key, a) ∷ (two_key, b) ∷ []) })
+  pub more : MoreTaken old new 2
+
+-- the root has grown: two new nodes have what it had, and it has their entries, one level higher
+pub record HasGrown (C : Class) (old new : Slots (Node C)) (root : Handle) (seq : ℕ) : Type 0 where
+  pub node : Node C
+  pub is : value_at old root ≡ Some node
+  pub place : node.place ≡ Root
+  pub low : node.level < TOP_LEVEL
+  pub a : Handle
+  pub b : Handle
+  pub one : Body C
+  pub two : Body C
+  pub halves : IsHalved node.body one two
+  pub one_key : C.Key
+  pub one_union : IsUnion C one one_key
+  pub two_key : C.Key
+  pub two_union : IsUnion C two two_key
+  pub differ : a ≢ b
+  pub fresh_one : value_at old a ≡ None
+  pub fresh_two : value_at old b ≡ None
+  pub root_now : value_at new root ≡ Some (record node { level = node.level + 1; body = Inner ((one_key, a) ∷ (two_key, b) ∷ []) })
+  pub one_now : value_at new a ≡ Some (below node root seq one)
+  pub two_now : value_at new b ≡ Some (below node root seq two)
+  pub one_children : (h : Handle) → h ≢ root → h ≢ a → h ≢ b → Contains (children_of one) h → (Contains (children_of two) h → ⊥) → value_at new h ≡ option_map (under a) (value_at old h)
+  pub two_children : (h : Handle) → h ≢ root → h ≢ a → h ≢ b → Contains (children_of two) h → (Contains (children_of one) h → ⊥) → value_at new h ≡ option_map (under b) (value_at old h)
+  pub others : (h : Handle) → h ≢ root → h ≢ a → h ≢ b → (Contains (children_of one) h → ⊥) → (Contains (children_of two) h → ⊥) → value_at new h ≡ value_at old h
+  pub more : MoreTaken old new 2
+
+module _ (C : Class) (t : PlainTree C.Key C.Query C.Item) where
+  -- a full node that is linked and not marked may split
+  abbrev pub MaySplit : Handle → Type 0
+  MaySplit at = IsFullLinked t.nodes at
+
+  -- the full root may grow
+  pub record MayGrow : Type 0 where
+    pub node : Node C
+    pub is : value_at t.nodes t.root ≡ Some node
+    pub full : size_of node.body ≡ NODE_SIZE
+
+  -- so many slots more are taken, and the root stands so much higher. Contents, searches and the other counts stay
+  pub record HasMoreNodes (u : PlainTree C.Key C.Query C.Item) (nodes levels : ℕ) : Type 0 where
+    pub contents : SameContents C t u
+    pub searches : (search : ℕ) → search_in u search ≡ search_in t search
+    pub steps : (search : ℕ) → steps_in u search ≡ steps_in t search
+    pub next : u.running.next ≡ t.running.next
+    pub limit : u.limit ≡ t.limit
+    pub counter : u.counter ≡ t.counter
+    pub level : root_level u ≡ root_level t + levels
+    pub more : MoreTaken t.nodes u.nodes nodes

@@ -1,0 +1,125 @@
+//! One step of a walk.
+
+ghost use Rattle.std.specs.Prelude.{◌≡◌, ℕ, IfOk, IfErr, OnErr};
+ghost use Rattle.search_tree.specs.Advances.{HasAdvanced, IsAdvance, MayRefuse};
+ghost use Rattle.search_tree.specs.Calls.{IsAlike};
+ghost use Rattle.search_tree.specs.Nexts.{MayMake};
+ghost use Rattle.tree_theory.specs.KeyClasses.{class_of};
+
+use crate::answers::Step;
+use crate::fault::TreeFault;
+use crate::nexts::Next;
+use crate::rooms::Room;
+use crate::tree::Tree;
+use crate::walk::Walk;
+use node_arena::Handle;
+use std::alloc::Allocator;
+use tree_theory::KeyClass;
+
+/// What a step of a walk answers, and where the walk stands then.
+#[derive(Clone, Copy)]
+pub(crate) struct Arrival {
+    pub(crate) step: Step,
+    pub(crate) at: Handle,
+}
+
+impl<C: KeyClass, A: Allocator + Copy> Tree<C, A> {
+    /// One step of a walk. Placed is answered where its pair is in the tree then: no search that is ready looks for it. Where other nodes have to be parted or to get their entries first, one of them is, and the answer is Split or Installed.
+    ///
+    /// A walk whose pair is placed is answered Placed again, and makes no step. S7 where it has made all its steps. S3 where a search that has seen the leaf, and so would miss the pair, looks for it: the walk goes on once that search is closed. S4 where no slot is free for a node, S5 where the root would stand too high, S6 where the counter is at its end, S8 where there is no memory. A step that is refused is not counted, and changes nothing that callers see.
+    pub fn advance(&mut self, walk: &mut Walk<C::Item>) -> Result<Step, TreeFault>
+        ensures { IsAdvance (class_of C.covered C.may_match C.is_match C.key_with C.united) self.old self.new walk.old walk.new result }
+    {
+        if walk.placed() {
+            return Ok(Step::Placed);
+        }
+        if self.step_limit() <= walk.steps() {
+            return Err(TreeFault::Overrun);
+        }
+        match self.make_step(walk.at(), walk.key(), walk.item()) {
+            Ok(arrival) => {
+                walk.count(arrival.step, arrival.at);
+                Ok(arrival.step)
+            }
+            Err(fault) => Err(fault),
+        }
+    }
+
+    // Does what is next for a walk of this pair that stands here.
+    fn make_step(&mut self, at: Handle, key: u64, item: C::Item) -> Result<Arrival, TreeFault>
+        ensures ok { IfOk result (λ made. HasAdvanced (class_of C.covered C.may_match C.is_match C.key_with C.united) self.old self.new (key, item) made.step) }
+        ensures err { IfErr result (MayRefuse (class_of C.covered C.may_match C.is_match C.key_with C.united) self.old item) }
+        ensures alike { OnErr result (IsAlike (class_of C.covered C.may_match C.is_match C.key_with C.united) self.old self.new) }
+    {
+        match self.next_for(at, item) {
+            Next::Restart => Ok(self.restart()),
+            Next::Climb(parent) => Ok(Arrival {
+                step: Step::Moved,
+                at: parent,
+            }),
+            Next::Descend(way) => match self.descend(&way, C::key_of(item)) {
+                Ok(()) => Ok(Arrival {
+                    step: Step::Moved,
+                    at: way.child,
+                }),
+                Err(refused) => Err(TreeFault::Memory(refused)),
+            },
+            Next::Hold(number) => Err(TreeFault::Held(number)),
+            Next::Place => {
+                self.place(at, key, item);
+                Ok(Arrival {
+                    step: Step::Placed,
+                    at,
+                })
+            }
+            Next::Make(room) => self.make_room(&room, at),
+        }
+    }
+
+    // At the root, where a walk begins anew.
+    fn restart(&self) -> Arrival
+        ensures { result.step ≡ Step.Restarted }
+    {
+        Arrival {
+            step: Step::Restarted,
+            at: self.root,
+        }
+    }
+
+    // Makes room where a walk stands, or brings that nearer. After a split the walk stands at the new right node, since its left node would get all that comes.
+    fn make_room(&mut self, room: &Room<C::Key>, at: Handle) -> Result<Arrival, TreeFault>
+        requires { MayMake (class_of C.covered C.may_match C.is_match C.key_with C.united) self.old room.now }
+        ensures ok { IfOk result (λ made. (pair : ℕ × C.Item) → HasAdvanced (class_of C.covered C.may_match C.is_match C.key_with C.united) self.old self.new pair made.step) }
+        ensures err { IfErr result (λ fault. (item : C.Item) → MayRefuse (class_of C.covered C.may_match C.is_match C.key_with C.united) self.old item fault) }
+        ensures alike { OnErr result (IsAlike (class_of C.covered C.may_match C.is_match C.key_with C.united) self.old self.new) }
+    {
+        match room {
+            Room::Install(entry) => match self.next_count() {
+                Ok(seq) => {
+                    self.install(entry, seq);
+                    Ok(Arrival {
+                        step: Step::Installed,
+                        at,
+                    })
+                }
+                Err(fault) => Err(fault),
+            },
+            Room::Split(node) => match self.split(*node) {
+                Ok(right) => Ok(Arrival {
+                    step: Step::Split,
+                    at: right,
+                }),
+                Err(fault) => Err(fault),
+            },
+            Room::Grow => match self.grow() {
+                Ok(()) => Ok(Arrival {
+                    step: Step::Split,
+                    at,
+                }),
+                Err(fault) => Err(fault),
+            },
+            Room::Behind(_) => Ok(self.restart()),
+            Room::Nothing => Ok(self.restart()),
+        }
+    }
+}

@@ -1,0 +1,52 @@
+//! A walk goes down: an entry takes in the item's key, and the searches that this leads on join what lies below first.
+
+ghost use Rattle.std.specs.Prelude.{◌≡◌, ◌≤◌, Some, OnOk, OnErr, length};
+ghost use Rattle.node_arena.specs.Slots.{value_at};
+ghost use Rattle.predicate_locks.specs.declared.TheConstants.{MAX_ROOM, MAX_RUNNING};
+ghost use Rattle.search_tree.specs.Calls.{IsAlike};
+ghost use Rattle.search_tree.specs.Walks.{AreLed, MayDescend};
+ghost use Rattle.tree_theory.specs.KeyClasses.{class_of};
+ghost use Rattle.tree_theory.specs.Nodes.{PlainNode};
+
+use crate::descending::led_searches;
+use crate::tree::Tree;
+use arrayvec::ArrayVec;
+use memory::Refused;
+use node_arena::Handle;
+use predicate_locks::MAX_RUNNING;
+use std::alloc::Allocator;
+use tree_theory::KeyClass;
+
+/// An entry by which a walk goes down: where it stands, its key, and the child that it names.
+#[derive(Clone, Copy)]
+pub(crate) struct WayDown<K> {
+    pub(crate) parent: Handle,
+    pub(crate) place: usize,
+    pub(crate) key: K,
+    pub(crate) child: Handle,
+}
+
+impl<C: KeyClass, A: Allocator + Copy> Tree<C, A> {
+    // Makes the key of an entry its union with an item's key. Before, the searches that have seen the parent and that only the union leads on join the child. Where there is no memory some of them may have joined the child's right node; no caller can tell.
+    pub(crate) fn descend(&mut self, way: &WayDown<C::Key>, key: C::Key) -> Result<(), Refused>
+        requires { MayDescend (class_of C.covered C.may_match C.is_match C.key_with C.united) self.old way.now key }
+        ensures ok { OnOk result (IsAlike (class_of C.covered C.may_match C.is_match C.key_with C.united) self.old self.new) }
+        ensures err { OnErr result (IsAlike (class_of C.covered C.may_match C.is_match C.key_with C.united) self.old self.new) }
+    {
+        let led = self.led_by(way, C::union(way.key, key));
+        self.join_below(way.child, led.as_slice())?;
+        self.enlarge(way.parent, way.place, way.key, key, way.child);
+        Ok(())
+    }
+
+    // The searches that have seen the parent, and that the wider key would lead on to the child.
+    fn led_by(&self, way: &WayDown<C::Key>, wider: C::Key) -> ArrayVec<u64, MAX_RUNNING>
+        ensures led { (node : PlainNode C.Key C.Item) → value_at self.now.nodes way.now.parent ≡ Some node → AreLed (class_of C.covered C.may_match C.is_match C.key_with C.united) self.now.running way.now.key wider node.attached result.items }
+        ensures few { length result.items ≤ MAX_RUNNING }
+    {
+        match self.nodes.get(way.parent) {
+            Some(node) => led_searches::<C, A>(&self.running, node.attached(), way.key, wider),
+            None => ArrayVec::new(),
+        }
+    }
+}

@@ -1,0 +1,162 @@
+//! The full root grows.
+
+ghost use Rattle.std.specs.Prelude.{◌≡◌, ◌≢◌, ◌↔◌, ◌⊎◌, ◌+◌, ◌<◌, [], Err, IfOk, IfErr, OnOk, OnErr};
+ghost use Rattle.memory.specs.Refused.{refused};
+ghost use Rattle.node_arena.specs.Slots.{value_at, taken_count, HasRoomFor};
+ghost use Rattle.node_arena.specs.declared.TheConstants.{MAX_SLOTS};
+ghost use Rattle.search_tree.specs.Arenas.{AreSame};
+ghost use Rattle.search_tree.specs.Bodies.{plain_body};
+ghost use Rattle.search_tree.specs.Calls.{IsAlike};
+ghost use Rattle.search_tree.specs.Splitting.{HasGrown, HasMoreNodes, HasPutBelow, IsFullRoot, IsLower, MayGrow, MayRise, below};
+ghost use Rattle.search_tree.specs.Trees.{level_of, root_level};
+ghost use Rattle.tree_theory.specs.KeyClasses.{class_of};
+ghost use Rattle.tree_theory.specs.Nodes.{size_of};
+ghost use Rattle.tree_theory.specs.declared.TheConstants.{TOP_LEVEL};
+
+use crate::entries::Entries;
+use crate::fault::TreeFault;
+use crate::halves::{Halves, shared_out};
+use crate::keys::key_for;
+use crate::node::{Body, TreeNode};
+use crate::setters::{Nodes, rise};
+use crate::splitting::{make_slots, put_over};
+use crate::tree::Tree;
+use memory::{Refused, copied};
+use node_arena::Handle;
+use std::alloc::Allocator;
+use tree_theory::{KeyClass, TOP_LEVEL};
+
+// A node that is to stand below the root, with the key of its entry and the handles of its children.
+#[derive(Drop)]
+struct Lower<K, I, A: Allocator> {
+    key: K,
+    children: Vec<Handle, A>,
+    node: TreeNode<K, I, A>,
+}
+
+impl<C: KeyClass, A: Allocator + Copy> Tree<C, A> {
+    // Gives the full root two new nodes, which have a part each of what it had and the searches attached to it. It has their entries, one level higher.
+    //
+    // S5 where the root stands at the highest level, else S4 where fewer than two slots more can be taken, and S8 where there is no memory. Then nothing has changed.
+    pub(crate) fn grow(&mut self) -> Result<(), TreeFault>
+        requires { MayGrow (class_of C.covered C.may_match C.is_match C.key_with C.united) self.old }
+        ensures ok { OnOk result (HasMoreNodes (class_of C.covered C.may_match C.is_match C.key_with C.united) self.old self.new 2 1) }
+        ensures too_high { (result ≡ Err TreeFault.TooHigh) ↔ (root_level self.old ≡ TOP_LEVEL) }
+        ensures full { (result ≡ Err TreeFault.Full) ↔ ((root_level self.old ≢ TOP_LEVEL) × (MAX_SLOTS < taken_count self.old.nodes + 2)) }
+        ensures faults { IfErr result (λ fault. (fault ≡ TreeFault.TooHigh) ⊎ (fault ≡ TreeFault.Full) ⊎ (fault ≡ TreeFault.Memory refused)) }
+        ensures err { OnErr result (IsAlike (class_of C.covered C.may_match C.is_match C.key_with C.united) self.old self.new) }
+    {
+        grow_in::<C, A>(&mut self.nodes, self.alloc, self.root, self.counter)
+    }
+}
+
+// Lets a full root grow. Where that is refused no node has changed.
+fn grow_in<C: KeyClass, A: Allocator + Copy>(
+    nodes: &mut Nodes<C::Key, C::Item, A>,
+    alloc: A,
+    root: Handle,
+    seq: u64,
+) -> Result<(), TreeFault>
+    requires { IsFullRoot nodes.old root }
+    ensures ok { OnOk result (HasGrown (class_of C.covered C.may_match C.is_match C.key_with C.united) nodes.old nodes.new root seq) }
+    ensures too_high { (result ≡ Err TreeFault.TooHigh) ↔ (level_of (value_at nodes.old root) ≡ TOP_LEVEL) }
+    ensures full { (result ≡ Err TreeFault.Full) ↔ ((level_of (value_at nodes.old root) ≢ TOP_LEVEL) × (MAX_SLOTS < taken_count nodes.old + 2)) }
+    ensures faults { IfErr result (λ fault. (fault ≡ TreeFault.TooHigh) ⊎ (fault ≡ TreeFault.Full) ⊎ (fault ≡ TreeFault.Memory refused)) }
+    ensures err { OnErr result (AreSame nodes.old nodes.new) }
+{
+    if level_at(nodes, root) == TOP_LEVEL {
+        return Err(TreeFault::TooHigh);
+    }
+    if let Err(fault) = make_slots(nodes, 2) {
+        return Err(fault);
+    }
+    match grow_root::<C, A>(nodes, alloc, root, seq) {
+        Ok(()) => Ok(()),
+        Err(refused) => Err(TreeFault::Memory(refused)),
+    }
+}
+
+// The level of a node, and 0 where none stands there.
+fn level_at<K: Copy, I: Copy, A: Allocator>(nodes: &Nodes<K, I, A>, at: Handle) -> u8
+    ensures { result ≡ level_of (value_at nodes.now at) }
+{
+    match nodes.get(at) {
+        Some(node) => node.level(),
+        None => 0,
+    }
+}
+
+// Lets a full root grow that is not at the highest level, where there is room for two nodes more. All that may want memory comes before the first change.
+fn grow_root<C: KeyClass, A: Allocator + Copy>(
+    nodes: &mut Nodes<C::Key, C::Item, A>,
+    alloc: A,
+    root: Handle,
+    seq: u64,
+) -> Result<(), Refused>
+    requires full { IsFullRoot nodes.old root }
+    requires level { level_of (value_at nodes.old root) ≢ TOP_LEVEL }
+    requires room { HasRoomFor nodes.old 2 }
+    ensures ok { OnOk result (HasGrown (class_of C.covered C.may_match C.is_match C.key_with C.united) nodes.old nodes.new root seq) }
+    ensures err { OnErr result (AreSame nodes.old nodes.new) }
+{
+    let Some(node) = nodes.get(root) else {
+        unreachable!();
+    };
+    let Halves { left, right } = shared_out::<C, A>(node, alloc)?;
+    let one = lower_half::<C, A>(node, root, seq, left, alloc)?;
+    let two = lower_half::<C, A>(node, root, seq, right, alloc)?;
+    let entries = Entries::with_places(alloc)?;
+    put_below::<C, A>(nodes, root, one, two, entries);
+    Ok(())
+}
+
+// Puts two nodes below the root, which has their entries from then on.
+fn put_below<C: KeyClass, A: Allocator + Copy>(
+    nodes: &mut Nodes<C::Key, C::Item, A>,
+    root: Handle,
+    one: Lower<C::Key, C::Item, A>,
+    two: Lower<C::Key, C::Item, A>,
+    mut entries: Entries<C::Key, A>,
+)
+    requires none { entries ≡ [] }
+    requires room { HasRoomFor nodes.old 2 }
+    requires rise { MayRise nodes.old root }
+    ensures { HasPutBelow nodes.old nodes.new root one.node one.children.items one.key two.node two.children.items two.key }
+{
+    let Lower {
+        key,
+        children,
+        node,
+    } = one;
+    let first = put_over(nodes, node, &children);
+    entries.push(key, first);
+    let Lower {
+        key,
+        children,
+        node,
+    } = two;
+    let second = put_over(nodes, node, &children);
+    entries.push(key, second);
+    rise(nodes, root, entries);
+}
+
+// A node with this part of what the root has.
+fn lower_half<C: KeyClass, A: Allocator + Copy>(
+    node: &TreeNode<C::Key, C::Item, A>,
+    root: Handle,
+    seq: u64,
+    body: Body<C::Key, C::Item, A>,
+    alloc: A,
+) -> Result<Lower<C::Key, C::Item, A>, Refused>
+    requires { 0 < size_of (plain_body body) }
+    ensures { IfOk result (λ made. IsLower (class_of C.covered C.may_match C.is_match C.key_with C.united) (below node.now root seq (plain_body body)) made.node made.children.items made.key) }
+{
+    let node = node.lower_half(root, seq, body)?;
+    let children = copied(alloc, node.children())?;
+    let key = key_for::<C, A>(&node, C::whole());
+    Ok(Lower {
+        key,
+        children,
+        node,
+    })
+}

@@ -1,0 +1,141 @@
+//! A full node splits.
+
+ghost use Rattle.std.specs.Prelude.{◌≡◌, ◌↔◌, ◌⊎◌, ◌+◌, ◌<◌, ◌≤◌, false, Some, Err, IfOk, IfErr, OnOk, OnErr};
+ghost use Rattle.memory.specs.Refused.{refused};
+ghost use Rattle.node_arena.specs.Slots.{value_at, taken_count, HasRoomFor, IsGiven, CountsGiven};
+ghost use Rattle.node_arena.specs.declared.TheConstants.{MAX_SLOTS, MOST_RESERVED};
+ghost use Rattle.node_arena.specs.declared.handle.Handle.{Handle};
+ghost use Rattle.search_tree.specs.Arenas.{AreSame};
+ghost use Rattle.search_tree.specs.Calls.{IsAlike};
+ghost use Rattle.search_tree.specs.Splitting.{HasMoreNodes, HasSplit, IsFullLinked, IsPutOver, MaySplit, MoreTaken};
+ghost use Rattle.search_tree.specs.Walks.{marked_right as right_of_marked};
+ghost use Rattle.tree_theory.specs.KeyClasses.{class_of};
+
+use crate::fault::TreeFault;
+use crate::halves::{Halves, shared_out};
+use crate::node::TreeNode;
+use crate::setters::{Nodes, adopt, leave_left};
+use crate::tree::Tree;
+use memory::{Refused, copied};
+use node_arena::{Arena, ArenaFault, Handle};
+use std::alloc::Allocator;
+use tree_theory::{KeyClass, Place};
+
+impl<C: KeyClass, A: Allocator + Copy> Tree<C, A> {
+    // Splits a full node that is linked and not marked, and answers its new right node. The right node has a part of what the node had, its number, its rightlink and its attached searches; no entry names it yet. The node is marked, and leads to it.
+    //
+    // S4 where no slot more can be taken, S8 where there is no memory. Then nothing has changed.
+    pub(crate) fn split(&mut self, at: Handle) -> Result<Handle, TreeFault>
+        requires { MaySplit (class_of C.covered C.may_match C.is_match C.key_with C.united) self.old at }
+        ensures ok { OnOk result (HasMoreNodes (class_of C.covered C.may_match C.is_match C.key_with C.united) self.old self.new 1 0) }
+        ensures right { IfOk result (λ right. right_of_marked (value_at self.new.nodes at) ≡ Some right) }
+        ensures full { (result ≡ Err TreeFault.Full) ↔ (MAX_SLOTS < taken_count self.old.nodes + 1) }
+        ensures faults { IfErr result (λ fault. (fault ≡ TreeFault.Full) ⊎ (fault ≡ TreeFault.Memory refused)) }
+        ensures err { OnErr result (IsAlike (class_of C.covered C.may_match C.is_match C.key_with C.united) self.old self.new) }
+    {
+        split_in::<C, A>(&mut self.nodes, self.alloc, at)
+    }
+}
+
+// Splits a full linked node. Where that is refused no node has changed.
+fn split_in<C: KeyClass, A: Allocator + Copy>(
+    nodes: &mut Nodes<C::Key, C::Item, A>,
+    alloc: A,
+    at: Handle,
+) -> Result<Handle, TreeFault>
+    requires { IsFullLinked nodes.old at }
+    ensures ok { IfOk result (HasSplit nodes.old nodes.new at) }
+    ensures full { (result ≡ Err TreeFault.Full) ↔ (MAX_SLOTS < taken_count nodes.old + 1) }
+    ensures faults { IfErr result (λ fault. (fault ≡ TreeFault.Full) ⊎ (fault ≡ TreeFault.Memory refused)) }
+    ensures err { OnErr result (AreSame nodes.old nodes.new) }
+{
+    if let Err(fault) = make_slots(nodes, 1) {
+        return Err(fault);
+    }
+    match split_node::<C, A>(nodes, alloc, at) {
+        Ok(right) => Ok(right),
+        Err(refused) => Err(TreeFault::Memory(refused)),
+    }
+}
+
+// Makes room for so many more nodes. S4 where fewer than so many more slots can be taken, S8 where there is no memory for them.
+pub(crate) fn make_slots<K, I, A: Allocator>(
+    nodes: &mut Nodes<K, I, A>,
+    more: u32,
+) -> Result<(), TreeFault>
+    requires { more ≤ MOST_RESERVED }
+    ensures ok { OnOk result (HasRoomFor nodes.new more) }
+    ensures fits { OnOk result (taken_count nodes.old + more ≤ MAX_SLOTS) }
+    ensures full { (result ≡ Err TreeFault.Full) ↔ (MAX_SLOTS < taken_count nodes.old + more) }
+    ensures faults { IfErr result (λ fault. (fault ≡ TreeFault.Full) ⊎ (fault ≡ TreeFault.Memory refused)) }
+    ensures same { AreSame nodes.old nodes.new }
+{
+    match nodes.reserve(more) {
+        Ok(()) => Ok(()),
+        Err(ArenaFault::Full) => Err(TreeFault::Full),
+        Err(ArenaFault::Memory(refused)) => Err(TreeFault::Memory(refused)),
+    }
+}
+
+// Splits a full linked node, where there is room for one node more. All that may want memory comes before the first change.
+fn split_node<C: KeyClass, A: Allocator + Copy>(
+    nodes: &mut Nodes<C::Key, C::Item, A>,
+    alloc: A,
+    at: Handle,
+) -> Result<Handle, Refused>
+    requires full { IsFullLinked nodes.old at }
+    requires room { HasRoomFor nodes.old 1 }
+    ensures ok { IfOk result (HasSplit nodes.old nodes.new at) }
+    ensures err { OnErr result (AreSame nodes.old nodes.new) }
+{
+    let Some(node) = nodes.get(at) else {
+        unreachable!();
+    };
+    let parent = parent_of(node.place());
+    let Halves { left, right } = shared_out::<C, A>(node, alloc)?;
+    let right = node.right_half(at, right)?;
+    let moved = copied(alloc, right.children())?;
+    let right = put_over(nodes, right, &moved);
+    leave_left(nodes, at, parent, right, left);
+    Ok(right)
+}
+
+// The parent of what is linked.
+fn parent_of(place: Place) -> Handle
+    requires { (parent : Handle) × (place ≡ Place.Linked parent false) }
+    ensures { place ≡ Place.Linked result false }
+{
+    let Place::Linked { parent, .. } = place else {
+        unreachable!();
+    };
+    parent
+}
+
+// Puts a node in over these children, where there is room for one node more.
+pub(crate) fn put_over<K: Copy, I: Copy, A: Allocator>(
+    nodes: &mut Nodes<K, I, A>,
+    node: TreeNode<K, I, A>,
+    children: &[Handle],
+) -> Handle
+    requires { HasRoomFor nodes.old 1 }
+    ensures put { IsPutOver nodes.old nodes.new node children.now result }
+    ensures more { MoreTaken nodes.old nodes.new 1 }
+    ensures places { nodes.new.places ≡ nodes.old.places }
+{
+    let at = put_in(nodes, node);
+    adopt(nodes, children, at);
+    at
+}
+
+// Puts a node in, for which there is room.
+fn put_in<T: Drop, A: Allocator>(nodes: &mut Arena<T, A>, node: T) -> Handle
+    requires { HasRoomFor nodes.old 1 }
+    ensures given { IsGiven nodes.old nodes.new result node }
+    ensures counts { CountsGiven nodes.old nodes.new result }
+    ensures places { nodes.new.places ≡ nodes.old.places }
+{
+    let Ok(handle) = nodes.insert(node) else {
+        unreachable!();
+    };
+    handle
+}

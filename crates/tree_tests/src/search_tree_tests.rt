@@ -1,0 +1,297 @@
+use plane::{Point, Shape};
+use search_tree::{Frames, Keeper, Step, Tending, Tree, TreeFault, Visit, Walk};
+use std::alloc::Allocator;
+use std::process::Abort;
+use std::test::Fail;
+
+// Keeps the pair of one number alone.
+struct KeepOne {
+    key: u64,
+}
+
+impl<I> Keeper<I> for KeepOne {
+    ghost use Rattle.std.specs.Prelude.{nat_eq};
+
+    ghost kept = { λ keeper key item. nat_eq key keeper.key };
+
+    fn keeps(&self, key: u64, item: &I) -> bool {
+        key == self.key
+    }
+}
+
+// What a round of tending did, slot by slot.
+#[derive(Clone, Copy, PartialEq, Eq, Debug)]
+struct Round {
+    idle: u32,
+    freed: u32,
+    retired: u32,
+}
+
+fn pin(rt: &impl Abort, x: i32, y: i32) -> Shape {
+    let shape = Shape::point(Point { x, y });
+    assert!(rt; shape.is_ok());
+    shape.unwrap()
+}
+
+// The shape of all that is searched for: a long band along the axis across.
+fn band(rt: &impl Abort) -> Shape {
+    let shape = Shape::polygon(&[
+        Point { x: 0, y: -1 },
+        Point { x: 500, y: -1 },
+        Point { x: 500, y: 1 },
+        Point { x: 0, y: 1 },
+        Point { x: 0, y: -1 },
+    ]);
+    assert!(rt; shape.is_ok());
+    shape.unwrap()
+}
+
+// Advances a walk until its pair is placed.
+fn finish<A: Allocator + Copy>(
+    rt: &impl Abort,
+    tree: &mut Tree<Frames, A>,
+    walk: &mut Walk<Shape>,
+) {
+    for _ in 0..100 {
+        if walk.placed() {
+            return;
+        }
+        assert!(rt; tree.advance(walk).is_ok(), "a walk is refused");
+    }
+    panic!(rt; "a walk makes more than 100 steps");
+}
+
+// Places pairs of the numbers from first to last, each at its number's place along a line.
+fn fill<A: Allocator + Copy>(
+    rt: &impl Abort,
+    tree: &mut Tree<Frames, A>,
+    first: u64,
+    last: u64,
+    apart: i32,
+) {
+    let mut x: i32 = 0;
+    for key in 0..=last {
+        if first <= key {
+            let mut walk = tree.start_walk(key, pin(rt, x, 0));
+            finish(rt, tree, &mut walk);
+        }
+        x = x.saturating_add(apart);
+    }
+}
+
+// Visits until the search is ready.
+fn see_all<A: Allocator + Copy>(rt: &impl Abort, tree: &mut Tree<Frames, A>, search: u64) {
+    for _ in 0..1_000 {
+        let answer = tree.visit(search);
+        assert!(rt; answer.is_ok(), "a visit is refused");
+        if answer.unwrap() == Visit::Ready {
+            return;
+        }
+    }
+    panic!(rt; "a search makes more than 1,000 steps");
+}
+
+// Whether the numbers found are, as a set, those from first to last.
+fn has_found<A: Allocator>(tree: &Tree<Frames, A>, search: u64, first: u64, last: u64) -> bool {
+    let found = tree.found(search);
+    for pair in found {
+        if pair.0 < first || last < pair.0 {
+            return false;
+        }
+    }
+    for key in first..=last {
+        if !found.iter().any(|pair| pair.0 == key) {
+            return false;
+        }
+    }
+    true
+}
+
+// Tends each slot once.
+fn tend_all<A: Allocator>(rt: &impl Abort, tree: &mut Tree<Frames, A>, keeper: &KeepOne) -> Round {
+    let mut round = Round {
+        idle: 0,
+        freed: 0,
+        retired: 0,
+    };
+    for slot in 0..tree.slots() {
+        let answer = tree.tend(slot, keeper);
+        assert!(rt; answer.is_ok(), "a tending is refused");
+        match answer.unwrap() {
+            Tending::Idle => round.idle = round.idle.saturating_add(1),
+            Tending::Freed => round.freed = round.freed.saturating_add(1),
+            Tending::Retired => round.retired = round.retired.saturating_add(1),
+            Tending::Installed | Tending::Cleaned => {}
+        }
+    }
+    round
+}
+
+// A tree of the numbers 1 to 40, this far apart.
+fn forty<A: Allocator + Copy>(rt: &impl Abort, alloc: A, apart: i32) -> Tree<Frames, A> {
+    let made = Tree::new(alloc);
+    assert!(rt; made.is_ok());
+    let mut tree = made.unwrap();
+    fill(rt, &mut tree, 1, 40, apart);
+    tree
+}
+
+// A search for the band that has made one step, and has more to see.
+fn begun<A: Allocator + Copy>(rt: &impl Abort, tree: &mut Tree<Frames, A>) -> u64 {
+    let opened = tree.open_search(band(rt));
+    assert!(rt; opened.is_ok());
+    let search = opened.unwrap();
+    assert!(rt; tree.visit(search) == Ok(Visit::More));
+    search
+}
+
+// Advances walks of rising numbers from 41 on, until one answers Split. The last number that was placed.
+fn place_until_split<A: Allocator + Copy>(rt: &impl Abort, tree: &mut Tree<Frames, A>) -> u64 {
+    let mut x = 41;
+    for key in 41..=200 {
+        let mut walk = tree.start_walk(key, pin(rt, x, 0));
+        for _ in 0..100 {
+            if walk.placed() {
+                break;
+            }
+            let answer = tree.advance(&mut walk);
+            assert!(rt; answer.is_ok());
+            if answer.unwrap() == Step::Split {
+                return key - 1;
+            }
+        }
+        x += 1;
+    }
+    panic!(rt; "no node splits")
+}
+
+#[test]
+fn split_under_search(rt: HostRuntime) -> Result<(), Fail> {
+    let mut tree = forty(&rt, rt.alloc(), 1);
+    let search = begun(&rt, &mut tree);
+    let last = place_until_split(&rt, &mut tree);
+    assert!(rt; 40 < last, "the first walk splits a node already");
+    see_all(&rt, &mut tree, search);
+    assert!(rt; has_found(&tree, search, 1, last));
+    Ok(())
+}
+
+#[test]
+fn many_placed_under_search(rt: HostRuntime) -> Result<(), Fail> {
+    let mut tree = forty(&rt, rt.alloc(), 1);
+    let search = begun(&rt, &mut tree);
+    fill(&rt, &mut tree, 41, 120, 1);
+    see_all(&rt, &mut tree, search);
+    assert!(rt; has_found(&tree, search, 1, 120));
+    Ok(())
+}
+
+#[test]
+fn held_by_ready_search(rt: HostRuntime) -> Result<(), Fail> {
+    let mut tree = forty(&rt, rt.alloc(), 1_000);
+    let opened = tree.open_search(pin(&rt, 0, 0));
+    assert!(rt; opened.is_ok());
+    let search = opened.unwrap();
+    assert!(rt; tree.visit(search) == Ok(Visit::Ready));
+    let mut walk = tree.start_walk(41, pin(&rt, 0, 0));
+    let mut answer = tree.advance(&mut walk);
+    for _ in 0..100 {
+        if answer.is_err() {
+            break;
+        }
+        assert!(rt; !walk.placed());
+        answer = tree.advance(&mut walk);
+    }
+    assert!(rt; answer == Err(TreeFault::Held(search)));
+    assert!(rt; tree.advance(&mut walk) == Err(TreeFault::Held(search)));
+    tree.close_search(search);
+    finish(&rt, &mut tree, &mut walk);
+    assert!(rt; tree.advance(&mut walk) == Ok(Step::Placed));
+    Ok(())
+}
+
+#[test]
+fn retire_and_free(rt: HostRuntime) -> Result<(), Fail> {
+    let mut tree = forty(&rt, rt.alloc(), 1);
+    let search = begun(&rt, &mut tree);
+    fill(&rt, &mut tree, 41, 120, 1);
+    let keeper = KeepOne { key: 120 };
+    let mut retired: u32 = 0;
+    for _ in 0..100 {
+        let round = tend_all(&rt, &mut tree, &keeper);
+        retired = retired.saturating_add(round.retired);
+        assert!(rt; round.freed == 0);
+        if round.idle == tree.slots() {
+            break;
+        }
+    }
+    assert!(rt; 0 < retired);
+    see_all(&rt, &mut tree, search);
+    assert!(rt; has_found(&tree, search, 120, 120));
+    tree.close_search(search);
+    assert_eq!(rt; tend_all(&rt, &mut tree, &keeper).freed, retired);
+    Ok(())
+}
+
+#[test]
+fn restarted_where_the_leaf_is_gone(rt: HostRuntime) -> Result<(), Fail> {
+    let mut tree = forty(&rt, rt.alloc(), 1);
+    let mut walk = tree.start_walk(41, pin(&rt, 41, 0));
+    assert!(rt; tree.advance(&mut walk) == Ok(Step::Moved));
+    let keeper = KeepOne { key: 0 };
+    let slot = walk.slot();
+    let mut freed = false;
+    for _ in 0..100 {
+        if tree.tend(slot, &keeper) == Ok(Tending::Freed) {
+            freed = true;
+            break;
+        }
+    }
+    assert!(rt; freed);
+    assert!(rt; tree.advance(&mut walk) == Ok(Step::Restarted));
+    finish(&rt, &mut tree, &mut walk);
+    Ok(())
+}
+
+#[test]
+fn walks_make_their_steps_and_no_more(rt: HostRuntime) -> Result<(), Fail> {
+    let made = Tree::starting_at(rt.alloc(), 0, 0, 1, 1);
+    assert!(rt; made.is_ok());
+    let mut tree: Tree<Frames, _> = made.unwrap();
+    for key in 1..=16 {
+        let mut walk = tree.start_walk(key, pin(&rt, 7, 0));
+        assert!(rt; tree.advance(&mut walk) == Ok(Step::Placed));
+    }
+    let mut walk = tree.start_walk(17, pin(&rt, 17, 0));
+    assert!(rt; tree.advance(&mut walk) == Ok(Step::Split));
+    assert!(rt; tree.advance(&mut walk) == Err(TreeFault::Overrun));
+    assert!(rt; tree.advance(&mut walk) == Err(TreeFault::Overrun));
+    assert!(rt; !walk.placed());
+    Ok(())
+}
+
+#[test]
+fn no_install_at_the_counters_end(rt: HostRuntime) -> Result<(), Fail> {
+    let made = Tree::starting_at(rt.alloc(), 0, u64::MAX, 1, 1_000);
+    assert!(rt; made.is_ok());
+    let mut tree: Tree<Frames, _> = made.unwrap();
+    let mut refused = false;
+    for key in 1..=64 {
+        let mut walk = tree.start_walk(key, pin(&rt, 5, 0));
+        for _ in 0..20 {
+            if walk.placed() {
+                break;
+            }
+            if let Err(fault) = tree.advance(&mut walk) {
+                assert!(rt; fault == TreeFault::Spent);
+                refused = true;
+                break;
+            }
+        }
+        if refused {
+            break;
+        }
+    }
+    assert!(rt; refused);
+    Ok(())
+}
