@@ -1,5 +1,5 @@
 -- How a list is shared out to two by a mask.
-use Rattle.std.specs.Prelude.{◌≡◌, ◌↔◌, ℕ, List, Some, IsBitSet, Contains, length, count_ones, slice_get}
+use Rattle.std.specs.Prelude.{◌≡◌, ℕ, List, length, count_ones}
 use Rattle.tree_theory.specs.Lists.{Parted}
 
 -- each element goes to one of the two lists, which keep their order, and as many go right as bits are set
