@@ -1,9 +1,9 @@
-use Rattle.std.proofs.Common.{arith}
+use Rattle.std.proofs.Common.{arith, ◌∙◌}
 use Rattle.wkt.proofs.RingLemmas.{keep_more, keep_full}
-use Rattle.wkt.proofs.ring.RingPoints.keep.Goals as goal
+use Rattle.wkt.proofs.ring.keep.Goals as goal
 
-pub returns-then-self-lt-PLACES : goal.returns-then-self-lt-PLACES
-returns-then-self-lt-PLACES c = rw (← c.self.view_is) (keep_more c.self.inside.places c.self.inside.count c.args.point c.self.invariant.1 c.if-self-lt-PLACES.true)
+pub returns-then-len-lt-KEPT : goal.returns-then-len-lt-KEPT
+returns-then-len-lt-KEPT c = c.push.ensures.items ∙ keep_more c.args.listed.now.items c.args.point (omega (arith, c.len.ensures.value, c.if-len-lt-KEPT.true))
 
-pub returns-else-self-lt-PLACES : goal.returns-else-self-lt-PLACES
-returns-else-self-lt-PLACES c = rw (← c.self.view_is) (keep_full c.self.inside.places c.self.inside.count c.args.point c.self.invariant.1 (omega (arith, c.self.invariant.0)))
+pub returns-else-len-lt-KEPT : goal.returns-else-len-lt-KEPT
+returns-else-len-lt-KEPT c = keep_full c.args.listed.now.items c.args.point (omega (arith, c.len.ensures.value, c.len.ensures.fits, c.if-len-lt-KEPT.false))
