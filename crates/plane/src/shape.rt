@@ -7,7 +7,9 @@ ghost use Rattle.plane.specs.Convex.{IsConvexRing};
 
 use crate::fault::ShapeFault;
 use crate::point::Point;
-use crate::ring::{LISTED_LIMIT, all_in_range, corners_from_least, goes_left, has_repeat, is_flat, reversed};
+use crate::ring::{
+    LISTED_LIMIT, all_in_range, corners_from_least, goes_left, has_repeat, is_flat, reversed,
+};
 use std::marker::Model;
 
 /// A polygon has at most this many corners.
