@@ -1,5 +1,5 @@
 -- Reading the points of a ring one after the other, as a loop does, and keeping the first of them.
-use Rattle.std.proofs.Common.{◌≡◌, ℕ, zero, suc, ◌+◌, ◌<◌, Bool, true, false, List, [], ◌∷◌, ◌++◌, take, length, Result, Ok, Err, ℤ, refl, sym, ap, ◌∙◌, append_assoc, arith, if◌then◌else◌}
+use Rattle.std.proofs.Common.{◌≡◌, ℕ, zero, suc, ◌<◌, Bool, true, false, List, [], ◌∷◌, ◌++◌, take, length, Result, Ok, Err, ℤ, refl, sym, ap, ◌∙◌, append_assoc, arith, if◌then◌else◌}
 use Rattle.std.proofs.lemmas.List.{take_all, take_at, length-append}
 use Rattle.plane.specs.declared.point.Point.{Point}
 use Rattle.wkt.specs.declared.fault.WktFault.{WktFault}
