@@ -1,7 +1,7 @@
 -- What the changes of one feature make of a list sorted by id.
-use Rattle.std.proofs.Common.{◌≡◌, ◌≢◌, ℕ, zero, suc, ◌+◌, ◌<◌, ◌≤◌, eqb, ltb, List, [], ◌∷◌, length, map, set, get_or, Option, Some, None, if◌then◌else◌, Bool, true, false, refl, sym, ap, ◌∙◌, arith}
+use Rattle.std.proofs.Common.{◌≡◌, ◌≢◌, ℕ, zero, suc, ◌+◌, ◌<◌, eqb, ltb, List, [], ◌∷◌, length, set, get_or, Option, Some, None, if◌then◌else◌, Bool, true, false, refl, ap, arith}
 use Rattle.std.specs.Option.{IsSome}
-use Rattle.std.specs.List.{All, insert, remove}
+use Rattle.std.specs.List.{insert, remove}
 use Rattle.std.proofs.lemmas.Bool.Decides.{nat_tests}
 use Rattle.std.proofs.lemmas.Bool.{false≢true}
 use borrow.Author.Tests.{ltb-true}

@@ -2,14 +2,15 @@
 use Rattle.std.specs.Prelude.{◌≡◌, ℕ, ◌-◌, ◌≤◌, ◌==◌, Bool, ◌||◌, ◌&&◌, nat_le, List, ◌++◌, length, take, drop, replicate, IsTrue, Option, Some, None, if◌then◌else◌}
 use Rattle.std.specs.List.{list_all}
 use Rattle.std.proofs.Common.{arith, ◌∙◌, ap, sym, take-append-drop, length-take-le}
+use Rattle.features.specs.declared.names.TheConstants.{NAME_LIMIT}
 
 -- `a` to `z`, `0` to `9`, or `-`
 abbrev pub is_name_byte : ℕ → Bool
 is_name_byte b = (nat_le 97 b && nat_le b 122) || (nat_le 48 b && nat_le b 57) || (b == 45)
 
--- 1 to 32 such bytes
+-- 1 to `NAME_LIMIT` such bytes
 abbrev pub is_name : List ℕ → Bool
-is_name bytes = nat_le 1 (length bytes) && nat_le (length bytes) 32 && list_all is_name_byte bytes
+is_name bytes = nat_le 1 (length bytes) && nat_le (length bytes) NAME_LIMIT && list_all is_name_byte bytes
 
 -- the name that a text is
 abbrev pub name_of : List ℕ → Option (List ℕ)
@@ -17,13 +18,13 @@ name_of text = if is_name text then Some text else None
 
 -- what stands in the places that a name of this length leaves free
 abbrev pub padding : ℕ → List ℕ
-padding len = replicate (32 - len) 0
+padding len = replicate (NAME_LIMIT - len) 0
 
--- a row of 32 bytes that begins with a name of this length, and is padded behind it
+-- a row of `NAME_LIMIT` bytes that begins with a name of this length, and is padded behind it
 pub record HoldsName (bytes : List ℕ) (len : ℕ) : Type 0 where
   pub name : IsTrue (is_name (take len bytes))
-  pub whole : length bytes ≡ 32
-  pub within : len ≤ 32
+  pub whole : length bytes ≡ NAME_LIMIT
+  pub within : len ≤ NAME_LIMIT
   pub padded : drop len bytes ≡ padding len
 
 pub length_again : (bytes : List ℕ) (len : ℕ) → HoldsName bytes len → length (take len bytes) ≡ len

@@ -1,6 +1,7 @@
 -- Lists of subjects.
 use Rattle.std.specs.Prelude.{◌≡◌, ℕ, ◌≤◌, Bool, List, [], ◌∷◌, length, take, Option, None, Some, Result, Ok, Err, if◌then◌else◌, nat_eq, nat_lt, ◌&&◌, true, is_none, IsTrue}
 use Rattle.std.specs.Cmp.Lexicographic.{pointwise}
+use Rattle.features.specs.declared.actors.TheConstants.{SUBJECT_LIMIT}
 use Rattle.features.specs.declared.actors.Subject.{Subject}
 use Rattle.features.specs.declared.actors.SubjectsFault.{SubjectsFault}
 use Rattle.features.specs.declared.actors.SubjectsFault.TheVariants.{NoneGiven, TooMany, NameTwice}
@@ -19,13 +20,13 @@ have_distinct_names (s ∷ ss) = is_none (subject_named s.name ss) && have_disti
 abbrev pub subjects_of : List Subject → Result (List Subject) SubjectsFault
 subjects_of [] = Err NoneGiven
 subjects_of (s ∷ ss) =
-    if nat_lt 64 (length (s ∷ ss)) then Err TooMany
+    if nat_lt SUBJECT_LIMIT (length (s ∷ ss)) then Err TooMany
     else if have_distinct_names (s ∷ ss) then Ok (s ∷ ss)
     else Err NameTwice
 
--- a row of 64 subjects that begins with this many of distinct names
+-- a row of `SUBJECT_LIMIT` subjects that begins with this many of distinct names
 pub record HoldsSubjects (places : List Subject) (count : ℕ) : Type 0 where
-  pub whole : length places ≡ 64
-  pub within : count ≤ 64
+  pub whole : length places ≡ SUBJECT_LIMIT
+  pub within : count ≤ SUBJECT_LIMIT
   pub filled : 1 ≤ count
   pub distinct : IsTrue (have_distinct_names (take count places))

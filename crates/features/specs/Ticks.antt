@@ -1,3 +1,4 @@
+-- What a meter shows.
 use Rattle.std.specs.Prelude.{ℕ, ◌+◌, ◌-◌, ◌^◌, min}
 
 -- what a meter that stood at n shows after further ticks: it stays at the greatest number of 64 bits

@@ -24,7 +24,7 @@ fn point(rt: &impl Abort, x: i32, y: i32) -> Shape {
     shape.unwrap()
 }
 
-// May an editor of the office north read a feature of this class, which this office owns, at (2, 2)?
+/// May an editor of the office north read a feature of this class, which this office owns, at (2, 2)?
 fn question(rt: &impl Abort, owner: &str, class: &str) -> Question {
     Question {
         subject: Subject {
@@ -40,7 +40,7 @@ fn question(rt: &impl Abort, owner: &str, class: &str) -> Question {
     }
 }
 
-// What the document of a text decides.
+/// What the document of a text decides.
 fn decided(rt: &impl Abort, heap: Global, text: &str, question: &Question) -> Verdict {
     let read = read_document(heap, heap, text.as_bytes());
     assert!(rt; read.is_ok(), "{text}");
@@ -87,7 +87,7 @@ fn decisions_of_documents(rt: HostRuntime) -> Result<(), Fail> {
     Ok(())
 }
 
-// The name of the rule by which the document of a text decides.
+/// The name of the rule by which the document of a text decides.
 fn deciding_name(rt: &impl Abort, heap: Global, text: &str, question: &Question) -> Option<Name> {
     let read = read_document(heap, heap, text.as_bytes());
     assert!(rt; read.is_ok(), "{text}");
@@ -169,8 +169,8 @@ fn harbour_example(rt: HostRuntime) -> Result<(), Fail> {
     Ok(())
 }
 
-// Whether a rule with this target and these conditions applies to the question, in a document with one zone, the square
-// from (0, 0) to (4, 4).
+/// Whether a rule with this target and these conditions applies to the question, in a document with one zone, the square
+/// from (0, 0) to (4, 4).
 fn applies(
     rt: &impl Abort,
     heap: Global,
@@ -259,7 +259,7 @@ fn matches_and_conditions(rt: HostRuntime) -> Result<(), Fail> {
     Ok(())
 }
 
-// Whether each match of an action holds where this one is asked.
+/// Whether each match of an action holds where this one is asked.
 fn check_action(
     rt: &impl Abort,
     heap: Global,
@@ -285,7 +285,7 @@ fn actions(rt: HostRuntime) -> Result<(), Fail> {
     Ok(())
 }
 
-// Inside, at an edge, at a corner, and one unit outside.
+/// Inside, at an edge, at a corner, and one unit outside.
 #[test]
 fn zones(rt: HostRuntime) -> Result<(), Fail> {
     for (x, y, holds) in [
@@ -305,7 +305,7 @@ fn zones(rt: HostRuntime) -> Result<(), Fail> {
     Ok(())
 }
 
-// The tables of XACML 3.0, C.2, C.4, C.6, C.7 and C.8, without Indeterminate.
+/// The tables of XACML 3.0, C.2, C.4, C.6, C.7 and C.8, without Indeterminate.
 #[test]
 fn combined_decisions(rt: HostRuntime) -> Result<(), Fail> {
     let algorithms = [

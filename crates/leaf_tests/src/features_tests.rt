@@ -22,7 +22,7 @@ fn point(rt: &impl Abort, x: i32, y: i32) -> Shape {
     shape.unwrap()
 }
 
-// An addition of this id.
+/// An addition of this id.
 fn addition(rt: &impl Abort, id: u64) -> Change
     ensures { change_id result ≡ id }
 {
@@ -33,7 +33,7 @@ fn addition(rt: &impl Abort, id: u64) -> Change
     }
 }
 
-// A reshape of this id, to another point.
+/// A reshape of this id, to another point.
 fn reshape(rt: &impl Abort, id: u64) -> Change
     ensures { change_id result ≡ id }
 {
@@ -44,14 +44,14 @@ fn reshape(rt: &impl Abort, id: u64) -> Change
     }
 }
 
-// A deletion of this id.
+/// A deletion of this id.
 fn deletion(id: u64) -> Change
     ensures { change_id result ≡ id }
 {
     Change::Delete { id, version: 1 }
 }
 
-// Makes a list of one change, after a look-up that shows that it can be made.
+/// Makes a list of one change, after a look-up that shows that it can be made.
 fn make<A: Allocator>(
     rt: &impl Abort,
     store: &mut Store<A>,
@@ -93,7 +93,7 @@ fn names(rt: HostRuntime) -> Result<(), Fail> {
     Ok(())
 }
 
-// A subject of the office north.
+/// A subject of the office north.
 fn subject(rt: &impl Abort, text: &[u8]) -> Subject {
     Subject {
         name: name(rt, text),
@@ -122,7 +122,7 @@ fn subjects(rt: HostRuntime) -> Result<(), Fail> {
     Ok(())
 }
 
-// A store of the ids 3, 5, 7 and 9, which were put in out of order.
+/// A store of the ids 3, 5, 7 and 9, which were put in out of order.
 fn four<A: Allocator + Copy>(rt: &impl Abort, alloc: A) -> Store<A> {
     let mut store = Store::new(alloc);
     for id in [7, 3, 9, 5] {
@@ -210,7 +210,7 @@ fn next_random(state: &mut u64) -> u64 {
     *state >> 33
 }
 
-// Whether the id is in a plain list, which changes as the store does: in at its place, or out.
+/// Whether the id is in a plain list, which changes as the store does: in at its place, or out.
 fn toggle<A: Allocator>(rt: &impl Abort, plain: &mut Vec<u64, A>, id: u64) -> bool {
     match plain.binary_search(&id) {
         Ok(at) => {
@@ -224,7 +224,7 @@ fn toggle<A: Allocator>(rt: &impl Abort, plain: &mut Vec<u64, A>, id: u64) -> bo
     }
 }
 
-// 5,000 lists of one change at random ids: beside a plain sorted list, the store has the same ids.
+/// 5,000 lists of one change at random ids: beside a plain sorted list, the store has the same ids.
 #[test]
 fn as_a_plain_list(rt: HostRuntime) -> Result<(), Fail> {
     let mut store = Store::new(rt.alloc());
@@ -250,7 +250,7 @@ fn as_a_plain_list(rt: HostRuntime) -> Result<(), Fail> {
     Ok(())
 }
 
-// A store over this memory in which the ids 5, 6, 8 and 9 fill all room.
+/// A store over this memory in which the ids 5, 6, 8 and 9 fill all room.
 fn full_of_four<A: Allocator + Copy>(rt: &impl Abort, alloc: A) -> Store<A> {
     let mut store = Store::new(alloc);
     for id in [5, 6, 8, 9] {
@@ -278,7 +278,7 @@ fn each_allocation_refused(rt: HostRuntime) -> Result<(), Fail> {
     Ok(())
 }
 
-// Where no memory is to be had, what takes none succeeds.
+/// Where no memory is to be had, what takes none succeeds.
 #[test]
 fn without_memory(rt: HostRuntime) -> Result<(), Fail> {
     let memory = Refusing::new(rt.alloc(), 0);

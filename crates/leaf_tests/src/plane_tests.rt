@@ -9,19 +9,19 @@ fn at(x: i32, y: i32) -> Point {
     Point { x, y }
 }
 
-// The ring is refused for this fault.
+/// The ring is refused for this fault.
 fn check_fault(rt: &impl Abort, listed: &[Point], fault: ShapeFault) {
     assert_eq!(rt; Shape::polygon(listed).err(), Some(fault), "{listed:?}");
 }
 
-// Two shapes meet, or do not, whichever of them is named first.
+/// Two shapes meet, or do not, whichever of them is named first.
 fn check_meeting(rt: &impl Abort, first: &Shape, second: &Shape, expected: bool) {
     assert_eq!(rt; meets(first, second), expected, "{first:?} {second:?}");
     assert_eq!(rt; meets(second, first), expected, "{second:?} {first:?}");
     assert_eq!(rt; common_point(first, second).is_some(), expected);
 }
 
-// The polygon of a ring of four corners.
+/// The polygon of a ring of four corners.
 fn four(a: Point, b: Point, c: Point, d: Point) -> Result<Shape, ShapeFault> {
     Shape::polygon(&[a, b, c, d, a])
 }
@@ -132,7 +132,7 @@ fn refused_rings(rt: HostRuntime) -> Result<(), Fail> {
     Ok(())
 }
 
-// The points x, x * x for x from 0 on: the ring turns at each.
+/// The points x, x * x for x from 0 on: the ring turns at each.
 #[test]
 fn corners_counted(rt: HostRuntime) -> Result<(), Fail> {
     let bowl = [
@@ -242,7 +242,7 @@ fn touching_and_missing(rt: HostRuntime) -> Result<(), Fail> {
     Ok(())
 }
 
-// Equal however they were listed, and unequal where one corner differs or is left out.
+/// Equal however they were listed, and unequal where one corner differs or is left out.
 #[test]
 fn equal_shapes(rt: HostRuntime) -> Result<(), Fail> {
     let triangle = three(at(0, 0), at(4, 0), at(0, 4))?;
@@ -260,7 +260,7 @@ fn equal_shapes(rt: HostRuntime) -> Result<(), Fail> {
     Ok(())
 }
 
-// A corner of one lies in the other, a side parts them, or neither, at the same frames.
+/// A corner of one lies in the other, a side parts them, or neither, at the same frames.
 #[test]
 fn corners_and_sides(rt: HostRuntime) -> Result<(), Fail> {
     let tilted = four(at(0, -6), at(6, 0), at(0, 6), at(-6, 0))?;

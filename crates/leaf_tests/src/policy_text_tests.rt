@@ -219,7 +219,7 @@ D2 at /root: {"root":1e300}
 D1: {"root":1,}
 D1: {'root':1}"#;
 
-// A fault in words: its code, with its path, its name, or its name and what is wrong with the shape.
+/// A fault in words: its code, with its path, its name, or its name and what is wrong with the shape.
 fn told(heap: Global, fault: TextFault) -> Result<String, AllocError> {
     match fault {
         TextFault::Form(path) => format!(in heap; "{fault} at {path}"),
@@ -231,7 +231,7 @@ fn told(heap: Global, fault: TextFault) -> Result<String, AllocError> {
     }
 }
 
-// What reading a text gives, in words.
+/// What reading a text gives, in words.
 fn answer(heap: Global, text: &[u8]) -> Result<String, AllocError> {
     match read_document(heap, heap, text).err() {
         None => String::from_str(heap, "read"),
@@ -239,7 +239,7 @@ fn answer(heap: Global, text: &[u8]) -> Result<String, AllocError> {
     }
 }
 
-// Each text of a table, put between two others, is read or refused as its line says.
+/// Each text of a table, put between two others, is read or refused as its line says.
 fn check_answers(
     rt: &impl Abort,
     heap: Global,
@@ -263,7 +263,7 @@ fn read_whole(rt: &impl Abort, heap: Global, text: &str) -> Document<Global> {
     read.unwrap()
 }
 
-// Of several faults the first is told, by the order of the grammar and not of the text.
+/// Of several faults the first is told, by the order of the grammar and not of the text.
 #[test]
 fn first_faults(rt: HostRuntime) -> Result<(), Fail> {
     for (around, table) in [
@@ -281,7 +281,7 @@ fn first_faults(rt: HostRuntime) -> Result<(), Fail> {
     Ok(())
 }
 
-// Arrays within one another, between two texts.
+/// Arrays within one another, between two texts.
 fn nested_arrays(
     heap: Global,
     before: &str,
@@ -340,7 +340,7 @@ fn what_json_is(rt: HostRuntime) -> Result<(), Fail> {
     Ok(())
 }
 
-// A number of items, each with its own number in it, in what stands around them.
+/// A number of items, each with its own number in it, in what stands around them.
 fn numbered(
     heap: Global,
     around: (&str, &str),
@@ -435,7 +435,7 @@ fn limits_of_documents(rt: HostRuntime) -> Result<(), Fail> {
     Ok(())
 }
 
-// Sets within one another, between a root and what stands in the innermost.
+/// Sets within one another, between a root and what stands in the innermost.
 fn nested_sets(heap: Global, levels: usize, innermost: &str) -> Result<String, AllocError> {
     let mut text = String::from_str(heap, NODE.0)?;
     for level in 0..levels {
@@ -481,7 +481,7 @@ fn depth_of_documents(rt: HostRuntime) -> Result<(), Fail> {
     Ok(())
 }
 
-// A document is printed so.
+/// A document is printed so.
 fn check_text(
     rt: &impl Abort,
     heap: Global,
@@ -494,7 +494,7 @@ fn check_text(
     Ok(())
 }
 
-// What is read of a document's printed form is equal to it, and printed so.
+/// What is read of a document's printed form is equal to it, and printed so.
 fn check_again(
     rt: &impl Abort,
     heap: Global,
@@ -506,7 +506,7 @@ fn check_again(
     check_text(rt, heap, &again, printed)
 }
 
-// A document's copy is equal to it, and printed so.
+/// A document's copy is equal to it, and printed so.
 fn check_copy(
     rt: &impl Abort,
     heap: Global,
@@ -520,7 +520,7 @@ fn check_copy(
     check_text(rt, heap, &copy, printed)
 }
 
-// A text is read and printed so, and so are what is read of this, and a copy.
+/// A text is read and printed so, and so are what is read of this, and a copy.
 fn check_printed(rt: &impl Abort, heap: Global, text: &str, want: &str) -> Result<(), AllocError> {
     let document = read_whole(rt, heap, text);
     check_text(rt, heap, &document, want)?;
@@ -547,7 +547,7 @@ fn printed_forms(rt: HostRuntime) -> Result<(), Fail> {
     Ok(())
 }
 
-// The name of the zone at this place, and its shape by its name, are these; an empty text stands for none.
+/// The name of the zone at this place, and its shape by its name, are these; an empty text stands for none.
 fn check_zone(rt: &impl Abort, document: &Document<Global>, index: usize, name: &str, shape: &str) {
     let want = Name::new(name.as_bytes());
     let Some(zone) = document.zone_at(index) else {

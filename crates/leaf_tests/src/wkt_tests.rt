@@ -4,14 +4,14 @@ use std::process::Abort;
 use std::test::Fail;
 use wkt::{WktFault, print_shape, read_shape, shape_text};
 
-// The text is read, and the shape's printed form is this.
+/// The text is read, and the shape's printed form is this.
 fn check_printed(rt: &impl Abort, text: &str, printed: &str) {
     let read = read_shape(text.as_bytes());
     assert!(rt; read.is_ok(), "{text}");
     assert_eq!(rt; shape_text(&read.unwrap()).as_str(), printed, "{text}");
 }
 
-// The text is refused for this fault.
+/// The text is refused for this fault.
 fn check_fault(rt: &impl Abort, text: &str, fault: WktFault) {
     assert_eq!(rt; read_shape(text.as_bytes()).err(), Some(fault), "{text}");
 }
@@ -151,7 +151,7 @@ fn coordinate_limits(rt: HostRuntime) -> Result<(), Fail> {
     Ok(())
 }
 
-// A text of a ring that lists this many points.
+/// A text of a ring that lists this many points.
 fn ring_text<A: Allocator + Copy>(alloc: A, count: usize) -> Result<String<A>, AllocError> {
     let mut text = String::from_str(alloc, "POLYGON ((0 0")?;
     for _ in 1..count {

@@ -1,4 +1,4 @@
-pub mod Fault
+pub mod FaultCodes
 pub mod Slot
 pub mod Slots
 pub mod Lends

@@ -243,12 +243,14 @@ impl<T, A: Allocator> Arena<T, A> {
         })
     }
 
+    /// Whether a value is kept under the handle.
     fn contains(&self, handle: Handle) -> bool
         ensures { IsTrue result ↔ IsSome (value_at self.now handle) }
     {
         self.get(handle).is_some()
     }
 
+    /// The value under the handle, for writing.
     fn value_mut(&mut self, handle: Handle) -> &mut T
         requires { IsSome (value_at self.old handle) }
         ensures* writes_back { sem 𝓛 (lends_value T.row A.row A.Allocator self.entry handle result) }
@@ -257,7 +259,7 @@ impl<T, A: Allocator> Arena<T, A> {
         self.slots[handle.slot as usize].value_mut()
     }
 
-    // Puts `value` into the first of the free slots.
+    /// Puts `value` into the first of the free slots.
     fn fill(&mut self, value: T) -> Handle
         requires { taken_count self.old < slot_count self.old }
         ensures was_free { slot_at self.old result.slot ≡ (result.generation, None) }
@@ -275,7 +277,7 @@ impl<T, A: Allocator> Arena<T, A> {
         Handle { slot, generation }
     }
 
-    // Takes out a value whose slot has a next generation.
+    /// Takes out a value whose slot has a next generation.
     fn free_slot(&mut self, handle: Handle, generation: u32) -> T
         requires present { IsSome (value_at self.old handle) }
         requires next { generation ≡ handle.generation + 1 }
@@ -292,7 +294,7 @@ impl<T, A: Allocator> Arena<T, A> {
         self.slots[handle.slot as usize].take(freed)
     }
 
-    // Takes out the value of a slot's last generation.
+    /// Takes out the value of a slot's last generation.
     fn wear_out(&mut self, handle: Handle) -> T
         requires present { IsSome (value_at self.old handle) }
         requires last { handle.generation ≡ last_generation }

@@ -5,20 +5,20 @@ ghost use Rattle.node_arena.specs.Slot.{seen, value_of, rewritten, is_free};
 
 use std::mem;
 
-// What a slot holds. The generation is that of its handle, or, where the slot is free, that of the handle which it gives out next.
+/// What a slot holds. The generation is that of its handle, or, where the slot is free, that of the handle which it gives out next.
 #[derive(Drop)]
 pub(crate) enum Slot<T> {
     Live { generation: u32, value: T },
-    // The free slots are chained: each knows the next.
+    /// The free slots are chained: each knows the next.
     Free { generation: u32, next: Option<u32> },
-    // The value of the last generation was taken out. The slot is never used again.
+    /// The value of the last generation was taken out. The slot is never used again.
     WornOut,
 }
 
 impl<T> Slot<T> {
     ghost use Rattle.node_arena.specs.contracts.slot.Slot.{the_row};
 
-    // The value, where the slot holds it under this generation.
+    /// The value, where the slot holds it under this generation.
     pub(crate) fn get(&self, generation: u32) -> Option<&T>
         ensures { option_copied result ≡ held_under (seen self.now) generation }
     {
@@ -31,6 +31,7 @@ impl<T> Slot<T> {
         }
     }
 
+    /// The value that the slot holds, for writing.
     pub(crate) fn value_mut(&mut self) -> &mut T
         requires { IsSome (value_of self.old) }
         ensures* lends { sem 𝓛 (Lends (the_row T.row) T.row self.entry result (rewritten self.entry.now)) }
@@ -42,7 +43,7 @@ impl<T> Slot<T> {
         }
     }
 
-    // Puts a value into a free slot, and returns its generation and the next free slot.
+    /// Puts a value into a free slot, and returns its generation and the next free slot.
     pub(crate) fn fill(&mut self, value: T) -> (u32, Option<u32>)
         requires { IsTrue (is_free self.old) }
         ensures was { self.old ≡ Slot.Free result.0 result.1 }
@@ -58,7 +59,7 @@ impl<T> Slot<T> {
         }
     }
 
-    // Leaves `left` in place of a value, which it returns.
+    /// Leaves `left` in place of a value, which it returns.
     pub(crate) fn take(&mut self, left: Slot<T>) -> T
         requires { IsSome (value_of self.old) }
         ensures value { value_of self.old ≡ Some result }

@@ -1,5 +1,5 @@
 -- The corners that listed points have are a canonical shape.
-use Rattle.std.specs.Prelude.{◌≡◌, ◌-◌, ◌≤◌, not, cond, Bool, true, false, List, [], ◌∷◌, All, length, take, reverse, nat_lt, Result, Ok, Err, pos, ℤ, ◌≤ℤ◌, refl}
+use Rattle.std.specs.Prelude.{◌≡◌, ◌-◌, ◌<◌, ◌≤◌, not, cond, Bool, true, false, List, [], ◌∷◌, All, length, take, reverse, nat_lt, Result, Ok, Err, pos, ℤ, ◌≤ℤ◌, refl}
 use Rattle.std.specs.List.{list_all}
 use Rattle.std.proofs.Common.{arith, sym, subst, ◌∙◌, ⊎_elim, length-take-le}
 use Rattle.std.proofs.lemmas.Bool.{true≢false, false≢true, false_from_ne_true, ltb-false}
@@ -15,6 +15,8 @@ use Rattle.plane.proofs.Rotations.{reversed_if}
 use Rattle.std.proofs.lemmas.Int.{ints}
 use Rattle.plane.proofs.Turns.{turn-cycle, turn_back, turn_nowhere}
 use Rattle.plane.specs.declared.point.Point.{Point}
+use Rattle.plane.specs.declared.ring.TheConstants.{LISTED_LIMIT}
+use Rattle.plane.specs.declared.shape.TheConstants.{CORNER_LIMIT}
 use Rattle.plane.specs.declared.fault.ShapeFault.{ShapeFault}
 use Rattle.plane.specs.declared.fault.ShapeFault.TheVariants.{OutOfRange, SameEnds, TooManyPoints, TooFew, NotClosed, Repeated, Flat, NotConvex, TooManyCorners}
 
@@ -129,11 +131,11 @@ segment_canonical p q corners h =
 
 convex_ring_canonical : (ring corners : List Point) → IsConvexRing ring → corners_of ring ≡ Ok corners → IsCanonical corners
 convex_ring_canonical ring corners convex h =
-    let few = unless_ok (nat_lt 16 (length (turning_points (from_least ring)))) (done (turning_points (from_least ring))) TooManyCorners corners h in
-    subst IsCanonical (done_is (turning_points (from_least ring)) corners few.1) (convex_canonical ring convex (ltb-false 16 _ few.0))
+    let few = unless_ok (nat_lt CORNER_LIMIT (length (turning_points (from_least ring)))) (done (turning_points (from_least ring))) TooManyCorners corners h in
+    subst IsCanonical (done_is (turning_points (from_least ring)) corners few.1) (convex_canonical ring convex (ltb-false CORNER_LIMIT _ few.0))
 
 -- a ring in the direction in which it goes left
-directed_canonical : (ring corners : List Point) → All IsInRange ring → 3 ≤ length ring → length ring ≤ 63 → has_repeat ring ≡ false → is_flat ring ≡ false
+directed_canonical : (ring corners : List Point) → All IsInRange ring → 3 ≤ length ring → length ring < LISTED_LIMIT → has_repeat ring ≡ false → is_flat ring ≡ false
     → cond (goes_left ring) (corners_of ring) (cond (goes_left (reverse ring)) (corners_of (reverse ring)) (Err NotConvex)) ≡ Ok corners → IsCanonical corners
 directed_canonical ring corners in_range least most differ not_flat h = go (goes_left ring) refl h
   where
@@ -144,7 +146,7 @@ directed_canonical ring corners in_range least most differ not_flat h = go (goes
         convex_ring_canonical (reverse ring) corners
         (reversed_if ring (reverse ring) (reverse ring) in_range least most (sym differ) (sym not_flat) refl refl (sym back.0)) back.1
 
-ring_canonical : (ring corners : List Point) → All IsInRange ring → 3 ≤ length ring → length ring ≤ 63 → ring_of ring ≡ Ok corners → IsCanonical corners
+ring_canonical : (ring corners : List Point) → All IsInRange ring → 3 ≤ length ring → length ring < LISTED_LIMIT → ring_of ring ≡ Ok corners → IsCanonical corners
 ring_canonical ring corners in_range least most h =
     let once = unless_ok (has_repeat ring) _ Repeated corners h in
     let bent = unless_ok (is_flat ring) _ Flat corners once.1 in
@@ -153,10 +155,10 @@ ring_canonical ring corners in_range least most h =
 pub polygon_canonical : (listed : List Point) (corners : List Point) → polygon_of listed ≡ Ok corners → IsCanonical corners
 polygon_canonical listed corners h =
     let inside = unless_not_ok (list_all is_in_range listed) _ OutOfRange corners h in
-    let few = unless_ok (nat_lt 64 (length listed)) _ TooManyPoints corners inside.1 in
+    let few = unless_ok (nat_lt LISTED_LIMIT (length listed)) _ TooManyPoints corners inside.1 in
     let enough = unless_ok (nat_lt (length listed) 4) _ TooFew corners few.1 in
     let closed = unless_not_ok (is_same (first_of listed) (last_of listed)) _ NotClosed corners enough.1 in
-    let at_most : length listed ≤ 64 = ltb-false 64 (length listed) few.0 in
+    let at_most : length listed ≤ LISTED_LIMIT = ltb-false LISTED_LIMIT (length listed) few.0 in
     let at_least : 4 ≤ length listed = ltb-false (length listed) 4 enough.0 in
     let count : length (take (length listed - 1) listed) ≡ length listed - 1 = length-take-le (length listed - 1) listed (omega arith) in
     ring_canonical (take (length listed - 1) listed) corners

@@ -1,5 +1,5 @@
 -- What the tests of points and rings say.
-use Rattle.std.specs.Prelude.{◌≡◌, ◌≤◌, Contains, Decides, cond, slice_index_or, Bool, true, false, List, [], ◌∷◌, All, length, ℤ, pos, ◌≤ℤ◌, int_le, refl}
+use Rattle.std.specs.Prelude.{◌≡◌, ◌<◌, ◌≤◌, Contains, Decides, cond, slice_index_or, Bool, true, false, List, [], ◌∷◌, All, length, ℤ, pos, ◌≤ℤ◌, int_le, refl}
 use Rattle.std.specs.List.{list_all, list_any}
 use Rattle.std.specs.Ordering.{int_eq}
 use Rattle.std.proofs.Common.{arith, ap, sym, ◌∙◌}
@@ -13,6 +13,7 @@ use Rattle.plane.specs.Coordinates.{IsCoordinate, is_coordinate}
 use Rattle.plane.specs.Points.{IsInRange, is_in_range, is_same}
 use Rattle.plane.specs.Rings.{turn, sides, sides_to, is_on_or_left, is_on_line, goes_left, is_flat, has_repeat}
 use Rattle.plane.specs.declared.point.Point.{Point}
+use Rattle.plane.specs.declared.ring.TheConstants.{LISTED_LIMIT}
 
 int_le-true : (a b : ℤ) → int_le a b ≡ true → a ≤ℤ b
 int_le-true a b e = omega (arith, ints)
@@ -111,7 +112,7 @@ pub repeats_not : (points : List Point) → Differ points → has_repeat points 
 repeats_not [] h = refl
 repeats_not (p ∷ rest) h = rw (any_not p rest h.0) (repeats_not rest h.1)
 
-pub convex_if : (ring : List Point) → All IsInRange ring → 3 ≤ length ring → length ring ≤ 63 → false ≡ has_repeat ring → false ≡ is_flat ring → true ≡ goes_left ring → IsConvexRing ring
+pub convex_if : (ring : List Point) → All IsInRange ring → 3 ≤ length ring → length ring < LISTED_LIMIT → false ≡ has_repeat ring → false ≡ is_flat ring → true ≡ goes_left ring → IsConvexRing ring
 convex_if ring in_range least most differ not_flat left = record {
   in_range = in_range;
   at_least = least;

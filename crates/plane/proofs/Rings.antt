@@ -20,18 +20,20 @@ use Rattle.plane.proofs.RingTests.{decides_all, decides_in_range, decides_same, 
 use Rattle.plane.proofs.Rotations.{from_least_convex}
 use Rattle.plane.proofs.Turns.{order_cases, turn-cycle, turn_back, turn_nowhere}
 use Rattle.plane.specs.declared.point.Point.{Point}
+use Rattle.plane.specs.declared.ring.TheConstants.{LISTED_LIMIT}
+use Rattle.plane.specs.declared.shape.TheConstants.{CORNER_LIMIT}
 use Rattle.plane.specs.declared.fault.ShapeFault.{ShapeFault}
 use Rattle.plane.specs.declared.fault.ShapeFault.TheVariants.{TooManyCorners}
 
 -- ---- places
 
-pub after_corners : (new corners : List Point) → new ≡ corners → new ++ drop (length corners) (replicate 16 origin) ≡ corners ++ replicate (16 - length corners) origin
+pub after_corners : (new corners : List Point) → new ≡ corners → new ++ drop (length corners) (replicate CORNER_LIMIT origin) ≡ corners ++ replicate (CORNER_LIMIT - length corners) origin
 after_corners new corners e = rw (e, drop-replicate) refl
 
-pub kept_by : (corners : List Point) (n : ℕ) (places : List Point) → n ≡ length corners → length corners ≤ 16 → places ≡ corners ++ replicate (16 - length corners) origin
+pub kept_by : (corners : List Point) (n : ℕ) (places : List Point) → n ≡ length corners → length corners ≤ CORNER_LIMIT → places ≡ corners ++ replicate (CORNER_LIMIT - length corners) origin
     → IsCanonical corners → IsKept n places
 kept_by corners n places e small p canonical = record {
-  sixteen = rw (p, length-append, length-replicate) (omega (arith, small));
+  whole = rw (p, length-append, length-replicate) (omega (arith, small));
   at_most = rw e small;
   unused = rw (p, e, drop-append_seam) refl;
   canonical = rw (p, e, take-append_seam) canonical;
@@ -95,7 +97,7 @@ passes_ring a b c e f r s p q t = rw (p, q, t) refl
 -- corners in range, no two alike, that start with the least one, turn at each one and are each on or left of each side
 record IsCornerRing (p x y : Point) (more : List Point) : Type 0 where
   in_range : All IsInRange (p ∷ x ∷ y ∷ more)
-  at_most : length (p ∷ x ∷ y ∷ more) ≤ 16
+  at_most : length (p ∷ x ∷ y ∷ more) ≤ CORNER_LIMIT
   differ : Differ (p ∷ x ∷ y ∷ more)
   precedes : All (λ q. Precedes p q) (p ∷ x ∷ y ∷ more)
   left : AreOnOrLeft (sides_to p (p ∷ x ∷ y ∷ more)) (p ∷ x ∷ y ∷ more)
@@ -137,10 +139,10 @@ turns_everywhere p x y more h =
 same_corners : (p x y : Point) (more : List Point) → IsCornerRing p x y more → corners_of (p ∷ x ∷ y ∷ more) ≡ Ok (p ∷ x ∷ y ∷ more)
 same_corners p x y more h =
     ap (λ ring. corners_found (turning_points ring)) (starts_least p x y more h) ∙ ap corners_found (turns_everywhere p x y more h)
-    ∙ few (nat_lt 16 (length (p ∷ x ∷ y ∷ more))) (le-ltb 16 (length (p ∷ x ∷ y ∷ more)) h.at_most)
+    ∙ few (nat_lt CORNER_LIMIT (length (p ∷ x ∷ y ∷ more))) (le-ltb CORNER_LIMIT (length (p ∷ x ∷ y ∷ more)) h.at_most)
   where
     corners_found : List Point → Result (List Point) ShapeFault
-    corners_found corners = cond (nat_lt 16 (length corners)) (Err TooManyCorners) (Ok corners)
+    corners_found corners = cond (nat_lt CORNER_LIMIT (length corners)) (Err TooManyCorners) (Ok corners)
 
     few : (v : Bool) → v ≡ false → cond v (Err TooManyCorners) (Ok (p ∷ x ∷ y ∷ more)) ≡ Ok (p ∷ x ∷ y ∷ more)
     few v e = rw e refl
@@ -156,11 +158,11 @@ corner_ring_canonical p x y more h = record {
   at_most = h.at_most;
   first_least = All-weaker (λ q. Precedes p q) (λ q. is_before q p ≡ false) (λ q. not_before p q) (x ∷ y ∷ more) (All-tail (λ q. Precedes p q) p (x ∷ y ∷ more) h.precedes);
   listed =
-      passes (list_all is_in_range ((p ∷ x ∷ y ∷ more) ++ p ∷ [])) (nat_lt 64 (length ((p ∷ x ∷ y ∷ more) ++ p ∷ []))) (nat_lt (length ((p ∷ x ∷ y ∷ more) ++ p ∷ [])) 4)
+      passes (list_all is_in_range ((p ∷ x ∷ y ∷ more) ++ p ∷ [])) (nat_lt LISTED_LIMIT (length ((p ∷ x ∷ y ∷ more) ++ p ∷ []))) (nat_lt (length ((p ∷ x ∷ y ∷ more) ++ p ∷ [])) 4)
       (is_same p (last_of ((p ∷ x ∷ y ∷ more) ++ p ∷ []))) _ _ _ _ _
       ((decides_all is_in_range IsInRange decides_in_range ((p ∷ x ∷ y ∷ more) ++ p ∷ [])).1
       (All-append IsInRange (p ∷ x ∷ y ∷ more) (p ∷ []) h.in_range (All-cons IsInRange p [] (All-head IsInRange p (x ∷ y ∷ more) h.in_range) (All-nil IsInRange))))
-      (le-ltb 64 _ (rw length-append (omega (arith, h.at_most))))
+      (le-ltb LISTED_LIMIT _ (rw length-append (omega (arith, h.at_most))))
       (le-ltb _ 4 (rw length-append (omega arith)))
       ((decides_same p (last_of ((p ∷ x ∷ y ∷ more) ++ p ∷ []))).1 (sym (last_of-push (p ∷ x ∷ y ∷ more) p)))
       ∙ ap ring_of (without_last (p ∷ x ∷ y ∷ more) p)
@@ -216,7 +218,7 @@ has_corners p b rest h precedes = record {
 
 -- there are three corners at least, and they are a ring of corners
 three_corners : (p b : Point) (rest more : List Point) → IsConvexRing (p ∷ b ∷ rest) → All (λ q. Precedes p q) (p ∷ b ∷ rest) → HasCorners p b rest more
-    → length (p ∷ more) ≤ 16 → IsCanonical (p ∷ more)
+    → length (p ∷ more) ≤ CORNER_LIMIT → IsCanonical (p ∷ more)
 three_corners p b rest [] h precedes found small = absurd (not_zero _ found.left_first (found.are.forward (last b rest) (turn_nowhere p (last b rest))))
   where
     not_zero : (z : ℤ) → pos 0 <ℤ z → z ≡ pos 0 → ⊥
@@ -241,26 +243,26 @@ three_corners p b rest (x ∷ y ∷ more) h precedes found small = corner_ring_c
     at_last : (c : Point) → turn c p x ≡ pos 0 → turn c p b ≡ pos 0
     at_last c e = turn-cycle c p b ∙ found.are.forward c (sym (turn-cycle c p x) ∙ e)
 
-ring_canonical : (points : List Point) → IsConvexRing points → StartsLeast points → length (turning_points points) ≤ 16 → IsCanonical (turning_points points)
+ring_canonical : (points : List Point) → IsConvexRing points → StartsLeast points → length (turning_points points) ≤ CORNER_LIMIT → IsCanonical (turning_points points)
 ring_canonical [] h starts small = absurd (omega (arith, h.at_least))
 ring_canonical (p ∷ []) h starts small = absurd (omega (arith, h.at_least))
 ring_canonical (p ∷ b ∷ rest) h starts small =
     let found = has_corners p b rest h (subst (λ q. All (λ r. Precedes q r) (p ∷ b ∷ rest)) (same_first starts.ring_is) starts.precedes) in
     subst IsCanonical (sym found.dropped)
     (three_corners p b rest (turning p p (b ∷ rest)) h (subst (λ q. All (λ r. Precedes q r) (p ∷ b ∷ rest)) (same_first starts.ring_is) starts.precedes) found
-    (subst (λ l. length l ≤ 16) found.dropped small))
+    (subst (λ l. length l ≤ CORNER_LIMIT) found.dropped small))
   where
     same_first : {q : Point} {others : List Point} → p ∷ b ∷ rest ≡ q ∷ others → q ≡ p
     same_first e = cc
 
-pub convex_canonical : (ring : List Point) → IsConvexRing ring → length (turning_points (from_least ring)) ≤ 16 → IsCanonical (turning_points (from_least ring))
+pub convex_canonical : (ring : List Point) → IsConvexRing ring → length (turning_points (from_least ring)) ≤ CORNER_LIMIT → IsCanonical (turning_points (from_least ring))
 convex_canonical ring h small = ring_canonical (from_least ring) (from_least_convex ring h) (from_least-starts ring (omega (arith, h.at_least))) small
 
 -- the places that the code fills with the corners of a convex ring
 pub kept_corners : (ring items now : List Point) (m n : ℕ) (places : List Point) → IsConvexRing ring → items ≡ turning_points (from_least ring) → now ≡ items
-    → m ≡ length items → n ≡ length items → m ≤ 16 → places ≡ now ++ replicate (16 - length now) origin → IsKept n places
+    → m ≡ length items → n ≡ length items → m ≤ CORNER_LIMIT → places ≡ now ++ replicate (CORNER_LIMIT - length now) origin → IsKept n places
 kept_corners ring items now m n places h found same m_is n_is small filled =
-    kept_by (turning_points (from_least ring)) n places (n_is ∙ ap length found) few (filled ∙ ap (λ l. l ++ replicate (16 - length l) origin) (same ∙ found)) (convex_canonical ring h few)
+    kept_by (turning_points (from_least ring)) n places (n_is ∙ ap length found) few (filled ∙ ap (λ l. l ++ replicate (CORNER_LIMIT - length l) origin) (same ∙ found)) (convex_canonical ring h few)
   where
-    few : length (turning_points (from_least ring)) ≤ 16
-    few = subst (λ k. k ≤ 16) (m_is ∙ ap length found) small
+    few : length (turning_points (from_least ring)) ≤ CORNER_LIMIT
+    few = subst (λ k. k ≤ CORNER_LIMIT) (m_is ∙ ap length found) small

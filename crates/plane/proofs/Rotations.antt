@@ -1,5 +1,5 @@
 -- A ring read from another point on, or in the other direction.
-use Rattle.std.specs.Prelude.{◌≡◌, ◌≤◌, true, false, List, [], ◌∷◌, ◌++◌, All, length, take, drop, reverse, slice_index_or, pos, ◌≤ℤ◌, refl}
+use Rattle.std.specs.Prelude.{◌≡◌, ◌<◌, ◌≤◌, true, false, List, [], ◌∷◌, ◌++◌, All, length, take, drop, reverse, slice_index_or, pos, ◌≤ℤ◌, refl}
 use Rattle.std.specs.List.{position_or_len}
 use Rattle.std.proofs.Common.{ap, sym, ◌∙◌, subst, take-append-drop, append-nil, add_comm}
 use Rattle.std.proofs.lemmas.Bool.{false≢true}
@@ -12,6 +12,7 @@ use Rattle.plane.specs.Rings.{turn, sides, sides_to, is_least, from_least, has_r
 use Rattle.plane.proofs.RingTests.{differ_if, flat_if_on_line, decides_goes_left}
 use Rattle.plane.proofs.ShapeRows.{left_part, right_part}
 use Rattle.plane.specs.declared.point.Point.{Point}
+use Rattle.plane.specs.declared.ring.TheConstants.{LISTED_LIMIT}
 
 -- the other part first
 pub All-swap : {X : Type 0} (P : X → Type 0) (xs ys : List X) → All P (xs ++ ys) → All P (ys ++ xs)
@@ -54,7 +55,7 @@ Differ-reverse (x ∷ xs) h =
     (All-weaker (λ q. x ≡ q → ⊥) (λ q. All (λ y. q ≡ y → ⊥) (x ∷ [])) (λ q apart. All-cons (λ y. q ≡ y → ⊥) x [] (λ e. apart (sym e)) (All-nil _)) (reverse xs) (All-reverse (λ q. x ≡ q → ⊥) xs h.0)))
 
 -- a convex ring's points in the other direction, where they go left
-pub reversed_convex : (ring back : List Point) → back ≡ reverse ring → All IsInRange ring → 3 ≤ length ring → length ring ≤ 63 → Differ ring → (AreOnOneLine ring → ⊥) → AreOnOrLeft (sides back) back → IsConvexRing back
+pub reversed_convex : (ring back : List Point) → back ≡ reverse ring → All IsInRange ring → 3 ≤ length ring → length ring < LISTED_LIMIT → Differ ring → (AreOnOneLine ring → ⊥) → AreOnOrLeft (sides back) back → IsConvexRing back
 reversed_convex ring back e in_range least most differ not_flat left = record {
   in_range = rw e (All-reverse IsInRange ring in_range);
   at_least = rw (e, length-reverse) least;
@@ -106,7 +107,7 @@ from_least_convex ring h =
     let at = position_or_len (is_least ring) ring in
     swapped_convex (take at ring) (drop at ring) (subst IsConvexRing (sym (take-append-drop at ring)) h)
 
-pub reversed_if : (ring back same : List Point) → All IsInRange ring → 3 ≤ length ring → length ring ≤ 63 → false ≡ has_repeat ring → false ≡ is_flat ring
+pub reversed_if : (ring back same : List Point) → All IsInRange ring → 3 ≤ length ring → length ring < LISTED_LIMIT → false ≡ has_repeat ring → false ≡ is_flat ring
     → back ≡ reverse ring → same ≡ back → true ≡ goes_left same → IsConvexRing same
 reversed_if ring back same in_range least most differ not_flat e f left =
     reversed_convex ring same (f ∙ e) in_range least most (differ_if ring (sym differ)) (λ line. false≢true (not_flat ∙ flat_if_on_line ring line)) ((decides_goes_left same).0 (sym left))

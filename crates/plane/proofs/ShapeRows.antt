@@ -10,6 +10,7 @@ use Rattle.std.proofs.lemmas.List.Elements.{All-nil, All-cons, All-head, All-tai
 use Rattle.plane.specs.Elimination.{HasFrame}
 use Rattle.plane.specs.Extents.{Extent, IsFrame, point_extent, extent_of}
 use Rattle.plane.specs.Rings.{sides_to}
+use Rattle.plane.specs.declared.shape.TheConstants.{CORNER_LIMIT}
 use Rattle.plane.specs.Rows.{edge_row, edge_rows, frame_rows, negated, rows_of, Satisfies, LiesIn, Meet}
 use Rattle.std.proofs.lemmas.Bool.{false≢true}
 use Rattle.plane.specs.declared.fraction.Fraction.{Fraction}
@@ -161,7 +162,7 @@ length-sides_to : (end : Point) (ring : List Point) → length (map edge_row (si
 length-sides_to end [] = refl
 length-sides_to end (p ∷ rest) = ap suc (length-sides_to end rest)
 
-pub length-rows_of : (corners : List Point) → length corners ≤ 16 → length (rows_of corners) ≤ 20
+pub length-rows_of : (corners : List Point) → length corners ≤ CORNER_LIMIT → length (rows_of corners) ≤ 20
 length-rows_of [] h = lit≤ tt
 length-rows_of (p ∷ []) h = lit≤ tt
 length-rows_of (p ∷ q ∷ []) h = lit≤ tt

@@ -7,6 +7,8 @@ use Rattle.plane.specs.Rings.{first_of, last_of, sides, has_repeat, is_flat, goe
 use Rattle.plane.specs.declared.point.Point.{Point}
 use Rattle.plane.specs.declared.fault.ShapeFault.{ShapeFault}
 use Rattle.plane.specs.declared.fault.ShapeFault.TheVariants.{OutOfRange, SameEnds, TooManyPoints, TooFew, NotClosed, Repeated, Flat, NotConvex, TooManyCorners}
+use Rattle.plane.specs.declared.ring.TheConstants.{LISTED_LIMIT}
+use Rattle.plane.specs.declared.shape.TheConstants.{CORNER_LIMIT}
 
 -- a point is itself
 abbrev pub point_of : Point → Result (List Point) ShapeFault
@@ -26,7 +28,7 @@ segment_of p q =
 abbrev pub corners_of : List Point → Result (List Point) ShapeFault
 corners_of ring =
     let corners = turning_points (from_least ring) in
-    if nat_lt 16 (length corners) then Err TooManyCorners else Ok corners
+    if nat_lt CORNER_LIMIT (length corners) then Err TooManyCorners else Ok corners
 
 -- a ring's points differ and are not on one line, and in one of the two directions each is on or left of every side
 abbrev pub ring_of : List Point → Result (List Point) ShapeFault
@@ -41,7 +43,7 @@ ring_of ring =
 abbrev pub polygon_of : List Point → Result (List Point) ShapeFault
 polygon_of listed =
     if not (list_all is_in_range listed) then Err OutOfRange
-    else (if nat_lt 64 (length listed) then Err TooManyPoints
+    else (if nat_lt LISTED_LIMIT (length listed) then Err TooManyPoints
     else (if nat_lt (length listed) 4 then Err TooFew
     else (if not (is_same (first_of listed) (last_of listed)) then Err NotClosed
     else ring_of (take (length listed - 1) listed))))
@@ -58,7 +60,7 @@ listed_shape (p ∷ q ∷ r ∷ rest) = polygon_of ((p ∷ q ∷ r ∷ rest) ++ 
 pub record IsCanonical (corners : List Point) : Type 0 where
   pub in_range : All IsInRange corners
   pub not_empty : 1 ≤ length corners
-  pub at_most : length corners ≤ 16
+  pub at_most : length corners ≤ CORNER_LIMIT
   pub first_least : IsFirstLeast corners
   pub listed : listed_shape corners ≡ Ok corners
   pub left : AreOnOrLeft (sides corners) corners

@@ -1,8 +1,9 @@
 -- Rings that go round a convex polygon.
-use Rattle.std.specs.Prelude.{◌≡◌, ◌≤◌, List, [], ◌∷◌, length, All, slice_index_or, pos, ◌≤ℤ◌, ◌<ℤ◌}
+use Rattle.std.specs.Prelude.{◌≡◌, ◌<◌, ◌≤◌, List, [], ◌∷◌, length, All, slice_index_or, pos, ◌≤ℤ◌, ◌<ℤ◌}
 use Rattle.plane.specs.Points.{IsInRange}
 use Rattle.plane.specs.Rings.{turn, sides}
 use Rattle.plane.specs.declared.point.Point.{Point}
+use Rattle.plane.specs.declared.ring.TheConstants.{LISTED_LIMIT}
 
 -- no point stands twice in the list
 abbrev pub Differ : List Point → Type 0
@@ -22,11 +23,11 @@ abbrev pub TurnsLeft : Point → Point → List Point → Type 0
 TurnsLeft before after [] = Unit {0}
 TurnsLeft before after (p ∷ rest) = (pos 0 <ℤ turn before p (slice_index_or rest 0 after)) × TurnsLeft p after rest
 
--- 3 to 63 points in range, no two alike, not all on one line, each on or left of every side
+-- 3 points in range or more, and with the closing one no more than a ring may list, no two alike, not all on one line, each on or left of every side
 pub record IsConvexRing (ring : List Point) : Type 0 where
   pub in_range : All IsInRange ring
   pub at_least : 3 ≤ length ring
-  pub at_most : length ring ≤ 63
+  pub at_most : length ring < LISTED_LIMIT
   pub differ : Differ ring
   pub not_flat : AreOnOneLine ring → ⊥
   pub left : AreOnOrLeft (sides ring) ring

@@ -24,5 +24,5 @@ pub use frame::{Frame, covers, frame_of, frames_meet, hull};
 pub use laws::shapes_are_canonical;
 pub use meeting::{common_point, meets};
 pub use point::{LIMIT, Point};
-pub use rows::Row;
+pub use ring::LISTED_LIMIT;
 pub use shape::{Shape, corners};

@@ -13,6 +13,7 @@ pub struct Point {
     pub y: i32,
 }
 
+/// Whether a coordinate lies from `-LIMIT` to `LIMIT`.
 fn is_coordinate(value: i32) -> bool
     ensures test { result ≡ is_coordinate value }
     ensures range { IsTrue result ↔ IsCoordinate value }

@@ -9,6 +9,9 @@ use crate::point::Point;
 use crate::products::{cross, difference};
 use arrayvec::ArrayVec;
 
+/// A ring lists at most this many points, its closing one included.
+pub const LISTED_LIMIT: usize = 64;
+
 /// Whether all points are in range.
 pub fn all_in_range(points: &[Point]) -> bool
     ensures test { result ≡ list_all is_in_range points.now }
@@ -189,8 +192,8 @@ fn least_index(ring: &[Point]) -> usize
 }
 
 /// The ring, read from its least point on.
-fn from_least(ring: &[Point]) -> ArrayVec<Point, 64>
-    requires { length ring.now ≤ 64 }
+fn from_least(ring: &[Point]) -> ArrayVec<Point, LISTED_LIMIT>
+    requires { length ring.now ≤ LISTED_LIMIT }
     ensures { result.items ≡ from_least ring.now }
 {
     let (before, after) = ring.split_at(least_index(ring));
@@ -201,8 +204,8 @@ fn from_least(ring: &[Point]) -> ArrayVec<Point, 64>
 }
 
 /// The ring in the other direction.
-pub fn reversed(ring: &[Point]) -> ArrayVec<Point, 64>
-    requires { length ring.now ≤ 64 }
+pub fn reversed(ring: &[Point]) -> ArrayVec<Point, LISTED_LIMIT>
+    requires { length ring.now ≤ LISTED_LIMIT }
     ensures { result.items ≡ reverse ring.now }
 {
     let mut points = ArrayVec::new();
@@ -212,9 +215,9 @@ pub fn reversed(ring: &[Point]) -> ArrayVec<Point, 64>
 }
 
 /// The points at which a ring turns.
-fn turning_points(ring: &[Point]) -> ArrayVec<Point, 64>
+fn turning_points(ring: &[Point]) -> ArrayVec<Point, LISTED_LIMIT>
     requires in_range { All IsInRange ring.now }
-    requires within { length ring.now ≤ 64 }
+    requires within { length ring.now ≤ LISTED_LIMIT }
     requires not_empty { 1 ≤ length ring.now }
     ensures { result.items ≡ turning_points ring.now }
 {
@@ -230,9 +233,9 @@ fn turning_points(ring: &[Point]) -> ArrayVec<Point, 64>
 }
 
 /// The points at which a ring turns, from its least point on.
-pub fn corners_from_least(ring: &[Point]) -> ArrayVec<Point, 64>
+pub fn corners_from_least(ring: &[Point]) -> ArrayVec<Point, LISTED_LIMIT>
     requires in_range { All IsInRange ring.now }
-    requires within { length ring.now ≤ 64 }
+    requires within { length ring.now ≤ LISTED_LIMIT }
     requires not_empty { 1 ≤ length ring.now }
     ensures { result.items ≡ turning_points (from_least ring.now) }
 {

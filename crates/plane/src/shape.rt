@@ -1,20 +1,19 @@
 //! Shapes: a point, a segment or a convex polygon, as a fixed row of corners.
 
-ghost use Rattle.std.specs.Prelude.{◌≡◌, ◌↔◌, ◌-◌, ◌≤◌, ◌++◌, All, IsTrue, List, length, replicate};
+ghost use Rattle.std.specs.Prelude.{◌≡◌, ◌↔◌, ◌-◌, ◌<◌, ◌≤◌, ◌++◌, All, IsTrue, List, length, replicate};
 ghost use Rattle.plane.specs.Points.{IsInRange};
 ghost use Rattle.plane.specs.Canonical.{point_of, segment_of, polygon_of, ring_of, corners_of, IsCanonical};
 ghost use Rattle.plane.specs.Convex.{IsConvexRing};
 
 use crate::fault::ShapeFault;
 use crate::point::Point;
-use crate::ring::{all_in_range, corners_from_least, goes_left, has_repeat, is_flat, reversed};
+use crate::ring::{
+    LISTED_LIMIT, all_in_range, corners_from_least, goes_left, has_repeat, is_flat, reversed,
+};
 use std::marker::Model;
 
 /// A polygon has at most this many corners.
-const CORNERS: usize = 16;
-
-/// A ring lists at most this many points, its closing one included.
-const LISTED: usize = 64;
+pub const CORNER_LIMIT: usize = 16;
 
 const ORIGIN: Point = Point { x: 0, y: 0 };
 
@@ -22,7 +21,7 @@ const ORIGIN: Point = Point { x: 0, y: 0 };
 /// segment's lesser end first, a polygon's corners counter-clockwise from the one of least x, then least y.
 #[derive(Clone, Copy, Debug)]
 pub struct Shape {
-    places: [Point; 16],
+    places: [Point; CORNER_LIMIT],
     count: u8,
 }
 
@@ -74,7 +73,7 @@ impl Shape {
         ensures { result ≡ point_of p }
     {
         if p.is_in_range() {
-            let mut places = [ORIGIN; CORNERS];
+            let mut places = [ORIGIN; CORNER_LIMIT];
             places[0] = p;
             Ok(Shape { places, count: 1 })
         } else {
@@ -92,7 +91,7 @@ impl Shape {
         if p == q {
             return Err(ShapeFault::SameEnds);
         }
-        let mut places = [ORIGIN; CORNERS];
+        let mut places = [ORIGIN; CORNER_LIMIT];
         if q.is_before(p) {
             places[0] = q;
             places[1] = p;
@@ -111,7 +110,7 @@ impl Shape {
         if !all_in_range(listed) {
             return Err(ShapeFault::OutOfRange);
         }
-        if listed.len() > LISTED {
+        if listed.len() > LISTED_LIMIT {
             return Err(ShapeFault::TooManyPoints);
         }
         if listed.len() < 4 {
@@ -128,7 +127,7 @@ impl Shape {
 fn of_ring(ring: &[Point]) -> Result<Shape, ShapeFault>
     requires in_range { All IsInRange ring.now }
     requires at_least { 3 ≤ length ring.now }
-    requires at_most { length ring.now ≤ 63 }
+    requires at_most { length ring.now < LISTED_LIMIT }
     ensures { result ≡ ring_of ring.now }
 {
     if has_repeat(ring) {
@@ -149,11 +148,11 @@ fn of_ring(ring: &[Point]) -> Result<Shape, ShapeFault>
 }
 
 /// The corners, and the origin in the places that are left.
-fn places_of(corners: &[Point]) -> [Point; 16]
-    requires { length corners.now ≤ 16 }
-    ensures { result ≡ corners.now ++ replicate (16 - length corners.now) ORIGIN }
+fn places_of(corners: &[Point]) -> [Point; CORNER_LIMIT]
+    requires { length corners.now ≤ CORNER_LIMIT }
+    ensures { result ≡ corners.now ++ replicate (CORNER_LIMIT - length corners.now) ORIGIN }
 {
-    let mut places = [ORIGIN; CORNERS];
+    let mut places = [ORIGIN; CORNER_LIMIT];
     places[..corners.len()].copy_from_slice(corners);
     places
 }
@@ -164,7 +163,7 @@ fn of_convex_ring(ring: &[Point]) -> Result<Shape, ShapeFault>
     ensures { result ≡ corners_of ring.now }
 {
     let found = corners_from_least(ring);
-    if found.len() > CORNERS {
+    if found.len() > CORNER_LIMIT {
         return Err(ShapeFault::TooManyCorners);
     }
     let places = places_of(found.as_slice());

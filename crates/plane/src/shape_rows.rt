@@ -13,7 +13,7 @@ use crate::point::Point;
 use crate::products::{cross, difference};
 use crate::ring::next_point;
 use crate::rows::Row;
-use crate::shape::{Shape, corners};
+use crate::shape::{CORNER_LIMIT, Shape, corners};
 use arrayvec::ArrayVec;
 
 /// The half plane on the way from one point to another, or left of it.
@@ -72,7 +72,7 @@ fn frame_rows(frame: Frame) -> [Row; 4]
 /// Adds the row of each side of a ring of at most 16 points.
 fn push_sides(rows: &mut ArrayVec<Row, 40>, ring: &[Point])
     requires in_range { All IsInRange ring.now }
-    requires within { length ring.now ≤ 16 }
+    requires within { length ring.now ≤ CORNER_LIMIT }
     requires room { array_vec_len rows.old ≤ 24 }
     ensures { rows.new.items ≡ rows.old.items ++ map edge_row (sides ring.now) }
 {
@@ -84,7 +84,7 @@ fn push_sides(rows: &mut ArrayVec<Row, 40>, ring: &[Point])
 /// Adds the rows of a shape beside those of its frame.
 fn push_edges(rows: &mut ArrayVec<Row, 40>, corners: &[Point])
     requires in_range { All IsInRange corners.now }
-    requires within { length corners.now ≤ 16 }
+    requires within { length corners.now ≤ CORNER_LIMIT }
     requires room { array_vec_len rows.old ≤ 24 }
     ensures { rows.new.items ≡ rows.old.items ++ edge_rows corners.now }
 {

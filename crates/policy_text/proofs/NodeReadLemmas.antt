@@ -15,13 +15,13 @@ module _ (zones : List Zone) (path : List Step) (seen : Seen) (d : Data) where
   unfolding node_at
   node_at-zero levels e = ap (λ n. node_at zones n path seen d) e
 
-  pub node_at-set : (levels : ℕ) → true ≡ has_key keys.Set d → set_at (node_at zones levels) zones path seen d ≡ node_at zones (suc levels) path seen d
+  pub node_at-set : (levels below : ℕ) → levels ≡ suc below → true ≡ has_key keys.Set d → set_at (node_at zones below) zones path seen d ≡ node_at zones levels path seen d
   unfolding node_at
-  node_at-set levels e = rw (← e) refl
+  node_at-set levels below l e = rw (l, ← e) refl
 
-  pub node_at-policy : (levels : ℕ) → false ≡ has_key keys.Set d → policy_at zones path seen d ≡ node_at zones (suc levels) path seen d
+  pub node_at-policy : (levels below : ℕ) → levels ≡ suc below → false ≡ has_key keys.Set d → policy_at zones path seen d ≡ node_at zones levels path seen d
   unfolding node_at
-  node_at-policy levels e = rw (← e) refl
+  node_at-policy levels below l e = rw (l, ← e) refl
 
   -- what was read as of a set or a policy is read of the node
   pub Gives-along : {X : Type 0} (view : X → NodeData × Seen) (r : Result X TextFault) (a b : Result (NodeData × Seen) TextFault) → a ≡ b → Gives view r a → Gives view r b

@@ -67,7 +67,7 @@ module _ (zones : List Zone) where
       let place = at_key path keys.Rules in
       let behind : each_at (rule_at zones) place 0 next items ≡ Ok (rules, after_rules next rules) =
       rules_read zones place 0 next rules name_parts.1 target_parts.1 match_parts.1 (ap are_distinct (append_assoc seen.names (head.name ∷ []) names) ∙ h.distinct) h.rules (omega arith) in
-      sym (node_at-policy zones path seen (node_data (policy head rules)) levels (policy_kind (algorithm_text head.combine) head.name items (target_items head.target)))
+      sym (node_at-policy zones path seen (node_data (policy head rules)) (suc levels) levels refl (policy_kind (algorithm_text head.combine) head.name items (target_items head.target)))
       ∙ policy_at-read zones path seen (node_data (policy head rules)) head next (after_rules next rules) items place rules (policy_head_read zones path seen head items here) refl behind
       ∙ ap (λ s. Ok (policy head rules, s)) (after_policy seen head rules)
 
@@ -81,7 +81,7 @@ module _ (zones : List Zone) where
     node_read (set head nodes) (suc levels) path seen h =
         let next = after_head seen head in
         let place = at_key path keys.Of in
-        sym (node_at-set zones path seen (node_data (set head nodes)) levels refl)
+        sym (node_at-set zones path seen (node_data (set head nodes)) (suc levels) levels refl refl)
         ∙ set_at-read zones path seen (node_data (set head nodes)) head next (after_nodes next nodes) (nodes_items nodes) (node_at zones levels) place (nodes_of nodes)
         (set_head_read zones path seen head (nodes_items nodes) (set_head zones levels seen head nodes h)) refl
         (children_read nodes levels place 0 next (set_below zones levels seen head nodes h))

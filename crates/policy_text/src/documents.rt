@@ -107,6 +107,16 @@ impl<A: Allocator> Document<A> {
         }
         rule_in(&self.root, number as usize - 1).ok()
     }
+
+    /// A copy of the document, made by another allocator. The only error is want of memory.
+    pub fn copy<B: Allocator + Copy>(&self, alloc: B) -> Result<Document<B>, Refused>
+        ensures { IfOk result (λ copy. copy ≡ self.now) }
+    {
+        Ok(Document {
+            zones: copy_zones(alloc, &self.zones)?,
+            root: copy_node(alloc, &self.root)?,
+        })
+    }
 }
 
 /// The name of the rule at this place, counted from 0, in the node, or how far behind the node's rules the place is.
@@ -145,18 +155,6 @@ fn rule_in_nodes<A: Allocator>(nodes: &[Node<A>], index: usize) -> Result<Name, 
         }
     }
     Err(left)
-}
-
-impl<A: Allocator> Document<A> {
-    /// A copy of the document, made by another allocator. The only error is want of memory.
-    pub fn copy<B: Allocator + Copy>(&self, alloc: B) -> Result<Document<B>, Refused>
-        ensures { IfOk result (λ copy. copy ≡ self.now) }
-    {
-        Ok(Document {
-            zones: copy_zones(alloc, &self.zones)?,
-            root: copy_node(alloc, &self.root)?,
-        })
-    }
 }
 
 /// A copy of the zones. The only error is want of memory.

@@ -26,7 +26,7 @@ pub use faults::TextFault;
 pub use laws::{faults_compare_exactly, printed_is_read, read_is_document, tests_compare_exactly};
 pub use matches::{AllOf, AnyOf, Atom, Conditions, Items, Match, Target, Term};
 pub use nodes::Node;
-pub use paths::{Key, Path, STEP_LIMIT, Step};
+pub use paths::{Key, Path, Step};
 pub use printing::{document_value, print_document};
 pub use rules::Rule;
 pub use texts::{document_of_value, read_document};

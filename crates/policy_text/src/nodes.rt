@@ -141,35 +141,28 @@ fn same_node<A: Allocator>(node: &Node<A>, other: &Node<A>) -> bool
 fn same_head<A: Allocator>(node: &Node<A>, other: &Node<A>) -> bool
     ensures { result ≡ same_head (head_of (node_view node.now)) (head_of (node_view other.now)) }
 {
-    name_of(node) == name_of(other)
-        && combine_of(node) == combine_of(other)
-        && *target_of(node) == *target_of(other)
+    let (name, combine, target) = head(node);
+    let (other_name, other_combine, other_target) = head(other);
+    name == other_name && combine == other_combine && *target == *other_target
 }
 
-/// The node's name.
-fn name_of<A: Allocator>(node: &Node<A>) -> Name
-    ensures { result ≡ (head_of (node_view node.now)).name }
+/// The node's name, how its decision is made of those of its children, and its target.
+fn head<A: Allocator>(node: &Node<A>) -> (Name, Algorithm, &Target<A>)
+    ensures { head_of (node_view node.now) ≡ record { name = result.0; combine = result.1; target = result.2.now } }
 {
     match node {
-        Node::Set { name, .. } | Node::Policy { name, .. } => *name,
-    }
-}
-
-/// How the node's decision is made of those of its children.
-fn combine_of<A: Allocator>(node: &Node<A>) -> Algorithm
-    ensures { result ≡ (head_of (node_view node.now)).combine }
-{
-    match node {
-        Node::Set { combine, .. } | Node::Policy { combine, .. } => *combine,
-    }
-}
-
-/// The node's target.
-fn target_of<A: Allocator>(node: &Node<A>) -> &Target<A>
-    ensures { result.now ≡ (head_of (node_view node.now)).target }
-{
-    match node {
-        Node::Set { target, .. } | Node::Policy { target, .. } => target,
+        Node::Set {
+            name,
+            combine,
+            target,
+            ..
+        }
+        | Node::Policy {
+            name,
+            combine,
+            target,
+            ..
+        } => (*name, *combine, target),
     }
 }
 

@@ -4,7 +4,7 @@ ghost use Rattle.std.specs.Prelude.{◌≡◌, IfOk, map, string_bytes};
 ghost use Rattle.serde_json.specs.Data.{object};
 ghost use Rattle.serde_json.specs.View.{view, items_view};
 ghost use Rattle.policy_text.specs.Documents.{IsDocument};
-ghost use Rattle.policy_text.specs.Printed.{rule_data, node_data, zone_data, zones_items, document_data, document_text};
+ghost use Rattle.policy_text.specs.Printed.{rule_data, target_items, node_data, zone_data, zones_items, document_data, document_text};
 ghost use Rattle.policy_text.specs.Bytes.{document_of_bytes};
 ghost use Rattle.policy_text.specs.PrintedMembers.{put_node};
 ghost use Rattle.policy_text.specs.Views.{node_view, zone_of};
@@ -16,7 +16,7 @@ use crate::nodes::Node;
 use crate::paths::Key;
 use crate::reading::{NodeForm, POLICY, SET};
 use crate::rules::Rule;
-use crate::values::{condition_values, target_values};
+use crate::values::{Printed, part_values};
 use crate::words::{algorithm_word, effect_word, name_value, put_array};
 use features::Name;
 use memory::{GrowVec, Refused, json_string, json_text, put_member};
@@ -25,31 +25,29 @@ use serde_json::{Map, Value};
 use std::alloc::{Allocator, Global};
 use wkt::print_shape;
 
-/// A rule, its target and its conditions left out where there are none. The only error is want of memory.
-fn rule_value<A: Allocator>(heap: Global, rule: &Rule<A>) -> Result<Value, Refused>
-    ensures { IfOk result (λ v. view v ≡ rule_data rule.now) }
-{
-    let effect = json_string(heap, effect_word(rule.effect))?;
-    let name = name_value(heap, &rule.name)?;
-    let target = target_values(heap, &rule.target)?;
-    let when = condition_values(heap, &rule.when)?;
-    let mut members = Map::new(heap);
-    put_member(&mut members, heap, Key::Effect.text(), effect)?;
-    put_member(&mut members, heap, Key::Rule.text(), name)?;
-    put_array(&mut members, heap, Key::Target, target)?;
-    put_array(&mut members, heap, Key::When, when)?;
-    Ok(Value::Object(members))
+impl<A: Allocator> Printed for Rule<A> {
+    ghost printed = { rule_data };
+
+    // Its target and its conditions are left out where there are none.
+    fn value(&self, heap: Global) -> Result<Value, Refused> {
+        let effect = json_string(heap, effect_word(self.effect))?;
+        let name = name_value(heap, &self.name)?;
+        let target = target_values(heap, &self.target)?;
+        let when = part_values(heap, self.when.as_slice())?;
+        let mut members = Map::new(heap);
+        put_member(&mut members, heap, Key::Effect.text(), effect)?;
+        put_member(&mut members, heap, Key::Rule.text(), name)?;
+        put_array(&mut members, heap, Key::Target, target)?;
+        put_array(&mut members, heap, Key::When, when)?;
+        Ok(Value::Object(members))
+    }
 }
 
-/// The rules of a policy. The only error is want of memory.
-fn rule_values<A: Allocator>(heap: Global, rules: &[Rule<A>]) -> Result<Vec<Value>, Refused>
-    ensures { IfOk result (λ values. map view values.items ≡ map rule_data rules.now) }
+/// The parts of a target. The only error is want of memory.
+fn target_values<A: Allocator>(heap: Global, target: &Target<A>) -> Result<Vec<Value>, Refused>
+    ensures { IfOk result (λ values. items_view values.items ≡ target_items target.now) }
 {
-    let mut values = Vec::new(heap);
-    for rule in rules {
-        values.try_push(rule_value(heap, rule)?)?;
-    }
-    Ok(values)
+    part_values(heap, target.as_slice())
 }
 
 /// A set or a policy with these children, its target left out where there is none. The only error is want of memory.
@@ -101,7 +99,7 @@ fn node_value<A: Allocator>(heap: Global, node: &Node<A>) -> Result<Value, Refus
             target,
             rules,
         } => {
-            let children = rule_values(heap, rules)?;
+            let children = part_values(heap, rules)?;
             form_value(heap, POLICY, name, *combine, target, children)
         }
     }

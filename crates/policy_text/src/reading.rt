@@ -1,6 +1,6 @@
 //! Reading rules, policies and sets.
 
-ghost use Rattle.std.specs.Prelude.{◌≡◌, suc, ◌+◌, ◌*◌, ◌<◌, ◌≤◌, length, map};
+ghost use Rattle.std.specs.Prelude.{◌≡◌, ◌+◌, ◌*◌, ◌<◌, ◌≤◌, length, map};
 ghost use Rattle.std.specs.List.{list_any};
 ghost use Rattle.serde_json.specs.View.{view, items_view};
 ghost use Rattle.policy_text.specs.Names.{is_name};
@@ -251,22 +251,7 @@ pub(crate) fn node_at<A: Allocator + Copy, B: Allocator>(
     if levels == 0 {
         return Err(TextFault::TooDeep);
     }
-    open_node(alloc, zones, value, levels - 1, path, seen)
-}
-
-/// A set or a policy, where so many levels may stand below it.
-#[cycle(read)]
-fn open_node<A: Allocator + Copy, B: Allocator>(
-    alloc: A,
-    zones: &Zones<B>,
-    value: &Value,
-    below: usize,
-    path: Path,
-    seen: SoFar<A>,
-) -> Result<(Node<A>, SoFar<A>), TextFault>
-    requires { length path + 2 * below ≤ 15 }
-    ensures { Gives (λ r. (node_view r.0, seen_view r.1)) result (node_at (map zone_of zones.now.entries) (suc below) path (seen_view seen) (view value.now)) }
-{
+    let below = levels - 1;
     if has_key(value, Key::Set) {
         set_at(alloc, zones, value, below, path, seen)
     } else {

@@ -134,6 +134,7 @@ fn term_in(value: &Value, path: Path) -> Result<Term, TextFault>
     }
 }
 
+/// Finds that the zone of which a term speaks is there.
 fn known_term<A: Allocator>(zones: &Zones<A>, term: &Term) -> Result<(), TextFault>
     ensures { result ≡ known_term (map zone_of zones.now.entries) term.now }
 {
@@ -143,6 +144,7 @@ fn known_term<A: Allocator>(zones: &Zones<A>, term: &Term) -> Result<(), TextFau
     }
 }
 
+/// The term of an object that was found to be one, with the count of matches and atoms behind it.
 #[tactic(auto, unfolding(crate::specs::Reading::term_of))]
 fn term_of<A: Allocator>(
     zones: &Zones<A>,

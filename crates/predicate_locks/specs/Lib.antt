@@ -1,4 +1,4 @@
 pub mod Searches
 pub mod Sound
 pub mod Numbers
-pub mod Fault
+pub mod FaultCodes

@@ -123,7 +123,7 @@ impl<A: Allocator + Copy> Attached<A> {
         self.numbers.retain(|number| running.runs(*number));
     }
 
-    // Adds a number that is not attached, and for which there is room.
+    /// Adds a number that is not attached, and for which there is room.
     fn put(&mut self, number: u64)
         requires { HasRoomFor self.old 1 }
         ensures numbers { self.new.numbers ≡ self.old.numbers ++ number ∷ [] }
@@ -132,7 +132,7 @@ impl<A: Allocator + Copy> Attached<A> {
         self.numbers.push_reserved(number);
     }
 
-    // Attaches these numbers, for which there is room.
+    /// Attaches these numbers, for which there is room.
     fn put_all(&mut self, more: &[u64])
         requires { HasRoomFor self.old (length more.now) }
         ensures numbers { self.new.numbers ≡ with_numbers more.now self.old.numbers }

@@ -1,5 +1,5 @@
 ghost use Rattle.std.specs.Prelude.{◌≡◌, Some};
-ghost use Rattle.predicate_locks.specs.Fault.{code_of};
+ghost use Rattle.predicate_locks.specs.FaultCodes.{code_of};
 
 use memory::Refused;
 use std::error::Error;

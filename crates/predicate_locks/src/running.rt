@@ -184,7 +184,7 @@ impl<Q: Copy, A: Allocator> Running<Q, A> {
         met
     }
 
-    // Where the search with this number stands.
+    /// Where the search with this number stands.
     fn position(&self, number: u64) -> Option<usize>
         ensures found { IfSome result (λ at. (at < length self.now.running) × ((none : RunningSearch Q) → (slice_index_or self.now.running at none).number ≡ number)) }
         ensures runs { is_some result ≡ does_run self.now number }
@@ -198,7 +198,7 @@ impl<Q: Copy, A: Allocator> Running<Q, A> {
     }
 }
 
-// Whether a search is attached, and its query accepted.
+/// Whether a search is attached, and its query accepted.
 fn meets<Q, F: Fn(&Q) -> bool, A: Allocator>(
     search: &RunningSearch<Q>,
     attached: &Attached<A>,

@@ -39,7 +39,7 @@ impl<B: Allocator> Drop for Refusing<B> {
     }
 }
 
-// Whether the allocation that is asked for now is the one to be refused. It counts down, and stays at 0.
+/// Whether the allocation that is asked for now is the one to be refused. It counts down, and stays at 0.
 fn refuses(left: &Cell<u64>) -> bool {
     let now = left.get();
     left.set(now.saturating_sub(1));

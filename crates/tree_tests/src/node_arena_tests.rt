@@ -4,7 +4,7 @@ use std::alloc::Allocator;
 use std::process::Abort;
 use std::test::Fail;
 
-// The next of a fixed row of numbers that look random.
+/// The next of a fixed row of numbers that look random.
 fn next_random(state: &mut u64) -> usize {
     *state = state
         .wrapping_mul(6_364_136_223_846_793_005)
@@ -12,7 +12,7 @@ fn next_random(state: &mut u64) -> usize {
     (*state >> 33) as usize
 }
 
-// Puts a value in, which has to succeed.
+/// Puts a value in, which has to succeed.
 fn inserted<A: Allocator + Drop>(rt: &impl Abort, arena: &mut Arena<u64, A>, value: u64) -> Handle {
     let given = arena.insert(value);
     assert!(rt; given.is_ok(), "no room for {value}");
@@ -154,7 +154,7 @@ fn full(rt: HostRuntime) -> Result<(), Fail> {
     Ok(())
 }
 
-// How many of the arena's first slots hold their own number.
+/// How many of the arena's first slots hold their own number.
 fn held<A: Allocator + Drop>(arena: &Arena<u64, A>, slots: u32) -> u32 {
     let mut held = 0u32;
     for slot in 0..slots {

@@ -6,7 +6,7 @@ use std::alloc::Allocator;
 use std::process::Abort;
 use std::test::Fail;
 
-// The next of a fixed row of numbers that look random.
+/// The next of a fixed row of numbers that look random.
 fn next_random(state: &mut u64) -> u64 {
     *state = state
         .wrapping_mul(6_364_136_223_846_793_005)
@@ -14,7 +14,7 @@ fn next_random(state: &mut u64) -> u64 {
     *state >> 33
 }
 
-// Enters a search, which has to succeed.
+/// Enters a search, which has to succeed.
 fn entered<A: Allocator + Drop>(
     rt: &impl Abort,
     running: &mut Running<u64, A>,
@@ -26,7 +26,7 @@ fn entered<A: Allocator + Drop>(
     given.unwrap()
 }
 
-// Attaches a number, which has to succeed.
+/// Attaches a number, which has to succeed.
 fn put<A: Allocator + Copy + Drop>(rt: &impl Abort, attached: &mut Attached<A>, number: u64) {
     assert!(rt; attached.attach(number).is_ok(), "no room for {number}");
 }
@@ -220,7 +220,7 @@ fn each_allocation_of_attach_refused(rt: HostRuntime) -> Result<(), Fail> {
     Ok(())
 }
 
-// The number of the first pair with this number, if there is one.
+/// The number of the first pair with this number, if there is one.
 fn place(pairs: &[(u64, u64)], number: u64) -> Option<usize>
     ensures { IfSome result (λ at. at < length pairs.now) }
 {

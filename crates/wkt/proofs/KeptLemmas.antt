@@ -1,4 +1,4 @@
--- Of a ring the first 65 points tell as much as all.
+-- Of a ring the points that are kept tell as much as all.
 use Rattle.std.proofs.Common.{◌≡◌, ℕ, zero, suc, ◌<◌, Bool, true, false, cond, List, [], ◌∷◌, take, length, Option, Some, None, Result, Ok, Err, ℤ, refl, sym, ap, subst, if◌then◌else◌, ◌∙◌, arith, inl, inr}
 use Rattle.std.specs.List.{list_all}
 use Rattle.std.proofs.lemmas.Bool.{cases_lt, lt-ltb, and_from, and_parts}
@@ -7,6 +7,7 @@ use Rattle.plane.specs.declared.point.Point.{Point}
 use Rattle.plane.specs.declared.fault.ShapeFault.{ShapeFault}
 use Rattle.plane.specs.declared.fault.ShapeFault.TheVariants.{TooManyPoints}
 use Rattle.plane.specs.Canonical.{polygon_of}
+use Rattle.plane.specs.declared.ring.TheConstants.{LISTED_LIMIT}
 use Rattle.plane.specs.Coordinates.{is_coordinate}
 use Rattle.plane.specs.Points.{is_in_range}
 use Rattle.wkt.specs.declared.fault.WktFault.{WktFault}
@@ -14,7 +15,8 @@ use Rattle.wkt.specs.declared.fault.WktFault.TheVariants.{OutOfRange}
 use Rattle.wkt.specs.Tokens.{Token, OPENING}
 use Rattle.wkt.specs.Numbers.{in_limits, number_of, coordinate_of}
 use Rattle.wkt.specs.Reading.{◌>>=◌, Due, pair, second, mark, with_front, made, begins_with_mark, number_of_token, is_more, opening_at, mark_at, closing_at, end_at, ring_at, ring_from, polygon_at}
-use Rattle.wkt.specs.Kept.{KEPT, kept, kept_polygon_at}
+use Rattle.wkt.specs.Kept.{kept, kept_polygon_at}
+use Rattle.wkt.specs.declared.ring.TheConstants.{KEPT}
 
 -- ---- every point that is read is in range
 
@@ -86,15 +88,15 @@ ring_in_range end (t ∷ ts) pair ring inside h = go-pair end t ts ring (number_
 ring_in_range end (t ∷ ts) (second x) ring inside h = go-second end x t ts ring (number_of_token t) (ring_in_range end ts) inside refl h
 ring_in_range end (t ∷ ts) mark ring inside h = go-more end ts ring (is_more t) (ring_in_range end ts) h
 
--- ---- 65 points are too many, as more are
+-- ---- one point more than a ring may list is too many, as more are
 
 list_all-take : (n : ℕ) (ps : List Point) → list_all is_in_range ps ≡ true → list_all is_in_range (take n ps) ≡ true
 list_all-take zero ps h = refl
 list_all-take (suc n) [] h = refl
 list_all-take (suc n) (p ∷ ps) h = let parts = and_parts _ _ h in and_from _ _ parts.0 (list_all-take n ps parts.1)
 
-too_many : (ps : List Point) → list_all is_in_range ps ≡ true → 64 < length ps → polygon_of ps ≡ Err TooManyPoints
-too_many ps h lt = rw (h, lt-ltb 64 (length ps) lt) refl
+too_many : (ps : List Point) → list_all is_in_range ps ≡ true → LISTED_LIMIT < length ps → polygon_of ps ≡ Err TooManyPoints
+too_many ps h lt = rw (h, lt-ltb LISTED_LIMIT (length ps) lt) refl
 
 polygon_kept : (ps : List Point) → list_all is_in_range ps ≡ true → polygon_of (take KEPT ps) ≡ polygon_of ps
 polygon_kept ps h =

@@ -1,11 +1,11 @@
 -- Reading the points of a ring one after the other, as a loop does, and keeping the first of them.
-use Rattle.std.proofs.Common.{◌≡◌, ℕ, zero, suc, ◌+◌, ◌<◌, Bool, true, false, List, [], ◌∷◌, ◌++◌, take, set, length, Result, Ok, Err, ℤ, refl, sym, ap, ◌∙◌, append_assoc, arith, if◌then◌else◌}
-use Rattle.std.proofs.lemmas.List.{take_all, take_at, take_more_set, length-append, length-take}
+use Rattle.std.proofs.Common.{◌≡◌, ℕ, zero, suc, ◌<◌, Bool, true, false, List, [], ◌∷◌, ◌++◌, take, length, Result, Ok, Err, ℤ, refl, sym, ap, ◌∙◌, append_assoc, arith, if◌then◌else◌}
+use Rattle.std.proofs.lemmas.List.{take_all, take_at, length-append}
 use Rattle.plane.specs.declared.point.Point.{Point}
 use Rattle.wkt.specs.declared.fault.WktFault.{WktFault}
 use Rattle.wkt.specs.Tokens.{Token}
 use Rattle.wkt.specs.Reading.{◌>>=◌, second, mark, with_rest, with_front, pair_of, number_of_token, is_more, number_at, pair_at, more_at, ring_at, ring_from}
-use Rattle.wkt.specs.Kept.{KEPT}
+use Rattle.wkt.specs.declared.ring.TheConstants.{KEPT}
 
 -- what is behind a pair: with a comma the rest of the ring, else nothing
 abbrev pub behind_pair : ℕ → Point → Bool × List Token → Result (List Point × List Token) WktFault
@@ -99,10 +99,9 @@ no_more end front p ts behind e total one none so_far =
     let step : ring_at end ts ≡ Err e = ring_step end ts ∙ rw (one, none) refl in
     sym so_far ∙ ap (kept_behind front) step
 
--- a row of places, with one more point, or full
-pub keep_more : (places : List Point) (n : ℕ) (p : Point) → length places ≡ KEPT → n < KEPT → take (n + 1) (set places n p) ≡ take KEPT (take n places ++ p ∷ [])
-keep_more places n p len lt =
-    take_more_set places n p (omega arith) ∙ sym (take_all KEPT (take n places ++ p ∷ []) (omega (arith, length-append (take n places) (p ∷ []), length-take n places)))
+-- one more point, where there is room or none
+pub keep_more : (points : List Point) (p : Point) → length points < KEPT → points ++ p ∷ [] ≡ take KEPT (points ++ p ∷ [])
+keep_more points p lt = sym (take_all KEPT (points ++ p ∷ []) (omega (arith, length-append points (p ∷ []))))
 
-pub keep_full : (places : List Point) (n : ℕ) (p : Point) → length places ≡ KEPT → n ≡ KEPT → take n places ≡ take KEPT (take n places ++ p ∷ [])
-keep_full places n p len full = sym (take_at (take n places) (p ∷ []) KEPT (omega (arith, length-take n places)))
+pub keep_full : (points : List Point) (p : Point) → length points ≡ KEPT → points ≡ take KEPT (points ++ p ∷ [])
+keep_full points p full = sym (take_at points (p ∷ []) KEPT full)

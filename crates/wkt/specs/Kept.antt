@@ -1,13 +1,11 @@
--- What the reader keeps of a ring: 65 points at most, one more than a ring may list.
+-- What the reader keeps of a ring: one point more than a ring may list, at most.
 use Rattle.std.specs.Prelude.{ℕ, List, take, Result, Ok}
 use Rattle.plane.specs.declared.point.Point.{Point}
 use Rattle.plane.specs.Canonical.{polygon_of}
 use Rattle.wkt.specs.declared.fault.WktFault.{WktFault}
+use Rattle.wkt.specs.declared.ring.TheConstants.{KEPT}
 use Rattle.wkt.specs.Tokens.{Token, OPENING}
 use Rattle.wkt.specs.Reading.{◌>>=◌, opening_at, mark_at, closing_at, end_at, ring_at, made}
-
-abbrev pub KEPT : ℕ
-KEPT = 65
 
 abbrev pub kept : Result (List Point × List Token) WktFault → Result (List Point × List Token) WktFault
 kept reading = reading >>= λ ring. Ok (take KEPT ring.0, ring.1)

@@ -50,7 +50,7 @@ fn polygon(text: Rest<'_>) -> Result<Shape, WktFault>
     let (points, text) = ring(text)?;
     let text = closing(text)?;
     end(text)?;
-    Shape::polygon(points.points()).map_err(WktFault::Bad)
+    Shape::polygon(points.as_slice()).map_err(WktFault::Bad)
 }
 
 /// The keyword, and what follows it.

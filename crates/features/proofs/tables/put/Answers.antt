@@ -1,4 +1,4 @@
-use Rattle.std.proofs.Common.{◌∙◌, arith}
+use Rattle.std.proofs.Common.{arith}
 use Rattle.features.specs.Tables.{blank}
 use Rattle.features.proofs.RowLemmas.{found_at}
 use Rattle.features.proofs.TableLemmas.{rising, at_row, rows_put, tied_put}

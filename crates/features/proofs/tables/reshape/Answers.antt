@@ -1,7 +1,5 @@
-use Rattle.std.proofs.Common.{◌∙◌, arith, sym}
-use Rattle.features.specs.Tables.{blank}
 use Rattle.features.proofs.RowLemmas.{absent_at_gap, not_both}
-use Rattle.features.proofs.TableLemmas.{rising, at_row, gap_row, place_is, feature_is, rows_reshaped, tied_reshaped}
+use Rattle.features.proofs.TableLemmas.{rising, gap_row, place_is, feature_is, rows_reshaped, tied_reshaped}
 use Rattle.features.proofs.tables.reshape.Goals as goal
 
 pub place_of-requires : goal.place_of-requires

@@ -1,4 +1,4 @@
-use Rattle.std.proofs.Common.{map, sym, ap, ◌∙◌, subst, Ok, ◌+◌, [], ◌∷◌}
+use Rattle.std.proofs.Common.{arith, map, sym, ap, ◌∙◌, subst, Ok, ◌+◌, ◌-◌, [], ◌∷◌}
 use Rattle.std.proofs.lemmas.List.{map-append}
 use Rattle.serde_json.specs.View.{view, items_view}
 use Rattle.policy_text.specs.Views.{zone_of, node_view}
@@ -12,13 +12,17 @@ use Rattle.policy_text.proofs.reading.+read.Goals as goal
 pub node_at-returns-then-levels-eq0 : goal.node_at-returns-then-levels-eq0
 node_at-returns-then-levels-eq0 g t c = node_at-zero (map zone_of c.args.zones.now.entries) c.args.path (seen_view c.args.seen) (view c.args.value.now) c.args.levels c.if-levels-eq0.true
 
-pub open_node-returns-then-has_key : goal.open_node-returns-then-has_key
-open_node-returns-then-has_key g t c =
-    subst (Gives _ c.set_at.result) (node_at-set (map zone_of c.args.zones.now.entries) c.args.path (seen_view c.args.seen) (view c.args.value.now) c.args.below c.if-has_key.ensures) c.set_at.ensures
+pub node_at-returns-then-has_key : goal.node_at-returns-then-has_key
+node_at-returns-then-has_key g t c =
+    subst (Gives _ c.set_at.result)
+    (node_at-set (map zone_of c.args.zones.now.entries) c.args.path (seen_view c.args.seen) (view c.args.value.now) c.args.levels (c.args.levels - 1) (omega (arith, c.if-levels-eq0.false)) c.if-has_key.ensures)
+    c.set_at.ensures
 
-pub open_node-returns-else-has_key : goal.open_node-returns-else-has_key
-open_node-returns-else-has_key g t c =
-    subst (Gives _ c.policy_at.result) (node_at-policy (map zone_of c.args.zones.now.entries) c.args.path (seen_view c.args.seen) (view c.args.value.now) c.args.below c.if-has_key.ensures) c.policy_at.ensures
+pub node_at-returns-else-has_key : goal.node_at-returns-else-has_key
+node_at-returns-else-has_key g t c =
+    subst (Gives _ c.policy_at.result)
+    (node_at-policy (map zone_of c.args.zones.now.entries) c.args.path (seen_view c.args.seen) (view c.args.value.now) c.args.levels (c.args.levels - 1) (omega (arith, c.if-levels-eq0.false)) c.if-has_key.ensures)
+    c.policy_at.ensures
 
 pub set_at-returns : goal.set_at-returns
 set_at-returns g t c =

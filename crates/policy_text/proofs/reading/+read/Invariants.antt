@@ -14,9 +14,6 @@ invariant-nodes_at-loop-index g l =
 abbrev pub decreases-node_at : goal.decreases-node_at
 decreases-node_at g l = 4 * l.levels
 
-abbrev pub decreases-open_node : goal.decreases-open_node
-decreases-open_node g l = 4 * l.below + 3
-
 abbrev pub decreases-set_at : goal.decreases-set_at
 decreases-set_at g l = 4 * l.below + 2
 

@@ -10,7 +10,7 @@ invariant-pairs l =
     let end = l.initial.text.at + length l.initial.text.bytes.now in
     record {
       place : l.text.at + length l.text.bytes.now ≡ end;
-      reading : kept_behind l.listed (ring_at end (tokens l.text.at l.text.bytes.now)) ≡ kept (ring_at end (tokens l.initial.text.at l.initial.text.bytes.now));
+      reading : kept_behind l.listed.items (ring_at end (tokens l.text.at l.text.bytes.now)) ≡ kept (ring_at end (tokens l.initial.text.at l.initial.text.bytes.now));
     }
 
 abbrev pub decreases-pairs : goal.decreases-pairs

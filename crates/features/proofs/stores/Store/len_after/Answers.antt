@@ -1,4 +1,4 @@
-use Rattle.std.proofs.Common.{◌≡◌, ◌+◌, [], arith, sym, ap, length, ◌∙◌}
+use Rattle.std.proofs.Common.{[], arith, sym, ap, length, ◌∙◌}
 use Rattle.std.proofs.lemmas.List.{length-map}
 use Rattle.features.specs.Tables.{feature_at}
 use Rattle.features.proofs.ChangeLemmas.{length_after}

@@ -1,3 +1,4 @@
+-- The codes of the faults.
 use Rattle.std.specs.Prelude.{ℕ, List, codes}
 use Rattle.predicate_locks.specs.declared.fault.LockFault.{LockFault}
 use Rattle.predicate_locks.specs.declared.fault.LockFault.TheVariants.{TooMany, Spent, Memory}

@@ -1,3 +1,4 @@
+-- The codes of the faults.
 use Rattle.std.specs.Prelude.{ℕ, List, codes}
 use Rattle.node_arena.specs.declared.fault.ArenaFault.{ArenaFault}
 use Rattle.node_arena.specs.declared.fault.ArenaFault.TheVariants.{Full, Memory}
