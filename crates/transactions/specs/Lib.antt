@@ -6,4 +6,5 @@ pub mod Rolls
 pub mod Coding
 pub mod Admitting
 pub mod Events
+pub mod PlainList
 pub mod Laws

@@ -10,6 +10,7 @@ ghost use Rattle.audit_trail.specs.Legal.{IsSeated};
 ghost use Rattle.audit_trail.specs.Records as deeds;
 ghost use Rattle.transactions.specs.Answers.{denial_of};
 ghost use Rattle.transactions.specs.Events.{Happens, Begin, Stage, AdvanceWalk, Commit, Abort, Number, Done, Advanced, Ended, reply_of, UnlessMemory, TurnsAway, Applies};
+ghost use Rattle.transactions.specs.PlainList.{advanced};
 ghost use Rattle.transactions.specs.Staging.{staged_in, with_step, one_placed, MayPlace};
 
 use crate::denials::denial_for;
@@ -39,7 +40,8 @@ impl<A: Allocator> World<A> {
     /// Makes a step of the walk of the next shape that is not yet placed. X1 where the seat was not given or no such
     /// transaction is open, X2 where it is another seat's. Until there is an index, one step places it.
     pub fn advance(&mut self, seat: u32, number: u64) -> Result<Advance, Fault>
-        ensures { Happens (AdvanceWalk seat number) self.old self.new (reply_of Advanced result) }
+        ensures happens { Happens (AdvanceWalk seat number) self.old self.new (reply_of Advanced result) }
+        ensures at_once { result ≡ advanced seat number self.old }
     {
         if !self.has_unplaced(seat, number)? {
             return Ok(Advance::AllPlaced);

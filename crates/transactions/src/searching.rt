@@ -1,9 +1,10 @@
 //! Seats and searches.
 
-ghost use Rattle.std.specs.Prelude.{◌≡◌, ◌≤◌, ◌<◌, ◌==◌, not, filter, length, OnOk, IfOk, IfErr, None};
+ghost use Rattle.std.specs.Prelude.{◌≡◌, ◌≤◌, ◌<◌, ◌==◌, not, filter, length, OnOk, IfOk, IfErr, None, Ok};
 ghost use Rattle.memory.specs.Refused.{refused};
 ghost use Rattle.audit_trail.specs.Listing.{Listed};
 ghost use Rattle.transactions.specs.Events.{Happens, TakeSeat, OpenSearch, VisitNext, Finish, DropSearch, Tend, Number, Done, Visited, Tended, Rows, reply_of, with_ready};
+ghost use Rattle.transactions.specs.PlainList.{visited};
 
 use crate::answers::Answer;
 use crate::faults::Fault;
@@ -49,7 +50,8 @@ impl<A: Allocator> World<A> {
     /// Makes a step of a search. X1 where the seat was not given or no such search runs, X2 where it is another seat's.
     /// Until there is an index, the first step answers Ready.
     pub fn visit(&mut self, seat: u32, number: u64) -> Result<Visit, Fault>
-        ensures { Happens (VisitNext seat number) self.old self.new (reply_of Visited result) }
+        ensures happens { Happens (VisitNext seat number) self.old self.new (reply_of Visited result) }
+        ensures at_once { result ≡ visited seat number self.old }
     {
         let search = self.may_go_on(seat, number)?;
         if !search.ready {
@@ -70,7 +72,8 @@ impl<A: Allocator> World<A> {
 
     /// Tends a slot of the index. Until there is an index, it is idle.
     pub fn tend(&mut self, slot: u32) -> Result<Tending, Fault>
-        ensures { Happens (Tend slot) self.old self.new (reply_of Tended result) }
+        ensures happens { Happens (Tend slot) self.old self.new (reply_of Tended result) }
+        ensures idle { result ≡ Ok Tending.Idle }
     {
         Ok(Tending::Idle)
     }
