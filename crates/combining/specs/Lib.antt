@@ -4,3 +4,4 @@ pub mod Deciding
 pub mod ThreeAlgorithms
 pub mod Tallies
 pub mod Gathering
+pub mod Finishing

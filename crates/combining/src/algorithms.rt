@@ -1,7 +1,7 @@
 //! The combining algorithms of XACML 3.0.
 
-ghost use Rattle.std.specs.Prelude.{◌≡◌, []};
-ghost use Rattle.combining.specs.Decisions.{combined, is_settled};
+ghost use Rattle.std.specs.Prelude.{◌≡◌, not, []};
+ghost use Rattle.combining.specs.Decisions.{combined, is_settled, is_not_applicable};
 
 use crate::decisions::Decision;
 use policy_text::Algorithm;
@@ -40,6 +40,27 @@ impl Tally {
                 Decision::Deny => Decision::Deny,
             },
         }
+    }
+
+    /// Whether one of the decisions is a Permit.
+    pub fn permits(self) -> bool
+        ensures { result ≡ self.permits }
+    {
+        self.permits
+    }
+
+    /// Whether one of the decisions is a Deny.
+    pub fn denies(self) -> bool
+        ensures { result ≡ self.denies }
+    {
+        self.denies
+    }
+
+    /// Whether one of the decisions is a Permit or a Deny.
+    pub fn is_applicable(self) -> bool
+        ensures { result ≡ not (is_not_applicable self.first) }
+    {
+        !matches!(self.first, Decision::NotApplicable)
     }
 
     /// What an algorithm makes of the decisions.

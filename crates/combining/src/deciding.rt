@@ -20,8 +20,8 @@ const NOT_APPLICABLE: Verdict = Verdict {
     rule: None,
 };
 
-/// The decision that a rule makes where it applies.
-fn effect_decision(effect: Effect) -> Decision
+/// The decision that a rule with this effect makes where it applies.
+pub fn effect_decision(effect: Effect) -> Decision
     ensures { result ≡ effect_decision effect }
 {
     match effect {
@@ -131,7 +131,7 @@ fn gather_nodes<A: Allocator>(
 
 /// How many rules stand below a node.
 #[cycle(count)]
-fn rule_count<A: Allocator>(node: &Node<A>) -> u32
+pub fn rule_count<A: Allocator>(node: &Node<A>) -> u32
     requires { length (rules_of (node_view node.now)) ≤ last_number }
     ensures { result ≡ length (rules_of (node_view node.now)) }
 {

@@ -2,14 +2,15 @@
 
 ghost use Rattle.std.specs.Prelude.{◌≡◌, ◌&&◌, []};
 ghost use Rattle.combining.specs.Gathering.{with_verdict, settled_verdict, stays_open, nothing_gathered};
+ghost use Rattle.combining.specs.Finishing.{is_finished};
 
 use crate::algorithms::Tally;
 use crate::decisions::{Decision, Verdict};
 use policy_text::Algorithm;
 
 /// The decisions of some children, and the first rules below them that made a Permit and a Deny.
-#[derive(Clone, Copy)]
-pub(crate) struct Gathered {
+#[derive(Clone, Copy, Debug)]
+pub struct Gathered {
     tally: Tally,
     counts: bool,
     permitting: Option<u32>,
@@ -54,6 +55,21 @@ impl Gathered {
         gathered.tally = self.tally.with(child.decision);
         gathered.counts = still_counts(self.counts, algorithm, child.decision);
         gathered
+    }
+
+    /// Whether no child behind can change what the algorithm makes of the children, nor the rule that made it.
+    pub fn is_finished(self, algorithm: Algorithm) -> bool
+        ensures { result ≡ is_finished algorithm self }
+    {
+        match algorithm {
+            Algorithm::DenyOverrides | Algorithm::PermitUnlessDeny => {
+                self.tally.denies() && self.denying.is_some()
+            }
+            Algorithm::PermitOverrides | Algorithm::DenyUnlessPermit => {
+                self.tally.permits() && self.permitting.is_some()
+            }
+            Algorithm::FirstApplicable => !self.counts && self.tally.is_applicable(),
+        }
     }
 
     /// What an algorithm makes of the children, and the first rule that made it.

@@ -66,12 +66,9 @@ fn some_hold<A: Allocator>(question: &Question, met: &[Name], part: &AnyOf<A>) -
         .any(|matches| all_hold(question, met, matches))
 }
 
-/// Whether a target holds: each of its parts has an alternative all of whose matches hold.
-pub(crate) fn target_holds<A: Allocator>(
-    question: &Question,
-    met: &[Name],
-    target: &Target<A>,
-) -> bool
+/// Whether a target holds, where the question's shape meets the zones of these names: each of its parts has an
+/// alternative all of whose matches hold.
+pub fn target_holds<A: Allocator>(question: &Question, met: &[Name], target: &Target<A>) -> bool
     ensures { result ≡ target_holds question.now met.now target.now }
 {
     target
@@ -80,7 +77,12 @@ pub(crate) fn target_holds<A: Allocator>(
         .all(|part| some_hold(question, met, part))
 }
 
-fn conditions_hold<A: Allocator>(question: &Question, met: &[Name], when: &Conditions<A>) -> bool
+/// Whether all these conditions hold, where the question's shape meets the zones of these names.
+pub fn conditions_hold<A: Allocator>(
+    question: &Question,
+    met: &[Name],
+    when: &Conditions<A>,
+) -> bool
     ensures { result ≡ list_all (atom_holds question.now met.now) when.now }
 {
     when.as_slice()

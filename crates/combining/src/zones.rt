@@ -12,7 +12,7 @@ use std::marker::Model;
 
 /// The names of the zones that a shape meets. A contract sees their list.
 #[derive(Drop)]
-pub(crate) struct MetZones {
+pub struct MetZones {
     names: [Name; ZONE_LIMIT],
     count: usize,
 }
@@ -48,6 +48,7 @@ impl MetZones {
         self.count += 1;
     }
 
+    /// The names, in the order of the zones.
     pub fn as_slice(&self) -> &[Name]
         ensures { result.now ≡ self.now }
     {
@@ -67,11 +68,7 @@ fn add_if_met(met: &mut MetZones, shape: &Shape, zone: Zone)
 }
 
 /// The zones of a document that the shape meets, each tested once. `filler` is any name.
-pub(crate) fn met_zones<A: Allocator>(
-    document: &Document<A>,
-    shape: &Shape,
-    filler: Name,
-) -> MetZones
+pub fn met_zones<A: Allocator>(document: &Document<A>, shape: &Shape, filler: Name) -> MetZones
     requires { length document.now.zones ≤ ZONE_LIMIT }
     ensures { AreMet shape.now document.now.zones result }
 {

@@ -1,1 +1,6 @@
 pub mod RulingLemmas
+pub mod TestLemmas
+pub mod FinishLemmas
+pub mod RunLemmas
+pub mod CompileLemmas
+pub mod KnownLemmas

@@ -1,10 +1,9 @@
 -- When two deciders are one: the test, and that it decides `≡`.
-use Rattle.std.specs.Prelude.{◌≡◌, ℕ, ◌==◌, Bool, true, ◌&&◌}
+use Rattle.std.specs.Prelude.{◌≡◌, ◌==◌, Bool, true, ◌&&◌}
 use Rattle.std.specs.Bool.{Decides}
 use Rattle.std.specs.Cmp.{first_so, second_so}
 use Rattle.std.proofs.Common.{refl, subst}
 use Rattle.std.proofs.lemmas.Bool.Decides.{Decides-eqb}
-use Rattle.policy_text.specs.Documents.{DocumentData}
 use Rattle.policy_text.specs.Equality.{same_document, same_document_decides}
 use Rattle.decision.specs.Deciders.{DeciderData}
 

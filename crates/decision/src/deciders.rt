@@ -2,22 +2,26 @@
 
 ghost use Rattle.std.specs.Prelude.{◌≡◌, ◌↔◌, IfOk, IfErr, IsTrue};
 ghost use Rattle.policy_text.specs.Documents.{rule_named};
-ghost use Rattle.decision.specs.Rulings.{Rules};
+ghost use Rattle.decision.specs.Rulings.{Rules, ruling_by};
 
+use crate::folding::Folded;
+use crate::known::Known;
+use crate::plans::Plan;
 use crate::rulings::Ruling;
-use combining::{Decision, Question, evaluate};
-use features::Name;
-use memory::NotStored;
-use policy_text::Document;
+use combining::{Decision, Question, Verdict};
+use features::{Action, Name, Subject};
+use memory::{NotStored, Refused};
+use policy_text::{Document, Node};
 use std::alloc::Global;
 use std::marker::Model;
 
-/// A policy document with its edition. It is made once and only read from then on, so that many may share it. A
-/// contract sees the document's plain data and the edition.
+/// A policy document under its edition and compiled for deciding. It is made once and only read from then on, so many
+/// may share it. A contract sees the document's plain data and the edition.
 #[derive(Debug, Drop)]
 pub struct Decider {
     document: Document<Global>,
     edition: u64,
+    plan: Plan<Global>,
 }
 
 impl Model for Decider {
@@ -29,6 +33,33 @@ impl Model for Decider {
     ghost coded = { code_by Stored (Prim.hlevel codes) stored restored restored-stored };
 
     ghost view = { λ d. record { document = d.document; edition = d.edition } };
+
+    ghost use Rattle.combining.specs.declared.questions.Question.{Question};
+    ghost use Rattle.decision.specs.Plans.{Decides};
+
+    ghost invariant = { λ d. (q : Question) → Decides _ d.plan d.document.root q };
+}
+
+/// The allocator of a document's root.
+fn heap_of(document: &Document<Global>) -> Global {
+    match document.root() {
+        Node::Set { of, .. } => *of.allocator(),
+        Node::Policy { rules, .. } => *rules.allocator(),
+    }
+}
+
+/// How a verdict rules: only a Permit lets pass.
+pub(crate) fn ruling(verdict: Verdict) -> Ruling
+    ensures { result ≡ ruling_by verdict.decision verdict.rule }
+{
+    match verdict.decision {
+        Decision::Permit => Ruling::Permit(verdict.rule),
+        Decision::Deny => match verdict.rule {
+            Some(rule) => Ruling::DeniedBy(rule),
+            None => Ruling::NoneApplied,
+        },
+        Decision::NotApplicable => Ruling::NoneApplied,
+    }
 }
 
 impl Decider {
@@ -40,22 +71,37 @@ impl Decider {
         ensures ok { IfOk result (λ decider. decider ≡ record { document = document; edition = edition }) }
         ensures document_returned { IfErr result (λ failed. failed.value ≡ document) }
     {
-        Ok(Decider { document, edition })
+        match Plan::new(heap_of(&document), &Known::Nothing, &document) {
+            Ok(plan) => Ok(Decider {
+                document,
+                edition,
+                plan,
+            }),
+            Err(refusal) => Err(NotStored {
+                value: document,
+                refusal,
+            }),
+        }
     }
 
     /// How the document rules. It takes no memory.
     pub fn decide(&self, question: &Question) -> Ruling
         ensures { Rules self.now.document question.now result }
     {
-        let verdict = evaluate(&self.document, question);
-        match verdict.decision {
-            Decision::Permit => Ruling::Permit(verdict.rule),
-            Decision::Deny => match verdict.rule {
-                Some(rule) => Ruling::DeniedBy(rule),
-                None => Ruling::NoneApplied,
-            },
-            Decision::NotApplicable => Ruling::NoneApplied,
-        }
+        ruling(self.plan.verdict(&self.document, question))
+    }
+
+    /// The document folded for what this subject asks to do: what of it the subject and the action tell is decided. The
+    /// only error is want of memory.
+    pub fn fold(&self, subject: &Subject, action: &Action) -> Result<Folded<'_>, Refused>
+        ensures { IfOk result (λ folded. folded ≡ record { decider = self.now; subject = subject.now; action = action.now }) }
+    {
+        let known = Known::Asked {
+            subject: *subject,
+            action: *action,
+        };
+        let plan = Plan::new(heap_of(&self.document), &known, &self.document)?;
+        Ok(Folded::new(self, *subject, *action, plan))
     }
 
     /// The name of the document's rule of this number. Rules are numbered from 1, in document order.

@@ -1,10 +1,17 @@
 //! The decision point: a policy document with its edition, and how it rules.
 #![tactic(auto)]
 
+mod compiling;
 mod deciders;
+mod folding;
+mod known;
 mod laws;
+mod plans;
 mod rulings;
+mod running;
+mod steps;
 
 pub use deciders::Decider;
+pub use folding::Folded;
 pub use laws::rulings_are_one;
 pub use rulings::Ruling;

@@ -1,0 +1,38 @@
+-- What is appended for the parts of a document while it is compiled. Clauses of private functions alone cite it.
+use Rattle.std.specs.Prelude.{◌≡◌, ℕ, ◌-◌, List, [], ◌++◌, length}
+use Rattle.std.specs.Prelude.{slice_set}
+use Rattle.policy_text.specs.declared.algorithms.Algorithm.{Algorithm}
+use Rattle.policy_text.specs.declared.matches.Match.{Match}
+use Rattle.combining.specs.declared.questions.Question.{Question}
+use Rattle.combining.specs.declared.decisions.Decision.{Decision}
+use Rattle.combining.specs.declared.gathering.Gathered.{Gathered}
+use Rattle.decision.specs.declared.known.Known.{Known}
+use Rattle.decision.specs.declared.steps.Step.{Step}
+use Rattle.decision.specs.declared.steps.Step.TheVariants as steps
+use Rattle.combining.specs.Deciding.{Placed}
+use Rattle.combining.specs.Gathering.{with_verdict, nothing_gathered, part_verdict, gathered_of}
+use Rattle.decision.specs.Known.{Fits}
+use Rattle.decision.specs.Plans.{Branches, flat, gathered_from}
+
+-- the new list is the old one with branches behind it of which this is true, for each question of which this is known
+pub record Appends (A : Type 0) (known : Known) (means : Question → List (List ℕ) → Branches → Type 0) (old new : List (Step A)) : Type 0 where
+  pub row : Branches
+  pub appended : new ≡ old ++ flat A row
+  pub meant : (q : Question) (met : List (List ℕ)) → Fits known q → means q met row
+
+module _ (q : Question) (met : List (List ℕ)) where
+  -- these branches do what a part of a set or a policy does, where the part's first rule has this number
+  abbrev pub StandsFor : ℕ → Decision × List Placed → Branches → Type 0
+  StandsFor n part row = (a : Algorithm) (g : Gathered) → gathered_from q met a g row ≡ with_verdict a g (part_verdict q met n part)
+
+  -- these branches do what all these parts do
+  abbrev pub AllStandFor : ℕ → List (Decision × List Placed) → Branches → Type 0
+  AllStandFor n parts row = (a : Algorithm) → gathered_from q met a nothing_gathered row ≡ gathered_of q met a n parts
+
+-- what holds a node's place until what is below it stands
+abbrev pub placeholder : (A : Type 0) → Algorithm → Step A
+placeholder A combine = steps.Node combine [] 0
+
+-- a node in the place that was held for it
+abbrev pub closed : (A : Type 0) → ℕ → Algorithm → List (List (List Match)) → List (Step A) → List (Step A)
+closed A place combine target list = slice_set list place (steps.Node combine target (length list - place - 1))

@@ -1,0 +1,192 @@
+//! How a document is compiled to steps.
+
+ghost use Rattle.std.specs.Prelude.{◌≡◌, ℕ, ◌+◌, ◌<◌, ◌≤◌, List, ◌∷◌, ◌++◌, [], OnOk, IfOk, length, map};
+ghost use Rattle.combining.specs.Deciding.{rule_part};
+ghost use Rattle.combining.specs.Gathering.{node_part, last_number};
+ghost use Rattle.decision.specs.Plans.{Branches, flat};
+ghost use Rattle.decision.specs.Compiled.{Appends, StandsFor, AllStandFor, placeholder, closed};
+ghost use Rattle.policy_text.specs.Documents.{set, policy, rules_of, rules_of_all, children_of};
+ghost use Rattle.policy_text.specs.Views.{node_view};
+
+use crate::known::{Known, keep_conditions, keep_target};
+use crate::steps::Step;
+use combining::rule_count;
+use memory::{GrowVec, Refused};
+use policy_text::{Algorithm, Node, Rule, Target};
+use std::alloc::Allocator;
+
+/// Appends the step of a rule, unless it applies to no question of which this is known. The only error is want of memory.
+fn compile_rule<A: Allocator, B: Allocator + Copy>(
+    alloc: B,
+    known: &Known,
+    rule: &Rule<A>,
+    number: u32,
+    steps: &mut Vec<Step<B>, B>,
+) -> Result<(), Refused>
+    ensures { OnOk result (Appends B known.now (λ q met. StandsFor q met number (rule_part q met rule.now)) steps.old.items steps.new.items) }
+{
+    let Some(target) = keep_target(alloc, known, &rule.target)? else {
+        return Ok(());
+    };
+    let Some(when) = keep_conditions(alloc, known, &rule.when)? else {
+        return Ok(());
+    };
+    steps.try_push(Step::Rule {
+        number,
+        effect: rule.effect,
+        target,
+        when,
+    })?;
+    Ok(())
+}
+
+/// Appends the steps of a policy's rules, the first of which has the number `next`. The only error is want of memory.
+fn compile_rules<A: Allocator, B: Allocator + Copy>(
+    alloc: B,
+    known: &Known,
+    rules: &[Rule<A>],
+    next: u32,
+    steps: &mut Vec<Step<B>, B>,
+) -> Result<(), Refused>
+    requires { next + length rules.now ≤ last_number }
+    ensures { OnOk result (Appends B known.now (λ q met. AllStandFor q met next (map (rule_part q met) rules.now)) steps.old.items steps.new.items) }
+{
+    let mut number = next;
+    for rule in rules {
+        compile_rule(alloc, known, rule, number, steps)?;
+        number += 1;
+    }
+    Ok(())
+}
+
+/// Holds a place for a set or a policy, whose steps come behind it. The only error is want of memory.
+fn open_node<B: Allocator + Copy>(
+    alloc: B,
+    combine: Algorithm,
+    steps: &mut Vec<Step<B>, B>,
+) -> Result<usize, Refused>
+    ensures { IfOk result (λ place. (place ≡ length steps.old.items) × (steps.new.items ≡ steps.old.items ++ placeholder B combine ∷ [])) }
+{
+    let place = steps.len();
+    steps.try_push(Step::Node {
+        combine,
+        target: Target::from_vec(Vec::new(alloc)),
+        below: 0,
+    })?;
+    Ok(place)
+}
+
+/// Puts a set or a policy into its place, with the steps behind it below it.
+fn close_node<B: Allocator + Copy>(
+    steps: &mut Vec<Step<B>, B>,
+    place: usize,
+    combine: Algorithm,
+    target: Target<B>,
+)
+    requires { place < length steps.old.items }
+    ensures { steps.new.items ≡ closed B place combine target steps.old.items }
+{
+    let below = steps.len() - place - 1;
+    steps[place] = Step::Node {
+        combine,
+        target,
+        below,
+    };
+}
+
+/// Appends the steps of a policy, whatever its name, unless its target holds for no question of which this is known. Its
+/// first rule has the number `next`. The only error is want of memory.
+fn compile_policy<A: Allocator, B: Allocator + Copy>(
+    alloc: B,
+    known: &Known,
+    combine: Algorithm,
+    target: &Target<A>,
+    rules: &[Rule<A>],
+    next: u32,
+    steps: &mut Vec<Step<B>, B>,
+) -> Result<(), Refused>
+    requires { next + length rules.now ≤ last_number }
+    ensures { (name : List ℕ) → OnOk result (Appends B known.now (λ q met. StandsFor q met next (node_part q met (policy (record { name = name; combine = combine; target = target.now }) rules.now))) steps.old.items steps.new.items) }
+{
+    let Some(target) = keep_target(alloc, known, target)? else {
+        return Ok(());
+    };
+    let place = open_node(alloc, combine, steps)?;
+    compile_rules(alloc, known, rules, next, steps)?;
+    close_node(steps, place, combine, target);
+    Ok(())
+}
+
+/// Appends the steps of a set or a policy, unless its target holds for no question of which this is known. Its first rule
+/// has the number `next`. The only error is want of memory.
+#[cycle(compile)]
+pub(crate) fn compile_node<A: Allocator, B: Allocator + Copy>(
+    alloc: B,
+    known: &Known,
+    node: &Node<A>,
+    next: u32,
+    steps: &mut Vec<Step<B>, B>,
+) -> Result<(), Refused>
+    requires { next + length (rules_of (node_view node.now)) ≤ last_number }
+    ensures { OnOk result (Appends B known.now (λ q met. StandsFor q met next (node_part q met (node_view node.now))) steps.old.items steps.new.items) }
+{
+    match node {
+        Node::Set {
+            combine,
+            target,
+            of,
+            ..
+        } => compile_set(alloc, known, *combine, target, of, next, steps),
+        Node::Policy {
+            combine,
+            target,
+            rules,
+            ..
+        } => compile_policy(alloc, known, *combine, target, rules, next, steps),
+    }
+}
+
+/// Appends the steps of a set, whatever its name, unless its target holds for no question of which this is known. The first
+/// rule below it has the number `next`. The only error is want of memory.
+#[cycle(compile)]
+fn compile_set<A: Allocator, B: Allocator + Copy>(
+    alloc: B,
+    known: &Known,
+    combine: Algorithm,
+    target: &Target<A>,
+    of: &[Node<A>],
+    next: u32,
+    steps: &mut Vec<Step<B>, B>,
+) -> Result<(), Refused>
+    requires { next + length (rules_of_all (children_of (map node_view of.now))) ≤ last_number }
+    ensures { (name : List ℕ) → OnOk result (Appends B known.now (λ q met. StandsFor q met next (node_part q met (set (record { name = name; combine = combine; target = target.now }) (children_of (map node_view of.now))))) steps.old.items steps.new.items) }
+{
+    let Some(target) = keep_target(alloc, known, target)? else {
+        return Ok(());
+    };
+    let place = open_node(alloc, combine, steps)?;
+    compile_nodes(alloc, known, of, next, steps)?;
+    close_node(steps, place, combine, target);
+    Ok(())
+}
+
+/// Appends the steps of a set's children. The first rule below them has the number `next`. The only error is want of
+/// memory.
+#[cycle(compile)]
+fn compile_nodes<A: Allocator, B: Allocator + Copy>(
+    alloc: B,
+    known: &Known,
+    nodes: &[Node<A>],
+    next: u32,
+    steps: &mut Vec<Step<B>, B>,
+) -> Result<(), Refused>
+    requires { next + length (rules_of_all (children_of (map node_view nodes.now))) ≤ last_number }
+    ensures { OnOk result (Appends B known.now (λ q met. AllStandFor q met next (map (λ node. node_part q met (node_view node)) nodes.now)) steps.old.items steps.new.items) }
+{
+    let mut next = next;
+    for node in nodes {
+        compile_node(alloc, known, node, next, steps)?;
+        next += rule_count(node);
+    }
+    Ok(())
+}

@@ -1,0 +1,65 @@
+//! Documents compiled for deciding.
+
+ghost use Rattle.std.specs.Prelude.{◌≡◌, IfOk};
+ghost use Rattle.combining.specs.Deciding.{Answers};
+ghost use Rattle.combining.specs.declared.questions.Question.{Question};
+ghost use Rattle.decision.specs.Known.{Fits};
+ghost use Rattle.decision.specs.Plans.{Decides};
+
+use crate::compiling::compile_node;
+use crate::known::Known;
+use crate::running::run_steps;
+use crate::steps::Step;
+use combining::{Question, Verdict, met_zones};
+use memory::Refused;
+use policy_text::{Algorithm, Document};
+use std::alloc::Allocator;
+use std::marker::Model;
+
+/// A document compiled for questions of which something may be known: its rules, with their numbers, its sets and its
+/// policies in one flat list, in document order. A contract sees the list.
+#[derive(Debug, Drop)]
+pub(crate) struct Plan<A: Allocator> {
+    steps: Vec<Step<A>, A>,
+}
+
+impl<A: Allocator> Model for Plan<A> {
+    ghost use Rattle.std.specs.Prelude.{List};
+    ghost use Rattle.decision.specs.declared.steps.Step.{Step};
+
+    ghost Value = { List (Step A) };
+
+    ghost view = { λ p. p.steps.items };
+}
+
+impl<A: Allocator + Copy> Plan<A> {
+    /// The plan of a document. What is known of a question is decided in it. The only error is want of memory.
+    pub fn new<D: Allocator>(
+        alloc: A,
+        known: &Known,
+        document: &Document<D>,
+    ) -> Result<Plan<A>, Refused>
+        ensures { IfOk result (λ plan. (q : Question) → Fits known.now q → Decides A plan document.now.root q) }
+    {
+        let mut steps = Vec::new(alloc);
+        compile_node(alloc, known, document.root(), 1, &mut steps)?;
+        Ok(Plan { steps })
+    }
+}
+
+impl<A: Allocator> Plan<A> {
+    /// What the document decides, of which this is the plan. It takes no memory.
+    pub fn verdict<D: Allocator>(&self, document: &Document<D>, question: &Question) -> Verdict
+        requires { Decides A self.now document.now.root question.now }
+        ensures { Answers document.now question.now result }
+    {
+        let _root = document.root();
+        let met = met_zones(document, &question.shape, question.class);
+        run_steps(
+            question,
+            met.as_slice(),
+            Algorithm::FirstApplicable,
+            &self.steps,
+        )
+    }
+}

@@ -1,0 +1,37 @@
+//! The steps of a plan.
+
+ghost use Rattle.std.specs.Prelude.{◌≡◌};
+ghost use Rattle.decision.specs.Plans.{count_below};
+
+use policy_text::{Algorithm, Conditions, Effect, Target};
+use std::alloc::Allocator;
+
+/// A rule, or a set or a policy in front of what stands below it.
+#[derive(Debug, Drop)]
+pub(crate) enum Step<A: Allocator> {
+    /// A rule, under its number in document order, counted from 1.
+    Rule {
+        number: u32,
+        effect: Effect,
+        target: Target<A>,
+        when: Conditions<A>,
+    },
+    /// A set or a policy. So many of the steps behind it stand below it.
+    Node {
+        combine: Algorithm,
+        target: Target<A>,
+        below: usize,
+    },
+}
+
+impl<A: Allocator> Step<A> {
+    /// How many of the steps behind this one stand below it.
+    pub fn count_below(&self) -> usize
+        ensures { result ≡ count_below _ self.now }
+    {
+        match self {
+            Step::Rule { .. } => 0,
+            Step::Node { below, .. } => *below,
+        }
+    }
+}
