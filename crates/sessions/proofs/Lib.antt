@@ -1,8 +1,8 @@
 pub mod WordLemmas
+pub mod SearchLemmas
 pub mod CommitLemmas
+pub mod PolicyLemmas
 pub mod DeskLemmas
 pub mod WritingLemmas
-pub mod ListingLemmas
-pub mod RowLemmas
 pub mod ScriptLemmas
 pub mod StreamLemmas

@@ -8,18 +8,19 @@ use Rattle.wkt.specs.declared.fault.WktFault.{WktFault}
 use Rattle.wkt.specs.declared.fault.WktFault.TheVariants.{UnknownWord, LeftOut, Syntax, Number as NumberFault, OutOfRange, Bad}
 use Rattle.plane.specs.FaultCodes.{code_of as shape_code_of}
 use Rattle.wkt.specs.Faults.{code_of as wkt_code_of}
-use Rattle.features.specs.declared.rows.Feature.{Feature}
+use Rattle.policy_text.specs.declared.faults.TextFault.{TextFault}
+use Rattle.policy_text.specs.declared.faults.TextFault.TheVariants as unread
+use Rattle.policy_text.specs.FaultCodes.{code_of as policy_code_of}
+use Rattle.transactions.specs.FaultCodes.{fault_code, tree_code}
+use Rattle.transactions.specs.declared.faults.Fault.{Fault as WorldFault}
+use Rattle.transactions.specs.declared.faults.Fault.TheVariants as faults
+use Rattle.transactions.specs.declared.faults.TreeFault.{TreeFault}
+use Rattle.transactions.specs.declared.faults.TreeFault.TheVariants as tree
 use Rattle.sessions.specs.declared.faults.Fault.{Fault}
-use Rattle.sessions.specs.declared.faults.Fault.TheVariants.{LineTooLong, Command, Number, Name, BeforeHello, HelloAgain, NothingStaged, NoLabel, NoSubject, NoPlace, NamedTwice, TooManyChanges, Spent, StoreFull, Shape}
-use Rattle.sessions.specs.declared.replies.Reply.{Reply}
-use Rattle.sessions.specs.declared.replies.Reply.TheVariants.{Hello, Staged, Rows, Applied, Exists, Bye, Memory, Error}
+use Rattle.sessions.specs.declared.faults.Fault.TheVariants.{Shape}
 use Rattle.sessions.specs.Faults.{code_of}
-use Rattle.sessions.specs.Printed.{Shows, led, reply_text, row_text, rows_head, rows_text}
-use Rattle.plane.specs.declared.point.Point.{Point}
-use Rattle.sessions.specs.Listing.{IsListed}
 use Rattle.std.specs.Result.{IsErr}
 use Rattle.sessions.specs.Streams.{Took}
-use Rattle.sessions.proofs.ListingLemmas.{listed_once}
 
 -- no code is longer than three bytes
 shape_code_short : (fault : ShapeFault) → length (shape_code_of fault) ≤ 3
@@ -41,33 +42,34 @@ wkt_code_short (NumberFault at) = lit≤ tt
 wkt_code_short (OutOfRange at) = lit≤ tt
 wkt_code_short (Bad fault) = shape_code_short fault
 
-pub code_short : (fault : Fault) → length (code_of fault) ≤ 3
-code_short LineTooLong = lit≤ tt
-code_short Command = lit≤ tt
-code_short Number = lit≤ tt
-code_short Name = lit≤ tt
-code_short BeforeHello = lit≤ tt
-code_short HelloAgain = lit≤ tt
-code_short NothingStaged = lit≤ tt
-code_short NoLabel = lit≤ tt
-code_short NoSubject = lit≤ tt
-code_short NoPlace = lit≤ tt
-code_short NamedTwice = lit≤ tt
-code_short TooManyChanges = lit≤ tt
-code_short Spent = lit≤ tt
-code_short StoreFull = lit≤ tt
-code_short (Shape fault) = wkt_code_short fault
+tree_code_short : (fault : TreeFault) → length (tree_code fault) ≤ 3
+tree_code_short tree.NoSearch = lit≤ tt
+tree_code_short tree.TooMany = lit≤ tt
+tree_code_short (tree.Held search) = lit≤ tt
+tree_code_short tree.Full = lit≤ tt
+tree_code_short tree.TooHigh = lit≤ tt
+tree_code_short tree.Spent = lit≤ tt
+tree_code_short tree.Overrun = lit≤ tt
+tree_code_short (tree.Memory refused) = lit≤ tt
 
--- whatever is no listing is answered in one line
-pub shows_line : (lead : List ℕ) (reply : Reply) (features : List Feature) → ((w : _) → reply ≡ Rows w → ⊥) → Shows lead reply features (led lead (reply_text reply))
-shows_line lead (Hello name) features not_rows = refl
-shows_line lead Staged features not_rows = refl
-shows_line lead (Rows window) features not_rows = absurd (not_rows window refl)
-shows_line lead (Applied version) features not_rows = refl
-shows_line lead (Exists number) features not_rows = refl
-shows_line lead Bye features not_rows = refl
-shows_line lead (Memory refused) features not_rows = refl
-shows_line lead (Error fault) features not_rows = refl
+pub world_code_short : (fault : WorldFault) → length (fault_code fault) ≤ 3
+world_code_short (faults.Tree fault) = tree_code_short fault
+world_code_short _ = lit≤ tt
+
+pub policy_code_short : (fault : TextFault) → length (policy_code_of fault) ≤ 3
+policy_code_short unread.NotJson = lit≤ tt
+policy_code_short (unread.Form path) = lit≤ tt
+policy_code_short (unread.UnknownKey path) = lit≤ tt
+policy_code_short (unread.NameTwice name) = lit≤ tt
+policy_code_short (unread.NoZone name) = lit≤ tt
+policy_code_short (unread.BadZone name fault) = lit≤ tt
+policy_code_short unread.TooDeep = lit≤ tt
+policy_code_short unread.TooMany = lit≤ tt
+policy_code_short (unread.Memory refused) = lit≤ tt
+
+pub code_short : (fault : Fault) → length (code_of fault) ≤ 3
+code_short (Shape fault) = wkt_code_short fault
+code_short _ = lit≤ tt
 
 -- two writes, one after the other
 pub appends_then : (a b c : Option (List ℕ)) (xs ys : List ℕ) → Appends a b xs → Appends b c ys → Appends a c (xs ++ ys)
@@ -107,22 +109,10 @@ wrote_more all rest rest_then n a b c so_far taken left = (
   appends_then a b c so_far.0 (take n rest) so_far.2 taken,
 )
 
--- the head of a listing could not be written
-pub rows_failed : {E : Type 0} (r : Result (Unit {0}) E) → IsErr r → (lead : List ℕ) (window : List Point) (features : List Feature) (count : ℕ) (a b : Option (List ℕ))
-    → ((rows : List Feature) × IsListed window features rows × (count ≡ length rows))
-    → ((front : List ℕ) × (left : List ℕ) × (led lead (rows_head count) ≡ front ++ left) × Appends a b front)
-    → ((rows : List Feature) × IsListed window features rows × Took r a b (rows_text lead rows))
-rows_failed (Ok u) failed lead window features count a b counted head = absurd cc
-rows_failed (Err e) failed lead window features count a b counted head =
-    let here = subst (λ (n : ℕ). (front : List ℕ) × (left : List ℕ) × (led lead (rows_head n) ≡ front ++ left) × Appends a b front) counted.2 head in
-    (counted.0, counted.1, failed_before a b (led lead (rows_head (length counted.0))) (flat_map (λ row. led lead (row_text row)) counted.0) here)
-
--- a head that counts as many rows as there are, and the rows behind it
-pub rows_written : {E : Type 0} (r : Result (Unit {0}) E) (lead : List ℕ) (window : List Point) (features : List Feature) (count : ℕ) (a b c : Option (List ℕ))
-    → ((rows : List Feature) × IsListed window features rows × (count ≡ length rows)) → Appends a b (led lead (rows_head count))
-    → ((rows : List Feature) × IsListed window features rows × Took r b c (flat_map (λ row. led lead (row_text row)) rows))
-    → ((rows : List Feature) × IsListed window features rows × Took r a c (rows_text lead rows))
-rows_written r lead window features count a b c counted head each =
-    let same = listed_once window features counted.0 each.0 counted.1 each.1 in
-    let first = subst (λ (n : ℕ). Appends a b (led lead (rows_head n))) (counted.2 ∙ ap length same) head in
-    (each.0, each.1, took_then r a b c (led lead (rows_head (length each.0))) (flat_map (λ row. led lead (row_text row)) each.0) first each.2)
+-- rows that are written, as far as a loop has come, and one that is not written in full
+pub rows_broken : {E : Type 0} (r : Result (Unit {0}) E) → IsErr r → (front one behind all : List ℕ) (a b c : Option (List ℕ)) → all ≡ front ++ (one ++ behind) → Appends a b front
+    → ((fore : List ℕ) × (left : List ℕ) × (one ≡ fore ++ left) × Appends b c fore) → Took r a c all
+rows_broken (Ok u) failed front one behind all a b c parts first second = absurd cc
+rows_broken (Err e) failed front one behind all a b c parts first second =
+    let more = failed_before b c one behind second in
+    (front ++ more.0, more.1, parts ∙ ap (λ (zs : List ℕ). front ++ zs) more.2 ∙ sym (append_assoc front more.0 more.1), appends_then a b c front more.0 first more.3)
