@@ -3,6 +3,8 @@ pub mod SearchLemmas
 pub mod CommitLemmas
 pub mod PolicyLemmas
 pub mod DeskLemmas
+pub mod KeepLemmas
 pub mod WritingLemmas
 pub mod ScriptLemmas
+pub mod LentLemmas
 pub mod StreamLemmas

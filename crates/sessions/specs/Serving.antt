@@ -1,5 +1,5 @@
 -- The text that one session by itself is answered, whose lines have no label.
-use Rattle.std.specs.Prelude.{◌≡◌, ℕ, List, [], Option}
+use Rattle.std.specs.Prelude.{◌≡◌, ℕ, List, [], ◌∷◌, Option}
 use Rattle.std.specs.Bool.{MatchBool}
 use Rattle.features.specs.declared.actors.Subject.{Subject}
 use Rattle.features.specs.declared.rows.Change.{Change}
@@ -28,3 +28,8 @@ LineTells subject_of serves line old new said =
 pub record IsServedText {S : Type 0} (subject_of : S → Option Subject) (serves : Call → S → S → SaidData → Type 0) (service : S) (input : List ℕ) (end : S) (text : List ℕ) : Type 0 where
   pub staged : List Change
   pub tells : LinesTell (LineTells subject_of serves) (desk [] service) (lines_of input) (desk staged end) text
+
+-- calls of a service, each with what is said, lead from one way in which it stands to another
+abbrev pub Calls : {S : Type 0} → (Call → S → S → SaidData → Type 0) → List (Call × SaidData) → S → S → Type 0
+Calls serves [] old new = new ≡ old
+Calls {S = S} serves (call ∷ calls) old new = (mid : S) × serves call.0 old mid call.1 × Calls serves calls mid new

@@ -6,7 +6,7 @@ ghost use Rattle.sessions.specs.Scripts.{IsScriptText, LabelTells, LineTells, Se
 ghost use Rattle.sessions.specs.Printed.{led, reply_text, said_text};
 ghost use Rattle.sessions.specs.Replies.{said_view};
 ghost use Rattle.sessions.specs.Streams.{OnMemory, Ran, Took};
-ghost use Rattle.sessions.specs.States.{SessionState};
+ghost use Rattle.sessions.specs.States.{IsIdle, SessionState};
 ghost use Rattle.sessions.specs.declared.scripts.TheConstants.{LABEL_LIMIT};
 
 use crate::desks::{Staged, answer};
@@ -258,7 +258,8 @@ impl<A: Allocator + Copy> LineDesk for Table<A> {
 /// what each is answered, by one call of the writer for each line of a reply; after each line one slot of the index is
 /// tended. `alloc` serves what the world keeps and the buffers, `heap` documents and their texts. Faults: `Memory` where the
 /// buffers are refused, before anything is read; `Read` and `Write` where a read or a write fails;
-/// `TooManyTurns` after 16,777,216 reads. What was done before stands, and staged lists are dropped.
+/// `TooManyTurns` after 16,777,216 reads. What was done before stands, and staged lists are dropped. However the run ends, it
+/// leaves no search and no transaction under way.
 pub fn run_script<A: Allocator + Copy, R: Read, W: Write>(
     alloc: A,
     heap: Global,
@@ -270,6 +271,7 @@ pub fn run_script<A: Allocator + Copy, R: Read, W: Write>(
         × IsScriptText world.old input world.new said)) }
     ensures ran { (sessions : List SessionState) × Ran LineTells result (script world.old []) (script world.new sessions)
         (R.remaining reader.old) (R.remaining reader.new) (W.contents writer.old) (W.contents writer.new) }
+    ensures idle { IsIdle world.old → IsIdle world.new }
     ensures untouched { IfErr result (λ fault. OnMemory fault ((world.new ≡ world.old) × (reader.new ≡ reader.old) × (writer.new ≡ writer.old))) }
 {
     let mut table = Table::new(alloc, heap)?;

@@ -3,7 +3,9 @@
 ghost use Rattle.std.specs.Prelude.{◌≡◌, [], List, ℕ, OnOk, IfErr, IfSome};
 ghost use Rattle.std.specs.Io.KnownBytes.{Appends};
 ghost use Rattle.features.specs.declared.rows.Change.{Change};
-ghost use Rattle.sessions.specs.Serving.{IsServedText, LineTells};
+ghost use Rattle.sessions.specs.Replies.{SaidData};
+ghost use Rattle.sessions.specs.Services.{Call};
+ghost use Rattle.sessions.specs.Serving.{Calls, IsServedText, LineTells};
 ghost use Rattle.sessions.specs.States.{desk};
 ghost use Rattle.sessions.specs.Streams.{OnMemory, Ran, Took};
 
@@ -65,6 +67,7 @@ pub fn serve<S: Service, A: Allocator, R: Read, W: Write>(
         × IsServedText S.subject_of S.serves service.old input service.new said)) }
     ensures ran { (staged : List Change) × Ran (LineTells S.subject_of S.serves) result (desk [] service.old) (desk staged service.new)
         (R.remaining reader.old) (R.remaining reader.new) (W.contents writer.old) (W.contents writer.new) }
+    ensures calls { (calls : List (Call × SaidData)) × Calls S.serves calls service.old service.new }
     ensures untouched { IfErr result (λ fault. OnMemory fault ((service.new ≡ service.old) × (reader.new ≡ reader.old) × (writer.new ≡ writer.old))) }
 {
     let mut alone = Alone {
