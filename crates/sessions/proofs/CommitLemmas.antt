@@ -1,5 +1,5 @@
 -- A commit from its beginning to its end, over a world in which nothing else is under way.
-use Rattle.std.proofs.Common.{◌≡◌, ◌≢◌, ◌⊎◌, ℕ, zero, suc, ◌+◌, ◌<◌, ◌≤◌, ◌==◌, ◌||◌, nat_le, nat_lt, not, Bool, true, false, List, [], ◌∷◌, ◌++◌, length, filter, take, get_or, slice_get, Option, None, Some, MatchOption, Result, Ok, Err, if◌stopped◌else◌, refl, sym, ap, subst, ◌∙◌, inl, inr, arith}
+use Rattle.std.proofs.Common.{◌≡◌, ◌≢◌, ◌⊎◌, ℕ, zero, suc, ◌+◌, ◌<◌, ◌≤◌, ◌==◌, ◌||◌, nat_le, nat_lt, not, Bool, true, false, List, [], ◌∷◌, ◌++◌, length, filter, take, length-take, get_or, slice_get, Option, None, Some, MatchOption, Result, Ok, Err, if◌then◌else◌, refl, sym, ap, subst, ◌∙◌, inl, inr, arith}
 use Rattle.std.specs.Bool.{MatchBool}
 use Rattle.std.proofs.lemmas.Bool.{ne_eqb}
 use Rattle.std.proofs.lemmas.Bool.Decides.{nat_tests}
@@ -32,6 +32,9 @@ use Rattle.sessions.proofs.SearchLemmas.{same_number, idle_same, is_idle, want_i
 
 -- ---- changes that name different features
 
+length_take_lt : {T : Type 0} (i : ℕ) (xs : List T) → i < length xs → length (take i xs) ≡ i
+length_take_lt i xs lt = simp length-take (omega (arith, lt))
+
 unnamed_at : (id : ℕ) (changes : List Change) (i : ℕ) (d : Change) → IsUnnamed id changes → i < length changes → change_id (get_or changes i d) ≢ id
 unnamed_at id [] i d unnamed lt = absurd (omega (arith, lt))
 unnamed_at id (first ∷ changes) zero d unnamed lt = unnamed.0
@@ -49,8 +52,15 @@ distinct_at (first ∷ changes) (suc i) d distinct lt =
 pub may_add_at : (change : Change) (changes : List Change) → length changes < CHANGE_LIMIT → names (change_id change) changes ≡ false → may_add change changes ≡ Ok tt
 may_add_at change changes few other =
     let room : nat_le CHANGE_LIMIT (length changes) ≡ false = grind (arith, nat_tests, few) in
-    ap (λ (b : Bool). if b stopped Err faults.TooManyChanges else if names (change_id change) changes stopped Err faults.NamedTwice else Ok tt) room
-    ∙ ap (λ (b : Bool). if b stopped Err faults.NamedTwice else Ok tt) other
+    ap (λ (b : Bool). if b then Err faults.TooManyChanges else if names (change_id change) changes then Err faults.NamedTwice else Ok tt) room
+    ∙ ap (λ (b : Bool). if b then Err faults.NamedTwice else Ok tt) other
+
+-- a change may be staged behind those before it, where all name different features
+pub may_stage_at : (changes : List Change) (i : ℕ) (change : Change) → AreDistinct changes → length changes ≤ CHANGE_LIMIT → i < length changes → change ≡ get_or changes i change → may_add change (take i changes) ≡ Ok tt
+may_stage_at changes i change distinct few lt is =
+    let other = subst (λ (x : Change). names (change_id x) (take i changes) ≡ false) (sym is) (distinct_at changes i change distinct lt) in
+    let shorter : length (take i changes) ≡ i = length_take_lt i changes lt in
+    may_add_at change (take i changes) (rw shorter (omega (arith, few, lt))) other
 
 -- a place behind a list's end
 not_within : {T : Type 0} (xs : List T) (n : ℕ) → slice_get xs n ≡ None → nat_lt n (length xs) ≡ false
@@ -66,17 +76,17 @@ module _ (number seat : ℕ) (w : WorldData) (subject : Subject) (seated : subje
 
   own : (changes : List Change) (placed : ℕ) → own_transaction seat number (under number seat changes placed w) ≡ Ok (one changes placed)
   own changes placed =
-      ap (λ (b : Bool). and_then (given (if b stopped Some (one changes placed) else None)) (transaction_owned seat)) (same_number number)
-      ∙ ap (λ (b : Bool). if b stopped Ok (one changes placed) else Err faults.NotYours) (same_number seat)
+      ap (λ (b : Bool). and_then (given (if b then Some (one changes placed) else None)) (transaction_owned seat)) (same_number number)
+      ∙ ap (λ (b : Bool). if b then Ok (one changes placed) else Err faults.NotYours) (same_number seat)
 
   stepped : (changes : List Change) (placed : ℕ) → may_step seat number (under number seat changes placed w) ≡ Ok (one changes placed)
   stepped changes placed = ap (λ (r : Result Subject Fault). and_then r (λ _. own_transaction seat number (under number seat changes placed w))) seated ∙ own changes placed
 
   gone : (changes : List Change) (placed : ℕ) → ended number (one changes placed ∷ []) ≡ []
-  gone changes placed = ap (λ (b : Bool). if not b stopped one changes placed ∷ [] else []) (same_number number)
+  gone changes placed = ap (λ (b : Bool). if not b then one changes placed ∷ [] else []) (same_number number)
 
   next_step : (step : TransactionData → TransactionData) (t : TransactionData) → t.number ≡ number → with_step step number (t ∷ []) ≡ step t ∷ []
-  next_step step t e = ap (λ (n : ℕ). if n == number stopped step t ∷ [] else t ∷ []) e ∙ ap (λ (b : Bool). if b stopped step t ∷ [] else t ∷ []) (same_number number)
+  next_step step t e = ap (λ (n : ℕ). if n == number then step t ∷ [] else t ∷ []) e ∙ ap (λ (b : Bool). if b then step t ∷ [] else t ∷ []) (same_number number)
 
   -- one more change is staged
   pub stage_one : (changes : List Change) (placed : ℕ) (change : Change) (new : WorldData) (result : Result (Unit {0}) Fault) → may_add change changes ≡ Ok tt
@@ -184,7 +194,7 @@ module _ (number seat : ℕ) (w : WorldData) (subject : Subject) (seated : subje
     committed reply none h = go (is_full w) refl h
       where
         all : all_placed (one changes placed) ≡ Ok tt
-        all = ap (λ (b : Bool). if b stopped Err faults.NotPlaced else Ok tt) (not_within (placements changes) placed none)
+        all = ap (λ (b : Bool). if b then Err faults.NotPlaced else Ok tt) (not_within (placements changes) placed none)
 
         admitted : may_commit seat number there ≡ and_then (may_record w) (λ _. Ok subject)
         admitted =
@@ -192,7 +202,7 @@ module _ (number seat : ℕ) (w : WorldData) (subject : Subject) (seated : subje
             ∙ ap (λ (r : Result TransactionData Fault). and_then r (λ t. and_then (all_placed t) (λ _. and_then (may_record there) (λ _. Ok subject)))) (own changes placed)
             ∙ ap (λ (r : Result (Unit {0}) Fault). and_then r (λ _. and_then (may_record there) (λ _. Ok subject))) all
 
-        staged_is : (b : Bool) → b ≡ true → (if b stopped changes else []) ≡ changes
+        staged_is : (b : Bool) → b ≡ true → (if b then changes else []) ≡ changes
         staged_is true e = refl
         staged_is false e = absurd cc
 
@@ -211,11 +221,11 @@ module _ (number seat : ℕ) (w : WorldData) (subject : Subject) (seated : subje
 
         go : (full : Bool) → is_full w ≡ full → Happens (Commit seat number) there new reply → Committed changes placed new reply
         go true e h =
-            let left = refuses _ faults.TrailFull there new reply _ (admitted ∙ ap (λ (b : Bool). and_then (if b stopped Err faults.TrailFull else Ok tt) (λ _. Ok subject)) e) h in
+            let left = refuses _ faults.TrailFull there new reply _ (admitted ∙ ap (λ (b : Bool). and_then (if b then Err faults.TrailFull else Ok tt) (λ _. Ok subject)) e) h in
             inr (inl (e, left.1, left.0))
         go false e h =
             ends e (is_memory reply) refl (does _ subject there new reply (λ s. UnlessMemory there new reply (CommitsEvent seat number s there new reply))
-            (admitted ∙ ap (λ (b : Bool). and_then (if b stopped Err faults.TrailFull else Ok tt) (λ _. Ok subject)) e) h)
+            (admitted ∙ ap (λ (b : Bool). and_then (if b then Err faults.TrailFull else Ok tt) (λ _. Ok subject)) e) h)
 
 -- ---- commits from the beginning
 
@@ -246,14 +256,14 @@ begin_refused seat changes old new fault still h =
     go : (who : Result Subject Fault) (last : Bool) → subject_at seat old ≡ who → (old.next_transaction == LAST) ≡ last → Happens (Begin seat) (idle old) new (Refused fault) → (new ≡ idle old) × Commits seat changes (idle old) new (Refused fault)
     go (Err f) last e l h =
         let left = refuses _ f (idle old) new (Refused fault) _ (ap (λ (r : Result Subject Fault). and_then r (λ _. next_transaction (idle old))) e) h in
-        (left.0, turned _ f (idle old) new (Refused fault) Does (ap (λ (r : Result Subject Fault). and_then r (λ subject. if old.next_transaction == LAST stopped Err faults.Spent else Ok subject)) e) left)
+        (left.0, turned _ f (idle old) new (Refused fault) Does (ap (λ (r : Result Subject Fault). and_then r (λ subject. if old.next_transaction == LAST then Err faults.Spent else Ok subject)) e) left)
     go (Ok subject) true e l h =
-        let left = refuses _ faults.Spent (idle old) new (Refused fault) _ (ap (λ (r : Result Subject Fault). and_then r (λ _. next_transaction (idle old))) e ∙ ap (λ (b : Bool). if b stopped Err faults.Spent else Ok old.next_transaction) l) h in
-        (left.0, turned _ faults.Spent (idle old) new (Refused fault) Does (ap (λ (r : Result Subject Fault). and_then r (λ subject. if old.next_transaction == LAST stopped Err faults.Spent else Ok subject)) e ∙ ap (λ (b : Bool). if b stopped Err faults.Spent else Ok subject) l) left)
+        let left = refuses _ faults.Spent (idle old) new (Refused fault) _ (ap (λ (r : Result Subject Fault). and_then r (λ _. next_transaction (idle old))) e ∙ ap (λ (b : Bool). if b then Err faults.Spent else Ok old.next_transaction) l) h in
+        (left.0, turned _ faults.Spent (idle old) new (Refused fault) Does (ap (λ (r : Result Subject Fault). and_then r (λ subject. if old.next_transaction == LAST then Err faults.Spent else Ok subject)) e ∙ ap (λ (b : Bool). if b then Err faults.Spent else Ok subject) l) left)
     go (Ok subject) false e l h =
-        let d = does _ old.next_transaction (idle old) new (Refused fault) _ (ap (λ (r : Result Subject Fault). and_then r (λ _. next_transaction (idle old))) e ∙ ap (λ (b : Bool). if b stopped Err faults.Spent else Ok old.next_transaction) l) h in
+        let d = does _ old.next_transaction (idle old) new (Refused fault) _ (ap (λ (r : Result Subject Fault). and_then r (λ _. next_transaction (idle old))) e ∙ ap (λ (b : Bool). if b then Err faults.Spent else Ok old.next_transaction) l) h in
         let ends = wants subject (is_want fault) refl d in
-        (ends.0, done _ subject (idle old) new (Refused fault) Does (ap (λ (r : Result Subject Fault). and_then r (λ subject. if old.next_transaction == LAST stopped Err faults.Spent else Ok subject)) e ∙ ap (λ (b : Bool). if b stopped Err faults.Spent else Ok subject) l) ends.1)
+        (ends.0, done _ subject (idle old) new (Refused fault) Does (ap (λ (r : Result Subject Fault). and_then r (λ subject. if old.next_transaction == LAST then Err faults.Spent else Ok subject)) e ∙ ap (λ (b : Bool). if b then Err faults.Spent else Ok subject) l) ends.1)
 
 -- a transaction that is opened
 pub record Begun (seat : ℕ) (old new : WorldData) (number : ℕ) : Type 0 where
@@ -269,9 +279,9 @@ begins seat old new number still h = go (subject_at seat old) (old.next_transact
     go (Err f) last e l h =
         (let left = refuses _ f (idle old) new (Number number) _ (ap (λ (r : Result Subject Fault). and_then r (λ _. next_transaction (idle old))) e) h in let wrong = left.1 in absurd cc)
     go (Ok subject) true e l h =
-        (let left = refuses _ faults.Spent (idle old) new (Number number) _ (ap (λ (r : Result Subject Fault). and_then r (λ _. next_transaction (idle old))) e ∙ ap (λ (b : Bool). if b stopped Err faults.Spent else Ok old.next_transaction) l) h in let wrong = left.1 in absurd cc)
+        (let left = refuses _ faults.Spent (idle old) new (Number number) _ (ap (λ (r : Result Subject Fault). and_then r (λ _. next_transaction (idle old))) e ∙ ap (λ (b : Bool). if b then Err faults.Spent else Ok old.next_transaction) l) h in let wrong = left.1 in absurd cc)
     go (Ok subject) false e l h =
-        let d = does _ old.next_transaction (idle old) new (Number number) _ (ap (λ (r : Result Subject Fault). and_then r (λ _. next_transaction (idle old))) e ∙ ap (λ (b : Bool). if b stopped Err faults.Spent else Ok old.next_transaction) l) h in
+        let d = does _ old.next_transaction (idle old) new (Number number) _ (ap (λ (r : Result Subject Fault). and_then r (λ _. next_transaction (idle old))) e ∙ ap (λ (b : Bool). if b then Err faults.Spent else Ok old.next_transaction) l) h in
         let is : number ≡ old.next_transaction = cc (d.1) in
         record { subject = subject; seated = e; left = l; stands = d.0 ∙ ap (λ (n : ℕ). under n seat [] 0 (begun old)) (sym is) }
 
@@ -281,8 +291,8 @@ module _ (seat : ℕ) (changes : List Change) (old mid : WorldData) (number : �
 
   admits : may_conclude seat (idle old) ≡ Ok started.subject
   admits =
-      ap (λ (r : Result Subject Fault). and_then r (λ subject. if old.next_transaction == LAST stopped Err faults.Spent else Ok subject)) started.seated
-      ∙ ap (λ (b : Bool). if b stopped Err faults.Spent else Ok started.subject) started.left
+      ap (λ (r : Result Subject Fault). and_then r (λ subject. if old.next_transaction == LAST then Err faults.Spent else Ok subject)) started.seated
+      ∙ ap (λ (b : Bool). if b then Err faults.Spent else Ok started.subject) started.left
 
   abbrev Does : WorldData → Reply → Subject → Type 0
   Does new reply subject =
@@ -322,6 +332,12 @@ module _ (seat : ℕ) (changes : List Change) (old mid : WorldData) (number : �
       stuck (faults.Tree tree.Overrun) s e = e
       stuck _ s e = absurd s
 
+      abbrev AppliesSo : Bool → Bool → Reply → Type 0
+      AppliesSo last over said =
+          MatchBool last ((said ≡ Refused faults.Spent) × (new ≡ begun (idle old)))
+          (MatchBool over ((said ≡ Refused faults.StoreFull) × (new ≡ begun (idle old)))
+          ((said ≡ Ended (outcomes.Applied (old.state.version + 1))) × (new ≡ begun (recorded seat (applied started.subject (old.state.version + 1) changes) (idle old)))))
+
       refused_so : (fault : Fault) (placed : ℕ) (judgement : Judgement) → is_full old ≡ false → Judged old.state started.subject changes judgement
           → EndsSo number seat (begun old) started.subject started.seated changes placed judgement stopped (Refused fault)
           → (stopped ≡ under number seat changes placed (begun old) → new ≡ begun (idle old))
@@ -338,7 +354,7 @@ module _ (seat : ℕ) (changes : List Change) (old mid : WorldData) (number : �
               let left = last_of d.1 in (
                 is_idle (begun old) new left,
                 subst (λ (r : Reply). Does new r started.subject) (sym d.0)
-                    (judged new (Refused faults.Spent) room (judgements.Accepted, accepted, subst (λ (b : Bool). MatchBool b ((Refused faults.Spent ≡ Refused faults.Spent) × (new ≡ begun (idle old))) _) (sym e) (refl, left))),
+                    (judged new (Refused faults.Spent) room (judgements.Accepted, accepted, subst (λ (b : Bool). AppliesSo b (nat_lt old.limits.features (length (after (old.state.version + 1) started.subject.office changes old.state.features))) (Refused faults.Spent)) (sym e) (refl, left))),
               )
           decide false true e f d =
               let left = last_of d.1 in (
@@ -347,7 +363,7 @@ module _ (seat : ℕ) (changes : List Change) (old mid : WorldData) (number : �
                     (judged new (Refused faults.StoreFull) room (
                       judgements.Accepted,
                       accepted,
-                      subst (λ (b : Bool). MatchBool b _ _) (sym e) (subst (λ (b : Bool). MatchBool b ((Refused faults.StoreFull ≡ Refused faults.StoreFull) × (new ≡ begun (idle old))) _) (sym f) (refl, left)),
+                      subst (λ (b : Bool). AppliesSo b (nat_lt old.limits.features (length (after (old.state.version + 1) started.subject.office changes old.state.features))) (Refused faults.StoreFull)) (sym e) (subst (λ (b : Bool). AppliesSo false b (Refused faults.StoreFull)) (sym f) (refl, left)),
                     )),
               )
           decide false false e f d = (let wrong = d.0 in absurd cc)

@@ -2,6 +2,7 @@ pub mod WordLemmas
 pub mod SearchLemmas
 pub mod CommitLemmas
 pub mod PolicyLemmas
+pub mod SoloLemmas
 pub mod DeskLemmas
 pub mod KeepLemmas
 pub mod WritingLemmas

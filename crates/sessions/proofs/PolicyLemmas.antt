@@ -65,7 +65,7 @@ module _ {S : Type 0} (serves : Call → S → S → SaidData → Type 0) (stage
   unread_so s fault e = inr (subst (λ r. Read r s s (line (policy_reply fault))) (sym e) (refl, refl))
 
   pub governs_unread : (s : S) (fault : TextFault) → (text ≡ [] → fault ≡ unread.NotJson) → Fails fault (document_of_bytes text) → Governs serves text (desk staged s) (desk staged s) (line (policy_reply fault))
-  governs_unread s (unread.Memory refused) empty e = inl (λ none. (let wrong = empty none in absurd cc), refused, refl, refl)
+  governs_unread s (unread.Memory refused) empty e = inl ((λ none. (let wrong = empty none in absurd cc)), refused, (refl, refl))
   governs_unread s unread.NotJson empty e = unread_so s unread.NotJson e
   governs_unread s (unread.Form path) empty e = unread_so s (unread.Form path) e
   governs_unread s (unread.UnknownKey path) empty e = unread_so s (unread.UnknownKey path) e

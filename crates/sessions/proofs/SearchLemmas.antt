@@ -1,5 +1,5 @@
 -- A search from its beginning to its end, over a world in which nothing else is under way.
-use Rattle.std.proofs.Common.{◌≡◌, ◌⊎◌, ℕ, ◌+◌, ◌==◌, nat_le, not, Bool, true, false, List, [], ◌∷◌, length, map, filter, Option, None, Some, Result, Ok, Err, if◌stopped◌else◌, refl, sym, ap, subst, ◌∙◌, inl, inr, eq-eqb}
+use Rattle.std.proofs.Common.{◌≡◌, ◌⊎◌, ℕ, ◌+◌, ◌==◌, nat_le, not, Bool, true, false, List, [], ◌∷◌, length, map, filter, Option, None, Some, Result, Ok, Err, if◌then◌else◌, refl, sym, ap, subst, ◌∙◌, inl, inr, eq-eqb}
 use Rattle.std.specs.Bool.{MatchBool}
 use Rattle.plane.specs.declared.point.Point.{Point}
 use Rattle.memory.specs.declared.refused.Refused.{Refused as Refusal}
@@ -14,7 +14,7 @@ use Rattle.transactions.specs.declared.searches.Search.{Search}
 use Rattle.transactions.specs.declared.steps.Visit.TheVariants as visits
 use Rattle.transactions.specs.Admitting.{LAST, and_then, given, owned, search_with, subject_at, own_search, has_answered_ready, may_record, may_go_on, may_finish, may_open, next_search}
 use Rattle.transactions.specs.Answers.{AnswerData}
-use Rattle.transactions.specs.Events.{OpenSearch, VisitNext, Finish, DropSearch, Happens, If, Reply, Number, Visited, Rows, Refused, UnlessMemory, Sees, Visits, Finishes, is_memory, is_want, recorded, with_ready, without_search}
+use Rattle.transactions.specs.Events.{Event, OpenSearch, VisitNext, Finish, DropSearch, Happens, If, Reply, Number, Visited, Rows, Refused, UnlessMemory, Sees, Visits, Finishes, is_memory, is_want, recorded, with_ready, without_search}
 use Rattle.transactions.specs.States.{WorldData}
 use Rattle.sessions.specs.Services.{Searches, ListsRows, is_full, is_overrun, may_search}
 use Rattle.sessions.specs.States.{IsIdle, searched}
@@ -50,6 +50,10 @@ done may x old new reply Does e h = subst (λ (r : Result _ Fault). If r old new
 pub turned : {T : Type 0} (may : Result T Fault) (fault : Fault) (old new : WorldData) (reply : Reply) (Does : T → Type 0) → may ≡ Err fault → (new ≡ old) × (reply ≡ Refused fault) → If may old new reply Does
 turned may fault old new reply Does e h = subst (λ (r : Result _ Fault). If r old new reply Does) (sym e) h
 
+-- what happens in a world happens in one that is the same
+pub from_same : (event : Event) (old other new : WorldData) (reply : Reply) → old ≡ other → Happens event old new reply → Happens event other new reply
+from_same event old other new reply e h = subst (λ (x : WorldData). Happens event x new reply) e h
+
 -- ---- the one search that is under way
 
 module _ (number seat : ℕ) (window : List Point) (w : WorldData) (subject : Subject) (seated : subject_at seat w ≡ Ok subject) where
@@ -58,14 +62,14 @@ module _ (number seat : ℕ) (window : List Point) (w : WorldData) (subject : Su
 
   own : (ready : Bool) → own_search seat number (searching number seat window ready w) ≡ Ok (one ready)
   own ready =
-      ap (λ (b : Bool). and_then (given (if b stopped Some (one ready) else None)) (owned seat)) (same_number number)
-      ∙ ap (λ (b : Bool). if b stopped Ok (one ready) else Err faults.NotYours) (same_number seat)
+      ap (λ (b : Bool). and_then (given (if b then Some (one ready) else None)) (owned seat)) (same_number number)
+      ∙ ap (λ (b : Bool). if b then Ok (one ready) else Err faults.NotYours) (same_number seat)
 
   goes_on : (ready : Bool) → may_go_on seat number (searching number seat window ready w) ≡ Ok (one ready)
   goes_on ready = ap (λ (r : Result Subject Fault). and_then r (λ _. own_search seat number (searching number seat window ready w))) seated ∙ own ready
 
   gone : (ready : Bool) → filter (λ (s : Search). not (s.number == number)) (one ready ∷ []) ≡ []
-  gone ready = ap (λ (b : Bool). if not b stopped one ready ∷ [] else []) (same_number number)
+  gone ready = ap (λ (b : Bool). if not b then one ready ∷ [] else []) (same_number number)
 
   -- what a search that is visited leaves
   abbrev Visiting : WorldData → Reply → Type 0
@@ -77,7 +81,7 @@ module _ (number seat : ℕ) (window : List Point) (w : WorldData) (subject : Su
 
   sees : (mid : WorldData) (reply : Reply) → UnlessMemory (searching number seat window false w) mid reply (Sees number (searching number seat window false w) mid reply) → Visiting mid reply
   sees mid (Visited visits.More) d = tt
-  sees mid (Visited visits.Ready) d = d ∙ ap (λ (b : Bool). record w { searches = (if b stopped one true ∷ [] else one false ∷ []); transactions = [] }) (same_number number)
+  sees mid (Visited visits.Ready) d = d ∙ ap (λ (b : Bool). record w { searches = (if b then one true ∷ [] else one false ∷ []); transactions = [] }) (same_number number)
   sees mid (Refused (faults.Memory refusal)) d = d
   sees mid (Refused (faults.Tree tree.Overrun)) d = d ∙ ap (λ (ss : List Search). record w { searches = ss; transactions = [] }) (gone false)
   sees mid _ d = absurd d
@@ -124,10 +128,10 @@ module _ (number seat : ℕ) (window : List Point) (w : WorldData) (subject : Su
 
       go : (full : Bool) → is_full w ≡ full → Happens (Finish seat number) there new reply → Sought new reply
       go true e h =
-          let left = refuses _ faults.TrailFull there new reply _ (admitted ∙ ap (λ (b : Bool). and_then (if b stopped Err faults.TrailFull else Ok tt) (λ _. Ok (subject, one true))) e) h in
+          let left = refuses _ faults.TrailFull there new reply _ (admitted ∙ ap (λ (b : Bool). and_then (if b then Err faults.TrailFull else Ok tt) (λ _. Ok (subject, one true))) e) h in
           subst (λ (r : Reply). Sought new r) (sym left.1) (inr (inr (e, refl)), inl (true, left.0))
       go false e h =
-          let does_so = does _ (subject, one true) there new reply _ (admitted ∙ ap (λ (b : Bool). and_then (if b stopped Err faults.TrailFull else Ok tt) (λ _. Ok (subject, one true))) e) h in
+          let does_so = does _ (subject, one true) there new reply _ (admitted ∙ ap (λ (b : Bool). and_then (if b then Err faults.TrailFull else Ok tt) (λ _. Ok (subject, one true))) e) h in
           ends e reply does_so
 
   pub sought : (new : WorldData) (reply : Reply) → Seeks seat number (searching number seat window false w) new reply → Sought new reply
@@ -177,14 +181,14 @@ open_refused seat window old new fault still h =
     go : (who : Result Subject Fault) (last : Bool) → subject_at seat old ≡ who → (old.next_search == LAST) ≡ last → Happens (OpenSearch seat window) (idle old) new (Refused fault) → (new ≡ idle old) × Searches seat window (idle old) new (Refused fault)
     go (Err f) last e l h =
         let left = refuses _ f (idle old) new (Refused fault) _ (ap (λ (r : Result Subject Fault). and_then r (λ _. next_search (idle old))) e) h in
-        (left.0, turned _ f (idle old) new (Refused fault) Does (ap (λ (r : Result Subject Fault). and_then r (λ subject. if old.next_search == LAST stopped Err (faults.Tree tree.Spent) else Ok subject)) e) left)
+        (left.0, turned _ f (idle old) new (Refused fault) Does (ap (λ (r : Result Subject Fault). and_then r (λ subject. if old.next_search == LAST then Err (faults.Tree tree.Spent) else Ok subject)) e) left)
     go (Ok subject) true e l h =
-        let left = refuses _ (faults.Tree tree.Spent) (idle old) new (Refused fault) _ (ap (λ (r : Result Subject Fault). and_then r (λ _. next_search (idle old))) e ∙ ap (λ (b : Bool). if b stopped Err (faults.Tree tree.Spent) else Ok old.next_search) l) h in
-        (left.0, turned _ (faults.Tree tree.Spent) (idle old) new (Refused fault) Does (ap (λ (r : Result Subject Fault). and_then r (λ subject. if old.next_search == LAST stopped Err (faults.Tree tree.Spent) else Ok subject)) e ∙ ap (λ (b : Bool). if b stopped Err (faults.Tree tree.Spent) else Ok subject) l) left)
+        let left = refuses _ (faults.Tree tree.Spent) (idle old) new (Refused fault) _ (ap (λ (r : Result Subject Fault). and_then r (λ _. next_search (idle old))) e ∙ ap (λ (b : Bool). if b then Err (faults.Tree tree.Spent) else Ok old.next_search) l) h in
+        (left.0, turned _ (faults.Tree tree.Spent) (idle old) new (Refused fault) Does (ap (λ (r : Result Subject Fault). and_then r (λ subject. if old.next_search == LAST then Err (faults.Tree tree.Spent) else Ok subject)) e ∙ ap (λ (b : Bool). if b then Err (faults.Tree tree.Spent) else Ok subject) l) left)
     go (Ok subject) false e l h =
-        let d = does _ old.next_search (idle old) new (Refused fault) _ (ap (λ (r : Result Subject Fault). and_then r (λ _. next_search (idle old))) e ∙ ap (λ (b : Bool). if b stopped Err (faults.Tree tree.Spent) else Ok old.next_search) l) h in
+        let d = does _ old.next_search (idle old) new (Refused fault) _ (ap (λ (r : Result Subject Fault). and_then r (λ _. next_search (idle old))) e ∙ ap (λ (b : Bool). if b then Err (faults.Tree tree.Spent) else Ok old.next_search) l) h in
         let ends = wants subject (is_want fault) refl d in
-        (ends.0, done _ subject (idle old) new (Refused fault) Does (ap (λ (r : Result Subject Fault). and_then r (λ subject. if old.next_search == LAST stopped Err (faults.Tree tree.Spent) else Ok subject)) e ∙ ap (λ (b : Bool). if b stopped Err (faults.Tree tree.Spent) else Ok subject) l) ends.1)
+        (ends.0, done _ subject (idle old) new (Refused fault) Does (ap (λ (r : Result Subject Fault). and_then r (λ subject. if old.next_search == LAST then Err (faults.Tree tree.Spent) else Ok subject)) e ∙ ap (λ (b : Bool). if b then Err (faults.Tree tree.Spent) else Ok subject) l) ends.1)
 
 -- a search that is opened
 pub record Opened (seat : ℕ) (window : List Point) (old new : WorldData) (number : ℕ) : Type 0 where
@@ -201,9 +205,9 @@ opened seat window old new number still h = go (subject_at seat old) (old.next_s
     go (Err f) last e l h =
         (let left = refuses _ f (idle old) new (Number number) _ (ap (λ (r : Result Subject Fault). and_then r (λ _. next_search (idle old))) e) h in let wrong = left.1 in absurd cc)
     go (Ok subject) true e l h =
-        (let left = refuses _ (faults.Tree tree.Spent) (idle old) new (Number number) _ (ap (λ (r : Result Subject Fault). and_then r (λ _. next_search (idle old))) e ∙ ap (λ (b : Bool). if b stopped Err (faults.Tree tree.Spent) else Ok old.next_search) l) h in let wrong = left.1 in absurd cc)
+        (let left = refuses _ (faults.Tree tree.Spent) (idle old) new (Number number) _ (ap (λ (r : Result Subject Fault). and_then r (λ _. next_search (idle old))) e ∙ ap (λ (b : Bool). if b then Err (faults.Tree tree.Spent) else Ok old.next_search) l) h in let wrong = left.1 in absurd cc)
     go (Ok subject) false e l h =
-        let d = does _ old.next_search (idle old) new (Number number) _ (ap (λ (r : Result Subject Fault). and_then r (λ _. next_search (idle old))) e ∙ ap (λ (b : Bool). if b stopped Err (faults.Tree tree.Spent) else Ok old.next_search) l) h in
+        let d = does _ old.next_search (idle old) new (Number number) _ (ap (λ (r : Result Subject Fault). and_then r (λ _. next_search (idle old))) e ∙ ap (λ (b : Bool). if b then Err (faults.Tree tree.Spent) else Ok old.next_search) l) h in
         let is : number ≡ old.next_search = cc (d.1) in
         record { subject = subject; seated = e; left = l; is = is; stands = d.0 ∙ ap (λ (n : ℕ). searching n seat window false (searched old)) (sym is) }
 
@@ -213,8 +217,8 @@ module _ (seat : ℕ) (window : List Point) (old mid : WorldData) (number : ℕ)
 
   admits : may_search seat (idle old) ≡ Ok started.subject
   admits =
-      ap (λ (r : Result Subject Fault). and_then r (λ subject. if old.next_search == LAST stopped Err (faults.Tree tree.Spent) else Ok subject)) started.seated
-      ∙ ap (λ (b : Bool). if b stopped Err (faults.Tree tree.Spent) else Ok started.subject) started.left
+      ap (λ (r : Result Subject Fault). and_then r (λ subject. if old.next_search == LAST then Err (faults.Tree tree.Spent) else Ok subject)) started.seated
+      ∙ ap (λ (b : Bool). if b then Err (faults.Tree tree.Spent) else Ok started.subject) started.left
 
   found : (stopped : WorldData) (reply : Reply) → Seeks seat number mid stopped reply → Sought number seat window (searched old) started.subject started.seated stopped reply
   found stopped reply seeks =
@@ -250,7 +254,7 @@ module _ (seat : ℕ) (window : List Point) (old mid : WorldData) (number : ℕ)
   search_answered new answer seeks =
       let end = found new (Rows answer) seeks in
       let rows = end.1 in (
-        is_idle _ new rows.3,
+        is_idle (recorded seat (answered started.subject window (map (λ row. row.id) rows.0) (map (λ row. row.version) rows.0)) (searched old)) new rows.3,
         whole new (Rows answer)
             (subst (λ (b : Bool). MatchBool b ((Rows answer ≡ Refused faults.TrailFull) × (new ≡ searched (idle old))) (ListsRows seat started.subject window (idle old) new (Rows answer))) (sym end.0) rows),
       )

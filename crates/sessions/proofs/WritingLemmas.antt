@@ -1,6 +1,8 @@
 -- Writing replies.
-use Rattle.std.proofs.Common.{◌≡◌, ℕ, ◌≤◌, List, [], ◌++◌, length, Option, Some, None, Result, Ok, Err, refl, sym, ap, ◌∙◌, append_assoc, append-nil, lit≤, subst, take, drop, take-append-drop}
+use Rattle.std.proofs.Common.{◌≡◌, ℕ, ◌+◌, ◌<◌, ◌≤◌, List, [], ◌∷◌, ◌++◌, length, map, get_or, Option, Some, None, Result, Ok, Err, refl, sym, ap, ◌∙◌, append_assoc, append-nil, lit≤, subst, take, drop, take-append-drop, length-map, codes, decimal}
 use Rattle.std.specs.List.{flat_map}
+use Rattle.std.proofs.lemmas.List.{take_more}
+use Rattle.std.proofs.lemmas.Grind.{flat_map-append}
 use Rattle.std.specs.Io.KnownBytes.{Appends}
 use Rattle.plane.specs.declared.fault.ShapeFault.{ShapeFault}
 use Rattle.plane.specs.declared.fault.ShapeFault.TheVariants.{OutOfRange as RangeFault, SameEnds, TooManyPoints, TooFew, NotClosed, Repeated, Flat, NotConvex, TooManyCorners}
@@ -19,6 +21,7 @@ use Rattle.transactions.specs.declared.faults.TreeFault.TheVariants as tree
 use Rattle.sessions.specs.declared.faults.Fault.{Fault}
 use Rattle.sessions.specs.declared.faults.Fault.TheVariants.{Shape}
 use Rattle.sessions.specs.Faults.{code_of}
+use Rattle.sessions.specs.Printed.{led, texts_text}
 use Rattle.std.specs.Result.{IsErr}
 use Rattle.sessions.specs.Streams.{Took}
 
@@ -100,6 +103,18 @@ pub failed_before : (a b : Option (List ℕ)) (xs ys : List ℕ) → ((front : L
     → ((front : List ℕ) × (left : List ℕ) × (xs ++ ys ≡ front ++ left) × Appends a b front)
 failed_before a b xs ys failed = (failed.0, failed.1 ++ ys, ap (λ (zs : List ℕ). zs ++ ys) failed.2 ∙ append_assoc failed.0 failed.1 ys, failed.3)
 
+-- the same, where the call that failed answers for both
+pub took_first : {E : Type 0} (r : Result (Unit {0}) E) → IsErr r → (a b : Option (List ℕ)) (xs ys : List ℕ) → ((front : List ℕ) × (left : List ℕ) × (xs ≡ front ++ left) × Appends a b front) → Took r a b (xs ++ ys)
+took_first (Ok u) failed a b xs ys first = absurd cc
+took_first (Err e) failed a b xs ys first = failed_before a b xs ys first
+
+-- what leads a line, and then its text with the line's end
+pub line_written : {E : Type 0} (r : Result (Unit {0}) E) (a b c : Option (List ℕ)) (lead text end : List ℕ) → Appends a b lead → Took r b c (text ++ end) → Took r a c ((lead ++ text) ++ end)
+line_written r a b c lead text end first second = subst (λ (t : List ℕ). Took r a c t) (sym (append_assoc lead text end)) (took_then r a b c lead (text ++ end) first second)
+
+pub line_failed : {E : Type 0} (r : Result (Unit {0}) E) → IsErr r → (a b : Option (List ℕ)) (lead text end : List ℕ) → ((front : List ℕ) × (left : List ℕ) × (lead ≡ front ++ left) × Appends a b front) → Took r a b ((lead ++ text) ++ end)
+line_failed r failed a b lead text end first = subst (λ (t : List ℕ). Took r a b t) (sym (append_assoc lead text end)) (took_first r failed a b lead (text ++ end) first)
+
 -- a call of the writer took more of what was left
 pub wrote_more : (all rest rest_then : List ℕ) (n : ℕ) (a b c : Option (List ℕ)) → ((f : List ℕ) × (all ≡ f ++ rest) × Appends a b f) → Appends b c (take n rest) → rest_then ≡ drop n rest
     → ((f : List ℕ) × (all ≡ f ++ rest_then) × Appends a c f)
@@ -116,3 +131,34 @@ rows_broken (Ok u) failed front one behind all a b c parts first second = absurd
 rows_broken (Err e) failed front one behind all a b c parts first second =
     let more = failed_before b c one behind second in
     (front ++ more.0, more.1, parts ∙ ap (λ (zs : List ℕ). front ++ zs) more.2 ∙ sym (append_assoc front more.0 more.1), appends_then a b c front more.0 first more.3)
+
+-- ---- one item of a list after another
+
+module _ {T : Type 0} (f : T → List ℕ) where
+  so_far_at : (xs : List T) (i : ℕ) (x : T) → i < length xs → x ≡ get_or xs i x → flat_map f (take (i + 1) xs) ≡ flat_map f (take i xs) ++ f x
+  so_far_at xs i x lt is =
+      ap (flat_map f) (take_more xs i x lt ∙ ap (λ (y : T). take i xs ++ y ∷ []) (sym is)) ∙ flat_map-append f (take i xs) (x ∷ [])
+      ∙ ap (λ (t : List ℕ). flat_map f (take i xs) ++ t) (append-nil (f x))
+
+  parts_at : (xs : List T) (i : ℕ) (x : T) → i < length xs → x ≡ get_or xs i x → flat_map f xs ≡ flat_map f (take i xs) ++ (f x ++ flat_map f (drop (i + 1) xs))
+  parts_at xs i x lt is =
+      ap (flat_map f) (sym (take-append-drop (i + 1) xs)) ∙ flat_map-append f (take (i + 1) xs) (drop (i + 1) xs)
+      ∙ ap (λ (t : List ℕ). t ++ flat_map f (drop (i + 1) xs)) (so_far_at xs i x lt is) ∙ append_assoc (flat_map f (take i xs)) (f x) (flat_map f (drop (i + 1) xs))
+
+  pub items_more : (xs : List T) (i : ℕ) (x : T) (a b c : Option (List ℕ)) → i < length xs → x ≡ get_or xs i x → Appends a b (flat_map f (take i xs)) → Appends b c (f x) → Appends a c (flat_map f (take (i + 1) xs))
+  items_more xs i x a b c lt is first second = subst (λ (t : List ℕ). Appends a c t) (sym (so_far_at xs i x lt is)) (appends_then a b c (flat_map f (take i xs)) (f x) first second)
+
+  pub items_failed : {E : Type 0} (r : Result (Unit {0}) E) → IsErr r → (xs : List T) (i : ℕ) (x : T) (a b c : Option (List ℕ)) → i < length xs → x ≡ get_or xs i x → Appends a b (flat_map f (take i xs))
+      → ((fore : List ℕ) × (left : List ℕ) × (f x ≡ fore ++ left) × Appends b c fore) → Took r a c (flat_map f xs)
+  items_failed r failed xs i x a b c lt is first second =
+      rows_broken r failed (flat_map f (take i xs)) (f x) (flat_map f (drop (i + 1) xs)) (flat_map f xs) a b c (parts_at xs i x lt is) first second
+
+pub flat_map_of_map : {T U : Type 0} (f : U → List ℕ) (g : T → U) (xs : List T) → flat_map (λ (x : T). f (g x)) xs ≡ flat_map f (map g xs)
+flat_map_of_map f g [] = refl
+flat_map_of_map f g (x ∷ xs) = ap (λ (t : List ℕ). f (g x) ++ t) (flat_map_of_map f g xs)
+
+-- texts of a list, and before them how many they are
+pub texts_joined : {T : Type 0} (g : T → List ℕ) (lead : List ℕ) (xs : List T) → led lead (codes "rolled " ++ decimal (length xs)) ++ flat_map (λ (x : T). led lead (g x)) xs ≡ texts_text lead (map g xs)
+texts_joined g lead xs =
+    ap (λ (n : ℕ). led lead (codes "rolled " ++ decimal n) ++ flat_map (λ x. led lead (g x)) xs) (sym (length-map g xs))
+    ∙ ap (λ (t : List ℕ). led lead (codes "rolled " ++ decimal (length (map g xs))) ++ t) (flat_map_of_map (λ (t : List ℕ). led lead t) g xs)

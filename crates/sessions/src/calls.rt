@@ -1,9 +1,10 @@
-//! Searches and commits from their beginning to their end. One that ends with a fault is dropped or aborted, and so nothing
-//! stays under way.
+//! What a session asks of a world, each call from its beginning to its end. A search or a commit that ends with a fault is
+//! dropped or aborted, and so nothing stays under way.
 
 ghost use Rattle.std.specs.Prelude.{◌≡◌, ◌≤◌, length};
+ghost use Rattle.std.specs.Arc.{arc_value};
 ghost use Rattle.audit_trail.specs.Judging.{AreDistinct};
-ghost use Rattle.transactions.specs.Events.{Ended, Rows, reply_of};
+ghost use Rattle.transactions.specs.Events.{Ended, Govern, Happens, Number, Roll, Rows, TakenOut, reply_of};
 ghost use Rattle.transactions.specs.declared.settings.TheConstants.{CHANGE_LIMIT};
 ghost use Rattle.sessions.specs.Services.{Searches, Commits};
 ghost use Rattle.sessions.specs.States.{WhereIdle};
@@ -11,8 +12,10 @@ ghost use Rattle.sessions.specs.Steps.{Concludes, Places, Seeks, Stages};
 
 use features::{Change, Meter};
 use plane::Shape;
-use std::alloc::Allocator;
-use transactions::{Advance, Answer, Fault, Outcome, STEP_LIMIT, TreeFault, Visit, World};
+use policy_text::Document;
+use std::alloc::{Allocator, Global};
+use std::sync::Arc;
+use transactions::{Advance, Answer, Fault, Outcome, Rolled, STEP_LIMIT, TreeFault, Visit, World};
 
 /// How many steps a search is waited for, which is overrun before.
 const SEARCH_STEPS: u32 = STEP_LIMIT + 1;
@@ -138,4 +141,32 @@ fn place_all<A: Allocator>(world: &mut World<A>, seat: u32, number: u64) -> Resu
         }
     }
     Err(Fault::Tree(TreeFault::Overrun))
+}
+
+/// Puts a document in force, as its next edition. X1 where the seat was not given, X7 where its subject is no steward, X8
+/// where the edition is at its end, X10 where the trail is full, X12 where a growth is refused.
+pub(crate) fn govern<A: Allocator + Copy>(
+    world: &mut World<A>,
+    heap: Global,
+    seat: u32,
+    document: Document<Global>,
+) -> Result<u64, Fault>
+    ensures { WhereIdle world.old world.new (Happens (Govern seat document) world.old world.new (reply_of Number result)) }
+{
+    match world.govern(heap, seat, document) {
+        Ok(edition) => Ok(edition),
+        Err((_, fault)) => Err(fault),
+    }
+}
+
+/// Takes the trail out. X1 where the seat was not given, X7 where its subject is no steward, X8 where the numbers of the
+/// records are at their end, X12 where a growth is refused.
+pub(crate) fn roll<A: Allocator + Copy>(
+    world: &mut World<A>,
+    heap: Global,
+    seat: u32,
+) -> Result<Arc<Rolled<A>, A>, Fault>
+    ensures { WhereIdle world.old world.new (Happens (Roll seat) world.old world.new (reply_of (λ piece. TakenOut (arc_value piece)) result)) }
+{
+    world.roll(heap, seat)
 }

@@ -4,7 +4,7 @@ ghost use Rattle.std.specs.Prelude.{◌≡◌, None};
 ghost use Rattle.sessions.specs.Replies.{name_of_rule, ruling_reply};
 ghost use Rattle.sessions.specs.Services.{seated};
 
-use crate::calls::{commit, search};
+use crate::calls::{commit, govern, roll, search};
 use crate::faults::Fault;
 use crate::replies::{Reply, Said, fault_reply, outcome_reply};
 use crate::services::Service;
@@ -101,9 +101,9 @@ impl<'a, A: Allocator + Copy> Service for Solo<'a, A> {
         let Some(seat) = self.seat else {
             return Reply::Error(Fault::BeforeHello);
         };
-        match self.world.govern(self.heap, seat, document) {
+        match govern(self.world, self.heap, seat, document) {
             Ok(edition) => Reply::Edition(edition),
-            Err((_, fault)) => fault_reply(fault),
+            Err(fault) => fault_reply(fault),
         }
     }
 
@@ -116,7 +116,7 @@ impl<'a, A: Allocator + Copy> Service for Solo<'a, A> {
         let Some(seat) = self.seat else {
             return Said::Line(Reply::Error(Fault::BeforeHello));
         };
-        match self.world.roll(self.heap, seat) {
+        match roll(self.world, self.heap, seat) {
             Ok(piece) => Said::Rolled(piece),
             Err(fault) => Said::Line(fault_reply(fault)),
         }

@@ -269,14 +269,28 @@ pub(crate) fn write_line<W: Write>(lead: &[u8], reply: &Reply, writer: &mut W) -
     finish(line, writer)
 }
 
+/// Writes how many lines come behind this one.
+fn write_count<W: Write>(
+    lead: &[u8],
+    word: &[u8],
+    count: u64,
+    writer: &mut W,
+) -> io::Result<()>
+    requires lead { length lead.now ≤ LEAD_LIMIT }
+    requires word { length word.now ≤ 14 }
+    ensures { Took result (W.contents writer.old) (W.contents writer.new) (led lead.now (word.now ++ decimal count)) }
+{
+    let mut line = begin(lead);
+    push_numbered(&mut line, word, count);
+    finish(line, writer)
+}
+
 /// Writes rows, and before them how many they are.
 fn write_rows<W: Write>(lead: &[u8], rows: &[Feature], writer: &mut W) -> io::Result<()>
     requires { length lead.now ≤ LEAD_LIMIT }
     ensures { Took result (W.contents writer.old) (W.contents writer.new) (rows_text lead.now rows.now) }
 {
-    let mut line = begin(lead);
-    push_numbered(&mut line, b"rows ", rows.len() as u64);
-    finish(line, writer)?;
+    write_count(lead, b"rows ", rows.len() as u64, writer)?;
     write_each(lead, rows, writer)
 }
 
@@ -289,9 +303,7 @@ fn write_texts<A: Allocator, W: Write>(
     requires { length lead.now ≤ LEAD_LIMIT }
     ensures { Took result (W.contents writer.old) (W.contents writer.new) (texts_text lead.now (map string_bytes texts.now)) }
 {
-    let mut line = begin(lead);
-    push_numbered(&mut line, b"rolled ", texts.len() as u64);
-    finish(line, writer)?;
+    write_count(lead, b"rolled ", texts.len() as u64, writer)?;
     write_each_text(lead, texts, writer)
 }
 
@@ -302,7 +314,7 @@ fn write_each_text<A: Allocator, W: Write>(
     writer: &mut W,
 ) -> io::Result<()>
     requires lead { length lead.now ≤ LEAD_LIMIT }
-    ensures { Took result (W.contents writer.old) (W.contents writer.new) (flat_map (λ text. led lead.now text) (map string_bytes texts.now)) }
+    ensures { Took result (W.contents writer.old) (W.contents writer.new) (flat_map (λ text. led lead.now (string_bytes text)) texts.now) }
 {
     for text in texts {
         write_text(lead, text.as_bytes(), writer)?;

@@ -1,7 +1,11 @@
-use Rattle.std.proofs.Common.{◌≡◌, ◌+◌, ◌++◌, sym, ap, ◌∙◌, take, drop, append_assoc, append-nil, take-append-drop}
-use Rattle.std.proofs.lemmas.List.{take_more, take_all, flat_map_more}
-use Rattle.std.proofs.lemmas.Grind.{flat_map-append}
-use Rattle.std.specs.List.{flat_map}
 use Rattle.sessions.specs.Printed.{led, row_text}
-use Rattle.sessions.proofs.WritingLemmas.{appends_then, rows_broken}
+use Rattle.sessions.proofs.WritingLemmas.{items_failed, items_more}
 use Rattle.sessions.proofs.writing.write_each.Goals as goal
+
+pub returns-in_err-write_row : goal.returns-in_err-write_row
+returns-in_err-write_row g c =
+    items_failed (λ row. led c.args.lead.now (row_text row)) c.from_residual.result c.from_residual.ensures.0 c.args.rows.now c.loop-row.row-index c.row-item.result _ _ _ c.loop-row-test.true c.row-item.is c.loop-row.invariant c.in_err-write_row.ensures
+
+pub loop-row-preserved : goal.loop-row-preserved
+loop-row-preserved g c =
+    items_more (λ row. led c.args.lead.now (row_text row)) c.args.rows.now c.loop-row.row-index c.row-item.result _ _ _ c.loop-row-test.true c.row-item.is c.loop-row.invariant c.in_ok-write_row.ensures
