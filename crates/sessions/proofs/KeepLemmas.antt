@@ -50,13 +50,13 @@ module _ {S : Type 0} (subject_of : S → Option Subject) (serves : Call → S �
   called_on [] a b c first more = subst (λ (s : S). Called s c) first more
   called_on (call ∷ calls) a b c first more =
       let rest = called_on calls first.0 b c first.2 more in
-      (call ∷ rest.0, first.0, first.1, rest.1)
+      (call ∷ rest.0, (first.0, first.1, rest.1))
 
   called_then : (a b c : S) → Called a b → Called b c → Called a c
   called_then a b c first more = called_on first.0 a b c first.1 more
 
   called_once : (call : Call) (old new : S) (said : SaidData) → serves call old new said → Called old new
-  called_once call old new said h = ((call, said) ∷ [], new, h, refl)
+  called_once call old new said h = ((call, said) ∷ [], (new, h, refl))
 
   called_none : (s : S) → Called s s
   called_none s = ([], refl)
@@ -138,7 +138,7 @@ line_idle text old new said h = long (is_too_long text) h
 
     skipped : (b : Bool) → MatchBool b ((new ≡ old) × (said ≡ [])) (MatchOption (parts_of text) (IsRefused (reply_text (Error NoLabel)) old new said)
         (λ parts. MatchOption (name_of parts.0) (IsRefused (reply_text (Error NoLabel)) old new said) (λ label. LabelTells label parts.1 old new said))) → ScriptIdle old new
-    skipped true h still = subst (λ (s : Script). IsIdle s.world) (sym h.0) still
+    skipped true h = λ still. subst (λ (s : Script). IsIdle s.world) (sym h.0) still
     skipped false h = parted (parts_of text) h
 
     long : (b : Bool) → MatchBool b (IsRefused (reply_text (Error LineTooLong)) old new said) (MatchBool (is_skipped text) ((new ≡ old) × (said ≡ []))

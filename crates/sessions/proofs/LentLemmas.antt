@@ -1,6 +1,6 @@
 -- Lines over a world that is lent to a session. The loan ends with the world as the last call left it, since each call keeps
 -- the reference.
-use Rattle.std.proofs.Common.{◌≡◌, ℕ, Bool, true, false, List, [], Option, Result, refl, ap, subst, ◌∙◌}
+use Rattle.std.proofs.Common.{◌≡◌, ℕ, Bool, true, false, List, [], Option, None, Result, refl, sym, ap, subst, ◌∙◌}
 use Rattle.std.specs.Bool.{MatchBool}
 use Rattle.features.specs.declared.actors.Subject.{Subject}
 use Rattle.features.specs.declared.rows.Change.{Change}
@@ -14,7 +14,7 @@ use Rattle.sessions.specs.Replies.{SaidData}
 use Rattle.sessions.specs.Scripts.{SessionAnswers, desk_of}
 use Rattle.sessions.specs.Services.{Call, Serves, solo_subject}
 use Rattle.sessions.specs.Serving.{Calls, LineTells, Replies}
-use Rattle.sessions.specs.States.{Desk, SessionState, SoloState, desk, solo}
+use Rattle.sessions.specs.States.{Desk, IsIdle, SessionState, SoloState, desk, solo}
 use Rattle.sessions.specs.Streams.{Ran}
 use Rattle.transactions.specs.States.{WorldData}
 use Rattle.sessions.proofs.DeskLemmas.{line_keeps, line_seen}
@@ -61,13 +61,29 @@ module _ {S N : Type 0} (see : S → SoloState) (name : S → N) where
       go true h = (ap seen h.0, h.1)
       go false h = record { reply = h.reply; answers = line_seen see solo_subject lent Serves shows text old new h.reply h.answers; shows = h.shows }
 
-  pub run_seen : (r : Result (Unit {0}) ServeFault) (old new : Desk S) (input left a b : Option (List ℕ)) → Ran (LineTells asks_for lent) r old new input left a b
+  run_seen : (r : Result (Unit {0}) ServeFault) (old new : Desk S) (input left a b : Option (List ℕ)) → Ran (LineTells asks_for lent) r old new input left a b
       → Ran (LineTells solo_subject Serves) r (seen old) (seen new) input left a b
   run_seen r old new input left a b run = ran_as seen (LineTells asks_for lent) (LineTells solo_subject Serves) line_told r old new input left a b run
 
-  pub calls_name : (calls : List (Call × SaidData)) (old new : S) → Calls lent calls old new → name new ≡ name old
+  calls_name : (calls : List (Call × SaidData)) (old new : S) → Calls lent calls old new → name new ≡ name old
   calls_name calls old new h = calls_keep asks_for lent (λ (a b : S). name b ≡ name a) (λ s. refl) (λ a b c first more. more ∙ first) (λ call a b said h. h.0) calls old new h
 
-  pub calls_idle : (calls : List (Call × SaidData)) (old new : S) → Calls lent calls old new → StaysIdle (see old) (see new)
+  calls_idle : (calls : List (Call × SaidData)) (old new : S) → Calls lent calls old new → StaysIdle (see old) (see new)
   calls_idle calls old new h =
       calls_keep asks_for lent (λ (a b : S). StaysIdle (see a) (see b)) (λ s still. still) (λ a b c first more still. more (first still)) (λ call a b said h. call_idle call (see a) (see b) said h.1) calls old new h
+
+  -- a run, where the world ends as the loan leaves it
+  pub run_told : (r : Result (Unit {0}) ServeFault) (old new : S) (staged : List Change) (world end : WorldData) (seat : Option ℕ) (input left a b : Option (List ℕ))
+      → ((calls : List (Call × SaidData)) × Calls lent calls old new) → see old ≡ solo world None → (name new ≡ name old → see new ≡ solo end seat)
+      → Ran (LineTells asks_for lent) r (desk [] old) (desk staged new) input left a b
+      → Ran (LineTells solo_subject Serves) r (desk [] (solo world None)) (desk staged (solo end seat)) input left a b
+  run_told r old new staged world end seat input left a b called begins ends run =
+      subst (λ (s : SoloState). Ran (LineTells solo_subject Serves) r (desk [] (solo world None)) (desk staged s) input left a b) (ends (calls_name called.0 old new called.1))
+      (subst (λ (s : SoloState). Ran (LineTells solo_subject Serves) r (desk [] s) (desk staged (see new)) input left a b) begins
+      (run_seen r (desk [] old) (desk staged new) input left a b run))
+
+  pub run_idles : (old new : S) (world end : WorldData) (seat : Option ℕ) → ((calls : List (Call × SaidData)) × Calls lent calls old new) → see old ≡ solo world None
+      → (name new ≡ name old → see new ≡ solo end seat) → IsIdle world → IsIdle end
+  run_idles old new world end seat called begins ends still =
+      subst (λ (s : SoloState). IsIdle s.world) (ends (calls_name called.0 old new called.1))
+      (calls_idle called.0 old new called.1 (subst (λ (s : SoloState). IsIdle s.world) (sym begins) still))

@@ -21,6 +21,6 @@ pub use faults::Fault;
 pub use replies::{Reply, Said};
 pub use scripts::{LABEL_LIMIT, run_script};
 pub use services::Service;
-pub use serving::serve;
+pub use serving::{serve, serve_world};
 pub use solos::Solo;
 pub use streams::{LINE_LIMIT, READ_LIMIT, ServeFault};
