@@ -7,10 +7,10 @@ use Rattle.sessions.proofs.serving.serve.Goals as goal
 
 pub returns-clause-served_text : goal.returns-clause-served_text
 returns-clause-served_text g c =
-    let ran = (ran_along (λ s. desk s.1.staged s.0) (LineTells g.S.Service.subject_of g.S.Service.serves) c.run_lines.result _ _ _ _ _ _ c.run_lines.ensures.ran) in
+    let ran = rw c.new-alone.ensures at (ran_along (λ s. desk s.1.staged s.0) (LineTells g.S.Service.subject_of g.S.Service.serves) c.run_lines.result _ _ _ _ _ _ c.run_lines.ensures.ran) in
     served_text_of g.S.Service.subject_of g.S.Service.serves c.run_lines.result _ _ _ _ _ _ _ ran
 
 pub returns-clause-ran : goal.returns-clause-ran
 returns-clause-ran g c =
-    let ran = (ran_along (λ s. desk s.1.staged s.0) (LineTells g.S.Service.subject_of g.S.Service.serves) c.run_lines.result _ _ _ _ _ _ c.run_lines.ensures.ran) in
+    let ran = rw c.new-alone.ensures at (ran_along (λ s. desk s.1.staged s.0) (LineTells g.S.Service.subject_of g.S.Service.serves) c.run_lines.result _ _ _ _ _ _ c.run_lines.ensures.ran) in
     (c.run_lines.new.desk.staged, ran)
