@@ -332,7 +332,7 @@ module _ (seat : ℕ) (changes : List Change) (old mid : WorldData) (number : �
       stuck (faults.Tree tree.Overrun) s e = e
       stuck _ s e = absurd s
 
-      abbrev AppliesSo : Bool → Bool → Reply → Type 0
+      AppliesSo : Bool → Bool → Reply → Type 0
       AppliesSo last over said =
           MatchBool last ((said ≡ Refused faults.Spent) × (new ≡ begun (idle old)))
           (MatchBool over ((said ≡ Refused faults.StoreFull) × (new ≡ begun (idle old)))

@@ -2,7 +2,7 @@ pub mod WordLemmas
 pub mod SearchLemmas
 pub mod CommitLemmas
 pub mod PolicyLemmas
-pub mod SoloLemmas
+pub mod RollLemmas
 pub mod DeskLemmas
 pub mod KeepLemmas
 pub mod WritingLemmas

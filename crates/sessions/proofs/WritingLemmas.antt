@@ -1,7 +1,7 @@
 -- Writing replies.
-use Rattle.std.proofs.Common.{◌≡◌, ℕ, ◌+◌, ◌<◌, ◌≤◌, List, [], ◌∷◌, ◌++◌, length, map, get_or, Option, Some, None, Result, Ok, Err, refl, sym, ap, ◌∙◌, append_assoc, append-nil, lit≤, subst, take, drop, take-append-drop, length-map, codes, decimal}
+use Rattle.std.proofs.Common.{◌≡◌, ℕ, ◌+◌, ◌<◌, ◌≤◌, List, [], ◌∷◌, ◌++◌, length, map, get_or, Option, Some, None, Result, Ok, Err, refl, sym, ap, ◌∙◌, append_assoc, append-nil, lit≤, subst, take, drop, take-append-drop, codes, decimal}
 use Rattle.std.specs.List.{flat_map}
-use Rattle.std.proofs.lemmas.List.{take_more}
+use Rattle.std.proofs.lemmas.List.{length-map, take_more}
 use Rattle.std.proofs.lemmas.Grind.{flat_map-append}
 use Rattle.std.specs.Io.KnownBytes.{Appends}
 use Rattle.plane.specs.declared.fault.ShapeFault.{ShapeFault}
@@ -160,5 +160,5 @@ flat_map_of_map f g (x ∷ xs) = ap (λ (t : List ℕ). f (g x) ++ t) (flat_map_
 -- texts of a list, and before them how many they are
 pub texts_joined : {T : Type 0} (g : T → List ℕ) (lead : List ℕ) (xs : List T) → led lead (codes "rolled " ++ decimal (length xs)) ++ flat_map (λ (x : T). led lead (g x)) xs ≡ texts_text lead (map g xs)
 texts_joined g lead xs =
-    ap (λ (n : ℕ). led lead (codes "rolled " ++ decimal n) ++ flat_map (λ x. led lead (g x)) xs) (sym (length-map g xs))
+    ap (λ (n : ℕ). led lead (codes "rolled " ++ decimal n) ++ flat_map (λ x. led lead (g x)) xs) (sym (length-map xs g))
     ∙ ap (λ (t : List ℕ). led lead (codes "rolled " ++ decimal (length (map g xs))) ++ t) (flat_map_of_map (λ (t : List ℕ). led lead t) g xs)

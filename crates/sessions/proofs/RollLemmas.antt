@@ -1,4 +1,4 @@
--- A world that serves one session.
+-- A trail that is taken out.
 use Rattle.std.proofs.Common.{◌≡◌, ℕ, Option, Some, Result, MatchOption, sym, subst}
 use Rattle.transactions.specs.declared.faults.Fault.{Fault}
 use Rattle.transactions.specs.Events.{Happens, Roll as RollEvent, TakenOut, reply_of}
