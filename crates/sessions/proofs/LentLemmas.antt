@@ -44,9 +44,11 @@ module _ {S N : Type 0} (see : S → SoloState) (name : S → N) where
       let ends = lent_ends (line_name text old new said h) in
       let old_is : desk old.staged (see old.service) ≡ desk_of world before = ap (λ (xs : List Change). desk xs (see old.service)) staged ∙ ap (λ (s : SoloState). desk before.staged s) stands in
       let new_is : desk new.staged (see new.service) ≡ desk_of end after = ap (λ (xs : List Change). desk xs (see new.service)) left ∙ ap (λ (s : SoloState). desk after.staged s) ends in
-      let told = line_seen see solo_subject lent Serves shows text old new said h in
-      (label, subst (λ (d : Desk SoloState). Answers solo_subject Serves text (desk_of world before) d said) new_is
-      (subst (λ (d : Desk SoloState). Answers solo_subject Serves text d (desk new.staged (see new.service)) said) old_is told))
+      let told = line_seen see solo_subject lent Serves shows text old new said h in (
+        label,
+        subst (λ (d : Desk SoloState). Answers solo_subject Serves text (desk_of world before) d said) new_is
+            (subst (λ (d : Desk SoloState). Answers solo_subject Serves text d (desk new.staged (see new.service)) said) old_is told),
+      )
 
   -- ---- a run
 

@@ -270,12 +270,7 @@ pub(crate) fn write_line<W: Write>(lead: &[u8], reply: &Reply, writer: &mut W) -
 }
 
 /// Writes how many lines come behind this one.
-fn write_count<W: Write>(
-    lead: &[u8],
-    word: &[u8],
-    count: u64,
-    writer: &mut W,
-) -> io::Result<()>
+fn write_count<W: Write>(lead: &[u8], word: &[u8], count: u64, writer: &mut W) -> io::Result<()>
     requires lead { length lead.now ≤ LEAD_LIMIT }
     requires word { length word.now ≤ 14 }
     ensures { Took result (W.contents writer.old) (W.contents writer.new) (led lead.now (word.now ++ decimal count)) }

@@ -84,7 +84,13 @@ fn run_into(
     lines: usize,
 ) -> Result<(), AllocError> {
     let mut world = opened(rt, alloc, alloc);
-    let ended = run_script(alloc, alloc, &mut world, &mut FIRST_POINT.as_bytes(), writer);
+    let ended = run_script(
+        alloc,
+        alloc,
+        &mut world,
+        &mut FIRST_POINT.as_bytes(),
+        writer,
+    );
     assert_eq!(rt; ended, end);
     check_left(rt, alloc, &mut world, lines)
 }

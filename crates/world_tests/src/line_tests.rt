@@ -8,6 +8,7 @@ use std::process::Abort;
 use std::test::Fail;
 
 const SEATS: &str = "n: HELLO north\ns: HELLO south\nc: HELLO chief\n";
+
 const HELLOS: &str = "n: hello north\ns: hello south\nc: hello chief\n";
 
 const LATE_DENIES: &str =
@@ -19,7 +20,13 @@ fn check(rt: &impl Abort, alloc: Global, script: &str, expected: &str) -> Result
     let expected = format!(in alloc; "{HELLOS}{expected}")?;
     let mut world = opened(rt, alloc, alloc);
     let mut output = Vec::new(alloc);
-    let end = run_script(alloc, alloc, &mut world, &mut script.as_bytes(), &mut output);
+    let end = run_script(
+        alloc,
+        alloc,
+        &mut world,
+        &mut script.as_bytes(),
+        &mut output,
+    );
     assert!(rt; end.is_ok());
     assert_eq!(rt; output.as_slice(), expected.as_bytes());
     Ok(())
@@ -27,7 +34,9 @@ fn check(rt: &impl Abort, alloc: Global, script: &str, expected: &str) -> Result
 
 #[test]
 fn first_deciding_rule(rt: HostRuntime) -> Result<(), Fail> {
-    let script = format!(in rt.alloc(); "c: POLICY {LATE_DENIES}\nn: ADD 1 mast POINT (0 0)\nn: COMMIT\n")?;
+    let script = format!(in rt.alloc();
+        "c: POLICY {LATE_DENIES}\nn: ADD 1 mast POINT (0 0)\nn: COMMIT\n"
+    )?;
     check(
         &rt,
         rt.alloc(),
@@ -39,7 +48,9 @@ fn first_deciding_rule(rt: HostRuntime) -> Result<(), Fail> {
 
 #[test]
 fn whole_or_nothing(rt: HostRuntime) -> Result<(), Fail> {
-    let script = format!(in rt.alloc(); "c: POLICY {ROADS}\nn: ADD 1 road POINT (1 1)\nn: ADD 2 parcel POINT (2 2)\nn: COMMIT\nn: SEARCH POLYGON ((0 0, 4 0, 4 4, 0 4, 0 0))\nn: ADD 5 road POINT (1 1)\nn: DELETE 5 1\n")?;
+    let script = format!(in rt.alloc();
+        "c: POLICY {ROADS}\nn: ADD 1 road POINT (1 1)\nn: ADD 2 parcel POINT (2 2)\nn: COMMIT\nn: SEARCH POLYGON ((0 0, 4 0, 4 4, 0 4, 0 0))\nn: ADD 5 road POINT (1 1)\nn: DELETE 5 1\n"
+    )?;
     check(
         &rt,
         rt.alloc(),
@@ -51,7 +62,9 @@ fn whole_or_nothing(rt: HostRuntime) -> Result<(), Fail> {
 
 #[test]
 fn explain(rt: HostRuntime) -> Result<(), Fail> {
-    let script = format!(in rt.alloc(); "n: EXPLAIN read north mast POINT (0 0)\nc: POLICY {ROADS}\nn: EXPLAIN add north parcel POINT (2 2)\nn: POLICY {{}}\nn: POLICY {ROADS}\nn: EXPLAIN walk north mast POINT (0 0)\nn: EXPLAIN read\n")?;
+    let script = format!(in rt.alloc();
+        "n: EXPLAIN read north mast POINT (0 0)\nc: POLICY {ROADS}\nn: EXPLAIN add north parcel POINT (2 2)\nn: POLICY {{}}\nn: POLICY {ROADS}\nn: EXPLAIN walk north mast POINT (0 0)\nn: EXPLAIN read\n"
+    )?;
     check(
         &rt,
         rt.alloc(),
@@ -99,10 +112,16 @@ const SQUARE: &str = "POLYGON ((0 0, 4 0, 4 4, 0 4, 0 0))";
 
 #[test]
 fn rolled_trails(rt: HostRuntime) -> Result<(), Fail> {
-    let script = format!(in rt.alloc(); "n: ADD 1 mast POINT (4 4)\nn: COMMIT\nn: SEARCH {SQUARE}\nn: ROLL\nc: ROLL x\nc: ROLL\nc: ROLL\nn: SEARCH {SQUARE}\nc: ROLL\n")?;
+    let script = format!(in rt.alloc();
+        "n: ADD 1 mast POINT (4 4)\nn: COMMIT\nn: SEARCH {SQUARE}\nn: ROLL\nc: ROLL x\nc: ROLL\nc: ROLL\nn: SEARCH {SQUARE}\nc: ROLL\n"
+    )?;
     let rows = "n: rows 1\nn: 1 1 north mast POINT (4 4)\n";
-    let answered = format!(in rt.alloc(); "\"seat\":1,\"subject\":\"north\",\"window\":\"{SQUARE}\"}}\n")?;
-    let expected = format!(in rt.alloc(); "n: staged\nn: applied 1\n{rows}n: error X7\nc: error E2\nc: rolled 2\nc: {{\"changes\":[{{\"class\":\"mast\",\"id\":1,\"shape\":\"POINT (4 4)\",\"what\":\"add\"}}],\"kind\":\"applied\",\"number\":1,\"seat\":1,\"subject\":\"north\",\"version\":1}}\nc: {{\"ids\":[1],\"kind\":\"answered\",\"number\":2,{answered}c: rolled 0\n{rows}c: rolled 1\nc: {{\"ids\":[1],\"kind\":\"answered\",\"number\":3,{answered}")?;
+    let answered = format!(in rt.alloc();
+        "\"seat\":1,\"subject\":\"north\",\"window\":\"{SQUARE}\"}}\n"
+    )?;
+    let expected = format!(in rt.alloc();
+        "n: staged\nn: applied 1\n{rows}n: error X7\nc: error E2\nc: rolled 2\nc: {{\"changes\":[{{\"class\":\"mast\",\"id\":1,\"shape\":\"POINT (4 4)\",\"what\":\"add\"}}],\"kind\":\"applied\",\"number\":1,\"seat\":1,\"subject\":\"north\",\"version\":1}}\nc: {{\"ids\":[1],\"kind\":\"answered\",\"number\":2,{answered}c: rolled 0\n{rows}c: rolled 1\nc: {{\"ids\":[1],\"kind\":\"answered\",\"number\":3,{answered}"
+    )?;
     check(&rt, rt.alloc(), script.as_str(), expected.as_str())?;
     Ok(())
 }

@@ -9,7 +9,13 @@ use std::test::Fail;
 fn replies(rt: &impl Abort, alloc: Global, script: &str) -> Result<Vec<u8>, AllocError> {
     let mut world = opened(rt, alloc, alloc);
     let mut output = Vec::new(alloc);
-    let end = run_script(alloc, alloc, &mut world, &mut script.as_bytes(), &mut output);
+    let end = run_script(
+        alloc,
+        alloc,
+        &mut world,
+        &mut script.as_bytes(),
+        &mut output,
+    );
     assert!(rt; end.is_ok(), "{script}");
     Ok(output)
 }

@@ -14,9 +14,11 @@ returns-clause-served_text g c =
 
 pub returns-clause-ran : goal.returns-clause-ran
 returns-clause-ran g c =
-    let see : Solo g.row.A.Denot → SoloState = λ s. solo s.world.now s.seat in
-    (c.serve.ensures.ran.0, c.serve.new.service.seat,
-    run_told see (λ s. s.world.ghost_name) c.serve.result _ _ _ c.args.world.now _ c.serve.new.service.seat _ _ _ _ c.serve.ensures.calls (search rules) (search rules) c.serve.ensures.ran.1)
+    let see : Solo g.row.A.Denot → SoloState = λ s. solo s.world.now s.seat in (
+      c.serve.ensures.ran.0,
+      c.serve.new.service.seat,
+      run_told see (λ s. s.world.ghost_name) c.serve.result _ _ _ c.args.world.now _ c.serve.new.service.seat _ _ _ _ c.serve.ensures.calls (search rules) (search rules) c.serve.ensures.ran.1,
+    )
 
 pub returns-clause-idle : goal.returns-clause-idle
 returns-clause-idle g c still =
