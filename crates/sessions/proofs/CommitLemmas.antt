@@ -1,66 +1,426 @@
--- The ends of a commit, as plain states.
-use Rattle.std.proofs.Common.{◌≡◌, ◌≢◌, ℕ, ◌+◌, ◌-◌, ◌^◌, ◌<◌, ltb, Bool, true, false, not, List, [], ◌∷◌, length, Option, None, Some, is_some, if◌then◌else◌, refl, inl, inr, sym, ap, ◌∙◌, eq-eqb, subst}
-use Rattle.std.proofs.lemmas.Bool.{ne_eqb, cases_lt}
-use borrow.Author.Tests.{lt-ltb, le-ltb}
-use Rattle.features.specs.declared.rows.Feature.{Feature}
+-- A commit from its beginning to its end, over a world in which nothing else is under way.
+use Rattle.std.proofs.Common.{◌≡◌, ◌≢◌, ◌⊎◌, ℕ, zero, suc, ◌+◌, ◌<◌, ◌≤◌, ◌==◌, ◌||◌, nat_le, nat_lt, not, Bool, true, false, List, [], ◌∷◌, ◌++◌, length, filter, take, length-take, get_or, slice_get, Option, None, Some, MatchOption, Result, Ok, Err, if◌then◌else◌, refl, sym, ap, subst, ◌∙◌, inl, inr, arith}
+use Rattle.std.specs.Bool.{MatchBool}
+use Rattle.std.proofs.lemmas.Bool.{ne_eqb}
+use Rattle.std.proofs.lemmas.Bool.Decides.{nat_tests}
+use Rattle.plane.specs.declared.point.Point.{Point}
+use Rattle.memory.specs.declared.refused.Refused.{Refused as Refusal}
+use Rattle.features.specs.declared.actors.Subject.{Subject}
 use Rattle.features.specs.declared.rows.Change.{Change}
-use Rattle.features.specs.declared.rows.Change.TheVariants.{Add, Reshape, Delete}
-use Rattle.features.specs.Changes.{change_id, after, CanApply, CanChange}
-use Rattle.features.specs.Rows.{feature_with}
-use Rattle.std.specs.Option.{IsSome}
-use Rattle.sessions.specs.declared.faults.Fault.TheVariants.{Spent, StoreFull}
-use Rattle.sessions.specs.declared.replies.Reply.{Reply}
-use Rattle.sessions.specs.declared.replies.Reply.TheVariants.{Applied, Exists, Error}
-use Rattle.sessions.specs.States.{PlainState}
-use Rattle.sessions.specs.Worlds.{AreDistinct, IsApplied, applied, committed, first_present, is_refused, judged}
+use Rattle.features.specs.Changes.{after, change_id, IsUnnamed}
+use Rattle.audit_trail.specs.declared.causes.Judgement.{Judgement}
+use Rattle.audit_trail.specs.declared.causes.Judgement.TheVariants as judgements
+use Rattle.audit_trail.specs.Judging.{AreDistinct, Judged}
+use Rattle.audit_trail.specs.Records.{applied, turned_away}
+use Rattle.transactions.specs.declared.faults.Fault.{Fault}
+use Rattle.transactions.specs.declared.faults.Fault.TheVariants as faults
+use Rattle.transactions.specs.declared.faults.TreeFault.TheVariants as tree
+use Rattle.transactions.specs.declared.outcomes.Outcome.{Outcome}
+use Rattle.transactions.specs.declared.outcomes.Outcome.TheVariants as outcomes
+use Rattle.transactions.specs.declared.settings.TheConstants.{CHANGE_LIMIT}
+use Rattle.transactions.specs.declared.steps.Advance.TheVariants as advances
+use Rattle.transactions.specs.declared.steps.Step.TheVariants as steps
+use Rattle.transactions.specs.Admitting.{LAST, and_then, given, transaction_owned, subject_at, own_transaction, may_step, may_add, may_stage, all_placed, may_record, may_commit, may_begin, next_transaction}
+use Rattle.transactions.specs.Answers.{denial_of}
+use Rattle.transactions.specs.Events.{Begin, Stage, AdvanceWalk, Commit, Abort, Happens, Reply, Number, Done, Advanced, Ended, Refused, UnlessMemory, Walks, Advances, Applies, TurnsAway, CommitsAs, Commits as CommitsEvent, is_memory, is_want, recorded, reply_of, without_transaction}
+use Rattle.transactions.specs.Staging.{TransactionData, transaction_with, next_placement, placements, with_step, staged, one_placed, ended, names}
+use Rattle.transactions.specs.States.{WorldData}
+use Rattle.sessions.specs.Services.{Commits, EndsAs, is_full, is_unplaced, may_conclude}
+use Rattle.sessions.specs.States.{IsIdle, begun}
+use Rattle.sessions.specs.Steps.{Concludes, ConcludesAll, IsStuck, Places, PlacesAll, Stages, Stands, idle, under}
+use Rattle.sessions.proofs.SearchLemmas.{same_number, idle_same, is_idle, want_is, does, refuses, done, turned}
 
-found_some : (o : Option Feature) → not (is_some o) ≡ false → IsSome o
-found_some (Some row) e = refl
-found_some None e = sym e
+-- ---- changes that name different features
 
--- a change that is not refused can be made
-makeable : (change : Change) (rows : List Feature) → is_refused change (is_some (feature_with (change_id change) rows)) ≡ false → CanChange change rows
-makeable (Add id class shape) rows e = go (feature_with id rows) e
+length_take_lt : {T : Type 0} (i : ℕ) (xs : List T) → i < length xs → length (take i xs) ≡ i
+length_take_lt i xs lt = simp length-take (omega (arith, lt))
+
+unnamed_at : (id : ℕ) (changes : List Change) (i : ℕ) (d : Change) → IsUnnamed id changes → i < length changes → change_id (get_or changes i d) ≢ id
+unnamed_at id [] i d unnamed lt = absurd (omega (arith, lt))
+unnamed_at id (first ∷ changes) zero d unnamed lt = unnamed.0
+unnamed_at id (first ∷ changes) (suc i) d unnamed lt = unnamed_at id changes i d unnamed.1 (omega (arith, lt))
+
+-- a change names no feature that one before it names
+pub distinct_at : (changes : List Change) (i : ℕ) (d : Change) → AreDistinct changes → i < length changes → names (change_id (get_or changes i d)) (take i changes) ≡ false
+distinct_at [] i d distinct lt = absurd (omega (arith, lt))
+distinct_at (first ∷ changes) zero d distinct lt = refl
+distinct_at (first ∷ changes) (suc i) d distinct lt =
+    let other = unnamed_at (change_id first) changes i d distinct.0 (omega (arith, lt)) in
+    ap (λ (b : Bool). b || names (change_id (get_or changes i d)) (take i changes)) (ne_eqb (change_id first) (change_id (get_or changes i d)) (λ e. other (sym e)))
+    ∙ distinct_at changes i d distinct.1 (omega (arith, lt))
+
+pub may_add_at : (change : Change) (changes : List Change) → length changes < CHANGE_LIMIT → names (change_id change) changes ≡ false → may_add change changes ≡ Ok tt
+may_add_at change changes few other =
+    let room : nat_le CHANGE_LIMIT (length changes) ≡ false = grind (arith, nat_tests, few) in
+    ap (λ (b : Bool). if b then Err faults.TooManyChanges else if names (change_id change) changes then Err faults.NamedTwice else Ok tt) room
+    ∙ ap (λ (b : Bool). if b then Err faults.NamedTwice else Ok tt) other
+
+-- a change may be staged behind those before it, where all name different features
+pub may_stage_at : (changes : List Change) (i : ℕ) (change : Change) → AreDistinct changes → length changes ≤ CHANGE_LIMIT → i < length changes → change ≡ get_or changes i change → may_add change (take i changes) ≡ Ok tt
+may_stage_at changes i change distinct few lt is =
+    let other = subst (λ (x : Change). names (change_id x) (take i changes) ≡ false) (sym is) (distinct_at changes i change distinct lt) in
+    let shorter : length (take i changes) ≡ i = length_take_lt i changes lt in
+    may_add_at change (take i changes) (rw shorter (omega (arith, few, lt))) other
+
+-- a place behind a list's end
+not_within : {T : Type 0} (xs : List T) (n : ℕ) → slice_get xs n ≡ None → nat_lt n (length xs) ≡ false
+not_within [] n none = grind (arith, nat_tests)
+not_within (x ∷ xs) zero none = absurd cc
+not_within (x ∷ xs) (suc n) none = let rest = not_within xs n none in grind (arith, nat_tests, rest)
+
+-- ---- the one transaction that is under way
+
+module _ (number seat : ℕ) (w : WorldData) (subject : Subject) (seated : subject_at seat w ≡ Ok subject) where
+  abbrev one : List Change → ℕ → TransactionData
+  one changes placed = record { number = number; seat = seat; changes = changes; placed = placed }
+
+  own : (changes : List Change) (placed : ℕ) → own_transaction seat number (under number seat changes placed w) ≡ Ok (one changes placed)
+  own changes placed =
+      ap (λ (b : Bool). and_then (given (if b then Some (one changes placed) else None)) (transaction_owned seat)) (same_number number)
+      ∙ ap (λ (b : Bool). if b then Ok (one changes placed) else Err faults.NotYours) (same_number seat)
+
+  stepped : (changes : List Change) (placed : ℕ) → may_step seat number (under number seat changes placed w) ≡ Ok (one changes placed)
+  stepped changes placed = ap (λ (r : Result Subject Fault). and_then r (λ _. own_transaction seat number (under number seat changes placed w))) seated ∙ own changes placed
+
+  gone : (changes : List Change) (placed : ℕ) → ended number (one changes placed ∷ []) ≡ []
+  gone changes placed = ap (λ (b : Bool). if not b then one changes placed ∷ [] else []) (same_number number)
+
+  next_step : (step : TransactionData → TransactionData) (t : TransactionData) → t.number ≡ number → with_step step number (t ∷ []) ≡ step t ∷ []
+  next_step step t e = ap (λ (n : ℕ). if n == number then step t ∷ [] else t ∷ []) e ∙ ap (λ (b : Bool). if b then step t ∷ [] else t ∷ []) (same_number number)
+
+  -- one more change is staged
+  pub stage_one : (changes : List Change) (placed : ℕ) (change : Change) (new : WorldData) (result : Result (Unit {0}) Fault) → may_add change changes ≡ Ok tt
+      → Happens (Stage seat number change) (under number seat changes placed w) new (reply_of (λ _. Done) result)
+      → (result ≡ Ok tt) × (new ≡ under number seat (changes ++ change ∷ []) placed w)
+  stage_one changes placed change new result may h =
+      let there = under number seat changes placed w in
+      let admitted = ap (λ (r : Result TransactionData Fault). and_then r (λ t. may_add change t.changes)) (stepped changes placed) ∙ may in
+      let d = does _ tt there new (reply_of (λ _. Done) result) (λ _. (new ≡ record there { transactions = with_step (staged change) number there.transactions }) × (reply_of (λ _. Done) result ≡ Done)) admitted h in
+      (well result d.1, d.0 ∙ ap (λ (ts : List TransactionData). record w { searches = []; transactions = ts }) (next_step (staged change) (one changes placed) refl))
+    where
+      well : (r : Result (Unit {0}) Fault) → reply_of (λ _. Done) r ≡ Done → r ≡ Ok tt
+      well (Ok tt) e = refl
+      well (Err fault) e = absurd cc
+
+  -- what a step of a walk leaves
+  abbrev pub Advancing : List Change → ℕ → WorldData → Reply → Type 0
+  Advancing changes placed new (Advanced advances.AllPlaced) = (new ≡ under number seat changes placed w) × (slice_get (placements changes) placed ≡ None)
+  Advancing changes placed new (Advanced (advances.Walked step)) = (further : ℕ) × (new ≡ under number seat changes further w)
+  Advancing changes placed new (Refused fault) = IsStuck fault × Stands seat number changes w new
+  Advancing changes placed new _ = ⊥
+
+  walks : (changes : List Change) (placed : ℕ) (shape : List Point) (new : WorldData) (reply : Reply)
+      → UnlessMemory (under number seat changes placed w) new reply (Walks number shape (under number seat changes placed w) new reply) → Advancing changes placed new reply
+  walks changes placed shape new (Advanced (advances.Walked steps.Moved)) d = (placed, d)
+  walks changes placed shape new (Advanced (advances.Walked steps.Split)) d = (placed, d)
+  walks changes placed shape new (Advanced (advances.Walked steps.Installed)) d = (placed, d)
+  walks changes placed shape new (Advanced (advances.Walked steps.Restarted)) d = (placed, d)
+  walks changes placed shape new (Advanced (advances.Walked steps.Placed)) d =
+      (placed + 1, d ∙ ap (λ (ts : List TransactionData). record w { searches = []; transactions = ts }) (next_step one_placed (one changes placed) refl))
+  walks changes placed shape new (Refused (faults.Memory refusal)) d = (tt, inl (placed, d))
+  walks changes placed shape new (Refused (faults.Tree (tree.Held search))) d = (let none = d.0.1 in absurd cc)
+  walks changes placed shape new (Refused (faults.Tree tree.Full)) d = (tt, inl (placed, d))
+  walks changes placed shape new (Refused (faults.Tree tree.TooHigh)) d = (tt, inl (placed, d))
+  walks changes placed shape new (Refused (faults.Tree tree.Spent)) d = (tt, inl (placed, d))
+  walks changes placed shape new (Refused (faults.Tree tree.Overrun)) d =
+      (tt, inr (d ∙ ap (λ (ts : List TransactionData). record w { searches = []; transactions = ts }) (gone changes placed)))
+  walks changes placed shape new _ d = absurd d
+
+  pub advancing : (changes : List Change) (placed : ℕ) (new : WorldData) (reply : Reply) → Happens (AdvanceWalk seat number) (under number seat changes placed w) new reply → Advancing changes placed new reply
+  advancing changes placed new reply h =
+      go (slice_get (placements changes) placed) refl (does _ (one changes placed) (under number seat changes placed w) new reply (λ t. Advances number t (under number seat changes placed w) new reply) (stepped changes placed) h)
+    where
+      go : (next : Option (ℕ × List Point)) → slice_get (placements changes) placed ≡ next
+          → MatchOption next ((new ≡ under number seat changes placed w) × (reply ≡ Advanced advances.AllPlaced))
+          (λ placement. UnlessMemory (under number seat changes placed w) new reply (Walks number placement.1 (under number seat changes placed w) new reply))
+          → Advancing changes placed new reply
+      go None e d = subst (λ (r : Reply). Advancing changes placed new r) (sym d.1) (d.0, e)
+      go (Some placement) e d = walks changes placed placement.1 new reply d
+
+  -- whatever stands of the transaction is given up
+  pub aborted : (changes : List Change) (mid new : WorldData) (reply : Reply) → Stands seat number changes w mid → Happens (Abort seat number) mid new reply → new ≡ idle w
+  aborted changes mid new reply (inl (placed, e)) h =
+      let there = under number seat changes placed w in
+      let d = does _ (one changes placed) there new reply (λ _. (new ≡ without_transaction number there) × (reply ≡ Done)) (stepped changes placed) (subst (λ (x : WorldData). Happens (Abort seat number) x new reply) e h) in
+      d.0 ∙ ap (λ (ts : List TransactionData). record w { searches = []; transactions = ts }) (gone changes placed)
+  aborted changes mid new reply (inr e) h =
+      let none = ap (λ (r : Result Subject Fault). and_then r (λ _. own_transaction seat number (idle w))) seated in
+      (refuses _ faults.NoSuch (idle w) new reply (λ _. (new ≡ without_transaction number (idle w)) × (reply ≡ Done)) none (subst (λ (x : WorldData). Happens (Abort seat number) x new reply) e h)).0
+
+  -- ---- the transaction is committed
+
+  abbrev pub version : ℕ
+  version = w.state.version + 1
+
+  -- what becomes of a list that was judged
+  abbrev pub EndsSo : List Change → ℕ → Judgement → WorldData → Reply → Type 0
+  EndsSo changes placed judgements.Accepted new reply =
+      MatchBool (w.state.version == LAST) ((reply ≡ Refused faults.Spent) × (new ≡ under number seat changes placed w))
+      (MatchBool (nat_lt w.limits.features (length (after version subject.office changes w.state.features))) ((reply ≡ Refused faults.StoreFull) × (new ≡ under number seat changes placed w))
+      ((reply ≡ Ended (outcomes.Applied version)) × (new ≡ idle (recorded seat (applied subject version changes) w))))
+  EndsSo changes placed (judgements.Refused refusal question) new reply =
+      (reply ≡ Ended (outcomes.Refused refusal (denial_of w.state.decider refusal.cause question)))
+      × (new ≡ idle (recorded seat (turned_away subject changes refusal) w))
+
+  abbrev pub Committed : List Change → ℕ → WorldData → Reply → Type 0
+  Committed changes placed new reply =
+      ((refusal : Refusal) × (reply ≡ Refused (faults.Memory refusal)) × (new ≡ under number seat changes placed w))
+      ⊎ (((is_full w ≡ true) × (reply ≡ Refused faults.TrailFull) × (new ≡ under number seat changes placed w))
+      ⊎ ((is_full w ≡ false) × ((judgement : Judgement) × Judged w.state subject changes judgement × EndsSo changes placed judgement new reply)))
+
+  module _ (changes : List Change) (placed : ℕ) (new : WorldData) where
+    abbrev there : WorldData
+    there = under number seat changes placed w
+
+    left_of : (deed : _) → without_transaction number (recorded seat deed there) ≡ idle (recorded seat deed w)
+    left_of deed = ap (λ (ts : List TransactionData). record (recorded seat deed w) { searches = []; transactions = ts }) (gone changes placed)
+
+    applies : (reply : Reply) → Applies seat number subject changes there new reply → EndsSo changes placed judgements.Accepted new reply
+    applies reply d = go (w.state.version == LAST) (nat_lt w.limits.features (length (after version subject.office changes w.state.features))) d
+      where
+        go : (last over : Bool) → MatchBool last ((new ≡ there) × (reply ≡ Refused faults.Spent)) (MatchBool over ((new ≡ there) × (reply ≡ Refused faults.StoreFull))
+            ((reply ≡ Ended (outcomes.Applied version)) × (new ≡ without_transaction number (recorded seat (applied subject version changes) there))))
+            → MatchBool last ((reply ≡ Refused faults.Spent) × (new ≡ there)) (MatchBool over ((reply ≡ Refused faults.StoreFull) × (new ≡ there))
+            ((reply ≡ Ended (outcomes.Applied version)) × (new ≡ idle (recorded seat (applied subject version changes) w))))
+        go true over d = (d.1, d.0)
+        go false true d = (d.1, d.0)
+        go false false d = (d.0, d.1 ∙ left_of (applied subject version changes))
+
+    ends_so : (reply : Reply) (judgement : Judgement) → CommitsAs judgement seat number subject changes there new reply → EndsSo changes placed judgement new reply
+    ends_so reply judgements.Accepted d = applies reply d
+    ends_so reply (judgements.Refused refusal question) d = (d.0, d.1 ∙ left_of (turned_away subject changes refusal))
+
+    pub committed : (reply : Reply) → slice_get (placements changes) placed ≡ None → Happens (Commit seat number) there new reply → Committed changes placed new reply
+    committed reply none h = go (is_full w) refl h
+      where
+        all : all_placed (one changes placed) ≡ Ok tt
+        all = ap (λ (b : Bool). if b then Err faults.NotPlaced else Ok tt) (not_within (placements changes) placed none)
+
+        admitted : may_commit seat number there ≡ and_then (may_record w) (λ _. Ok subject)
+        admitted =
+            ap (λ (r : Result Subject Fault). and_then r (λ subject. and_then (own_transaction seat number there) (λ t. and_then (all_placed t) (λ _. and_then (may_record there) (λ _. Ok subject))))) seated
+            ∙ ap (λ (r : Result TransactionData Fault). and_then r (λ t. and_then (all_placed t) (λ _. and_then (may_record there) (λ _. Ok subject)))) (own changes placed)
+            ∙ ap (λ (r : Result (Unit {0}) Fault). and_then r (λ _. and_then (may_record there) (λ _. Ok subject))) all
+
+        staged_is : (b : Bool) → b ≡ true → (if b then changes else []) ≡ changes
+        staged_is true e = refl
+        staged_is false e = absurd cc
+
+        judged : is_full w ≡ false → CommitsEvent seat number subject there new reply → Committed changes placed new reply
+        judged room d =
+            let d = subst (λ (list : List Change). (judgement : Judgement) × Judged w.state subject list judgement × CommitsAs judgement seat number subject list there new reply) (staged_is (number == number) (same_number number)) d in
+            inr (inr (room, (d.0, d.1, ends_so reply d.0 d.2)))
+
+        ends : is_full w ≡ false → (b : Bool) → is_memory reply ≡ b → MatchBool b (new ≡ there) (CommitsEvent seat number subject there new reply) → Committed changes placed new reply
+        ends room true e d = wants reply e d
+          where
+            wants : (reply : Reply) → is_memory reply ≡ true → new ≡ there → Committed changes placed new reply
+            wants (Refused fault) e d = let is = want_is fault e in inl (is.0, ap Refused is.1, d)
+            wants _ e d = absurd cc
+        ends room false e d = judged room d
+
+        go : (full : Bool) → is_full w ≡ full → Happens (Commit seat number) there new reply → Committed changes placed new reply
+        go true e h =
+            let left = refuses _ faults.TrailFull there new reply _ (admitted ∙ ap (λ (b : Bool). and_then (if b then Err faults.TrailFull else Ok tt) (λ _. Ok subject)) e) h in
+            inr (inl (e, left.1, left.0))
+        go false e h =
+            ends e (is_memory reply) refl (does _ subject there new reply (λ s. UnlessMemory there new reply (CommitsEvent seat number s there new reply))
+            (admitted ∙ ap (λ (b : Bool). and_then (if b then Err faults.TrailFull else Ok tt) (λ _. Ok subject)) e) h)
+
+-- ---- commits from the beginning
+
+-- a transaction that is not opened
+pub begin_refused : (seat : ℕ) (changes : List Change) (old new : WorldData) (fault : Fault) → IsIdle old → Happens (Begin seat) old new (Refused fault)
+    → IsIdle new × Commits seat changes old new (Refused fault)
+begin_refused seat changes old new fault still h =
+    let ends = go (subject_at seat old) (old.next_transaction == LAST) refl refl (subst (λ (o : WorldData). Happens (Begin seat) o new (Refused fault)) (idle_same old still) h) in
+    (is_idle old new ends.0, subst (λ (o : WorldData). Commits seat changes o new (Refused fault)) (sym (idle_same old still)) ends.1)
   where
-    go : (found : Option Feature) → is_some found ≡ false → found ≡ None
-    go None e = refl
-    go (Some row) e = absurd cc
-makeable (Reshape id known shape) rows e = found_some (feature_with id rows) e
-makeable (Delete id known) rows e = found_some (feature_with id rows) e
+    Does : Subject → Type 0
+    Does subject =
+        MatchBool (is_want fault) ((new ≡ idle old) ⊎ (new ≡ begun (idle old)))
+        (MatchBool (is_unplaced (Refused fault)) (new ≡ begun (idle old))
+        (MatchBool (is_full (idle old)) ((Refused fault ≡ Refused faults.TrailFull) × (new ≡ begun (idle old)))
+        ((judgement : Judgement) × Judged old.state subject changes judgement × EndsAs judgement seat subject changes (idle old) new (Refused fault))))
 
--- where no change is refused, and no two name one feature, all can be made
-pub can_apply : (number : ℕ) (changes : List Change) (rows : List Feature) → AreDistinct changes → first_present number changes rows ≡ None → CanApply changes rows
-can_apply number [] rows distinct none = tt
-can_apply number (change ∷ changes) rows distinct none = go (is_refused change (is_some (feature_with (change_id change) rows))) refl none (can_apply (number + 1) changes rows distinct.1)
+    wants : (subject : Subject) (b : Bool) → is_want fault ≡ b → MatchBool b (new ≡ idle old) ((new ≡ under old.next_transaction seat [] 0 (begun old)) × (Refused fault ≡ Number old.next_transaction)) → (new ≡ idle old) × Does subject
+    wants subject true e d = (
+      d,
+      subst (λ (b : Bool). MatchBool b ((new ≡ idle old) ⊎ (new ≡ begun (idle old)))
+          (MatchBool (is_unplaced (Refused fault)) (new ≡ begun (idle old))
+          (MatchBool (is_full (idle old)) ((Refused fault ≡ Refused faults.TrailFull) × (new ≡ begun (idle old)))
+          ((judgement : Judgement) × Judged old.state subject changes judgement × EndsAs judgement seat subject changes (idle old) new (Refused fault))))) (sym e) (inl d),
+    )
+    wants subject false e d = (let wrong = d.1 in absurd cc)
+
+    go : (who : Result Subject Fault) (last : Bool) → subject_at seat old ≡ who → (old.next_transaction == LAST) ≡ last → Happens (Begin seat) (idle old) new (Refused fault) → (new ≡ idle old) × Commits seat changes (idle old) new (Refused fault)
+    go (Err f) last e l h =
+        let left = refuses _ f (idle old) new (Refused fault) _ (ap (λ (r : Result Subject Fault). and_then r (λ _. next_transaction (idle old))) e) h in
+        (left.0, turned _ f (idle old) new (Refused fault) Does (ap (λ (r : Result Subject Fault). and_then r (λ subject. if old.next_transaction == LAST then Err faults.Spent else Ok subject)) e) left)
+    go (Ok subject) true e l h =
+        let left = refuses _ faults.Spent (idle old) new (Refused fault) _ (ap (λ (r : Result Subject Fault). and_then r (λ _. next_transaction (idle old))) e ∙ ap (λ (b : Bool). if b then Err faults.Spent else Ok old.next_transaction) l) h in
+        (left.0, turned _ faults.Spent (idle old) new (Refused fault) Does (ap (λ (r : Result Subject Fault). and_then r (λ subject. if old.next_transaction == LAST then Err faults.Spent else Ok subject)) e ∙ ap (λ (b : Bool). if b then Err faults.Spent else Ok subject) l) left)
+    go (Ok subject) false e l h =
+        let d = does _ old.next_transaction (idle old) new (Refused fault) _ (ap (λ (r : Result Subject Fault). and_then r (λ _. next_transaction (idle old))) e ∙ ap (λ (b : Bool). if b then Err faults.Spent else Ok old.next_transaction) l) h in
+        let ends = wants subject (is_want fault) refl d in
+        (ends.0, done _ subject (idle old) new (Refused fault) Does (ap (λ (r : Result Subject Fault). and_then r (λ subject. if old.next_transaction == LAST then Err faults.Spent else Ok subject)) e ∙ ap (λ (b : Bool). if b then Err faults.Spent else Ok subject) l) ends.1)
+
+-- a transaction that is opened
+pub record Begun (seat : ℕ) (old new : WorldData) (number : ℕ) : Type 0 where
+  pub subject : Subject
+  pub seated : subject_at seat old ≡ Ok subject
+  pub left : (old.next_transaction == LAST) ≡ false
+  pub stands : new ≡ under number seat [] 0 (begun old)
+
+pub begins : (seat : ℕ) (old new : WorldData) (number : ℕ) → IsIdle old → Happens (Begin seat) old new (Number number) → Begun seat old new number
+begins seat old new number still h = go (subject_at seat old) (old.next_transaction == LAST) refl refl (subst (λ (o : WorldData). Happens (Begin seat) o new (Number number)) (idle_same old still) h)
   where
-    go : (refused : Bool) → is_refused change (is_some (feature_with (change_id change) rows)) ≡ refused → (if refused then Some number else first_present (number + 1) changes rows) ≡ None
-        → (first_present (number + 1) changes rows ≡ None → CanApply changes rows) → CanApply (change ∷ changes) rows
-    go false e h rest = (makeable change rows e, distinct.0, rest h)
-    go true e h rest = absurd cc
+    go : (who : Result Subject Fault) (last : Bool) → subject_at seat old ≡ who → (old.next_transaction == LAST) ≡ last → Happens (Begin seat) (idle old) new (Number number) → Begun seat old new number
+    go (Err f) last e l h =
+        (let left = refuses _ f (idle old) new (Number number) _ (ap (λ (r : Result Subject Fault). and_then r (λ _. next_transaction (idle old))) e) h in let wrong = left.1 in absurd cc)
+    go (Ok subject) true e l h =
+        (let left = refuses _ faults.Spent (idle old) new (Number number) _ (ap (λ (r : Result Subject Fault). and_then r (λ _. next_transaction (idle old))) e ∙ ap (λ (b : Bool). if b then Err faults.Spent else Ok old.next_transaction) l) h in let wrong = left.1 in absurd cc)
+    go (Ok subject) false e l h =
+        let d = does _ old.next_transaction (idle old) new (Number number) _ (ap (λ (r : Result Subject Fault). and_then r (λ _. next_transaction (idle old))) e ∙ ap (λ (b : Bool). if b then Err faults.Spent else Ok old.next_transaction) l) h in
+        let is : number ≡ old.next_transaction = cc (d.1) in
+        record { subject = subject; seated = e; left = l; stands = d.0 ∙ ap (λ (n : ℕ). under n seat [] 0 (begun old)) (sym is) }
 
-pub not_more : (a b : ℕ) → (a < b → ⊥) → ltb a b ≡ false
-not_more a b not = elim (cases_lt a b) [ inl lt ↦ absurd (not lt) | inr le ↦ le-ltb a b le ]
+module _ (seat : ℕ) (changes : List Change) (old mid : WorldData) (number : ℕ) (still : IsIdle old) (h : Happens (Begin seat) old mid (Number number)) where
+  started : Begun seat old mid number
+  started = begins seat old mid number still h
 
-module _ (office : List ℕ) (changes : List Change) (state : PlainState) where
-  pub committed_existing : (number : ℕ) → first_present 1 changes state.features ≡ Some number → (state, Exists number) ≡ committed office changes state
-  unfolding committed
-  committed_existing number found = sym (ap (λ (o : Option ℕ). judged o office changes state) found)
+  admits : may_conclude seat (idle old) ≡ Ok started.subject
+  admits =
+      ap (λ (r : Result Subject Fault). and_then r (λ subject. if old.next_transaction == LAST then Err faults.Spent else Ok subject)) started.seated
+      ∙ ap (λ (b : Bool). if b then Err faults.Spent else Ok started.subject) started.left
 
-  module _ (none : first_present 1 changes state.features ≡ None) where
-    committed-applied : committed office changes state ≡ applied office changes state
-    unfolding committed
-    committed-applied = ap (λ (o : Option ℕ). judged o office changes state) none
+  abbrev Does : WorldData → Reply → Subject → Type 0
+  Does new reply subject =
+      MatchBool (is_memory reply) ((new ≡ idle old) ⊎ (new ≡ begun (idle old)))
+      (MatchBool (is_unplaced reply) (new ≡ begun (idle old))
+      (MatchBool (is_full (idle old)) ((reply ≡ Refused faults.TrailFull) × (new ≡ begun (idle old)))
+      ((judgement : Judgement) × Judged old.state subject changes judgement × EndsAs judgement seat subject changes (idle old) new reply)))
 
-    pub committed_spent : state.version ≡ 2 ^ 64 - 1 → (state, Error Spent) ≡ committed office changes state
-    committed_spent last = sym (committed-applied ∙ rw (eq-eqb state.version (2 ^ 64 - 1) last) refl)
+  whole : (new : WorldData) (reply : Reply) → Does new reply started.subject → Commits seat changes old new reply
+  whole new reply d =
+      subst (λ (o : WorldData). Commits seat changes o new reply) (sym (idle_same old still)) (done _ started.subject (idle old) new reply (Does new reply) admits d)
 
-    module _ (left : state.version ≢ 2 ^ 64 - 1) where
-      pub committed_full : 100000 < length (after (state.version + 1) office changes state.features) → (state, Error StoreFull) ≡ committed office changes state
-      committed_full more = sym (committed-applied ∙ rw (ne_eqb _ _ left, lt-ltb _ _ more) refl)
+  -- where the trail takes a record
+  judged : (new : WorldData) (reply : Reply) → is_full old ≡ false
+      → ((judgement : Judgement) × Judged old.state started.subject changes judgement × EndsAs judgement seat started.subject changes (idle old) new reply)
+      → MatchBool (is_full (idle old)) ((reply ≡ Refused faults.TrailFull) × (new ≡ begun (idle old)))
+      ((judgement : Judgement) × Judged old.state started.subject changes judgement × EndsAs judgement seat started.subject changes (idle old) new reply)
+  judged new reply room d =
+      subst (λ (b : Bool). MatchBool b ((reply ≡ Refused faults.TrailFull) × (new ≡ begun (idle old)))
+      ((judgement : Judgement) × Judged old.state started.subject changes judgement × EndsAs judgement seat started.subject changes (idle old) new reply)) (sym room) d
 
-      module _ (fits : ltb 100000 (length (after (state.version + 1) office changes state.features)) ≡ false) where
-        pub committed_whole : (record state { features = after (state.version + 1) office changes state.features; version = state.version + 1 }, Applied (state.version + 1)) ≡ committed office changes state
-        committed_whole = sym (committed-applied ∙ rw (ne_eqb _ _ left, fits) refl)
+  concluded : (stopped : WorldData) (reply : Reply) → Concludes seat number changes mid stopped reply → ConcludesAll seat number changes (begun old) stopped reply
+  concluded stopped reply all = all (begun old) started.subject started.seated started.stands
 
-        pub committed_is_applied : IsApplied (committed office changes state).1
-        committed_is_applied = subst (λ (end : PlainState × Reply). IsApplied end.1) committed_whole tt
+  -- a commit that comes to nothing, whose transaction is given up
+  pub commit_refused : (stopped new : WorldData) (fault : Fault) (reply : Reply) → Concludes seat number changes mid stopped (Refused fault) → Happens (Abort seat number) stopped new reply → IsIdle new × Commits seat changes old new (Refused fault)
+  commit_refused stopped new fault reply all drops = go (concluded stopped (Refused fault) all)
+    where
+      leaves : Stands seat number changes (begun old) stopped → new ≡ begun (idle old)
+      leaves stands = aborted number seat (begun old) started.subject started.seated changes stopped new reply stands drops
+
+      stuck : (fault : Fault) → IsStuck fault → new ≡ begun (idle old) → Does new (Refused fault) started.subject
+      stuck (faults.Memory refusal) s e = inr e
+      stuck (faults.Tree tree.Full) s e = e
+      stuck (faults.Tree tree.TooHigh) s e = e
+      stuck (faults.Tree tree.Spent) s e = e
+      stuck (faults.Tree tree.Overrun) s e = e
+      stuck _ s e = absurd s
+
+      AppliesSo : Bool → Bool → Reply → Type 0
+      AppliesSo last over said =
+          MatchBool last ((said ≡ Refused faults.Spent) × (new ≡ begun (idle old)))
+          (MatchBool over ((said ≡ Refused faults.StoreFull) × (new ≡ begun (idle old)))
+          ((said ≡ Ended (outcomes.Applied (old.state.version + 1))) × (new ≡ begun (recorded seat (applied started.subject (old.state.version + 1) changes) (idle old)))))
+
+      refused_so : (fault : Fault) (placed : ℕ) (judgement : Judgement) → is_full old ≡ false → Judged old.state started.subject changes judgement
+          → EndsSo number seat (begun old) started.subject started.seated changes placed judgement stopped (Refused fault)
+          → (stopped ≡ under number seat changes placed (begun old) → new ≡ begun (idle old))
+          → IsIdle new × Does new (Refused fault) started.subject
+      refused_so fault placed judgements.Accepted room accepted d last_of =
+          decide (old.state.version == LAST) (nat_lt old.limits.features (length (after (old.state.version + 1) started.subject.office changes old.state.features))) refl refl d
+        where
+          decide : (last over : Bool) → (old.state.version == LAST) ≡ last → nat_lt old.limits.features (length (after (old.state.version + 1) started.subject.office changes old.state.features)) ≡ over
+              → MatchBool last ((Refused fault ≡ Refused faults.Spent) × (stopped ≡ under number seat changes placed (begun old)))
+              (MatchBool over ((Refused fault ≡ Refused faults.StoreFull) × (stopped ≡ under number seat changes placed (begun old)))
+              ((Refused fault ≡ Ended (outcomes.Applied (old.state.version + 1))) × (stopped ≡ idle (recorded seat (applied started.subject (old.state.version + 1) changes) (begun old)))))
+              → IsIdle new × Does new (Refused fault) started.subject
+          decide true over e f d =
+              let left = last_of d.1 in (
+                is_idle (begun old) new left,
+                subst (λ (r : Reply). Does new r started.subject) (sym d.0)
+                    (judged new (Refused faults.Spent) room (judgements.Accepted, accepted, subst (λ (b : Bool). AppliesSo b (nat_lt old.limits.features (length (after (old.state.version + 1) started.subject.office changes old.state.features))) (Refused faults.Spent)) (sym e) (refl, left))),
+              )
+          decide false true e f d =
+              let left = last_of d.1 in (
+                is_idle (begun old) new left,
+                subst (λ (r : Reply). Does new r started.subject) (sym d.0)
+                    (judged new (Refused faults.StoreFull) room (
+                      judgements.Accepted,
+                      accepted,
+                      subst (λ (b : Bool). AppliesSo b (nat_lt old.limits.features (length (after (old.state.version + 1) started.subject.office changes old.state.features))) (Refused faults.StoreFull)) (sym e) (subst (λ (b : Bool). AppliesSo false b (Refused faults.StoreFull)) (sym f) (refl, left)),
+                    )),
+              )
+          decide false false e f d = (let wrong = d.0 in absurd cc)
+      refused_so fault placed (judgements.Refused refusal question) room accepted d last_of = (let wrong = d.0 in absurd cc)
+
+      ended_so : (placed : ℕ) → Committed number seat (begun old) started.subject started.seated changes placed stopped (Refused fault) → IsIdle new × Does new (Refused fault) started.subject
+      ended_so placed (inl (refusal, e, stands)) =
+          let left = leaves (inl (placed, stands)) in
+          (is_idle (begun old) new left, subst (λ (r : Reply). Does new r started.subject) (sym e) (inr left))
+      ended_so placed (inr (inl (full, e, stands))) =
+          let left = leaves (inl (placed, stands)) in (
+            is_idle (begun old) new left,
+            subst (λ (r : Reply). Does new r started.subject) (sym e)
+                (subst (λ (b : Bool). MatchBool b ((Refused faults.TrailFull ≡ Refused faults.TrailFull) × (new ≡ begun (idle old)))
+                ((judgement : Judgement) × Judged old.state started.subject changes judgement × EndsAs judgement seat started.subject changes (idle old) new (Refused faults.TrailFull))) (sym full) (refl, left)),
+          )
+      ended_so placed (inr (inr (room, (judgement, is_judged, d)))) = refused_so fault placed judgement room is_judged d (λ stands. leaves (inl (placed, stands)))
+
+      go : ConcludesAll seat number changes (begun old) stopped (Refused fault) → IsIdle new × Commits seat changes old new (Refused fault)
+      go (inl (f, is_stuck, stands, e)) =
+          let left = leaves stands in
+          (is_idle (begun old) new left, whole new (Refused fault) (subst (λ (r : Reply). Does new r started.subject) (sym e) (stuck f is_stuck left)))
+      go (inr (placed, none, happens)) =
+          let ends = ended_so placed (committed number seat (begun old) started.subject started.seated changes placed stopped (Refused fault) none happens) in
+          (ends.0, whole new (Refused fault) ends.1)
+
+  -- a list that is judged
+  pub commit_ended : (new : WorldData) (outcome : Outcome) → Concludes seat number changes mid new (Ended outcome) → IsIdle new × Commits seat changes old new (Ended outcome)
+  commit_ended new outcome all = go (concluded new (Ended outcome) all)
+    where
+      ends : (placed : ℕ) (judgement : Judgement) → EndsSo number seat (begun old) started.subject started.seated changes placed judgement new (Ended outcome)
+          → IsIdle new × EndsAs judgement seat started.subject changes (idle old) new (Ended outcome)
+      ends placed judgements.Accepted d =
+          decide (old.state.version == LAST) (nat_lt old.limits.features (length (after (old.state.version + 1) started.subject.office changes old.state.features))) d
+        where
+          decide : (last over : Bool)
+              → MatchBool last ((Ended outcome ≡ Refused faults.Spent) × (new ≡ under number seat changes placed (begun old)))
+              (MatchBool over ((Ended outcome ≡ Refused faults.StoreFull) × (new ≡ under number seat changes placed (begun old)))
+              ((Ended outcome ≡ Ended (outcomes.Applied (old.state.version + 1))) × (new ≡ idle (recorded seat (applied started.subject (old.state.version + 1) changes) (begun old)))))
+              → IsIdle new
+              × MatchBool last ((Ended outcome ≡ Refused faults.Spent) × (new ≡ begun (idle old)))
+              (MatchBool over ((Ended outcome ≡ Refused faults.StoreFull) × (new ≡ begun (idle old)))
+              ((Ended outcome ≡ Ended (outcomes.Applied (old.state.version + 1))) × (new ≡ begun (recorded seat (applied started.subject (old.state.version + 1) changes) (idle old)))))
+          decide true over d = (let wrong = d.0 in absurd cc)
+          decide false true d = (let wrong = d.0 in absurd cc)
+          decide false false d = (is_idle (recorded seat (applied started.subject (old.state.version + 1) changes) (begun old)) new d.1, d)
+      ends placed (judgements.Refused refusal question) d = (is_idle (recorded seat (turned_away started.subject changes refusal) (begun old)) new d.1, d)
+
+      ended_so : (placed : ℕ) → Committed number seat (begun old) started.subject started.seated changes placed new (Ended outcome) → IsIdle new × Does new (Ended outcome) started.subject
+      ended_so placed (inl (refusal, e, stands)) = absurd cc
+      ended_so placed (inr (inl (full, e, stands))) = absurd cc
+      ended_so placed (inr (inr (room, (judgement, is_judged, d)))) =
+          let end = ends placed judgement d in
+          (end.0, judged new (Ended outcome) room (judgement, is_judged, end.1))
+
+      go : ConcludesAll seat number changes (begun old) new (Ended outcome) → IsIdle new × Commits seat changes old new (Ended outcome)
+      go (inl (f, is_stuck, stands, e)) = absurd cc
+      go (inr (placed, none, happens)) =
+          let end = ended_so placed (committed number seat (begun old) started.subject started.seated changes placed new (Ended outcome) none happens) in
+          (end.0, whole new (Ended outcome) end.1)

@@ -1,8 +1,11 @@
 pub mod WordLemmas
+pub mod SearchLemmas
 pub mod CommitLemmas
+pub mod PolicyLemmas
+pub mod RollLemmas
 pub mod DeskLemmas
+pub mod KeepLemmas
 pub mod WritingLemmas
-pub mod ListingLemmas
-pub mod RowLemmas
 pub mod ScriptLemmas
+pub mod LentLemmas
 pub mod StreamLemmas

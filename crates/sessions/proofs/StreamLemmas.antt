@@ -433,28 +433,27 @@ module _ {S : Type 0} (tell : List ℕ → S → S → List ℕ → Type 0) wher
         broken = broke_all.broken;
       }
 
--- the same lines, where states are seen as others
-pub told_along : {S T : Type 0} (see : S → T) (tell : List ℕ → T → T → List ℕ → Type 0) (old new : S) (lines : List (List ℕ)) (said : List ℕ) → LinesTell (λ line a b text. tell line (see a) (see b) text) old lines new said → LinesTell tell (see old) lines (see new) said
-told_along see tell old new [] said told = (ap see told.0, told.1)
-told_along see tell old new (line ∷ lines) said told = (see told.0, told.1, told.2, told.3, told.4, told_along see tell told.0 new lines told.2 told.5)
+-- ---- states that are seen as others
 
-module _ {S T : Type 0} (see : S → T) (tell : List ℕ → T → T → List ℕ → Type 0) where
-  -- what answers a line, where states are seen as others
-  abbrev seen : List ℕ → S → S → List ℕ → Type 0
-  seen line old new said = tell line (see old) (see new) said
+-- `shown` answers lines; `tell` does so where its states are seen
+module _ {S T : Type 0} (see : S → T) (shown : List ℕ → S → S → List ℕ → Type 0) (tell : List ℕ → T → T → List ℕ → Type 0)
+    (each : (line : List ℕ) (old new : S) (said : List ℕ) → shown line old new said → tell line (see old) (see new) said) where
+  told_as : (old new : S) (lines : List (List ℕ)) (said : List ℕ) → LinesTell shown old lines new said → LinesTell tell (see old) lines (see new) said
+  told_as old new [] said told = (ap see told.0, told.1)
+  told_as old new (line ∷ lines) said told = (see told.0, told.1, told.2, each line old told.0 told.1 told.3, told.4, told_as told.0 new lines told.2 told.5)
 
-  answered_along : (old new : S) (lines : List (List ℕ)) (a b : Option (List ℕ)) → Answered seen old lines new a b → Answered tell (see old) lines (see new) a b
-  answered_along old new lines a b all = record { said = all.said; told = told_along see tell old new lines all.said all.told; written = all.written }
+  answered_as : (old new : S) (lines : List (List ℕ)) (a b : Option (List ℕ)) → Answered shown old lines new a b → Answered tell (see old) lines (see new) a b
+  answered_as old new lines a b all = record { said = all.said; told = told_as old new lines all.said all.told; written = all.written }
 
-  so_far_along : (old new : S) (input left a b : Option (List ℕ)) → RanSoFar seen old new input left a b → RanSoFar tell (see old) (see new) input left a b
-  so_far_along old new input left a b run = record { text = run.text; read = run.read; answered = answered_along old new _ a b run.answered }
+  so_far_as : (old new : S) (input left a b : Option (List ℕ)) → RanSoFar shown old new input left a b → RanSoFar tell (see old) (see new) input left a b
+  so_far_as old new input left a b run = record { text = run.text; read = run.read; answered = answered_as old new _ a b run.answered }
 
-  pub ran_along : (r : Result (Unit {0}) ServeFault) (old new : S) (input left a b : Option (List ℕ)) → Ran seen r old new input left a b → Ran tell r (see old) (see new) input left a b
-  unfolding so_far_along
-  ran_along (Ok u) old new input left a b run = record { text = run.text; read = run.read; at_end = run.at_end; answered = answered_along old new _ a b run.answered }
-  ran_along (Err Read) old new input left a b run = so_far_along old new input left a b run
-  ran_along (Err TooManyTurns) old new input left a b run = (so_far_along old new input left a b run.0, run.1)
-  ran_along (Err Write) old new input left a b run = record {
+  pub ran_as : (r : Result (Unit {0}) ServeFault) (old new : S) (input left a b : Option (List ℕ)) → Ran shown r old new input left a b → Ran tell r (see old) (see new) input left a b
+  unfolding so_far_as
+  ran_as (Ok u) old new input left a b run = record { text = run.text; read = run.read; at_end = run.at_end; answered = answered_as old new _ a b run.answered }
+  ran_as (Err Read) old new input left a b run = so_far_as old new input left a b run
+  ran_as (Err TooManyTurns) old new input left a b run = (so_far_as old new input left a b run.0, run.1)
+  ran_as (Err Write) old new input left a b run = record {
     lines = run.lines;
     others = run.others;
     are_first = run.are_first;
@@ -464,13 +463,19 @@ module _ {S T : Type 0} (see : S → T) (tell : List ℕ → T → T → List �
       are = run.broken.are;
       mid = see run.broken.mid;
       said = run.broken.said;
-      told = told_along see tell old run.broken.mid run.broken.firsts run.broken.said run.broken.told;
+      told = told_as old run.broken.mid run.broken.firsts run.broken.said run.broken.told;
       more = run.broken.more;
-      told_last = run.broken.told_last;
+      told_last = each run.broken.last run.broken.mid new run.broken.more run.broken.told_last;
       front = run.broken.front;
       left = run.broken.left;
       parts = run.broken.parts;
       written = run.broken.written;
     };
   }
-  ran_along (Err (Memory refused)) old new input left a b run = (ap see run.0, run.1, run.2)
+  ran_as (Err (Memory refused)) old new input left a b run = (ap see run.0, run.1, run.2)
+
+-- the same, where lines are answered by what is seen
+pub ran_along : {S T : Type 0} (see : S → T) (tell : List ℕ → T → T → List ℕ → Type 0) (r : Result (Unit {0}) ServeFault) (old new : S) (input left a b : Option (List ℕ))
+    → Ran (λ line x y said. tell line (see x) (see y) said) r old new input left a b → Ran tell r (see old) (see new) input left a b
+ran_along see tell r old new input left a b run =
+    ran_as see (λ line x y said. tell line (see x) (see y) said) tell (λ line x y said h. h) r old new input left a b run

@@ -5,13 +5,14 @@ use Rattle.plane.specs.declared.point.Point.{Point}
 use Rattle.wkt.specs.declared.fault.WktFault.{WktFault}
 use Rattle.wkt.specs.Reading.{shape_of}
 use Rattle.features.specs.Names.{name_of}
+use Rattle.features.specs.declared.rows.Change.TheVariants as changes
 use Rattle.sessions.specs.declared.commands.Command.{Command}
-use Rattle.sessions.specs.declared.commands.Command.TheVariants.{Hello, Add, Search, Commit, Bye}
+use Rattle.sessions.specs.declared.commands.Command.TheVariants as commands
 use Rattle.sessions.specs.declared.commands.Verb.{Verb}
-use Rattle.sessions.specs.declared.commands.Verb.TheVariants.{Hello as HelloVerb, Add as AddVerb, Search as SearchVerb, Commit as CommitVerb, Bye as ByeVerb}
+use Rattle.sessions.specs.declared.commands.Verb.TheVariants as verbs
 use Rattle.sessions.specs.declared.faults.Fault.{Fault}
 use Rattle.sessions.specs.declared.faults.Fault.TheVariants.{Command as CommandFault, Number, Name, BeforeHello, HelloAgain, Shape}
-use Rattle.sessions.specs.Words.{next_word, number_of}
+use Rattle.sessions.specs.Words.{action_of, next_word, number_of}
 
 infixl 10 ◌>>=◌
 abbrev pub ◌>>=◌ : {A B : Type 0} → Result A Fault → (A → Result B Fault) → Result B Fault
@@ -31,11 +32,17 @@ or_fault fault (Some x) = Ok x
 -- the command that a word names
 abbrev pub verb_of : List ℕ → Option Verb
 verb_of word =
-    if bytes_eq word (codes "HELLO") then Some HelloVerb
-    else if bytes_eq word (codes "ADD") then Some AddVerb
-    else if bytes_eq word (codes "SEARCH") then Some SearchVerb
-    else if bytes_eq word (codes "COMMIT") then Some CommitVerb
-    else if bytes_eq word (codes "BYE") then Some ByeVerb
+    if bytes_eq word (codes "HELLO") then Some verbs.Hello
+    else if bytes_eq word (codes "SEARCH") then Some verbs.Search
+    else if bytes_eq word (codes "ADD") then Some verbs.Add
+    else if bytes_eq word (codes "RESHAPE") then Some verbs.Reshape
+    else if bytes_eq word (codes "DELETE") then Some verbs.Delete
+    else if bytes_eq word (codes "COMMIT") then Some verbs.Commit
+    else if bytes_eq word (codes "ABORT") then Some verbs.Abort
+    else if bytes_eq word (codes "POLICY") then Some verbs.Policy
+    else if bytes_eq word (codes "EXPLAIN") then Some verbs.Explain
+    else if bytes_eq word (codes "ROLL") then Some verbs.Roll
+    else if bytes_eq word (codes "BYE") then Some verbs.Bye
     else None
 
 -- the next word, which is due
@@ -51,11 +58,24 @@ verb_at text = do
 
 -- a session begins once, and everything but BYE comes after it has begun
 abbrev pub allowed : Bool → Verb → Result (Unit {0}) Fault
-allowed begun ByeVerb = Ok tt
-allowed begun HelloVerb = if begun then Err HelloAgain else Ok tt
-allowed begun AddVerb = if begun then Ok tt else Err BeforeHello
-allowed begun SearchVerb = if begun then Ok tt else Err BeforeHello
-allowed begun CommitVerb = if begun then Ok tt else Err BeforeHello
+allowed begun verbs.Bye = Ok tt
+allowed begun verbs.Hello = if begun then Err HelloAgain else Ok tt
+allowed begun verbs.Search = if begun then Ok tt else Err BeforeHello
+allowed begun verbs.Add = if begun then Ok tt else Err BeforeHello
+allowed begun verbs.Reshape = if begun then Ok tt else Err BeforeHello
+allowed begun verbs.Delete = if begun then Ok tt else Err BeforeHello
+allowed begun verbs.Commit = if begun then Ok tt else Err BeforeHello
+allowed begun verbs.Abort = if begun then Ok tt else Err BeforeHello
+allowed begun verbs.Policy = if begun then Ok tt else Err BeforeHello
+allowed begun verbs.Explain = if begun then Ok tt else Err BeforeHello
+allowed begun verbs.Roll = if begun then Ok tt else Err BeforeHello
+
+-- the command of a line, which may come now, and what is left behind it
+unfoldable pub verb_for : Bool → List ℕ → Result (Verb × List ℕ) Fault
+verb_for begun text = do
+  verb ← verb_at text
+  _ ← allowed begun verb.0
+  Ok (verb.0, verb.1)
 
 -- a shape, or the fault of its text
 abbrev pub shape_or_fault : Result (List Point) WktFault → Result (List Point) Fault
@@ -83,7 +103,7 @@ hello_at text = do
   word ← word_at text
   name ← or_fault Name (name_of word.0)
   _ ← end_at word.1
-  Ok (Hello name)
+  Ok (commands.Hello name)
 
 unfoldable pub add_at : List ℕ → Result Command Fault
 add_at text = do
@@ -92,19 +112,47 @@ add_at text = do
   second ← word_at first.1
   class ← or_fault Name (name_of second.0)
   shape ← shape_at second.1
-  Ok (Add id class shape)
+  Ok (commands.Stage (changes.Add id class shape))
 
--- the words of a command, from left to right
+unfoldable pub reshape_at : List ℕ → Result Command Fault
+reshape_at text = do
+  first ← word_at text
+  id ← or_fault Number (number_of first.0)
+  second ← word_at first.1
+  version ← or_fault Number (number_of second.0)
+  shape ← shape_at second.1
+  Ok (commands.Stage (changes.Reshape id version shape))
+
+unfoldable pub delete_at : List ℕ → Result Command Fault
+delete_at text = do
+  first ← word_at text
+  id ← or_fault Number (number_of first.0)
+  second ← word_at first.1
+  version ← or_fault Number (number_of second.0)
+  _ ← end_at second.1
+  Ok (commands.Stage (changes.Delete id version))
+
+unfoldable pub explain_at : List ℕ → Result Command Fault
+explain_at text = do
+  first ← word_at text
+  action ← or_fault Name (action_of first.0)
+  second ← word_at first.1
+  owner ← or_fault Name (name_of second.0)
+  third ← word_at second.1
+  class ← or_fault Name (name_of third.0)
+  shape ← shape_at third.1
+  Ok (commands.Explain (record { action = action; owner = owner; class = class; shape = shape }))
+
+-- the words of a command, from left to right; the text behind POLICY has no words
 unfoldable pub arguments_at : Verb → List ℕ → Result Command Fault
-arguments_at HelloVerb text = hello_at text
-arguments_at AddVerb text = add_at text
-arguments_at SearchVerb text = shape_at text >>= λ shape. Ok (Search shape)
-arguments_at CommitVerb text = alone_at Commit text
-arguments_at ByeVerb text = alone_at Bye text
-
--- what stands behind the label of a line: the command, whether it may come now, and its words from left to right
-unfoldable pub command_of : Bool → List ℕ → Result Command Fault
-command_of begun text = do
-  verb ← verb_at text
-  _ ← allowed begun verb.0
-  arguments_at verb.0 verb.1
+arguments_at verbs.Hello text = hello_at text
+arguments_at verbs.Search text = shape_at text >>= λ shape. Ok (commands.Search shape)
+arguments_at verbs.Add text = add_at text
+arguments_at verbs.Reshape text = reshape_at text
+arguments_at verbs.Delete text = delete_at text
+arguments_at verbs.Commit text = alone_at commands.Commit text
+arguments_at verbs.Abort text = alone_at commands.Abort text
+arguments_at verbs.Policy text = Err CommandFault
+arguments_at verbs.Explain text = explain_at text
+arguments_at verbs.Roll text = alone_at commands.Roll text
+arguments_at verbs.Bye text = alone_at commands.Bye text

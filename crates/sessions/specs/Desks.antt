@@ -1,103 +1,100 @@
--- What a session's line does, as plain states.
-use Rattle.std.specs.Prelude.{◌≡◌, ℕ, ◌==◌, Bool, nat_le, is_some, List, [], ◌∷◌, ◌++◌, length, Option, None, Some, Result, Ok, Err, if◌then◌else◌}
+-- What a session's line does. Whoever serves the session is known by two things: for whom it asks, and what each call makes
+-- of it (`serves call old new said`).
+use Rattle.std.specs.Prelude.{◌≡◌, ◌≢◌, ◌⊎◌, ◌==◌, ℕ, nat_le, Bool, true, false, is_some, List, [], ◌∷◌, ◌++◌, length, Option, Result, MatchOption, MatchResult, if◌then◌else◌}
 use Rattle.std.specs.Bool.{MatchBool}
-use Rattle.std.specs.List.{list_any}
+use Rattle.memory.specs.declared.refused.Refused.{Refused as Refusal}
 use Rattle.features.specs.declared.actors.Subject.{Subject}
 use Rattle.features.specs.declared.rows.Change.{Change}
-use Rattle.features.specs.declared.rows.Change.TheVariants.{Add}
 use Rattle.features.specs.Changes.{change_id}
+use Rattle.policy_text.specs.Bytes.{document_of_bytes}
+use Rattle.combining.specs.declared.questions.Question.{Question}
+use Rattle.transactions.specs.declared.faults.Fault.TheVariants as refusals
+use Rattle.transactions.specs.declared.settings.TheConstants.{CHANGE_LIMIT}
+use Rattle.transactions.specs.Staging.{names}
+use Rattle.sessions.specs.declared.commands.Asking.{Asking}
 use Rattle.sessions.specs.declared.commands.Command.{Command}
-use Rattle.sessions.specs.declared.commands.Command.TheVariants.{Hello as HelloCommand, Add as AddCommand, Search as SearchCommand, Commit as CommitCommand, Bye as ByeCommand}
-use Rattle.sessions.specs.declared.lists.TheConstants.{CHANGE_LIMIT}
-use Rattle.sessions.specs.declared.faults.Fault.{Fault}
-use Rattle.sessions.specs.declared.faults.Fault.TheVariants.{BeforeHello, NothingStaged, NamedTwice, TooManyChanges}
+use Rattle.sessions.specs.declared.commands.Command.TheVariants as commands
+use Rattle.sessions.specs.declared.commands.Verb.{Verb}
+use Rattle.sessions.specs.declared.commands.Verb.TheVariants as verbs
+use Rattle.sessions.specs.declared.faults.Fault.TheVariants.{BeforeHello, NothingStaged}
 use Rattle.sessions.specs.declared.replies.Reply.{Reply}
-use Rattle.sessions.specs.declared.replies.Reply.TheVariants.{Hello, Staged, Rows, Applied, Bye, Error}
-use Rattle.sessions.specs.Commands.{command_of}
-use Rattle.sessions.specs.Replies.{is_memory, ends_list}
-use Rattle.sessions.specs.States.{PlainState, SessionState}
-use Rattle.sessions.specs.Worlds.{committed, seat_of, seated}
+use Rattle.sessions.specs.declared.replies.Reply.TheVariants.{Staged, Aborted, Error, Refused, Memory}
+use Rattle.sessions.specs.Commands.{verb_for, arguments_at}
+use Rattle.sessions.specs.Replies.{SaidData, line, ends_list, policy_reply}
+use Rattle.sessions.specs.Services.{Call, Hello, Search, Commit, Govern, Explain, Roll, Leave}
+use Rattle.sessions.specs.States.{Desk}
 
--- a label's session before HELLO
-abbrev pub fresh : List ℕ → SessionState
-fresh label = record { label = label; subject = None; staged = [] }
+-- nothing changes, and this is said
+abbrev pub OnlySays : {S : Type 0} → Reply → Desk S → Desk S → SaidData → Type 0
+OnlySays due old new said = (new ≡ old) × (said ≡ line due)
 
-abbrev pub begun : Subject → SessionState → SessionState
-begun subject session = record session { subject = Some subject }
+-- one more change staged, where there is room and none of those before names its feature
+abbrev pub staged_with : Change → List Change → List Change × Reply
+staged_with change staged =
+    if nat_le CHANGE_LIMIT (length staged) then (staged, Refused refusals.TooManyChanges)
+    else if names (change_id change) staged then (staged, Refused refusals.NamedTwice)
+    else (staged ++ change ∷ [], Staged)
 
-abbrev pub ended : SessionState → SessionState
-ended session = record session { subject = None; staged = [] }
+abbrev pub is_judged : SaidData → Bool
+is_judged (line reply) = ends_list reply
+is_judged _ = false
 
--- a change of the list names this feature
-abbrev pub names : ℕ → List Change → Bool
-names id changes = list_any (λ change. change_id change == id) changes
+-- what is left of a staged list that was committed, and answered so
+abbrev pub left_of : SaidData → List Change → List Change
+left_of said staged = if is_judged said then [] else staged
 
--- one more change staged
-abbrev pub staged_with : Change → SessionState → SessionState × Reply
-staged_with change session =
-    if nat_le CHANGE_LIMIT (length session.staged) then (session, Error TooManyChanges)
-    else if names (change_id change) session.staged then (session, Error NamedTwice)
-    else (record session { staged = session.staged ++ change ∷ [] }, Staged)
+-- may this subject do so?
+abbrev pub question_of : Subject → Asking → Question
+question_of subject asking = record { subject = subject; action = asking.action; owner = asking.owner; class = asking.class; shape = asking.shape }
 
--- a reply that says that the store was changed, for which memory may be wanted
-abbrev pub IsChange : Reply → Type 0
-IsChange (Applied version) = Unit {0}
-IsChange _ = ⊥
+-- a session's COMMIT
+abbrev pub Closes : {S : Type 0} → (Call → S → S → SaidData → Type 0) → Desk S → Desk S → SaidData → Type 0
+Closes serves old new said =
+    MatchBool (length old.staged == 0) (OnlySays (Error NothingStaged) old new said)
+    ((new.staged ≡ left_of said old.staged) × serves (Commit old.staged) old.service new.service said)
 
--- a session after its list was committed with this reply
-abbrev pub without_list : Reply → SessionState → SessionState
-without_list reply session = if ends_list reply then record session { staged = [] } else session
+-- A session's EXPLAIN. Before HELLO none comes here, since `verb_for` refuses it.
+abbrev pub Asks : {S : Type 0} → (S → Option Subject) → (Call → S → S → SaidData → Type 0) → Asking → Desk S → Desk S → SaidData → Type 0
+Asks subject_of serves asking old new said =
+    MatchOption (subject_of old.service) (OnlySays (Error BeforeHello) old new said)
+    (λ subject. (new.staged ≡ old.staged) × serves (Explain (question_of subject asking)) old.service new.service said)
 
-abbrev pub closed_by : PlainState × Reply → SessionState → SessionState × PlainState × Reply
-closed_by end session = (without_list end.1 session, end.0, end.1)
+-- Reading a text that is not empty found no memory: nothing changes.
+abbrev pub FindsNoMemory : {S : Type 0} → List ℕ → Desk S → Desk S → SaidData → Type 0
+FindsNoMemory text old new said = (text ≢ []) × (refusal : Refusal) × OnlySays (Memory refusal) old new said
 
--- a session's COMMIT, where no memory is wanted; before HELLO none comes here, since `command_of` refuses it
-abbrev pub closed : Option Subject → SessionState → PlainState → SessionState × PlainState × Reply
-closed None session state = (session, state, Error BeforeHello)
-closed (Some subject) session state =
-    if length session.staged == 0 then (session, state, Error NothingStaged)
-    else closed_by (committed subject.office session.staged state) session
+-- A session's POLICY: the document that a text spells is put in force; a text that spells none is answered its first fault.
+abbrev pub Governs : {S : Type 0} → (Call → S → S → SaidData → Type 0) → List ℕ → Desk S → Desk S → SaidData → Type 0
+Governs serves text old new said =
+    FindsNoMemory text old new said
+    ⊎ MatchResult (document_of_bytes text)
+    (λ document. (new.staged ≡ old.staged) × serves (Govern document) old.service new.service said)
+    (λ fault. OnlySays (policy_reply fault) old new said)
 
--- A session's COMMIT with this reply. Want of memory comes only where the list would be applied, and changes nothing.
-abbrev pub Closes : SessionState → PlainState → SessionState → PlainState → Reply → Type 0
-Closes session state new_session new_state reply =
-    MatchBool (is_memory reply)
-    ((new_session ≡ session) × (new_state ≡ state) × IsChange (closed session.subject session state).2)
-    ((new_session, new_state, reply) ≡ closed session.subject session state)
+-- what a command makes of its session and whoever serves it, and what is said
+abbrev pub Obeys : {S : Type 0} → (S → Option Subject) → (Call → S → S → SaidData → Type 0) → Command → Desk S → Desk S → SaidData → Type 0
+Obeys subject_of serves (commands.Hello name) old new said = (new.staged ≡ old.staged) × serves (Hello name) old.service new.service said
+Obeys subject_of serves (commands.Search window) old new said = (new.staged ≡ old.staged) × serves (Search window) old.service new.service said
+Obeys subject_of serves (commands.Stage change) old new said =
+    (new.service ≡ old.service) × (reply : Reply) × (said ≡ line reply) × ((new.staged, reply) ≡ staged_with change old.staged)
+Obeys subject_of serves commands.Commit old new said = Closes serves old new said
+Obeys subject_of serves commands.Abort old new said = (new ≡ record old { staged = [] }) × (said ≡ line Aborted)
+Obeys subject_of serves (commands.Explain asking) old new said = Asks subject_of serves asking old new said
+Obeys subject_of serves commands.Roll old new said = (new.staged ≡ old.staged) × serves Roll old.service new.service said
+Obeys subject_of serves commands.Bye old new said = (new.staged ≡ []) × serves Leave old.service new.service said
 
--- HELLO, where the seat is given or not
-abbrev pub seated_as : List ℕ → Result Subject Fault → SessionState → PlainState → SessionState × PlainState × Reply
-seated_as name (Ok subject) session state = (begun subject session, seated state, Hello name)
-seated_as name (Err fault) session state = (session, state, Error fault)
+abbrev pub is_policy : Verb → Bool
+is_policy verbs.Policy = true
+is_policy _ = false
 
-abbrev pub staged_in : SessionState × Reply → PlainState → SessionState × PlainState × Reply
-staged_in end state = (end.0, state, end.1)
+-- a line whose command is this one; POLICY takes all that stands behind it, the others have words
+abbrev pub Does : {S : Type 0} → (S → Option Subject) → (Call → S → S → SaidData → Type 0) → Verb → List ℕ → Desk S → Desk S → SaidData → Type 0
+Does subject_of serves verb text old new said =
+    MatchBool (is_policy verb) (Governs serves text old new said)
+    (MatchResult (arguments_at verb text) (λ command. Obeys subject_of serves command old new said) (λ fault. OnlySays (Error fault) old new said))
 
--- what a command makes of its session and the state, and its reply, where no memory is wanted
-unfoldable pub obeyed : Command → SessionState → PlainState → SessionState × PlainState × Reply
-obeyed (HelloCommand name) session state = seated_as name (seat_of name state) session state
-obeyed (AddCommand id class shape) session state = staged_in (staged_with (Add id class shape) session) state
-obeyed (SearchCommand window) session state = (session, state, Rows window)
-obeyed CommitCommand session state = closed session.subject session state
-obeyed ByeCommand session state = (ended session, state, Bye)
-
-abbrev pub Obeys : Command → SessionState → PlainState → SessionState → PlainState → Reply → Type 0
-Obeys command session state new_session new_state reply =
-    MatchBool (is_memory reply)
-    ((new_session ≡ session) × (new_state ≡ state) × IsChange (obeyed command session state).2)
-    ((new_session, new_state, reply) ≡ obeyed command session state)
-
-abbrev pub obeyed_or_refused : Result Command Fault → SessionState → PlainState → SessionState × PlainState × Reply
-obeyed_or_refused (Ok command) session state = obeyed command session state
-obeyed_or_refused (Err fault) session state = (session, state, Error fault)
-
--- what stands behind a session's label makes of the session and the state, and its reply, where no memory is wanted
-unfoldable pub answered : List ℕ → SessionState → PlainState → SessionState × PlainState × Reply
-answered text session state = obeyed_or_refused (command_of (is_some session.subject) text) session state
-
--- A line answered with this reply. Want of memory comes only where something would be changed, and changes nothing.
-abbrev pub Answers : List ℕ → SessionState → PlainState → SessionState → PlainState → Reply → Type 0
-Answers text session state new_session new_state reply =
-    MatchBool (is_memory reply)
-    ((new_session ≡ session) × (new_state ≡ state) × IsChange (answered text session state).2)
-    ((new_session, new_state, reply) ≡ answered text session state)
+-- what a session's line, without its label, makes of the session and whoever serves it, and what is said
+abbrev pub Answers : {S : Type 0} → (S → Option Subject) → (Call → S → S → SaidData → Type 0) → List ℕ → Desk S → Desk S → SaidData → Type 0
+Answers subject_of serves text old new said =
+    MatchResult (verb_for (is_some (subject_of old.service)) text) (λ verb. Does subject_of serves verb.0 verb.1 old new said)
+    (λ fault. OnlySays (Error fault) old new said)

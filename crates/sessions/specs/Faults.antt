@@ -2,7 +2,7 @@
 use Rattle.std.specs.Prelude.{ℕ, List, codes}
 use Rattle.wkt.specs.Faults.{code_of as wkt_code_of}
 use Rattle.sessions.specs.declared.faults.Fault.{Fault}
-use Rattle.sessions.specs.declared.faults.Fault.TheVariants.{LineTooLong, Command, Number, Name, BeforeHello, HelloAgain, NothingStaged, NoLabel, NoSubject, NoPlace, NamedTwice, TooManyChanges, Spent, StoreFull, Shape}
+use Rattle.sessions.specs.declared.faults.Fault.TheVariants.{LineTooLong, Command, Number, Name, BeforeHello, HelloAgain, NothingStaged, NoLabel, NoSubject, NoPlace, Shape}
 use Rattle.sessions.specs.declared.streams.ServeFault.{ServeFault}
 use Rattle.sessions.specs.declared.streams.ServeFault.TheVariants.{Read, Write, TooManyTurns, Memory}
 
@@ -17,10 +17,6 @@ code_of NothingStaged = codes "E7"
 code_of NoLabel = codes "E9"
 code_of NoSubject = codes "H1"
 code_of NoPlace = codes "H2"
-code_of NamedTwice = codes "X5"
-code_of TooManyChanges = codes "X6"
-code_of Spent = codes "X8"
-code_of StoreFull = codes "X11"
 code_of (Shape fault) = wkt_code_of fault
 
 -- the codes of the faults by which a run ends before its input does

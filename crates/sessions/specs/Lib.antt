@@ -3,11 +3,12 @@ pub mod Words
 pub mod Commands
 pub mod Replies
 pub mod States
-pub mod Worlds
+pub mod Services
+pub mod Steps
 pub mod Desks
-pub mod Listing
 pub mod Printed
 pub mod Lines
 pub mod Streams
 pub mod Scripts
+pub mod Serving
 pub mod BuiltIn

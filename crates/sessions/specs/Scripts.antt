@@ -5,22 +5,32 @@ use Rattle.std.specs.Cmp.Lexicographic.{pointwise}
 use Rattle.std.specs.List.{prefix_len}
 use Rattle.features.specs.Names.{name_of}
 use Rattle.sessions.specs.declared.faults.Fault.TheVariants.{LineTooLong, NoLabel}
-use Rattle.sessions.specs.declared.replies.Reply.{Reply}
 use Rattle.sessions.specs.declared.replies.Reply.TheVariants.{Error}
-use Rattle.sessions.specs.Desks.{Answers, fresh}
+use Rattle.sessions.specs.Desks.{Answers}
 use Rattle.sessions.specs.Lines.{is_too_long, lines_of}
-use Rattle.sessions.specs.Printed.{Shows, led, reply_text}
-use Rattle.sessions.specs.States.{PlainState, SessionState}
+use Rattle.sessions.specs.Printed.{led, reply_text, said_text}
+use Rattle.sessions.specs.Replies.{SaidData}
+use Rattle.sessions.specs.Services.{Serves, solo_subject}
+use Rattle.sessions.specs.States.{Desk, SessionState, SoloState, desk, solo}
+use Rattle.transactions.specs.States.{WorldData}
 use Rattle.sessions.specs.Streams.{LinesTell}
 use Rattle.sessions.specs.declared.scripts.TheConstants.{LABEL_LIMIT}
 
 -- a world, and the sessions of the labels that have come, in their order
 pub record Script : Type 0 where
-  pub world : PlainState
+  pub world : WorldData
   pub sessions : List SessionState
 
-abbrev pub script : PlainState → List SessionState → Script
+abbrev pub script : WorldData → List SessionState → Script
 script world sessions = record { world = world; sessions = sessions }
+
+-- a session before HELLO
+abbrev pub fresh : List ℕ → SessionState
+fresh label = record { label = label; seat = None; staged = [] }
+
+-- a session, served by a world
+abbrev pub desk_of : WorldData → SessionState → Desk SoloState
+desk_of world session = desk session.staged (solo world session.seat)
 
 -- an empty line, or a comment
 abbrev pub is_skipped : List ℕ → Bool
@@ -49,13 +59,18 @@ with_label label sessions = if place label sessions == length sessions then sess
 abbrev pub IsRefused : List ℕ → Script → Script → List ℕ → Type 0
 IsRefused text old new said = (new ≡ old) × (said ≡ led (codes "?") text)
 
+-- what a session answers that a world serves; after BYE its label stands for a new one
+abbrev pub SessionAnswers : List ℕ → SessionState → WorldData → SessionState → WorldData → SaidData → Type 0
+SessionAnswers text old old_world new new_world said =
+    (new.label ≡ old.label) × Answers solo_subject Serves text (desk_of old_world old) (desk_of new_world new) said
+
 -- the session of a label answers what stands behind it
 pub record SessionTells (label text : List ℕ) (old new : Script) (said : List ℕ) : Type 0 where
   pub session : SessionState
-  pub reply : Reply
-  pub answers : Answers text (slice_index_or (with_label label old.sessions) (place label old.sessions) (fresh label)) old.world session new.world reply
+  pub reply : SaidData
+  pub answers : SessionAnswers text (slice_index_or (with_label label old.sessions) (place label old.sessions) (fresh label)) old.world session new.world reply
   pub stays : new.sessions ≡ slice_set (with_label label old.sessions) (place label old.sessions) session
-  pub shows : Shows label reply new.world.features said
+  pub shows : said ≡ said_text label reply
 
 -- a script has 64 labels at most
 abbrev pub LabelTells : List ℕ → List ℕ → Script → Script → List ℕ → Type 0
@@ -75,7 +90,8 @@ LineTells line old new said =
 abbrev pub Tells : Script → List (List ℕ) → Script → List ℕ → Type 0
 Tells old lines new text = LinesTell LineTells old lines new text
 
--- the script text of an input, from one world to another
-pub record IsScriptText (world : PlainState) (input : List ℕ) (end : PlainState) (text : List ℕ) : Type 0 where
+-- The script text of an input, from one world to another. It says what each line is answered where nothing was under way at
+-- the beginning, as in a world that has just been opened.
+pub record IsScriptText (world : WorldData) (input : List ℕ) (end : WorldData) (text : List ℕ) : Type 0 where
   pub sessions : List SessionState
   pub tells : Tells (script world []) (lines_of input) (script end sessions) text

@@ -1,8 +1,10 @@
 -- The words of a session line, which spaces part.
-use Rattle.std.specs.Prelude.{ℕ, ◌^◌, ◌==◌, ◌&&◌, Bool, not, nat_le, nat_lt, List, [], ◌∷◌, length, take, drop, Option, None, Some, if◌then◌else◌}
+use Rattle.std.specs.Prelude.{codes, ℕ, ◌^◌, ◌==◌, ◌&&◌, Bool, not, nat_le, nat_lt, List, [], ◌∷◌, length, take, drop, Option, None, Some, if◌then◌else◌}
 use Rattle.std.specs.List.{prefix_len}
-use Rattle.std.specs.Str.{all_ascii_digits}
+use Rattle.std.specs.Str.{all_ascii_digits, bytes_eq}
 use Rattle.std.specs.Str.Parse.{digits_value}
+use Rattle.features.specs.declared.actors.Action.{Action}
+use Rattle.features.specs.declared.actors.Action.TheVariants.{Read, Add, Reshape, Delete}
 
 abbrev pub is_space : ℕ → Bool
 is_space b = b == 32
@@ -29,4 +31,13 @@ unfoldable pub number_of : List ℕ → Option ℕ
 number_of word =
     if nat_le 1 (length word) && nat_le (length word) 20 && all_ascii_digits word && nat_lt (digits_value 10 word) (2 ^ 64)
     then Some (digits_value 10 word)
+    else None
+
+-- the action that a word names
+abbrev pub action_of : List ℕ → Option Action
+action_of word =
+    if bytes_eq word (codes "read") then Some Read
+    else if bytes_eq word (codes "add") then Some Add
+    else if bytes_eq word (codes "reshape") then Some Reshape
+    else if bytes_eq word (codes "delete") then Some Delete
     else None

@@ -1,106 +1,83 @@
-ghost use Rattle.std.specs.Prelude.{◌≡◌, ◌==◌, is_some, length};
-ghost use Rattle.std.specs.List.{list_any};
-ghost use Rattle.features.specs.Changes.{change_id};
-ghost use Rattle.sessions.specs.Desks.{Answers, Closes, Obeys, begun, ended, fresh, names, staged_with};
+//! How a session's line is answered, whoever serves the session.
 
-use crate::commands::{Command, read_command};
+ghost use Rattle.std.specs.Prelude.{◌≡◌, []};
+ghost use Rattle.transactions.specs.Staging.{names};
+ghost use Rattle.sessions.specs.Desks.{Answers, Asks, Closes, Does, Governs, Obeys, is_policy, staged_with};
+ghost use Rattle.sessions.specs.Replies.{line, said_view};
+ghost use Rattle.sessions.specs.States.{desk};
+
+use crate::commands::{Asking, Command, Verb, read_arguments, read_verb};
 use crate::faults::Fault;
-use crate::lists::{CHANGE_LIMIT, ChangeList};
-use crate::replies::Reply;
-use crate::worlds::PlainWorld;
-use features::{Change, Name, Subject};
-use std::alloc::Allocator;
+use crate::lists::ChangeList;
+use crate::replies::{Reply, Said, policy_reply};
+use crate::services::Service;
+use combining::Question;
+use features::Change;
+use policy_text::read_document;
+use std::alloc::Global;
 use std::marker::Model;
+use transactions::{CHANGE_LIMIT, Fault as WorldFault};
 
-/// A session of a script. A contract sees its label, its subject and the changes that it has staged. Its list stands in
+/// The changes that a session has staged, each of another feature. A contract sees their list. It stands in the value
 /// itself, so staging takes no memory.
 #[derive(Debug, Drop)]
-pub(crate) struct Session {
-    label: Name,
-    subject: Option<Subject>,
-    staged: ChangeList,
+pub(crate) struct Staged {
+    changes: ChangeList,
 }
 
-impl Model for Session {
-    ghost use Rattle.sessions.specs.States.{SessionState};
-    ghost use Rattle.sessions.specs.Worlds.{AreDistinct};
+impl Model for Staged {
+    ghost use Rattle.std.specs.Prelude.{List};
+    ghost use Rattle.features.specs.declared.rows.Change.{Change};
+    ghost use Rattle.audit_trail.specs.Judging.{AreDistinct};
 
-    ghost Value = { SessionState };
+    ghost Value = { List Change };
 
-    ghost view = { λ s. record { label = s.label; subject = s.subject; staged = s.staged } };
+    ghost view = { λ s. s.changes };
 
-    ghost invariant = { λ s. AreDistinct s.staged };
+    ghost invariant = { λ s. AreDistinct s.changes };
 }
 
-impl Session {
-    /// A session that has not begun.
-    pub fn new(label: Name) -> Self
-        ensures { result ≡ fresh label }
+impl Staged {
+    /// Nothing is staged.
+    pub fn new() -> Self
+        ensures { result ≡ [] }
     {
-        Session {
-            label,
-            subject: None,
-            staged: ChangeList::new(),
+        Staged {
+            changes: ChangeList::new(),
         }
     }
 
-    /// The label that stands for the session.
-    pub fn label(&self) -> Name
-        ensures { result ≡ self.now.label }
-    {
-        self.label
-    }
-
-    /// Whether HELLO has given the session its subject.
-    pub fn has_begun(&self) -> bool
-        ensures { result ≡ is_some self.now.subject }
-    {
-        self.subject.is_some()
-    }
-
-    /// Gives the session its subject.
-    fn begin(&mut self, subject: Subject)
-        ensures { self.new ≡ begun subject self.old }
-    {
-        self.subject = Some(subject);
-    }
-
-    /// Ends the session: the label stands for a new one.
-    fn end(&mut self)
-        ensures { self.new ≡ ended self.old }
-    {
-        self.subject = None;
-        self.staged.clear();
-    }
-
-    /// Stages a change. `TooManyChanges` where 16 are staged, then `NamedTwice` where one of them names the same
-    /// feature.
+    /// Stages a change. X6 where 16 are staged, then X5 where one of them names the same feature.
     fn stage(&mut self, change: Change) -> Reply
         ensures { (self.new, result) ≡ staged_with change self.old }
     {
-        if self.staged.len() >= CHANGE_LIMIT {
-            return Reply::Error(Fault::TooManyChanges);
+        if self.changes.len() >= CHANGE_LIMIT {
+            return Reply::Refused(WorldFault::TooManyChanges);
         }
-        if is_named(self.staged.as_slice(), change.id()) {
-            return Reply::Error(Fault::NamedTwice);
+        if is_named(self.changes.as_slice(), change.id()) {
+            return Reply::Refused(WorldFault::NamedTwice);
         }
-        self.staged.push(change);
+        self.changes.push(change);
         Reply::Staged
     }
 
-    /// Commits the staged list. It is dropped once it is applied, or found to add what is there already.
-    fn commit<A: Allocator>(&mut self, world: &mut PlainWorld<A>) -> Reply
-        ensures { Closes self.old world.old self.new world.new result }
+    /// Drops what is staged.
+    fn clear(&mut self)
+        ensures { self.new ≡ [] }
     {
-        let Some(subject) = self.subject else {
-            return Reply::Error(Fault::BeforeHello);
-        };
-        if self.staged.len() == 0 {
+        self.changes.clear();
+    }
+
+    /// Commits what is staged. It is dropped once it is judged. E7 where nothing is.
+    fn commit<S: Service>(&mut self, service: &mut S) -> Reply
+        ensures { Closes S.serves (desk self.old service.old) (desk self.new service.new) (line result) }
+    {
+        if self.changes.len() == 0 {
             return Reply::Error(Fault::NothingStaged);
         }
-        let reply = world.commit(subject.office, self.staged.as_slice());
+        let reply = service.commit(self.changes.as_slice());
         if reply.ends_list() {
-            self.staged.clear();
+            self.changes.clear();
         }
         reply
     }
@@ -113,40 +90,91 @@ fn is_named(changes: &[Change], id: u64) -> bool
     changes.iter().any(|change| change.id() == id)
 }
 
-/// Answers what stands behind the label of a session's line.
-#[tactic(auto, unfolding(crate::specs::Desks::answered))]
-pub(crate) fn answer<A: Allocator>(
-    world: &mut PlainWorld<A>,
-    session: &mut Session,
-    text: &[u8],
-) -> Reply
-    ensures { Answers text.now session.old world.old session.new world.new result }
+/// Whether the command is POLICY, which takes all the rest of its line.
+fn is_policy(verb: &Verb) -> bool
+    ensures { result ≡ is_policy verb.now }
 {
-    match read_command(session.has_begun(), text) {
-        Err(fault) => Reply::Error(fault),
-        Ok(command) => obey(world, session, command),
+    matches!(verb, Verb::Policy)
+}
+
+/// Answers a line of a session, without its label and its end. `heap` is where a document is read.
+pub(crate) fn answer<S: Service>(
+    service: &mut S,
+    heap: Global,
+    staged: &mut Staged,
+    text: &[u8],
+) -> Said<S::Memory>
+    ensures { Answers S.subject_of S.serves text.now (desk staged.old service.old) (desk staged.new service.new) (said_view result) }
+{
+    match read_verb(service.subject().is_some(), text) {
+        Err(fault) => Said::Line(Reply::Error(fault)),
+        Ok((verb, rest)) => take_command(service, heap, staged, verb, rest),
     }
 }
 
-/// Does what a line asks.
-#[tactic(auto, unfolding(crate::specs::Desks::obeyed))]
-fn obey<A: Allocator>(world: &mut PlainWorld<A>, session: &mut Session, command: Command) -> Reply
-    ensures { Obeys command session.old world.old session.new world.new result }
+/// Answers a line whose command is this one.
+fn take_command<S: Service>(
+    service: &mut S,
+    heap: Global,
+    staged: &mut Staged,
+    verb: Verb,
+    rest: &[u8],
+) -> Said<S::Memory>
+    ensures { Does S.subject_of S.serves verb rest.now (desk staged.old service.old) (desk staged.new service.new) (said_view result) }
+{
+    if is_policy(&verb) {
+        return Said::Line(govern(service, heap, staged, rest));
+    }
+    match read_arguments(verb, rest) {
+        Err(fault) => Said::Line(Reply::Error(fault)),
+        Ok(command) => obey(service, staged, command),
+    }
+}
+
+/// Puts the document in force that a text spells. What is staged stays.
+fn govern<S: Service>(service: &mut S, heap: Global, staged: &Staged, text: &[u8]) -> Reply
+    ensures { Governs S.serves text.now (desk staged.now service.old) (desk staged.now service.new) (line result) }
+{
+    match read_document(heap, heap, text) {
+        Err(fault) => policy_reply(fault),
+        Ok(document) => service.govern(document),
+    }
+}
+
+/// How the document in force rules of what the session's subject asks. What is staged stays.
+fn explain<S: Service>(service: &mut S, staged: &Staged, asking: &Asking) -> Reply
+    ensures { Asks S.subject_of S.serves asking.now (desk staged.now service.old) (desk staged.now service.new) (line result) }
+{
+    match service.subject() {
+        None => Reply::Error(Fault::BeforeHello),
+        Some(subject) => service.explain(&Question {
+            subject,
+            action: asking.action,
+            owner: asking.owner,
+            class: asking.class,
+            shape: asking.shape,
+        }),
+    }
+}
+
+/// Does what a command asks.
+fn obey<S: Service>(service: &mut S, staged: &mut Staged, command: Command) -> Said<S::Memory>
+    ensures { Obeys S.subject_of S.serves command (desk staged.old service.old) (desk staged.new service.new) (said_view result) }
 {
     match command {
-        Command::Hello(name) => match world.seat(name) {
-            Err(fault) => Reply::Error(fault),
-            Ok(subject) => {
-                session.begin(subject);
-                Reply::Hello(name)
-            }
-        },
-        Command::Add { id, class, shape } => session.stage(Change::Add { id, class, shape }),
-        Command::Search(window) => Reply::Rows(window),
-        Command::Commit => session.commit(world),
+        Command::Hello(name) => Said::Line(service.hello(name)),
+        Command::Search(window) => service.search(window),
+        Command::Stage(change) => Said::Line(staged.stage(change)),
+        Command::Commit => Said::Line(staged.commit(service)),
+        Command::Abort => {
+            staged.clear();
+            Said::Line(Reply::Aborted)
+        }
+        Command::Explain(asking) => Said::Line(explain(service, staged, &asking)),
+        Command::Roll => service.roll(),
         Command::Bye => {
-            session.end();
-            Reply::Bye
+            staged.clear();
+            Said::Line(service.leave())
         }
     }
 }

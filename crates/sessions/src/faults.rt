@@ -1,9 +1,11 @@
+//! Why a line is answered `error`.
+
 ghost use Rattle.std.specs.Prelude.{◌≡◌};
 
 use std::fmt;
 use wkt::WktFault;
 
-/// Why a line is answered `error`.
+/// Why a line asks nothing, or is not its session's.
 #[derive(Clone, Copy, Debug, PartialEq, Eq)]
 pub enum Fault {
     /// E1: the line is longer than 65,536 bytes.
@@ -12,7 +14,7 @@ pub enum Fault {
     Command,
     /// E3: a word is no number of 1 to 20 digits below 2^64.
     Number,
-    /// E4: a word is no name.
+    /// E4: a word is no name, or no action.
     Name,
     /// E5: the session has not begun.
     BeforeHello,
@@ -26,14 +28,6 @@ pub enum Fault {
     NoSubject,
     /// H2: all seats are given.
     NoPlace,
-    /// X5: the staged list names the feature already.
-    NamedTwice,
-    /// X6: the staged list has 16 changes already.
-    TooManyChanges,
-    /// X8: the version is at its end.
-    Spent,
-    /// X11: more features would stand than a store holds.
-    StoreFull,
     /// K1 to K5, P1 to P9: the text spells no shape.
     Shape(WktFault),
 }
@@ -56,10 +50,6 @@ impl Fault {
             Fault::NoLabel => "E9",
             Fault::NoSubject => "H1",
             Fault::NoPlace => "H2",
-            Fault::NamedTwice => "X5",
-            Fault::TooManyChanges => "X6",
-            Fault::Spent => "X8",
-            Fault::StoreFull => "X11",
             Fault::Shape(fault) => fault.code(),
         }
     }

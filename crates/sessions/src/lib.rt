@@ -2,22 +2,25 @@
 #![tactic(auto)]
 
 mod built_in;
+mod calls;
 mod commands;
 mod desks;
 mod faults;
 mod lists;
 mod replies;
 mod scripts;
+mod services;
+mod serving;
+mod solos;
 mod streams;
 mod words;
-mod worlds;
 mod writing;
 
 pub use built_in::built_in_subjects;
-pub use commands::{Command, read_command};
 pub use faults::Fault;
-pub use lists::CHANGE_LIMIT;
-pub use replies::Reply;
+pub use replies::{Reply, Said};
 pub use scripts::{LABEL_LIMIT, run_script};
+pub use services::Service;
+pub use serving::{serve, serve_world};
+pub use solos::Solo;
 pub use streams::{LINE_LIMIT, READ_LIMIT, ServeFault};
-pub use worlds::{PlainWorld, SEAT_LIMIT};

@@ -1,13 +1,11 @@
 //! Lists of changes that stand in the value itself.
 ghost use Rattle.std.specs.Prelude.{◌≡◌, ◌≤◌, ◌<◌, ◌++◌, ◌∷◌, [], length};
-ghost use Rattle.sessions.specs.declared.lists.TheConstants.{CHANGE_LIMIT};
+ghost use Rattle.transactions.specs.declared.settings.TheConstants.{CHANGE_LIMIT};
 
 use features::{Change, Name};
 use plane::{Point, Shape};
 use std::marker::Model;
-
-/// How many changes a list has at most.
-pub const CHANGE_LIMIT: usize = 16;
+use transactions::CHANGE_LIMIT;
 
 /// At most 16 changes. A contract sees their list.
 #[derive(Debug, Drop)]
@@ -19,7 +17,7 @@ pub(crate) struct ChangeList {
 impl Model for ChangeList {
     ghost use Rattle.std.specs.Prelude.{◌≤◌, List, take};
     ghost use Rattle.features.specs.declared.rows.Change.{Change};
-    ghost use Rattle.sessions.specs.declared.lists.TheConstants.{CHANGE_LIMIT};
+    ghost use Rattle.transactions.specs.declared.settings.TheConstants.{CHANGE_LIMIT};
 
     ghost Value = { List Change };
 
@@ -41,7 +39,8 @@ impl ChangeList {
 
     /// The changes.
     pub fn as_slice(&self) -> &[Change]
-        ensures { result.now ≡ self.now }
+        ensures value { result.now ≡ self.now }
+        ensures few { length self.now ≤ CHANGE_LIMIT }
     {
         &self.places[..self.len]
     }

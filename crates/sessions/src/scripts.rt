@@ -2,31 +2,87 @@
 ghost use Rattle.std.specs.Prelude.{◌≡◌, ◌≤◌, ◌<◌, ◌++◌, [], List, OnOk, IfOk, IfErr, IfSome, codes, length, option_map, slice_set, slice_index_or, vec_len, vec_capacity, ℕ};
 ghost use Rattle.std.specs.Io.KnownBytes.{Appends};
 ghost use Rattle.std.specs.List.{prefix_len};
-ghost use Rattle.sessions.specs.Desks.{Answers};
-ghost use Rattle.sessions.specs.Scripts.{IsScriptText, LabelTells, LineTells, is_not_colon, is_skipped, parts_of, place, script, with_label};
-ghost use Rattle.sessions.specs.Printed.{led, reply_text};
+ghost use Rattle.sessions.specs.Scripts.{IsScriptText, LabelTells, LineTells, SessionAnswers, fresh, is_not_colon, is_skipped, parts_of, place, script, with_label};
+ghost use Rattle.sessions.specs.Printed.{led, reply_text, said_text};
+ghost use Rattle.sessions.specs.Replies.{said_view};
 ghost use Rattle.sessions.specs.Streams.{OnMemory, Ran, Took};
-ghost use Rattle.sessions.specs.States.{SessionState};
+ghost use Rattle.sessions.specs.States.{IsIdle, SessionState};
 ghost use Rattle.sessions.specs.declared.scripts.TheConstants.{LABEL_LIMIT};
 
-use crate::desks::{Session, answer};
+use crate::desks::{Staged, answer};
 use crate::faults::Fault;
-use crate::replies::Reply;
+use crate::replies::{Reply, Said};
+use crate::services::Service;
+use crate::solos::Solo;
 use crate::streams::{LINE_LIMIT, LineDesk, ServeFault, run_lines};
-use crate::worlds::PlainWorld;
-use crate::writing::{write_line, write_reply};
+use crate::writing::{write_line, write_said};
 use features::Name;
 use memory::{Refused, vec_with_room};
-use std::alloc::Allocator;
+use std::alloc::{Allocator, Global};
 use std::io;
 use std::io::{Read, Write};
+use std::marker::Model;
+use transactions::World;
 
 /// How many labels a script has at most.
 pub const LABEL_LIMIT: usize = 64;
 
-/// The sessions of a script, with room for one of each label.
+/// A session of a script. A contract sees its label, its seat and the changes that it has staged.
+#[derive(Debug, Drop)]
+struct Session {
+    label: Name,
+    seat: Option<u32>,
+    staged: Staged,
+}
+
+impl Model for Session {
+    ghost use Rattle.sessions.specs.States.{SessionState};
+
+    ghost Value = { SessionState };
+
+    ghost view = { λ s. record { label = s.label; seat = s.seat; staged = s.staged } };
+}
+
+impl Session {
+    /// A session that has not begun.
+    fn new(label: Name) -> Self
+        ensures { result ≡ fresh label }
+    {
+        Session {
+            label,
+            seat: None,
+            staged: Staged::new(),
+        }
+    }
+
+    /// The label that stands for the session.
+    fn label(&self) -> Name
+        ensures { result ≡ self.now.label }
+    {
+        self.label
+    }
+
+    /// Answers a line of the session, without its label.
+    fn answer<A: Allocator + Copy>(
+        &mut self,
+        world: &mut World<A>,
+        heap: Global,
+        text: &[u8],
+    ) -> Said<A>
+        ensures { SessionAnswers text.now self.old world.old self.new world.new (said_view result) }
+    {
+        let mut solo = Solo::at(world, heap, self.seat);
+        let said = answer(&mut solo, heap, &mut self.staged, text);
+        self.seat = solo.seat();
+        said
+    }
+}
+
+/// The sessions of a script, with room for one of each label, and the slot of the index that is tended next.
 #[derive(Drop)]
 struct Table<A: Allocator> {
+    heap: Global,
+    next_slot: u32,
     sessions: Vec<Session, A>,
     ghost room: { LABEL_LIMIT ≤ vec_capacity sessions },
     ghost within: { vec_len sessions ≤ LABEL_LIMIT },
@@ -81,11 +137,15 @@ fn place_of(sessions: &[Session], label: &Name) -> usize
 
 impl<A: Allocator + Copy> Table<A> {
     /// No sessions, and room for those of 64 labels.
-    fn new(alloc: A) -> Result<Self, Refused>
+    fn new(alloc: A, heap: Global) -> Result<Self, Refused>
         ensures { IfOk result (λ table. table.sessions.items ≡ []) }
     {
         let sessions = vec_with_room(alloc, LABEL_LIMIT)?;
-        Ok(Table { sessions })
+        Ok(Table {
+            heap,
+            next_slot: 0,
+            sessions,
+        })
     }
 
     /// Begins the session of a label, where it has none.
@@ -100,57 +160,35 @@ impl<A: Allocator + Copy> Table<A> {
     }
 
     /// Answers what stands behind the label of the session at a place.
-    fn answer(&mut self, world: &mut PlainWorld<A>, at: usize, text: &[u8]) -> Reply
+    fn answer(&mut self, world: &mut World<A>, at: usize, text: &[u8]) -> Said<A>
         requires { at < length self.old.sessions.items }
         ensures { (session : SessionState) × (self.new.sessions.items ≡ slice_set self.old.sessions.items at session)
-            × ((d : SessionState) → Answers text.now (slice_index_or self.old.sessions.items at d) world.old session world.new result) }
+            × ((d : SessionState) → SessionAnswers text.now (slice_index_or self.old.sessions.items at d) world.old session world.new (said_view result)) }
     {
+        let heap = self.heap;
         let session = &mut self.sessions[at];
-        answer(world, session, text)
+        session.answer(world, heap, text)
     }
-}
 
-/// Answers a fault of the line itself, which belongs to no session.
-fn refuse<W: Write>(fault: Fault, writer: &mut W) -> io::Result<()>
-    ensures { Took result (W.contents writer.old) (W.contents writer.new) (led (codes "?") (reply_text (Reply.Error fault))) }
-{
-    write_line(b"?", Reply::Error(fault), writer)
-}
-
-/// Answers a line that has a label.
-fn take_labelled<A: Allocator + Copy, W: Write>(
-    world: &mut PlainWorld<A>,
-    table: &mut Table<A>,
-    label: Name,
-    text: &[u8],
-    writer: &mut W,
-) -> io::Result<()>
-    ensures { (said : List ℕ) × Took result (W.contents writer.old) (W.contents writer.new) said
-        × LabelTells label text.now (script world.old table.old.sessions.items) (script world.new table.new.sessions.items) said }
-{
-    let at = place_of(&table.sessions, &label);
-    if at >= LABEL_LIMIT {
-        return refuse(Fault::NoLabel, writer);
+    /// Tends the next slot of the index.
+    fn tend(&mut self, world: &mut World<A>)
+        ensures sessions { self.new.sessions.items ≡ self.old.sessions.items }
+        ensures world { world.new ≡ world.old }
+    {
+        let _ = world.tend(self.next_slot);
+        self.next_slot = self.next_slot.wrapping_add(1);
     }
-    table.open(label, at);
-    let reply = table.answer(world, at, text);
-    write_reply(label.as_bytes(), reply, world.features(), writer)
-}
 
-impl<A: Allocator + Copy> LineDesk for Table<A> {
-    ghost use Rattle.sessions.specs.Scripts.{LineTells, script};
-    ghost use Rattle.std.proofs.Common.{rules};
-
-    type World = PlainWorld<A>;
-
-    ghost tells = { λ line old new said. LineTells line (script old.0 old.1.sessions.items) (script new.0 new.1.sessions.items) said };
-
-    fn take_line<W: Write>(
+    /// Answers a line.
+    fn take<W: Write>(
         &mut self,
-        world: &mut PlainWorld<A>,
+        world: &mut World<A>,
         line: &[u8],
         writer: &mut W,
-    ) -> io::Result<()> {
+    ) -> io::Result<()>
+        ensures { (said : List ℕ) × Took result (W.contents writer.old) (W.contents writer.new) said
+            × LineTells line.now (script world.old self.old.sessions.items) (script world.new self.new.sessions.items) said }
+    {
         if line.len() > LINE_LIMIT {
             return refuse(Fault::LineTooLong, writer);
         }
@@ -165,17 +203,67 @@ impl<A: Allocator + Copy> LineDesk for Table<A> {
             None => refuse(Fault::NoLabel, writer),
         }
     }
+}
+
+/// Answers a fault of the line itself, which belongs to no session.
+fn refuse<W: Write>(fault: Fault, writer: &mut W) -> io::Result<()>
+    ensures { Took result (W.contents writer.old) (W.contents writer.new) (led (codes "?") (reply_text (Reply.Error fault))) }
+{
+    write_line(b"?", &Reply::Error(fault), writer)
+}
+
+/// Answers a line that has a label.
+fn take_labelled<A: Allocator + Copy, W: Write>(
+    world: &mut World<A>,
+    table: &mut Table<A>,
+    label: Name,
+    text: &[u8],
+    writer: &mut W,
+) -> io::Result<()>
+    ensures { (said : List ℕ) × Took result (W.contents writer.old) (W.contents writer.new) said
+        × LabelTells label text.now (script world.old table.old.sessions.items) (script world.new table.new.sessions.items) said }
+{
+    let at = place_of(&table.sessions, &label);
+    if at >= LABEL_LIMIT {
+        return refuse(Fault::NoLabel, writer);
+    }
+    table.open(label, at);
+    let said = table.answer(world, at, text);
+    write_said(label.as_bytes(), &said, writer)
+}
+
+impl<A: Allocator + Copy> LineDesk for Table<A> {
+    ghost use Rattle.sessions.specs.Scripts.{LineTells, script};
+    ghost use Rattle.std.proofs.Common.{rules};
+
+    type World = World<A>;
+
+    ghost tells = { λ line old new said. LineTells line (script old.0 old.1.sessions.items) (script new.0 new.1.sessions.items) said };
+
+    fn take_line<W: Write>(
+        &mut self,
+        world: &mut World<A>,
+        line: &[u8],
+        writer: &mut W,
+    ) -> io::Result<()> {
+        let end = self.take(world, line, writer);
+        self.tend(world);
+        end
+    }
 
     ghost long_alike = { Prim.search rules };
 }
 
 /// Runs the lines of a script to the end of the input, each line `label: line` of the session of its label, and writes
-/// what each is answered, by one call of the writer for each line of a reply. Faults: `Memory` where the
+/// what each is answered, by one call of the writer for each line of a reply; after each line one slot of the index is
+/// tended. `alloc` serves what the world keeps and the buffers, `heap` documents and their texts. Faults: `Memory` where the
 /// buffers are refused, before anything is read; `Read` and `Write` where a read or a write fails;
-/// `TooManyTurns` after 16,777,216 reads. What was done before stands, and staged lists are dropped.
+/// `TooManyTurns` after 16,777,216 reads. What was done before stands, and staged lists are dropped. However the run ends, it
+/// leaves no search and no transaction under way.
 pub fn run_script<A: Allocator + Copy, R: Read, W: Write>(
     alloc: A,
-    world: &mut PlainWorld<A>,
+    heap: Global,
+    world: &mut World<A>,
     reader: &mut R,
     writer: &mut W,
 ) -> Result<(), ServeFault>
@@ -183,8 +271,9 @@ pub fn run_script<A: Allocator + Copy, R: Read, W: Write>(
         × IsScriptText world.old input world.new said)) }
     ensures ran { (sessions : List SessionState) × Ran LineTells result (script world.old []) (script world.new sessions)
         (R.remaining reader.old) (R.remaining reader.new) (W.contents writer.old) (W.contents writer.new) }
+    ensures idle { IsIdle world.old → IsIdle world.new }
     ensures untouched { IfErr result (λ fault. OnMemory fault ((world.new ≡ world.old) × (reader.new ≡ reader.old) × (writer.new ≡ writer.old))) }
 {
-    let mut table = Table::new(alloc)?;
+    let mut table = Table::new(alloc, heap)?;
     run_lines(alloc, &mut table, world, reader, writer)
 }

@@ -3,7 +3,9 @@ ghost use Rattle.std.specs.Char.{is_ascii_digit};
 ghost use Rattle.std.specs.List.{list_all, prefix_len};
 ghost use Rattle.std.specs.Str.{all_ascii_digits};
 ghost use Rattle.std.specs.Str.Parse.{digits_value};
-ghost use Rattle.sessions.specs.Words.{is_space, is_letter, unspaced, next_word as word_of, number_of};
+ghost use Rattle.sessions.specs.Words.{is_space, is_letter, unspaced, next_word as word_of, number_of, action_of};
+
+use features::Action;
 
 /// How many digits a number has at most.
 const DIGITS: usize = 20;
@@ -83,4 +85,21 @@ fn capped_value(digits: &[u8]) -> u128
         value = (value * 10 + (*digit - b'0') as u128).min(TOO_LARGE);
     }
     value
+}
+
+/// The action that a word names.
+pub(crate) fn action_named(word: &[u8]) -> Option<Action>
+    ensures { result ≡ action_of word.now }
+{
+    if word == b"read".as_slice() {
+        Some(Action::Read)
+    } else if word == b"add".as_slice() {
+        Some(Action::Add)
+    } else if word == b"reshape".as_slice() {
+        Some(Action::Reshape)
+    } else if word == b"delete".as_slice() {
+        Some(Action::Delete)
+    } else {
+        None
+    }
 }

@@ -1,17 +1,16 @@
-ghost use Rattle.std.specs.Prelude.{◌≡◌, ◌+◌, ◌≤◌, ◌++◌, List, codes, decimal, length, ℕ};
+//! Replies as bytes. No reply takes memory.
+
+ghost use Rattle.std.specs.Prelude.{◌≡◌, ◌+◌, ◌≤◌, ◌++◌, codes, decimal, length, map, string_bytes};
 ghost use Rattle.std.specs.List.{flat_map};
 ghost use Rattle.arrayvec.specs.ArrayVec.{array_vec_len};
-ghost use Rattle.features.specs.declared.rows.Feature.{Feature};
-ghost use Rattle.sessions.specs.Listing.{IsListed};
 ghost use Rattle.sessions.specs.Streams.{Took, WriteTook};
-ghost use Rattle.sessions.specs.Printed.{Shows, led, reply_text, row_text, rows_head, rows_text};
+ghost use Rattle.sessions.specs.Printed.{lead_text, led, reply_text, row_text, rows_text, rule_text, said_text, texts_text};
+ghost use Rattle.sessions.specs.Replies.{said_view};
 
-use crate::faults::Fault;
-use crate::replies::Reply;
+use crate::replies::{Reply, Said};
 use arrayvec::ArrayVec;
-use features::{Feature, Store};
+use features::{Feature, Name};
 use itoa::Buffer;
-use plane::{Shape, meets};
 use std::alloc::Allocator;
 use std::io;
 use std::io::{ErrorKind, Write};
@@ -47,55 +46,130 @@ fn push_number(line: &mut Line, number: u64)
 
 /// A word and a number.
 fn push_numbered(line: &mut Line, word: &[u8], number: u64)
-    requires room { array_vec_len line.old ≤ 34 }
+    requires room { array_vec_len line.old ≤ 300 }
     requires word { length word.now ≤ 14 }
     ensures items { line.new.items ≡ line.old.items ++ (word.now ++ decimal number) }
-    ensures len { array_vec_len line.new ≤ 68 }
+    ensures len { array_vec_len line.new ≤ array_vec_len line.old + 34 }
 {
     push_bytes(line, word);
     push_number(line, number);
 }
 
-/// A line that has its lead alone.
+/// A line that has its lead alone: a session's label, or nothing.
 fn begin(lead: &[u8]) -> Line
     requires { length lead.now ≤ LEAD_LIMIT }
-    ensures items { result.items ≡ lead.now ++ codes ": " }
+    ensures items { result.items ≡ lead_text lead.now }
     ensures len { array_vec_len result ≤ 34 }
 {
     let mut line = ArrayVec::new();
-    push_bytes(&mut line, lead);
-    push_bytes(&mut line, b": ");
+    match lead {
+        [] => {}
+        [_, ..] => {
+            push_bytes(&mut line, lead);
+            push_bytes(&mut line, b": ");
+        }
+    }
     line
 }
 
 /// `error`, and the code of a fault.
-fn push_fault(line: &mut Line, fault: Fault)
+fn push_error(line: &mut Line, code: &str)
     requires room { array_vec_len line.old ≤ 34 }
-    ensures items { line.new.items ≡ line.old.items ++ reply_text (Reply.Error fault) }
+    requires code { length code.now ≤ 3 }
+    ensures items { line.new.items ≡ line.old.items ++ (codes "error " ++ code.now) }
     ensures len { array_vec_len line.new ≤ 100 }
 {
     push_bytes(line, b"error ");
-    push_bytes(line, fault.code().as_bytes());
+    push_bytes(line, code.as_bytes());
 }
 
-/// Whatever is answered in one line, and of `rows` nothing.
-fn push_reply(line: &mut Line, reply: Reply)
+/// `hello`, and a name.
+fn push_hello(line: &mut Line, name: &Name)
     requires room { array_vec_len line.old ≤ 34 }
-    ensures items { line.new.items ≡ line.old.items ++ reply_text reply }
+    ensures items { line.new.items ≡ line.old.items ++ (codes "hello " ++ name.now) }
     ensures len { array_vec_len line.new ≤ 100 }
 {
+    push_bytes(line, b"hello ");
+    push_bytes(line, name.as_bytes());
+}
+
+/// The name of a rule, or `none`.
+fn push_rule(line: &mut Line, rule: &Option<Name>)
+    requires room { array_vec_len line.old ≤ 200 }
+    ensures items { line.new.items ≡ line.old.items ++ rule_text rule.now }
+    ensures len { array_vec_len line.new ≤ array_vec_len line.old + 38 }
+{
+    match rule {
+        None => push_bytes(line, b" none"),
+        Some(name) => push_named_rule(line, name),
+    }
+}
+
+/// ` rule`, and its name.
+fn push_named_rule(line: &mut Line, name: &Name)
+    requires room { array_vec_len line.old ≤ 200 }
+    ensures items { line.new.items ≡ line.old.items ++ (codes " rule " ++ name.now) }
+    ensures len { array_vec_len line.new ≤ array_vec_len line.old + 38 }
+{
+    push_bytes(line, b" rule ");
+    push_bytes(line, name.as_bytes());
+}
+
+/// A verdict, the rule that gives it, and a numbered word.
+fn push_verdict(line: &mut Line, verdict: &[u8], rule: &Option<Name>, word: &[u8], number: u64)
+    requires room { array_vec_len line.old ≤ 34 }
+    requires verdict { length verdict.now ≤ 14 }
+    requires word { length word.now ≤ 14 }
+    ensures items { line.new.items ≡ line.old.items ++ (verdict.now ++ rule_text rule.now ++ word.now ++ decimal number) }
+    ensures len { array_vec_len line.new ≤ 160 }
+{
+    push_bytes(line, verdict);
+    push_rule(line, rule);
+    push_numbered(line, word, number);
+}
+
+/// Two numbered words.
+fn push_two(line: &mut Line, word: &[u8], number: u64, then: &[u8], further: u64)
+    requires room { array_vec_len line.old ≤ 34 }
+    requires word { length word.now ≤ 14 }
+    requires then { length then.now ≤ 14 }
+    ensures items { line.new.items ≡ line.old.items ++ (word.now ++ decimal number ++ then.now ++ decimal further) }
+    ensures len { array_vec_len line.new ≤ 160 }
+{
+    push_numbered(line, word, number);
+    push_numbered(line, then, further);
+}
+
+/// A reply of one line.
+fn push_reply(line: &mut Line, reply: &Reply)
+    requires room { array_vec_len line.old ≤ 34 }
+    ensures items { line.new.items ≡ line.old.items ++ reply_text reply.now }
+    ensures len { array_vec_len line.new ≤ 160 }
+{
     match reply {
-        Reply::Hello(name) => {
-            push_bytes(line, b"hello ");
-            push_bytes(line, name.as_bytes());
-        }
+        Reply::Hello(name) => push_hello(line, name),
         Reply::Staged => push_bytes(line, b"staged"),
-        Reply::Rows(_) => {}
-        Reply::Applied(version) => push_numbered(line, b"applied ", version),
-        Reply::Exists(number) => push_numbered(line, b"exists change ", number),
+        Reply::Applied(version) => push_numbered(line, b"applied ", *version),
+        Reply::Denied(rule, change) => push_verdict(line, b"denied", rule, b" change ", *change),
+        Reply::Absent(change) => push_numbered(line, b"absent change ", *change),
+        Reply::Exists(change) => push_numbered(line, b"exists change ", *change),
+        Reply::Stale(current, change) => {
+            push_two(line, b"stale ", *current, b" change ", *change)
+        }
+        Reply::Held => push_bytes(line, b"held"),
+        Reply::Aborted => push_bytes(line, b"aborted"),
+        Reply::Edition(edition) => push_numbered(line, b"edition ", *edition),
+        Reply::Permitted(rule, edition) => {
+            push_verdict(line, b"permit", rule, b" edition ", *edition)
+        }
+        Reply::Forbidden(rule, edition) => {
+            push_verdict(line, b"denied", rule, b" edition ", *edition)
+        }
         Reply::Bye => push_bytes(line, b"bye"),
         Reply::Memory(_) => push_bytes(line, b"memory"),
-        Reply::Error(fault) => push_fault(line, fault),
+        Reply::Error(fault) => push_error(line, fault.code()),
+        Reply::Unread(fault) => push_error(line, fault.code()),
+        Reply::Refused(fault) => push_error(line, fault.code()),
     }
 }
 
@@ -169,80 +243,105 @@ fn write_whole<W: Write>(bytes: &[u8], writer: &mut W) -> io::Result<()>
     Err(ErrorKind::TimedOut.into())
 }
 
-/// Writes a reply, each line led by the session's label. Takes no memory. An error is the writer's.
-pub(crate) fn write_reply<A: Allocator, W: Write>(
+/// Writes what a line is answered, each line of it led by the session's label. Takes no memory. An error is the writer's.
+pub(crate) fn write_said<A: Allocator, W: Write>(
     lead: &[u8],
-    reply: Reply,
-    features: &Store<A>,
+    said: &Said<A>,
     writer: &mut W,
 ) -> io::Result<()>
     requires { length lead.now ≤ LEAD_LIMIT }
-    ensures { (said : List ℕ) × Took result (W.contents writer.old) (W.contents writer.new) said × Shows lead.now reply features.now said }
+    ensures { Took result (W.contents writer.old) (W.contents writer.new) (said_text lead.now (said_view said.now)) }
 {
-    match reply {
-        Reply::Rows(window) => write_rows(lead, &window, features, writer),
-        _ => write_line(lead, reply, writer),
+    match said {
+        Said::Line(reply) => write_line(lead, reply, writer),
+        Said::Rows(answer) => write_rows(lead, answer.rows(), writer),
+        Said::Rolled(piece) => write_texts(lead, piece.lines(), writer),
     }
 }
 
 /// Writes a reply of one line.
-pub(crate) fn write_line<W: Write>(lead: &[u8], reply: Reply, writer: &mut W) -> io::Result<()>
+pub(crate) fn write_line<W: Write>(lead: &[u8], reply: &Reply, writer: &mut W) -> io::Result<()>
     requires { length lead.now ≤ LEAD_LIMIT }
-    ensures { Took result (W.contents writer.old) (W.contents writer.new) (led lead.now (reply_text reply)) }
+    ensures { Took result (W.contents writer.old) (W.contents writer.new) (led lead.now (reply_text reply.now)) }
 {
     let mut line = begin(lead);
     push_reply(&mut line, reply);
     finish(line, writer)
 }
 
-/// Writes the features that meet a window, and before them how many they are.
-fn write_rows<A: Allocator, W: Write>(
+/// Writes how many lines come behind this one.
+fn write_count<W: Write>(lead: &[u8], word: &[u8], count: u64, writer: &mut W) -> io::Result<()>
+    requires lead { length lead.now ≤ LEAD_LIMIT }
+    requires word { length word.now ≤ 14 }
+    ensures { Took result (W.contents writer.old) (W.contents writer.new) (led lead.now (word.now ++ decimal count)) }
+{
+    let mut line = begin(lead);
+    push_numbered(&mut line, word, count);
+    finish(line, writer)
+}
+
+/// Writes rows, and before them how many they are.
+fn write_rows<W: Write>(lead: &[u8], rows: &[Feature], writer: &mut W) -> io::Result<()>
+    requires { length lead.now ≤ LEAD_LIMIT }
+    ensures { Took result (W.contents writer.old) (W.contents writer.new) (rows_text lead.now rows.now) }
+{
+    write_count(lead, b"rows ", rows.len() as u64, writer)?;
+    write_each(lead, rows, writer)
+}
+
+/// Writes the lines of a trail that was taken out, and before them how many they are.
+fn write_texts<A: Allocator, W: Write>(
     lead: &[u8],
-    window: &Shape,
-    features: &Store<A>,
+    texts: &[String<A>],
     writer: &mut W,
 ) -> io::Result<()>
     requires { length lead.now ≤ LEAD_LIMIT }
-    ensures { (rows : List Feature) × IsListed window.now features.now rows × Took result (W.contents writer.old) (W.contents writer.new) (rows_text lead.now rows) }
+    ensures { Took result (W.contents writer.old) (W.contents writer.new) (texts_text lead.now (map string_bytes texts.now)) }
 {
-    let mut line = begin(lead);
-    push_numbered(&mut line, b"rows ", count_rows(window, features));
-    finish(line, writer)?;
-    write_each(lead, window, features, writer)
+    write_count(lead, b"rolled ", texts.len() as u64, writer)?;
+    write_each_text(lead, texts, writer)
 }
 
-/// How many features meet a window.
-fn count_rows<A: Allocator>(window: &Shape, features: &Store<A>) -> u64
-    ensures { (rows : List Feature) × IsListed window.now features.now rows × (result ≡ length rows) }
-{
-    let mut count = 0;
-    let mut at = 0;
-    while let Some(feature) = features.row_at(at) {
-        if meets(&feature.shape, window) {
-            count += 1;
-        }
-        at += 1;
-    }
-    count
-}
-
-/// Writes a line for each feature that meets a window.
-fn write_each<A: Allocator, W: Write>(
+/// Writes a line for each text.
+fn write_each_text<A: Allocator, W: Write>(
     lead: &[u8],
-    window: &Shape,
-    features: &Store<A>,
+    texts: &[String<A>],
     writer: &mut W,
 ) -> io::Result<()>
     requires lead { length lead.now ≤ LEAD_LIMIT }
-    requires listed { (rows : List Feature) × IsListed window.now features.now rows }
-    ensures { (rows : List Feature) × IsListed window.now features.now rows × Took result (W.contents writer.old) (W.contents writer.new) (flat_map (λ row. led lead.now (row_text row)) rows) }
+    ensures { Took result (W.contents writer.old) (W.contents writer.new) (flat_map (λ text. led lead.now (string_bytes text)) texts.now) }
 {
-    let mut at = 0;
-    while let Some(feature) = features.row_at(at) {
-        if meets(&feature.shape, window) {
-            write_row(lead, feature, writer)?;
-        }
-        at += 1;
+    for text in texts {
+        write_text(lead, text.as_bytes(), writer)?;
+    }
+    Ok(())
+}
+
+/// Writes a line of any length: what leads it, the text, and its end, each by a call of its own.
+fn write_text<W: Write>(lead: &[u8], text: &[u8], writer: &mut W) -> io::Result<()>
+    requires { length lead.now ≤ LEAD_LIMIT }
+    ensures { Took result (W.contents writer.old) (W.contents writer.new) (led lead.now text.now) }
+{
+    let line = begin(lead);
+    write_whole(line.as_slice(), writer)?;
+    write_ended(text, writer)
+}
+
+/// Writes a text, and then the end of its line.
+fn write_ended<W: Write>(text: &[u8], writer: &mut W) -> io::Result<()>
+    ensures { Took result (W.contents writer.old) (W.contents writer.new) (text.now ++ codes "\n") }
+{
+    write_whole(text, writer)?;
+    write_whole(b"\n", writer)
+}
+
+/// Writes a line for each row.
+fn write_each<W: Write>(lead: &[u8], rows: &[Feature], writer: &mut W) -> io::Result<()>
+    requires lead { length lead.now ≤ LEAD_LIMIT }
+    ensures { Took result (W.contents writer.old) (W.contents writer.new) (flat_map (λ row. led lead.now (row_text row)) rows.now) }
+{
+    for row in rows {
+        write_row(lead, row, writer)?;
     }
     Ok(())
 }

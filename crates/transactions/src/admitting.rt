@@ -30,8 +30,8 @@ impl<A: Allocator> World<A> {
         Ok(subject)
     }
 
-    /// The subject of a seat that was given.
-    pub(crate) fn subject_at(&self, seat: u32) -> Result<Subject, Fault>
+    /// The subject of a seat. X1 where the seat was not given.
+    pub fn subject_at(&self, seat: u32) -> Result<Subject, Fault>
         ensures { result ≡ subject_at seat self.now }
     {
         match subject_in(&self.seats, seat) {

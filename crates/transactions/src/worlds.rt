@@ -108,6 +108,13 @@ impl<A: Allocator> World<A> {
         self.decider.document()
     }
 
+    /// The decider in force.
+    pub fn decider(&self) -> &Decider
+        ensures { result.now ≡ self.now.state.decider }
+    {
+        &self.decider
+    }
+
     /// The edition of the document in force.
     pub fn edition(&self) -> u64
         ensures { result ≡ self.now.state.decider.edition }

@@ -2,11 +2,13 @@
 use crate::fakes::{
     CountingReader, FIRST_POINT, FIRST_REPLIES, FailingReader, FailingWriter, Failure,
 };
+use crate::worlds::opened;
 use refusing::Refusing;
-use sessions::{PlainWorld, READ_LIMIT, ServeFault, built_in_subjects, run_script};
+use sessions::{READ_LIMIT, ServeFault, run_script};
 use std::alloc::{AllocError, Allocator, Global};
 use std::process::Abort;
 use std::test::Fail;
+use transactions::World;
 
 /// The replies to each number of whole lines of the worked script.
 const REPLIES: [&str; 6] = [
@@ -32,12 +34,12 @@ const LEFT: [&str; 6] = [
 fn check_left(
     rt: &impl Abort,
     alloc: Global,
-    world: &mut PlainWorld<Global>,
+    world: &mut World<Global>,
     lines: usize,
 ) -> Result<(), AllocError> {
     let mut output = Vec::new(alloc);
     let mut script = "n: HELLO north\nn: COMMIT\nn: SEARCH POINT (3 4)\n".as_bytes();
-    let end = run_script(alloc, world, &mut script, &mut output);
+    let end = run_script(alloc, alloc, world, &mut script, &mut output);
     assert_eq!(rt; end, Ok(()));
     assert_eq!(rt;
         Some(output.as_slice()),
@@ -51,13 +53,13 @@ fn check_left(
 fn each_read_fails(rt: HostRuntime) -> Result<(), Fail> {
     let mut lines = 0;
     for (at, byte) in FIRST_POINT.bytes().enumerate() {
-        let mut world = PlainWorld::open(rt.alloc(), built_in_subjects());
+        let mut world = opened(&rt, rt.alloc(), rt.alloc());
         let mut output = Vec::new(rt.alloc());
         let mut reader = FailingReader {
             bytes: FIRST_POINT.as_bytes(),
             fails_at: at as u64 + 1,
         };
-        let end = run_script(rt.alloc(), &mut world, &mut reader, &mut output);
+        let end = run_script(rt.alloc(), rt.alloc(), &mut world, &mut reader, &mut output);
         assert_eq!(rt; end, Err(ServeFault::Read), "at {at}");
         assert_eq!(rt;
             Some(output.as_slice()),
@@ -81,8 +83,14 @@ fn run_into(
     end: Result<(), ServeFault>,
     lines: usize,
 ) -> Result<(), AllocError> {
-    let mut world = PlainWorld::open(alloc, built_in_subjects());
-    let ended = run_script(alloc, &mut world, &mut FIRST_POINT.as_bytes(), writer);
+    let mut world = opened(rt, alloc, alloc);
+    let ended = run_script(
+        alloc,
+        alloc,
+        &mut world,
+        &mut FIRST_POINT.as_bytes(),
+        writer,
+    );
     assert_eq!(rt; ended, end);
     check_left(rt, alloc, &mut world, lines)
 }
@@ -123,7 +131,7 @@ fn each_write_fails(rt: HostRuntime) -> Result<(), Fail> {
 #[test]
 fn each_byte_fails(rt: HostRuntime) -> Result<(), Fail> {
     for at in 0..FIRST_REPLIES.len() {
-        let mut world = PlainWorld::open(rt.alloc(), built_in_subjects());
+        let mut world = opened(&rt, rt.alloc(), rt.alloc());
         let mut writer = FailingWriter {
             taken: Vec::new(rt.alloc()),
             most: 1,
@@ -131,6 +139,7 @@ fn each_byte_fails(rt: HostRuntime) -> Result<(), Fail> {
             with: Failure::Error,
         };
         let end = run_script(
+            rt.alloc(),
             rt.alloc(),
             &mut world,
             &mut FIRST_POINT.as_bytes(),
@@ -163,13 +172,13 @@ fn writes_go_on(rt: HostRuntime) -> Result<(), Fail> {
 
 /// Runs an input of so many bytes, each given by a call of its own.
 fn run_bytes(rt: &impl Abort, alloc: Global, bytes: u64, end: Result<(), ServeFault>, calls: u64) {
-    let mut world = PlainWorld::open(alloc, built_in_subjects());
+    let mut world = opened(rt, alloc, alloc);
     let mut output = Vec::new(alloc);
     let mut reader = CountingReader {
         left: bytes,
         calls: 0,
     };
-    let ended = run_script(alloc, &mut world, &mut reader, &mut output);
+    let ended = run_script(alloc, alloc, &mut world, &mut reader, &mut output);
     assert_eq!(rt; ended, end);
     assert_eq!(rt; reader.calls, calls);
     assert_eq!(rt; output.len(), 0);
@@ -183,33 +192,17 @@ fn a_reader_that_does_not_end(rt: HostRuntime) {
 }
 
 #[test]
-fn each_allocation_refused(rt: HostRuntime) -> Result<(), Fail> {
+fn buffers_refused(rt: HostRuntime) -> Result<(), Fail> {
     let memory = Refusing::new(rt.alloc(), 0);
-    for at in 1..20 {
-        memory.refuse(at);
-        let mut world = PlainWorld::open(&memory, built_in_subjects());
+    for at in 1..3 {
+        let mut world = opened(&rt, &memory, rt.alloc());
         let mut output = Vec::new(rt.alloc());
         let mut reader = FIRST_POINT.as_bytes();
-        let end = run_script(&memory, &mut world, &mut reader, &mut output);
-        if !memory.has_refused() {
-            assert_eq!(rt; end, Ok(()));
-            assert_eq!(rt; output.as_slice(), FIRST_REPLIES.as_bytes());
-            assert!(rt; at > 3, "nothing was refused");
-            return Ok(());
-        }
-        if at < 3 {
-            // The table of sessions and the held line: nothing is read.
-            assert!(rt; matches!(end, Err(ServeFault::Memory(_))));
-            assert_eq!(rt; (reader.len(), output.len()), (FIRST_POINT.len(), 0));
-        } else {
-            // The feature, whose list stays staged.
-            assert_eq!(rt; end, Ok(()));
-            assert_eq!(rt;
-                output.as_slice(),
-                "n: hello north\nn: staged\nn: memory\nn: rows 0\nn: rows 0\n".as_bytes()
-            );
-        }
+        memory.refuse(at);
+        let end = run_script(&memory, rt.alloc(), &mut world, &mut reader, &mut output);
+        // The table of sessions and the held line: nothing is read.
+        assert!(rt; matches!(end, Err(ServeFault::Memory(_))));
+        assert_eq!(rt; (reader.len(), output.len()), (FIRST_POINT.len(), 0));
     }
-    assert!(rt; false, "each allocation was refused");
     Ok(())
 }

@@ -14,6 +14,10 @@ mod fakes;
 #[cfg(test)]
 mod fault_tests;
 #[cfg(test)]
+mod line_end_tests;
+#[cfg(test)]
+mod line_tests;
+#[cfg(test)]
 mod memory_tests;
 #[cfg(test)]
 mod model_tests;

@@ -1,14 +1,21 @@
 use crate::fakes::{FIRST_POINT, FIRST_REPLIES};
-use sessions::{PlainWorld, built_in_subjects, run_script};
+use crate::worlds::opened;
+use sessions::run_script;
 use std::alloc::{AllocError, Global};
 use std::process::Abort;
 use std::test::Fail;
 
 /// What a script is answered from a fresh world.
 fn replies(rt: &impl Abort, alloc: Global, script: &str) -> Result<Vec<u8>, AllocError> {
-    let mut world = PlainWorld::open(alloc, built_in_subjects());
+    let mut world = opened(rt, alloc, alloc);
     let mut output = Vec::new(alloc);
-    let end = run_script(alloc, &mut world, &mut script.as_bytes(), &mut output);
+    let end = run_script(
+        alloc,
+        alloc,
+        &mut world,
+        &mut script.as_bytes(),
+        &mut output,
+    );
     assert!(rt; end.is_ok(), "{script}");
     Ok(output)
 }
@@ -97,7 +104,7 @@ fn lines_and_labels(rt: HostRuntime) -> Result<(), Fail> {
             "n: error E2\nn: error E5\nn: error E5\nn: error E5\n",
         ),
         (
-            "n: HELLO chief\nn: ADD\nn: ADD x\nn: ADD 1\nn: ADD 1 A POINT (0 0)\nn: ADD 1 a POLYGON EMPTY\nn: COMMIT x\nn: RESHAPE 1 1 POINT (0 0)\n",
+            "n: HELLO chief\nn: ADD\nn: ADD x\nn: ADD 1\nn: ADD 1 A POINT (0 0)\nn: ADD 1 a POLYGON EMPTY\nn: COMMIT x\nn: OPEN POINT (0 0)\n",
             "n: hello chief\nn: error E2\nn: error E3\nn: error E2\nn: error E4\nn: error K2\nn: error E2\nn: error E2\n",
         ),
         (

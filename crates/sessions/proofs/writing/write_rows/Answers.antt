@@ -1,12 +1,13 @@
-use Rattle.sessions.proofs.WritingLemmas.{rows_failed, rows_written}
+use Rattle.std.proofs.Common.{length}
+use Rattle.std.specs.List.{flat_map}
+use Rattle.sessions.specs.Printed.{led, row_text, rows_head}
+use Rattle.sessions.proofs.WritingLemmas.{took_first, took_then}
 use Rattle.sessions.proofs.writing.write_rows.Goals as goal
 
-pub returns-in_err-finish : goal.returns-in_err-finish
-returns-in_err-finish g c =
-    let head = rw (c.push_numbered.ensures.items, c.begin-line.ensures.items) at c.in_err-finish.ensures in
-    rows_failed c.from_residual.result c.from_residual.ensures.0 c.args.lead.now c.args.window.now c.args.features.now _ _ _ c.count_rows.ensures head
+pub returns-in_err-write_count : goal.returns-in_err-write_count
+returns-in_err-write_count g c =
+    took_first c.from_residual.result c.from_residual.ensures.0 _ _ (led c.args.lead.now (rows_head (length c.args.rows.now))) (flat_map (λ row. led c.args.lead.now (row_text row)) c.args.rows.now) c.in_err-write_count.ensures
 
 pub returns : goal.returns
 returns g c =
-    let head = rw (c.push_numbered.ensures.items, c.begin-line.ensures.items) at c.in_ok-finish.ensures in
-    rows_written c.write_each.result c.args.lead.now c.args.window.now c.args.features.now _ _ _ _ c.count_rows.ensures head c.write_each.ensures
+    took_then c.write_each.result _ _ _ (led c.args.lead.now (rows_head (length c.args.rows.now))) (flat_map (λ row. led c.args.lead.now (row_text row)) c.args.rows.now) c.in_ok-write_count.ensures c.write_each.ensures

@@ -1,0 +1,86 @@
+-- Seats, documents, rolls and tending: they begin and end nothing.
+use Rattle.std.proofs.Common.{◌≡◌, ◌⊎◌, ℕ, ◌+◌, Bool, true, false, List, [], ◌∷◌, ◌++◌, length, Result, Ok, Err, MatchResult, refl, sym, subst, inl, inr}
+use Rattle.std.specs.Bool.{MatchBool}
+use Rattle.features.specs.declared.actors.Subject.{Subject}
+use Rattle.features.specs.declared.rows.Change.{Change}
+use Rattle.policy_text.specs.Bytes.{document_of_bytes}
+use Rattle.policy_text.specs.Documents.{DocumentData}
+use Rattle.policy_text.specs.Reading.{Fails}
+use Rattle.policy_text.specs.declared.faults.TextFault.{TextFault}
+use Rattle.policy_text.specs.declared.faults.TextFault.TheVariants as unread
+use Rattle.transactions.specs.declared.faults.Fault.{Fault}
+use Rattle.transactions.specs.declared.faults.Fault.TheVariants as faults
+use Rattle.transactions.specs.declared.faults.TreeFault.TheVariants as tree
+use Rattle.transactions.specs.Admitting.{may_govern, may_roll, may_sit}
+use Rattle.transactions.specs.Events.{TakeSeat, Govern as GovernEvent, Roll, Tend, Tended, Happens, If, Reply as EventReply, Number, Refused, UnlessMemory, Governs as PutsInForce, Rolls, is_memory}
+use Rattle.transactions.specs.States.{WorldData}
+use Rattle.sessions.specs.Desks.{Governs, OnlySays}
+use Rattle.sessions.specs.Replies.{SaidData, line, policy_reply}
+use Rattle.sessions.specs.Services.{Call, Govern}
+use Rattle.sessions.specs.States.{IsIdle, desk}
+
+-- a seat leaves what is under way as it was
+pub seat_idle : (name : List ℕ) (old new : WorldData) (reply : EventReply) → Happens (TakeSeat name) old new reply → IsIdle old → IsIdle new
+seat_idle name old new reply h still = go (may_sit name old) h
+  where
+    ends : (subject : Subject) (b : Bool) → MatchBool b (new ≡ old) ((new ≡ record old { seats = old.seats ++ subject ∷ [] }) × (reply ≡ Number (length old.seats + 1))) → IsIdle new
+    ends subject true d = subst (λ (x : WorldData). IsIdle x) (sym d) still
+    ends subject false d = subst (λ (x : WorldData). IsIdle x) (sym d.0) (record { searches = still.searches; transactions = still.transactions })
+
+    go : (may : Result Subject Fault) → If may old new reply (λ subject. UnlessMemory old new reply ((new ≡ record old { seats = old.seats ++ subject ∷ [] }) × (reply ≡ Number (length old.seats + 1)))) → IsIdle new
+    go (Err fault) d = subst (λ (x : WorldData). IsIdle x) (sym d.0) still
+    go (Ok subject) d = ends subject (is_memory reply) d
+
+-- a document leaves what is under way as it was
+pub govern_idle : (seat : ℕ) (document : DocumentData) (old new : WorldData) (reply : EventReply) → Happens (GovernEvent seat document) old new reply → IsIdle old → IsIdle new
+govern_idle seat document old new reply h still = go (may_govern seat old) h
+  where
+    ends : (b : Bool) → MatchBool b (new ≡ old) (PutsInForce seat document old new reply) → IsIdle new
+    ends true d = subst (λ (x : WorldData). IsIdle x) (sym d) still
+    ends false d = subst (λ (x : WorldData). IsIdle x) (sym d.1) (record { searches = still.searches; transactions = still.transactions })
+
+    go : (may : Result Subject Fault) → If may old new reply (λ _. UnlessMemory old new reply (PutsInForce seat document old new reply)) → IsIdle new
+    go (Err fault) d = subst (λ (x : WorldData). IsIdle x) (sym d.0) still
+    go (Ok subject) d = ends (is_memory reply) d
+
+-- a roll leaves what is under way as it was
+pub roll_idle : (seat : ℕ) (old new : WorldData) (reply : EventReply) → Happens (Roll seat) old new reply → IsIdle old → IsIdle new
+roll_idle seat old new reply h still = go (may_roll seat old) h
+  where
+    ends : (b : Bool) → MatchBool b (new ≡ old) (Rolls old new reply) → IsIdle new
+    ends true d = subst (λ (x : WorldData). IsIdle x) (sym d) still
+    ends false d = subst (λ (x : WorldData). IsIdle x) (sym d.1) (record { searches = still.searches; transactions = still.transactions })
+
+    go : (may : Result (Unit {0}) Fault) → If may old new reply (λ _. UnlessMemory old new reply (Rolls old new reply)) → IsIdle new
+    go (Err fault) d = subst (λ (x : WorldData). IsIdle x) (sym d.0) still
+    go (Ok u) d = ends (is_memory reply) d
+
+-- a text that is no document
+module _ {S : Type 0} (serves : Call → S → S → SaidData → Type 0) (staged : List Change) (text : List ℕ) where
+  abbrev Read : Result DocumentData TextFault → S → S → SaidData → Type 0
+  Read reading old new said =
+      MatchResult reading (λ document. (staged ≡ staged) × serves (Govern document) old new said) (λ fault. OnlySays (policy_reply fault) (desk staged old) (desk staged new) said)
+
+  unread_so : (s : S) (fault : TextFault) → document_of_bytes text ≡ Err fault → Governs serves text (desk staged s) (desk staged s) (line (policy_reply fault))
+  unread_so s fault e = inr (subst (λ r. Read r s s (line (policy_reply fault))) (sym e) (refl, refl))
+
+  pub governs_unread : (s : S) (fault : TextFault) → (text ≡ [] → fault ≡ unread.NotJson) → Fails fault (document_of_bytes text) → Governs serves text (desk staged s) (desk staged s) (line (policy_reply fault))
+  governs_unread s (unread.Memory refused) empty e = inl ((λ none. (let wrong = empty none in absurd cc)), refused, (refl, refl))
+  governs_unread s unread.NotJson empty e = unread_so s unread.NotJson e
+  governs_unread s (unread.Form path) empty e = unread_so s (unread.Form path) e
+  governs_unread s (unread.UnknownKey path) empty e = unread_so s (unread.UnknownKey path) e
+  governs_unread s (unread.NameTwice name) empty e = unread_so s (unread.NameTwice name) e
+  governs_unread s (unread.NoZone name) empty e = unread_so s (unread.NoZone name) e
+  governs_unread s (unread.BadZone name fault) empty e = unread_so s (unread.BadZone name fault) e
+  governs_unread s unread.TooDeep empty e = unread_so s unread.TooDeep e
+  governs_unread s unread.TooMany empty e = unread_so s unread.TooMany e
+
+  -- a document that was read
+  pub governs_read : (document : DocumentData) (old new : S) (said : SaidData) → document_of_bytes text ≡ Ok document → serves (Govern document) old new said → Governs serves text (desk staged old) (desk staged new) said
+  governs_read document old new said e h = inr (subst (λ r. Read r old new said) (sym e) (refl, h))
+
+-- tending leaves the world as it was
+pub tended_same : (slot : ℕ) (old new : WorldData) (reply : EventReply) → Happens (Tend slot) old new reply → new ≡ old
+tended_same slot old new (Tended tending) h = h
+tended_same slot old new (Refused (faults.Tree tree.Spent)) h = h
+tended_same slot old new _ h = absurd h

@@ -1,0 +1,287 @@
+-- A search from its beginning to its end, over a world in which nothing else is under way.
+use Rattle.std.proofs.Common.{◌≡◌, ◌⊎◌, ℕ, ◌+◌, ◌==◌, nat_le, not, Bool, true, false, List, [], ◌∷◌, length, map, filter, Option, None, Some, Result, Ok, Err, if◌then◌else◌, refl, sym, ap, subst, ◌∙◌, inl, inr, eq-eqb}
+use Rattle.std.specs.Bool.{MatchBool}
+use Rattle.plane.specs.declared.point.Point.{Point}
+use Rattle.memory.specs.declared.refused.Refused.{Refused as Refusal}
+use Rattle.features.specs.declared.actors.Subject.{Subject}
+use Rattle.features.specs.declared.rows.Feature.{Feature}
+use Rattle.audit_trail.specs.Listing.{Listed}
+use Rattle.audit_trail.specs.Records.{answered}
+use Rattle.transactions.specs.declared.faults.Fault.{Fault}
+use Rattle.transactions.specs.declared.faults.Fault.TheVariants as faults
+use Rattle.transactions.specs.declared.faults.TreeFault.TheVariants as tree
+use Rattle.transactions.specs.declared.searches.Search.{Search}
+use Rattle.transactions.specs.declared.steps.Visit.TheVariants as visits
+use Rattle.transactions.specs.Admitting.{LAST, and_then, given, owned, search_with, subject_at, own_search, has_answered_ready, may_record, may_go_on, may_finish, may_open, next_search}
+use Rattle.transactions.specs.Answers.{AnswerData}
+use Rattle.transactions.specs.Events.{Event, OpenSearch, VisitNext, Finish, DropSearch, Happens, If, Reply, Number, Visited, Rows, Refused, UnlessMemory, Sees, Visits, Finishes, is_memory, is_want, recorded, with_ready, without_search}
+use Rattle.transactions.specs.States.{WorldData}
+use Rattle.sessions.specs.Services.{Searches, ListsRows, is_full, is_overrun, may_search}
+use Rattle.sessions.specs.States.{IsIdle, searched}
+use Rattle.sessions.specs.Steps.{Seeks, idle, searching}
+
+pub same_number : (n : ℕ) → (n == n) ≡ true
+same_number n = eq-eqb n n refl
+
+-- a world in which nothing is under way is itself without what is under way
+pub idle_same : (w : WorldData) → IsIdle w → w ≡ idle w
+idle_same w h = λ i. record w { searches = h.searches i; transactions = h.transactions i }
+
+pub is_idle : (w new : WorldData) → new ≡ idle w → IsIdle new
+is_idle w new e = record { searches = ap (λ (x : WorldData). x.searches) e; transactions = ap (λ (x : WorldData). x.transactions) e }
+
+-- a fault that tells want of memory carries a refusal
+pub want_is : (fault : Fault) → is_want fault ≡ true → (refusal : Refusal) × (fault ≡ faults.Memory refusal)
+want_is (faults.Memory refusal) e = (refusal, refl)
+want_is _ e = absurd cc
+
+-- what an admitted event does
+pub does : {T : Type 0} (may : Result T Fault) (x : T) (old new : WorldData) (reply : Reply) (Does : T → Type 0) → may ≡ Ok x → If may old new reply Does → Does x
+does may x old new reply Does e h = subst (λ (r : Result _ Fault). If r old new reply Does) e h
+
+-- what an event does that is refused
+pub refuses : {T : Type 0} (may : Result T Fault) (fault : Fault) (old new : WorldData) (reply : Reply) (Does : T → Type 0) → may ≡ Err fault → If may old new reply Does → (new ≡ old) × (reply ≡ Refused fault)
+refuses may fault old new reply Does e h = subst (λ (r : Result _ Fault). If r old new reply Does) e h
+
+-- an admitted event that does something
+pub done : {T : Type 0} (may : Result T Fault) (x : T) (old new : WorldData) (reply : Reply) (Does : T → Type 0) → may ≡ Ok x → Does x → If may old new reply Does
+done may x old new reply Does e h = subst (λ (r : Result _ Fault). If r old new reply Does) (sym e) h
+
+pub turned : {T : Type 0} (may : Result T Fault) (fault : Fault) (old new : WorldData) (reply : Reply) (Does : T → Type 0) → may ≡ Err fault → (new ≡ old) × (reply ≡ Refused fault) → If may old new reply Does
+turned may fault old new reply Does e h = subst (λ (r : Result _ Fault). If r old new reply Does) (sym e) h
+
+-- what happens in a world happens in one that is the same
+pub from_same : (event : Event) (old other new : WorldData) (reply : Reply) → old ≡ other → Happens event old new reply → Happens event other new reply
+from_same event old other new reply e h = subst (λ (x : WorldData). Happens event x new reply) e h
+
+-- ---- the one search that is under way
+
+module _ (number seat : ℕ) (window : List Point) (w : WorldData) (subject : Subject) (seated : subject_at seat w ≡ Ok subject) where
+  abbrev one : Bool → Search
+  one ready = record { number = number; seat = seat; window = window; ready = ready }
+
+  own : (ready : Bool) → own_search seat number (searching number seat window ready w) ≡ Ok (one ready)
+  own ready =
+      ap (λ (b : Bool). and_then (given (if b then Some (one ready) else None)) (owned seat)) (same_number number)
+      ∙ ap (λ (b : Bool). if b then Ok (one ready) else Err faults.NotYours) (same_number seat)
+
+  goes_on : (ready : Bool) → may_go_on seat number (searching number seat window ready w) ≡ Ok (one ready)
+  goes_on ready = ap (λ (r : Result Subject Fault). and_then r (λ _. own_search seat number (searching number seat window ready w))) seated ∙ own ready
+
+  gone : (ready : Bool) → filter (λ (s : Search). not (s.number == number)) (one ready ∷ []) ≡ []
+  gone ready = ap (λ (b : Bool). if not b then one ready ∷ [] else []) (same_number number)
+
+  -- what a search that is visited leaves
+  abbrev Visiting : WorldData → Reply → Type 0
+  Visiting mid (Visited visits.Ready) = mid ≡ searching number seat window true w
+  Visiting mid (Refused (faults.Memory refusal)) = mid ≡ searching number seat window false w
+  Visiting mid (Refused (faults.Tree tree.Overrun)) = mid ≡ idle w
+  Visiting mid (Refused fault) = ⊥
+  Visiting mid _ = Unit {0}
+
+  sees : (mid : WorldData) (reply : Reply) → UnlessMemory (searching number seat window false w) mid reply (Sees number (searching number seat window false w) mid reply) → Visiting mid reply
+  sees mid (Visited visits.More) d = tt
+  sees mid (Visited visits.Ready) d = d ∙ ap (λ (b : Bool). record w { searches = (if b then one true ∷ [] else one false ∷ []); transactions = [] }) (same_number number)
+  sees mid (Refused (faults.Memory refusal)) d = d
+  sees mid (Refused (faults.Tree tree.Overrun)) d = d ∙ ap (λ (ss : List Search). record w { searches = ss; transactions = [] }) (gone false)
+  sees mid _ d = absurd d
+
+  visiting : (mid : WorldData) (reply : Reply) → Happens (VisitNext seat number) (searching number seat window false w) mid reply → Visiting mid reply
+  visiting mid reply h =
+      sees mid reply (does _ (one false) (searching number seat window false w) mid reply (λ s. Visits s (searching number seat window false w) mid reply) (goes_on false) h)
+
+  -- why a search comes to nothing
+  abbrev pub Fails : Fault → Type 0
+  Fails fault = ((refusal : Refusal) × (fault ≡ faults.Memory refusal)) ⊎ ((fault ≡ faults.Tree tree.Overrun) ⊎ ((is_full w ≡ true) × (fault ≡ faults.TrailFull)))
+
+  -- how the search stands after it
+  abbrev pub Stays : WorldData → Type 0
+  Stays mid = ((ready : Bool) × (mid ≡ searching number seat window ready w)) ⊎ (mid ≡ idle w)
+
+  abbrev pub Sought : WorldData → Reply → Type 0
+  Sought mid (Rows answer) =
+      (is_full w ≡ false) × ((rows : List Feature) × Listed w.state subject window rows
+      × (Rows answer ≡ Rows (record { subject = subject; window = window; decider = w.state.decider; rows = rows }))
+      × (mid ≡ idle (recorded seat (answered subject window (map (λ row. row.id) rows) (map (λ row. row.version) rows)) w)))
+  Sought mid (Refused fault) = Fails fault × Stays mid
+  Sought mid _ = ⊥
+
+  finishes : (mid new : WorldData) (reply : Reply) → mid ≡ searching number seat window true w → Happens (Finish seat number) mid new reply → Sought new reply
+  finishes mid new reply e h = go (is_full w) refl (subst (λ (x : WorldData). Happens (Finish seat number) x new reply) e h)
+    where
+      there : WorldData
+      there = searching number seat window true w
+
+      admitted : may_finish seat number there ≡ and_then (may_record w) (λ _. Ok (subject, one true))
+      admitted =
+          ap (λ (r : Result Subject Fault). and_then r (λ subject. and_then (own_search seat number there) (λ s. and_then (has_answered_ready s) (λ _. and_then (may_record there) (λ _. Ok (subject, s)))))) seated
+          ∙ ap (λ (r : Result Search Fault). and_then r (λ s. and_then (has_answered_ready s) (λ _. and_then (may_record there) (λ _. Ok (subject, s))))) (own true)
+
+      ends : is_full w ≡ false → (reply : Reply) → UnlessMemory there new reply (Finishes seat (subject, one true) there new reply) → Sought new reply
+      ends room (Refused fault) d = wants (is_want fault) refl d
+        where
+          wants : (b : Bool) → is_want fault ≡ b → MatchBool b (new ≡ there) (Finishes seat (subject, one true) there new (Refused fault)) → Sought new (Refused fault)
+          wants true e d = (inl (want_is fault e), inl (true, d))
+          wants false e d = (let wrong = d.2 in absurd cc)
+      ends room (Rows answer) d = (room, (d.0, d.1, d.2, d.3 ∙ ap (λ (ss : List Search). record (recorded seat (answered subject window (map (λ row. row.id) d.0) (map (λ row. row.version) d.0)) w) { searches = ss; transactions = [] }) (gone true)))
+      ends room _ d = (let wrong = d.2 in absurd cc)
+
+      go : (full : Bool) → is_full w ≡ full → Happens (Finish seat number) there new reply → Sought new reply
+      go true e h =
+          let left = refuses _ faults.TrailFull there new reply _ (admitted ∙ ap (λ (b : Bool). and_then (if b then Err faults.TrailFull else Ok tt) (λ _. Ok (subject, one true))) e) h in
+          subst (λ (r : Reply). Sought new r) (sym left.1) (inr (inr (e, refl)), inl (true, left.0))
+      go false e h =
+          let does_so = does _ (subject, one true) there new reply _ (admitted ∙ ap (λ (b : Bool). and_then (if b then Err faults.TrailFull else Ok tt) (λ _. Ok (subject, one true))) e) h in
+          ends e reply does_so
+
+  pub sought : (new : WorldData) (reply : Reply) → Seeks seat number (searching number seat window false w) new reply → Sought new reply
+  sought new reply (inl (fault, h, e)) = subst (λ (r : Reply). Sought new r) (sym e) (unseen fault (visiting new (Refused fault) h))
+    where
+      unseen : (fault : Fault) → Visiting new (Refused fault) → Sought new (Refused fault)
+      unseen (faults.Memory refusal) d = (inl (refusal, refl), inl (false, d))
+      unseen (faults.Tree tree.Overrun) d = (inr (inl refl), inr d)
+      unseen _ d = absurd d
+  sought new reply (inr (inl (mid, h, f))) = finishes mid new reply (visiting mid (Visited visits.Ready) h) f
+  sought new reply (inr (inr (e, r))) = subst (λ (r : Reply). Sought new r) (sym r) (inr (inl refl), inl (false, e))
+
+  -- whatever stays is dropped
+  pub dropped : (mid new : WorldData) (reply : Reply) → Stays mid → Happens (DropSearch seat number) mid new reply → new ≡ idle w
+  dropped mid new reply (inl (ready, e)) h =
+      let there = searching number seat window ready w in
+      let d = does _ (one ready) there new reply (λ _. (new ≡ without_search number there) × (reply ≡ Reply.Done)) (goes_on ready) (subst (λ (x : WorldData). Happens (DropSearch seat number) x new reply) e h) in
+      d.0 ∙ ap (λ (ss : List Search). record w { searches = ss; transactions = [] }) (gone ready)
+  dropped mid new reply (inr e) h =
+      let none = ap (λ (r : Result Subject Fault). and_then r (λ _. own_search seat number (idle w))) seated in
+      (refuses _ faults.NoSuch (idle w) new reply (λ _. (new ≡ without_search number (idle w)) × (reply ≡ Reply.Done)) none (subst (λ (x : WorldData). Happens (DropSearch seat number) x new reply) e h)).0
+
+-- ---- searches from the beginning
+
+-- a search that is not opened
+pub open_refused : (seat : ℕ) (window : List Point) (old new : WorldData) (fault : Fault) → IsIdle old → Happens (OpenSearch seat window) old new (Refused fault)
+    → IsIdle new × Searches seat window old new (Refused fault)
+open_refused seat window old new fault still h =
+    let ends = go (subject_at seat old) (old.next_search == LAST) refl refl (subst (λ (o : WorldData). Happens (OpenSearch seat window) o new (Refused fault)) (idle_same old still) h) in
+    (is_idle old new ends.0, subst (λ (o : WorldData). Searches seat window o new (Refused fault)) (sym (idle_same old still)) ends.1)
+  where
+    Does : Subject → Type 0
+    Does subject =
+        MatchBool (is_want fault) ((new ≡ idle old) ⊎ (new ≡ searched (idle old)))
+        (MatchBool (is_overrun (Refused fault)) (new ≡ searched (idle old))
+        (MatchBool (is_full (idle old)) ((Refused fault ≡ Refused faults.TrailFull) × (new ≡ searched (idle old)))
+        (ListsRows seat subject window (idle old) new (Refused fault))))
+
+    wants : (subject : Subject) (b : Bool) → is_want fault ≡ b → MatchBool b (new ≡ idle old) ((new ≡ searching old.next_search seat window false (searched old)) × (Refused fault ≡ Number old.next_search)) → (new ≡ idle old) × Does subject
+    wants subject true e d = (
+      d,
+      subst (λ (b : Bool). MatchBool b ((new ≡ idle old) ⊎ (new ≡ searched (idle old)))
+          (MatchBool (is_overrun (Refused fault)) (new ≡ searched (idle old)) (MatchBool (is_full (idle old)) ((Refused fault ≡ Refused faults.TrailFull) × (new ≡ searched (idle old))) (ListsRows seat subject window (idle old) new (Refused fault))))) (sym e) (inl d),
+    )
+    wants subject false e d = (let wrong = d.1 in absurd cc)
+
+    go : (who : Result Subject Fault) (last : Bool) → subject_at seat old ≡ who → (old.next_search == LAST) ≡ last → Happens (OpenSearch seat window) (idle old) new (Refused fault) → (new ≡ idle old) × Searches seat window (idle old) new (Refused fault)
+    go (Err f) last e l h =
+        let left = refuses _ f (idle old) new (Refused fault) _ (ap (λ (r : Result Subject Fault). and_then r (λ _. next_search (idle old))) e) h in
+        (left.0, turned _ f (idle old) new (Refused fault) Does (ap (λ (r : Result Subject Fault). and_then r (λ subject. if old.next_search == LAST then Err (faults.Tree tree.Spent) else Ok subject)) e) left)
+    go (Ok subject) true e l h =
+        let left = refuses _ (faults.Tree tree.Spent) (idle old) new (Refused fault) _ (ap (λ (r : Result Subject Fault). and_then r (λ _. next_search (idle old))) e ∙ ap (λ (b : Bool). if b then Err (faults.Tree tree.Spent) else Ok old.next_search) l) h in
+        (left.0, turned _ (faults.Tree tree.Spent) (idle old) new (Refused fault) Does (ap (λ (r : Result Subject Fault). and_then r (λ subject. if old.next_search == LAST then Err (faults.Tree tree.Spent) else Ok subject)) e ∙ ap (λ (b : Bool). if b then Err (faults.Tree tree.Spent) else Ok subject) l) left)
+    go (Ok subject) false e l h =
+        let d = does _ old.next_search (idle old) new (Refused fault) _ (ap (λ (r : Result Subject Fault). and_then r (λ _. next_search (idle old))) e ∙ ap (λ (b : Bool). if b then Err (faults.Tree tree.Spent) else Ok old.next_search) l) h in
+        let ends = wants subject (is_want fault) refl d in
+        (ends.0, done _ subject (idle old) new (Refused fault) Does (ap (λ (r : Result Subject Fault). and_then r (λ subject. if old.next_search == LAST then Err (faults.Tree tree.Spent) else Ok subject)) e ∙ ap (λ (b : Bool). if b then Err (faults.Tree tree.Spent) else Ok subject) l) ends.1)
+
+-- a search that is opened
+pub record Opened (seat : ℕ) (window : List Point) (old new : WorldData) (number : ℕ) : Type 0 where
+  pub subject : Subject
+  pub seated : subject_at seat old ≡ Ok subject
+  pub left : (old.next_search == LAST) ≡ false
+  pub is : number ≡ old.next_search
+  pub stands : new ≡ searching number seat window false (searched old)
+
+pub opened : (seat : ℕ) (window : List Point) (old new : WorldData) (number : ℕ) → IsIdle old → Happens (OpenSearch seat window) old new (Number number) → Opened seat window old new number
+opened seat window old new number still h = go (subject_at seat old) (old.next_search == LAST) refl refl (subst (λ (o : WorldData). Happens (OpenSearch seat window) o new (Number number)) (idle_same old still) h)
+  where
+    go : (who : Result Subject Fault) (last : Bool) → subject_at seat old ≡ who → (old.next_search == LAST) ≡ last → Happens (OpenSearch seat window) (idle old) new (Number number) → Opened seat window old new number
+    go (Err f) last e l h =
+        (let left = refuses _ f (idle old) new (Number number) _ (ap (λ (r : Result Subject Fault). and_then r (λ _. next_search (idle old))) e) h in let wrong = left.1 in absurd cc)
+    go (Ok subject) true e l h =
+        (let left = refuses _ (faults.Tree tree.Spent) (idle old) new (Number number) _ (ap (λ (r : Result Subject Fault). and_then r (λ _. next_search (idle old))) e ∙ ap (λ (b : Bool). if b then Err (faults.Tree tree.Spent) else Ok old.next_search) l) h in let wrong = left.1 in absurd cc)
+    go (Ok subject) false e l h =
+        let d = does _ old.next_search (idle old) new (Number number) _ (ap (λ (r : Result Subject Fault). and_then r (λ _. next_search (idle old))) e ∙ ap (λ (b : Bool). if b then Err (faults.Tree tree.Spent) else Ok old.next_search) l) h in
+        let is : number ≡ old.next_search = cc (d.1) in
+        record { subject = subject; seated = e; left = l; is = is; stands = d.0 ∙ ap (λ (n : ℕ). searching n seat window false (searched old)) (sym is) }
+
+module _ (seat : ℕ) (window : List Point) (old mid : WorldData) (number : ℕ) (still : IsIdle old) (h : Happens (OpenSearch seat window) old mid (Number number)) where
+  started : Opened seat window old mid number
+  started = opened seat window old mid number still h
+
+  admits : may_search seat (idle old) ≡ Ok started.subject
+  admits =
+      ap (λ (r : Result Subject Fault). and_then r (λ subject. if old.next_search == LAST then Err (faults.Tree tree.Spent) else Ok subject)) started.seated
+      ∙ ap (λ (b : Bool). if b then Err (faults.Tree tree.Spent) else Ok started.subject) started.left
+
+  found : (stopped : WorldData) (reply : Reply) → Seeks seat number mid stopped reply → Sought number seat window (searched old) started.subject started.seated stopped reply
+  found stopped reply seeks =
+      sought number seat window (searched old) started.subject started.seated stopped reply (subst (λ (x : WorldData). Seeks seat number x stopped reply) started.stands seeks)
+
+  abbrev Does : WorldData → Reply → Subject → Type 0
+  Does new reply subject =
+      MatchBool (is_memory reply) ((new ≡ idle old) ⊎ (new ≡ searched (idle old)))
+      (MatchBool (is_overrun reply) (new ≡ searched (idle old))
+      (MatchBool (is_full (idle old)) ((reply ≡ Refused faults.TrailFull) × (new ≡ searched (idle old)))
+      (ListsRows seat subject window (idle old) new reply)))
+
+  whole : (new : WorldData) (reply : Reply) → Does new reply started.subject → Searches seat window old new reply
+  whole new reply d =
+      subst (λ (o : WorldData). Searches seat window o new reply) (sym (idle_same old still)) (done _ started.subject (idle old) new reply (Does new reply) admits d)
+
+  -- a search that comes to nothing, and is dropped
+  pub search_refused : (stopped new : WorldData) (fault : Fault) (reply : Reply) → Seeks seat number mid stopped (Refused fault) → Happens (DropSearch seat number) stopped new reply → IsIdle new × Searches seat window old new (Refused fault)
+  search_refused stopped new fault reply seeks drops =
+      let end = found stopped (Refused fault) seeks in
+      let left = dropped number seat window (searched old) started.subject started.seated stopped new reply end.1 drops in
+      (is_idle (searched old) new left, whole new (Refused fault) (why fault left end.0))
+    where
+      why : (fault : Fault) → new ≡ searched (idle old) → Fails number seat window (searched old) started.subject started.seated fault → Does new (Refused fault) started.subject
+      why fault left (inl (refusal, e)) = subst (λ (f : Fault). Does new (Refused f) started.subject) (sym e) (inr left)
+      why fault left (inr (inl e)) = subst (λ (f : Fault). Does new (Refused f) started.subject) (sym e) left
+      why fault left (inr (inr (full, e))) =
+          subst (λ (f : Fault). Does new (Refused f) started.subject) (sym e)
+          (subst (λ (b : Bool). MatchBool b ((Refused faults.TrailFull ≡ Refused faults.TrailFull) × (new ≡ searched (idle old))) (ListsRows seat started.subject window (idle old) new (Refused faults.TrailFull))) (sym full) (refl, left))
+
+  -- a search that is answered
+  pub search_answered : (new : WorldData) (answer : AnswerData) → Seeks seat number mid new (Rows answer) → IsIdle new × Searches seat window old new (Rows answer)
+  search_answered new answer seeks =
+      let end = found new (Rows answer) seeks in
+      let rows = end.1 in (
+        is_idle (recorded seat (answered started.subject window (map (λ row. row.id) rows.0) (map (λ row. row.version) rows.0)) (searched old)) new rows.3,
+        whole new (Rows answer)
+            (subst (λ (b : Bool). MatchBool b ((Rows answer ≡ Refused faults.TrailFull) × (new ≡ searched (idle old))) (ListsRows seat started.subject window (idle old) new (Rows answer))) (sym end.0) rows),
+      )
+
+-- ---- visits, one after another
+
+-- a visit that finds more to see leaves the world as it was
+pub more_same : (seat number : ℕ) (old new : WorldData) → Happens (VisitNext seat number) old new (Visited visits.More) → new ≡ old
+more_same seat number old new h = go (may_go_on seat number old) h
+  where
+    ready : (s : Search) (b : Bool) → MatchBool b ((new ≡ old) × (Visited visits.More ≡ Visited visits.Ready)) (new ≡ old) → new ≡ old
+    ready s true d = d.0
+    ready s false d = d
+
+    go : (may : Result Search Fault) → If may old new (Visited visits.More) (λ s. Visits s old new (Visited visits.More)) → new ≡ old
+    go (Err fault) d = d.0
+    go (Ok s) d = ready s s.ready d
+
+module _ (seat number : ℕ) (start old : WorldData) (same : old ≡ start) where
+  pub seeks_refused : (new : WorldData) (fault : Fault) → Happens (VisitNext seat number) old new (Refused fault) → Seeks seat number start new (Refused fault)
+  seeks_refused new fault h = inl (fault, subst (λ (x : WorldData). Happens (VisitNext seat number) x new (Refused fault)) same h, refl)
+
+  pub seeks_ready : (mid new : WorldData) (reply : Reply) → Happens (VisitNext seat number) old mid (Visited visits.Ready) → Happens (Finish seat number) mid new reply → Seeks seat number start new reply
+  seeks_ready mid new reply h f = inr (inl (mid, subst (λ (x : WorldData). Happens (VisitNext seat number) x mid (Visited visits.Ready)) same h, f))
+
+  pub seeks_on : (new : WorldData) → Happens (VisitNext seat number) old new (Visited visits.More) → new ≡ start
+  seeks_on new h = more_same seat number old new h ∙ same
+
+  pub seeks_none : Seeks seat number start old (Refused (faults.Tree tree.Overrun))
+  seeks_none = inr (inr (same, refl))

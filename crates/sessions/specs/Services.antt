@@ -1,0 +1,163 @@
+-- What the calls of a session make of a world, each from its beginning to its end.
+use Rattle.std.specs.Prelude.{◌≡◌, ◌⊎◌, ℕ, ◌+◌, ◌==◌, nat_le, nat_lt, Bool, true, false, List, length, map, Option, None, Some, MatchOption, Result, Ok, Err, if◌then◌else◌}
+use Rattle.std.specs.Bool.{MatchBool}
+use Rattle.plane.specs.declared.point.Point.{Point}
+use Rattle.features.specs.declared.actors.Subject.{Subject}
+use Rattle.features.specs.declared.rows.Change.{Change}
+use Rattle.features.specs.declared.rows.Feature.{Feature}
+use Rattle.features.specs.Changes.{after}
+use Rattle.policy_text.specs.Documents.{DocumentData}
+use Rattle.combining.specs.declared.questions.Question.{Question}
+use Rattle.decision.specs.declared.rulings.Ruling.{Ruling}
+use Rattle.decision.specs.Rulings.{Rules}
+use Rattle.audit_trail.specs.declared.causes.Judgement.{Judgement}
+use Rattle.audit_trail.specs.declared.causes.Judgement.TheVariants as judgements
+use Rattle.audit_trail.specs.Judging.{Judged}
+use Rattle.audit_trail.specs.Legal.{subject_of}
+use Rattle.audit_trail.specs.Listing.{Listed}
+use Rattle.audit_trail.specs.Records.{answered, applied, turned_away}
+use Rattle.transactions.specs.declared.faults.Fault.{Fault}
+use Rattle.transactions.specs.declared.faults.Fault.TheVariants as faults
+use Rattle.transactions.specs.declared.faults.TreeFault.TheVariants as tree
+use Rattle.transactions.specs.declared.outcomes.Outcome.{Outcome}
+use Rattle.transactions.specs.declared.outcomes.Outcome.TheVariants as outcomes
+use Rattle.transactions.specs.Admitting.{LAST, and_then, subject_at}
+use Rattle.transactions.specs.Answers.{AnswerData, denial_of}
+use Rattle.transactions.specs.Events.{Reply as EventReply, Number, Rows, Ended, TakenOut, Refused, TakeSeat, Govern as GovernEvent, Roll as RollEvent, Happens, If, is_memory, recorded, reply_of}
+use Rattle.transactions.specs.Rolls.{RolledData}
+use Rattle.transactions.specs.States.{WorldData}
+use Rattle.sessions.specs.declared.faults.Fault.TheVariants.{BeforeHello}
+use Rattle.sessions.specs.declared.replies.Reply.{Reply}
+use Rattle.sessions.specs.declared.replies.Reply.TheVariants.{Hello as Greets, Edition, Bye, Error}
+use Rattle.sessions.specs.Replies.{SaidData, line, rows, rolled, told, outcome_reply, ruling_reply}
+use Rattle.sessions.specs.States.{SoloState, WhereIdle, begun, searched}
+
+-- what a session asks of whoever serves it
+pub data Call : Type 0 where
+  Hello : (name : List ℕ) → Call
+  Search : (window : List Point) → Call
+  Commit : (changes : List Change) → Call
+  Govern : (document : DocumentData) → Call
+  Explain : (question : Question) → Call
+  Roll : Call
+  Leave : Call
+
+-- Searches.
+
+-- the subject that searches, while searches have numbers left
+abbrev pub may_search : ℕ → WorldData → Result Subject Fault
+may_search seat w = and_then (subject_at seat w) (λ subject. if w.next_search == LAST then Err (faults.Tree tree.Spent) else Ok subject)
+
+-- the index has given up a search
+abbrev pub is_overrun : EventReply → Bool
+is_overrun (Refused (faults.Tree tree.Overrun)) = true
+is_overrun _ = false
+
+-- the trail takes no more records
+abbrev pub is_full : WorldData → Bool
+is_full w = nat_le w.limits.records (length w.trail)
+
+-- the rows that are listed are answered, and recorded
+abbrev pub ListsRows : ℕ → Subject → List Point → WorldData → WorldData → EventReply → Type 0
+ListsRows seat subject window old new reply =
+    (rows : List Feature) × Listed old.state subject window rows
+    × (reply ≡ Rows (record { subject = subject; window = window; decider = old.state.decider; rows = rows }))
+    × (new ≡ searched (recorded seat (answered subject window (map (λ row. row.id) rows) (map (λ row. row.version) rows)) old))
+
+-- A search from its beginning to its end. One that comes to nothing changes nothing, but uses a number up. Only the index
+-- knows whether it gives a search up.
+abbrev pub Searches : ℕ → List Point → WorldData → WorldData → EventReply → Type 0
+Searches seat window old new reply =
+    If (may_search seat old) old new reply (λ subject.
+    MatchBool (is_memory reply) ((new ≡ old) ⊎ (new ≡ searched old))
+    (MatchBool (is_overrun reply) (new ≡ searched old)
+    (MatchBool (is_full old) ((reply ≡ Refused faults.TrailFull) × (new ≡ searched old))
+    (ListsRows seat subject window old new reply))))
+
+-- Commits.
+
+-- the subject that commits, while transactions have numbers left
+abbrev pub may_conclude : ℕ → WorldData → Result Subject Fault
+may_conclude seat w = and_then (subject_at seat w) (λ subject. if w.next_transaction == LAST then Err faults.Spent else Ok subject)
+
+-- the index does not place a shape
+abbrev pub is_unplaced : EventReply → Bool
+is_unplaced (Refused (faults.Tree tree.Full)) = true
+is_unplaced (Refused (faults.Tree tree.TooHigh)) = true
+is_unplaced (Refused (faults.Tree tree.Spent)) = true
+is_unplaced (Refused (faults.Tree tree.Overrun)) = true
+is_unplaced _ = false
+
+-- a list that is accepted is applied under the next version, if there is one and the features are not too many
+abbrev pub AppliesAll : ℕ → Subject → List Change → WorldData → WorldData → EventReply → Type 0
+AppliesAll seat subject changes old new reply =
+    let version = old.state.version + 1 in
+    MatchBool (old.state.version == LAST) ((reply ≡ Refused faults.Spent) × (new ≡ begun old))
+    (MatchBool (nat_lt old.limits.features (length (after version subject.office changes old.state.features))) ((reply ≡ Refused faults.StoreFull) × (new ≡ begun old))
+    ((reply ≡ Ended (outcomes.Applied version)) × (new ≡ begun (recorded seat (applied subject version changes) old))))
+
+-- a list ends as it is judged
+abbrev pub EndsAs : Judgement → ℕ → Subject → List Change → WorldData → WorldData → EventReply → Type 0
+EndsAs judgements.Accepted seat subject changes old new reply = AppliesAll seat subject changes old new reply
+EndsAs (judgements.Refused refusal question) seat subject changes old new reply =
+    (reply ≡ Ended (outcomes.Refused refusal (denial_of old.state.decider refusal.cause question)))
+    × (new ≡ begun (recorded seat (turned_away subject changes refusal) old))
+
+-- A list of changes is committed, all or none of it. A commit that comes to nothing changes nothing, but uses a number up.
+-- Only the index knows whether it places a shape.
+abbrev pub Commits : ℕ → List Change → WorldData → WorldData → EventReply → Type 0
+Commits seat changes old new reply =
+    If (may_conclude seat old) old new reply (λ subject.
+    MatchBool (is_memory reply) ((new ≡ old) ⊎ (new ≡ begun old))
+    (MatchBool (is_unplaced reply) (new ≡ begun old)
+    (MatchBool (is_full old) ((reply ≡ Refused faults.TrailFull) × (new ≡ begun old))
+    ((judgement : Judgement) × Judged old.state subject changes judgement × EndsAs judgement seat subject changes old new reply))))
+
+-- A world that serves one session.
+
+-- the subject for whom a session asks, from HELLO on
+abbrev pub seated : Option ℕ → WorldData → Option Subject
+seated None w = None
+seated (Some seat) w = subject_of seat w.seats
+
+abbrev pub solo_subject : SoloState → Option Subject
+solo_subject s = seated s.seat s.world
+
+-- before HELLO nothing is done; no line of a session leads here, since it is refused before
+abbrev pub WhereSeated : SoloState → SoloState → SaidData → (ℕ → Type 0) → Type 0
+WhereSeated old new said Does =
+    MatchOption old.seat ((new ≡ old) × (said ≡ line (Error BeforeHello)))
+    (λ seat. (new.seat ≡ old.seat) × WhereIdle old.world new.world (Does seat))
+
+-- a session begins where the subject of its name is given a seat
+abbrev pub seat_after : Result ℕ Fault → Option ℕ → Option ℕ
+seat_after (Ok seat) before = Some seat
+seat_after (Err fault) before = before
+
+abbrev pub Begins : List ℕ → SoloState → SoloState → SaidData → Type 0
+Begins name old new said =
+    WhereIdle old.world new.world ((end : Result ℕ Fault) × Happens (TakeSeat name) old.world new.world (reply_of Number end)
+    × (new.seat ≡ seat_after end old.seat) × (said ≡ told (λ seat. line (Greets name)) end))
+
+-- how the document in force rules of a question
+abbrev pub Explains : Question → SoloState → SaidData → Type 0
+Explains question s said =
+    let decider = s.world.state.decider in
+    (ruling : Ruling) × Rules decider.document question ruling × (said ≡ line (ruling_reply decider ruling))
+
+-- what a call makes of a world and the session's seat, and what is said
+abbrev pub Serves : Call → SoloState → SoloState → SaidData → Type 0
+Serves (Hello name) old new said = Begins name old new said
+Serves (Search window) old new said =
+    WhereSeated old new said (λ seat. (end : Result AnswerData Fault) × Searches seat window old.world new.world (reply_of Rows end) × (said ≡ told rows end))
+Serves (Commit changes) old new said =
+    WhereSeated old new said (λ seat. (end : Result Outcome Fault) × Commits seat changes old.world new.world (reply_of Ended end)
+    × (said ≡ told (λ outcome. line (outcome_reply outcome)) end))
+Serves (Govern document) old new said =
+    WhereSeated old new said (λ seat. (end : Result ℕ Fault) × Happens (GovernEvent seat document) old.world new.world (reply_of Number end)
+    × (said ≡ told (λ edition. line (Edition edition)) end))
+Serves (Explain question) old new said = (new ≡ old) × Explains question old said
+Serves Roll old new said =
+    WhereSeated old new said (λ seat. (end : Result RolledData Fault) × Happens (RollEvent seat) old.world new.world (reply_of TakenOut end)
+    × (said ≡ told rolled end))
+Serves Leave old new said = (new ≡ record old { seat = None }) × (said ≡ line Bye)

@@ -1,0 +1,172 @@
+//! What a session asks of a world, each call from its beginning to its end. A search or a commit that ends with a fault is
+//! dropped or aborted, and so nothing stays under way.
+
+ghost use Rattle.std.specs.Prelude.{◌≡◌, ◌≤◌, length};
+ghost use Rattle.std.specs.Arc.{arc_value};
+ghost use Rattle.audit_trail.specs.Judging.{AreDistinct};
+ghost use Rattle.transactions.specs.Events.{Ended, Govern, Happens, Number, Roll, Rows, TakenOut, reply_of};
+ghost use Rattle.transactions.specs.declared.settings.TheConstants.{CHANGE_LIMIT};
+ghost use Rattle.sessions.specs.Services.{Searches, Commits};
+ghost use Rattle.sessions.specs.States.{WhereIdle};
+ghost use Rattle.sessions.specs.Steps.{Concludes, Places, Seeks, Stages};
+
+use features::{Change, Meter};
+use plane::Shape;
+use policy_text::Document;
+use std::alloc::{Allocator, Global};
+use std::sync::Arc;
+use transactions::{Advance, Answer, Fault, Outcome, Rolled, STEP_LIMIT, TreeFault, Visit, World};
+
+/// How many steps a search is waited for, which is overrun before.
+const SEARCH_STEPS: u32 = STEP_LIMIT + 1;
+
+/// How many steps the walks of a list are waited for: 16 walks, each of which is overrun before.
+const WALK_STEPS: u32 = 16_000_017;
+
+/// Searches from the beginning to the end. X1 where the seat was not given; S6 where the numbers of searches are at their
+/// end, S7 where the index gives the search up; X10 where the trail is full; X12 where a growth is refused.
+pub(crate) fn search<A: Allocator + Copy>(
+    world: &mut World<A>,
+    seat: u32,
+    window: Shape,
+) -> Result<Answer<A>, Fault>
+    ensures { WhereIdle world.old world.new (Searches seat window world.old world.new (reply_of Rows result)) }
+{
+    match world.open_search(seat, window) {
+        Err(fault) => Err(fault),
+        Ok(number) => match seek(world, seat, number) {
+            Ok(answer) => Ok(answer),
+            Err(fault) => {
+                let _ = world.drop_search(seat, number);
+                Err(fault)
+            }
+        },
+    }
+}
+
+/// Lets a search go on until it is ready, and finishes it.
+fn seek<A: Allocator + Copy>(
+    world: &mut World<A>,
+    seat: u32,
+    number: u64,
+) -> Result<Answer<A>, Fault>
+    ensures { Seeks seat number world.old world.new (reply_of Rows result) }
+{
+    for _ in 0..SEARCH_STEPS {
+        match world.visit(seat, number) {
+            Ok(Visit::More) => {}
+            Ok(Visit::Ready) => {
+                let mut meter = Meter::new();
+                return world.finish(seat, number, &mut meter);
+            }
+            Err(fault) => return Err(fault),
+        }
+    }
+    Err(Fault::Tree(TreeFault::Overrun))
+}
+
+/// Commits a list of changes, all or none of it. X1 where the seat was not given; X8 where the numbers of transactions
+/// are at their end; S3 to S7 where the index does not place a shape; X10 where the trail is full; X12 where a growth
+/// is refused; of a list that is accepted then X8 where the version is at its end, and X11 where more features would
+/// stand than may.
+pub(crate) fn commit<A: Allocator + Copy>(
+    world: &mut World<A>,
+    seat: u32,
+    changes: &[Change],
+) -> Result<Outcome, Fault>
+    requires distinct { AreDistinct changes.now }
+    requires few { length changes.now ≤ CHANGE_LIMIT }
+    ensures { WhereIdle world.old world.new (Commits seat changes.now world.old world.new (reply_of Ended result)) }
+{
+    match world.begin(seat) {
+        Err(fault) => Err(fault),
+        Ok(number) => match conclude(world, seat, number, changes) {
+            Ok(outcome) => Ok(outcome),
+            Err(fault) => {
+                let _ = world.abort(seat, number);
+                Err(fault)
+            }
+        },
+    }
+}
+
+/// Stages the changes in a transaction, places what they bring, and commits.
+fn conclude<A: Allocator + Copy>(
+    world: &mut World<A>,
+    seat: u32,
+    number: u64,
+    changes: &[Change],
+) -> Result<Outcome, Fault>
+    requires distinct { AreDistinct changes.now }
+    requires few { length changes.now ≤ CHANGE_LIMIT }
+    ensures { Concludes seat number changes.now world.old world.new (reply_of Ended result) }
+{
+    match stage_all(world, seat, number, changes) {
+        Err(fault) => Err(fault),
+        Ok(()) => match place_all(world, seat, number) {
+            Err(fault) => Err(fault),
+            Ok(()) => world.commit(seat, number),
+        },
+    }
+}
+
+/// Stages each of the changes in a transaction.
+fn stage_all<A: Allocator>(
+    world: &mut World<A>,
+    seat: u32,
+    number: u64,
+    changes: &[Change],
+) -> Result<(), Fault>
+    requires distinct { AreDistinct changes.now }
+    requires few { length changes.now ≤ CHANGE_LIMIT }
+    ensures { Stages seat number changes.now world.old world.new result }
+{
+    for change in changes {
+        if let Err(fault) = world.stage(seat, number, *change) {
+            return Err(fault);
+        }
+    }
+    Ok(())
+}
+
+/// Places in the index what the changes of a transaction bring.
+fn place_all<A: Allocator>(world: &mut World<A>, seat: u32, number: u64) -> Result<(), Fault>
+    ensures { Places seat number world.old world.new result }
+{
+    for _ in 0..WALK_STEPS {
+        match world.advance(seat, number) {
+            Ok(Advance::AllPlaced) => return Ok(()),
+            Ok(Advance::Walked(_)) => {}
+            Err(fault) => return Err(fault),
+        }
+    }
+    Err(Fault::Tree(TreeFault::Overrun))
+}
+
+/// Puts a document in force, as its next edition. X1 where the seat was not given, X7 where its subject is no steward, X8
+/// where the edition is at its end, X10 where the trail is full, X12 where a growth is refused.
+pub(crate) fn govern<A: Allocator + Copy>(
+    world: &mut World<A>,
+    heap: Global,
+    seat: u32,
+    document: Document<Global>,
+) -> Result<u64, Fault>
+    ensures { WhereIdle world.old world.new (Happens (Govern seat document) world.old world.new (reply_of Number result)) }
+{
+    match world.govern(heap, seat, document) {
+        Ok(edition) => Ok(edition),
+        Err((_, fault)) => Err(fault),
+    }
+}
+
+/// Takes the trail out. X1 where the seat was not given, X7 where its subject is no steward, X8 where the numbers of the
+/// records are at their end, X12 where a growth is refused.
+pub(crate) fn roll<A: Allocator + Copy>(
+    world: &mut World<A>,
+    heap: Global,
+    seat: u32,
+) -> Result<Arc<Rolled<A>, A>, Fault>
+    ensures { WhereIdle world.old world.new (Happens (Roll seat) world.old world.new (reply_of (λ piece. TakenOut (arc_value piece)) result)) }
+{
+    world.roll(heap, seat)
+}

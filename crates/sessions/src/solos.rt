@@ -1,0 +1,161 @@
+//! A world that serves one session.
+
+ghost use Rattle.std.specs.Prelude.{◌≡◌, None};
+ghost use Rattle.sessions.specs.Replies.{name_of_rule, ruling_reply};
+ghost use Rattle.sessions.specs.Services.{seated};
+
+use crate::calls::{commit, govern, roll, search};
+use crate::faults::Fault;
+use crate::replies::{Reply, Said, fault_reply, outcome_reply};
+use crate::services::Service;
+use combining::Question;
+use decision::{Decider, Ruling};
+use features::{Change, Name, Subject};
+use plane::Shape;
+use policy_text::Document;
+use std::alloc::{Allocator, Global};
+use transactions::World;
+
+/// A world that serves one session, and nobody else meanwhile. `heap` is where documents and the lines of a trail are
+/// made.
+#[derive(Drop)]
+pub struct Solo<'a, A: Allocator> {
+    world: &'a mut World<A>,
+    heap: Global,
+    seat: Option<u32>,
+}
+
+impl<'a, A: Allocator + Copy> Solo<'a, A> {
+    /// Serves a session that has not begun.
+    pub fn new(world: &'a mut World<A>, heap: Global) -> Self
+        ensures same_reference { result.world.ghost_name ≡ world.entry.ghost_name }
+        ensures world { result.world.now ≡ world.old }
+        ensures seat { result.seat ≡ None }
+    {
+        Solo::at(world, heap, None)
+    }
+
+    /// Serves a session that has this seat.
+    pub(crate) fn at(world: &'a mut World<A>, heap: Global, seat: Option<u32>) -> Self
+        ensures same_reference { result.world.ghost_name ≡ world.entry.ghost_name }
+        ensures world { result.world.now ≡ world.old }
+        ensures seat { result.seat ≡ seat }
+    {
+        Solo { world, heap, seat }
+    }
+
+    /// The session's seat.
+    pub(crate) fn seat(&self) -> Option<u32>
+        ensures { result ≡ self.now.seat }
+    {
+        self.seat
+    }
+}
+
+impl<'a, A: Allocator + Copy> Service for Solo<'a, A> {
+    ghost use Rattle.std.specs.Prelude.{◌≡◌};
+    ghost use Rattle.sessions.specs.Services.{Serves, solo_subject};
+    ghost use Rattle.sessions.specs.States.{solo};
+
+    type Memory = A;
+
+    ghost subject_of = { λ s. solo_subject (solo s.world.now s.seat) };
+
+    ghost serves = { λ call old new said. (new.world.ghost_name ≡ old.world.ghost_name) × Serves call (solo old.world.now old.seat) (solo new.world.now new.seat) said };
+
+    fn subject(&self) -> Option<Subject> {
+        subject_in(self.world, self.seat)
+    }
+
+    fn hello(&mut self, name: Name) -> Reply {
+        match self.world.seat(name) {
+            Ok(seat) => {
+                self.seat = Some(seat);
+                Reply::Hello(name)
+            }
+            Err(fault) => fault_reply(fault),
+        }
+    }
+
+    fn search(&mut self, window: Shape) -> Said<A> {
+        let Some(seat) = self.seat else {
+            return Said::Line(Reply::Error(Fault::BeforeHello));
+        };
+        match search(self.world, seat, window) {
+            Ok(answer) => Said::Rows(answer),
+            Err(fault) => Said::Line(fault_reply(fault)),
+        }
+    }
+
+    fn commit(&mut self, changes: &[Change]) -> Reply {
+        let Some(seat) = self.seat else {
+            return Reply::Error(Fault::BeforeHello);
+        };
+        match commit(self.world, seat, changes) {
+            Ok(outcome) => outcome_reply(&outcome),
+            Err(fault) => fault_reply(fault),
+        }
+    }
+
+    fn govern(&mut self, document: Document<Global>) -> Reply {
+        let Some(seat) = self.seat else {
+            return Reply::Error(Fault::BeforeHello);
+        };
+        match govern(self.world, self.heap, seat, document) {
+            Ok(edition) => Reply::Edition(edition),
+            Err(fault) => fault_reply(fault),
+        }
+    }
+
+    fn explain(&mut self, question: &Question) -> Reply {
+        let decider = self.world.decider();
+        ruling_reply(decider, decider.decide(question))
+    }
+
+    fn roll(&mut self) -> Said<A> {
+        let Some(seat) = self.seat else {
+            return Said::Line(Reply::Error(Fault::BeforeHello));
+        };
+        match roll(self.world, self.heap, seat) {
+            Ok(piece) => Said::Rolled(piece),
+            Err(fault) => Said::Line(fault_reply(fault)),
+        }
+    }
+
+    fn leave(&mut self) -> Reply {
+        self.seat = None;
+        Reply::Bye
+    }
+}
+
+/// The subject of a session's seat, if it has one.
+fn subject_in<A: Allocator>(world: &World<A>, seat: Option<u32>) -> Option<Subject>
+    ensures { result ≡ seated seat world.now }
+{
+    match seat {
+        None => None,
+        Some(seat) => world.subject_at(seat).ok(),
+    }
+}
+
+/// What a question is answered that a document rules so.
+fn ruling_reply(decider: &Decider, ruling: Ruling) -> Reply
+    ensures { result ≡ ruling_reply decider.now ruling }
+{
+    let edition = decider.edition();
+    match ruling {
+        Ruling::Permit(rule) => Reply::Permitted(name_of_rule(decider, rule), edition),
+        Ruling::DeniedBy(rule) => Reply::Forbidden(decider.rule_name(rule), edition),
+        Ruling::NoneApplied => Reply::Forbidden(None, edition),
+    }
+}
+
+/// The name of a rule, where there is one.
+fn name_of_rule(decider: &Decider, rule: Option<u32>) -> Option<Name>
+    ensures { result ≡ name_of_rule decider.now rule }
+{
+    match rule {
+        Some(number) => decider.rule_name(number),
+        None => None,
+    }
+}
