@@ -1,8 +1,3 @@
-pub mod Growth
-pub mod MaskBits
-pub mod Middles
-pub mod MaskHulls
-pub mod Stretches
 pub mod Zips
 pub mod ListEnds
 pub mod ProgressLemmas
@@ -22,3 +17,4 @@ pub mod InstallSteps
 pub mod CleanSteps
 pub mod UnionLemmas
 pub mod NeedLemmas
+pub mod DueLemmas

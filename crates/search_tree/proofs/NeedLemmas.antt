@@ -26,7 +26,7 @@ retired_place (Linked parent marked) stamp e = absurd (cc (e))
 retired_place (Unlinked left) stamp e = absurd (cc (e))
 retired_place (Retired s) stamp e = cc (e)
 
-at_rest : {Key Item : Type 0} (o : Option (PlainNode Key Item)) (stamp : ℕ) → stamp_at o ≡ Some stamp → (node : PlainNode Key Item) × (o ≡ Some node) × (node.place ≡ Retired stamp)
+pub at_rest : {Key Item : Type 0} (o : Option (PlainNode Key Item)) (stamp : ℕ) → stamp_at o ≡ Some stamp → (node : PlainNode Key Item) × (o ≡ Some node) × (node.place ≡ Retired stamp)
 at_rest None stamp e = absurd (cc (e))
 at_rest (Some node) stamp e = (node, refl, retired_place node.place stamp e)
 
@@ -34,14 +34,10 @@ module _ (C : Class) (t : PlainTree C.Key C.Query C.Item) (sound : IsSound C t) 
   pub may_free : (at : Handle) (stamp : ℕ) → stamp_at (value_at t.nodes at) ≡ Some stamp → AllBegunSince t.running stamp → MayFree C t at
   may_free at stamp is all_later = let rest = at_rest (value_at t.nodes at) stamp is in record { node = rest.0; is = rest.1; stamp = stamp; place = rest.2; all_later = all_later }
 
-  -- where some running search began before the stamp, the retired node stays
-  pub stays_yet : (at : Handle) (was : ℕ) (told : Bool) → stamp_at (value_at t.nodes at) ≡ Some was → (AllBegunSince t.running was → told ≡ true) → told ≡ false → (stamp : ℕ) → stamp_at (value_at t.nodes at) ≡ Some stamp → (◌≡◌ {A = Due C.Key} Nothing Free) ↔ AllBegunSince t.running stamp
-  stays_yet at was told there tells refused stamp is = (λ e. absurd (cc (e)), λ all. absurd (false≢true (sym refused ∙ tells (subst (AllBegunSince t.running) (some_one is there) all))))
-
   pub may_clean : (at : Handle) (node : Node C) → value_at t.nodes at ≡ Some node → IsLeaf node.body → MayClean C t at
   may_clean at node is leaf = record { node = node; is = is; pairs = leaf.0; body = leaf.1 }
 
-  no_pairs : (body : Body C) → IsLeaf body → size_of body ≡ 0 → body ≡ Leaf []
+  pub no_pairs : (body : Body C) → IsLeaf body → size_of body ≡ 0 → body ≡ Leaf []
   no_pairs body leaf none = leaf.1 ∙ empty leaf.0 (subst (λ (b : Body C). size_of b ≡ 0) leaf.1 none)
     where
       empty : (pairs : List (ℕ × C.Item)) → length pairs ≡ 0 → ◌≡◌ {A = Body C} (Leaf pairs) (Leaf [])

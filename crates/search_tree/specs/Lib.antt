@@ -1,7 +1,3 @@
-pub mod Keys
-pub mod Measures
-pub mod Laws
-pub mod Splits
 pub mod Rooms
 pub mod Faults
 pub mod Arenas
@@ -14,4 +10,5 @@ pub mod Walks
 pub mod Tends
 pub mod Unions
 pub mod Needs
+pub mod Dues
 pub mod Standings

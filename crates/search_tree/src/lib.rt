@@ -1,24 +1,19 @@
-//! The search tree of features: the tree, and the class of its keys, frames.
+//! The search tree of features: a tree over any class of keys.
 #![tactic(auto)]
 
 mod answers;
-mod bits;
 mod descending;
 mod entries;
 mod fault;
-mod frames;
 mod installing;
 mod joining;
 mod keeper;
 mod keys;
-mod laws;
-mod measure;
 mod needs;
 mod node;
 mod opening;
 mod progress;
 mod setters;
-mod split;
 mod standing;
 mod starting;
 mod tending;
@@ -29,8 +24,6 @@ mod walking;
 
 pub use answers::{Step, Tending, Visit};
 pub use fault::TreeFault;
-pub use frames::Frames;
 pub use keeper::Keeper;
-pub use laws::frames_cover_by_ends;
 pub use tree::{MAX_STEPS, Tree};
 pub use walk::Walk;

@@ -1,8 +1,10 @@
 //! What tending finds to do at a node. Nothing here changes anything.
 
-ghost use Rattle.std.specs.Prelude.{◌≡◌, ◌↔◌, ◌<◌, ℕ, Some, IsTrue, IfSome, slice_get};
+ghost use Rattle.std.specs.Prelude.{◌≡◌, ◌↔◌, ◌<◌, ℕ, false, List, [], None, Some, Contains, IsTrue, IsSome, IfSome, IfNone, slice_get};
+ghost use Rattle.tree_theory.specs.Nodes.PlainBody.{Leaf};
+ghost use Rattle.node_arena.specs.declared.handle.Handle.{Handle};
 ghost use Rattle.node_arena.specs.Slots.{value_at};
-ghost use Rattle.predicate_locks.specs.Searches.{AllBegunSince};
+ghost use Rattle.search_tree.specs.Dues.{HasUnkept, IsFirstDue, IsUnneeded, LacksEntry};
 ghost use Rattle.search_tree.specs.Needs.{MayDo, stamp_at, stamp_in};
 ghost use Rattle.search_tree.specs.Tends.{MayClean, MayInstall, MayRetire};
 ghost use Rattle.search_tree.specs.Trees.{IsLeaf, IsInner};
@@ -37,7 +39,7 @@ impl<C: KeyClass, A: Allocator> Tree<C, A> {
     // What is to be done at a node: the first of the cases that holds.
     pub(crate) fn first_due<K: Keeper<C::Item>>(&self, at: Handle, keeper: &K) -> Due<C::Key>
         ensures may { MayDo (class_of C.covered C.may_match C.is_match C.key_with C.united) self.now at result }
-        ensures retired { (stamp : ℕ) → stamp_at (value_at self.now.nodes at) ≡ Some stamp → ((result ≡ Due.Free) ↔ AllBegunSince self.now.running stamp) }
+        ensures first { IsSome (value_at self.now.nodes at) → IsFirstDue (class_of C.covered C.may_match C.is_match C.key_with C.united) self.now (λ pair. IsTrue (K.kept keeper.now pair.0 pair.1)) at result }
     {
         match stamp_of(&self.nodes, at) {
             Some(stamp) => {
@@ -53,7 +55,8 @@ impl<C: KeyClass, A: Allocator> Tree<C, A> {
 
     // What is to be done at a node that is not retired.
     fn due_in_place<K: Keeper<C::Item>>(&self, at: Handle, keeper: &K) -> Due<C::Key>
-        ensures { MayDo (class_of C.covered C.may_match C.is_match C.key_with C.united) self.now at result }
+        ensures may { MayDo (class_of C.covered C.may_match C.is_match C.key_with C.united) self.now at result }
+        ensures first { stamp_at (value_at self.now.nodes at) ≡ None → IsFirstDue (class_of C.covered C.may_match C.is_match C.key_with C.united) self.now (λ pair. IsTrue (K.kept keeper.now pair.0 pair.1)) at result }
     {
         if let Some(entry) = self.lacking(at) {
             return Due::Install(entry);
@@ -69,7 +72,9 @@ impl<C: KeyClass, A: Allocator> Tree<C, A> {
 
     // The entry that the right node of a marked node lacks, where their parent has room for it.
     fn lacking(&self, at: Handle) -> Option<NewEntry<C::Key>>
-        ensures { IfSome result (MayInstall (class_of C.covered C.may_match C.is_match C.key_with C.united) self.now) }
+        ensures may { IfSome result (MayInstall (class_of C.covered C.may_match C.is_match C.key_with C.united) self.now) }
+        ensures due { IfSome result (λ entry. LacksEntry (class_of C.covered C.may_match C.is_match C.key_with C.united) self.now at) }
+        ensures none { IfNone result (LacksEntry (class_of C.covered C.may_match C.is_match C.key_with C.united) self.now at → ⊥) }
     {
         let left = self.nodes.get(at)?;
         let parent = parent_of(left.place(), true)?;
@@ -93,7 +98,8 @@ impl<C: KeyClass, A: Allocator> Tree<C, A> {
 
     // Whether a leaf has a pair that is not kept.
     fn has_unkept<K: Keeper<C::Item>>(&self, at: Handle, keeper: &K) -> bool
-        ensures { IsTrue result → MayClean (class_of C.covered C.may_match C.is_match C.key_with C.united) self.now at }
+        ensures may { IsTrue result → MayClean (class_of C.covered C.may_match C.is_match C.key_with C.united) self.now at }
+        ensures due { IsTrue result ↔ HasUnkept (class_of C.covered C.may_match C.is_match C.key_with C.united) self.now (λ pair. IsTrue (K.kept keeper.now pair.0 pair.1)) at }
     {
         let Some(node) = self.nodes.get(at) else {
             return false;
@@ -106,7 +112,9 @@ impl<C: KeyClass, A: Allocator> Tree<C, A> {
 
     // The parent of an empty unmarked leaf that is not its only child, and the place of the leaf's entry.
     fn empty_below(&self, at: Handle) -> Option<(Handle, usize)>
-        ensures { IfSome result (λ found. MayRetire (class_of C.covered C.may_match C.is_match C.key_with C.united) self.now at found.0 found.1) }
+        ensures may { IfSome result (λ found. MayRetire (class_of C.covered C.may_match C.is_match C.key_with C.united) self.now at found.0 found.1) }
+        ensures due { IfSome result (λ found. IsUnneeded (class_of C.covered C.may_match C.is_match C.key_with C.united) self.now at) }
+        ensures none { IfNone result (IsUnneeded (class_of C.covered C.may_match C.is_match C.key_with C.united) self.now at → ⊥) }
     {
         let leaf = self.nodes.get(at)?;
         if !is_empty_leaf(leaf) {
@@ -143,7 +151,10 @@ fn stamp_in_place(place: Place) -> Option<u64>
 }
 
 // Whether one of the pairs is not kept.
-fn is_one_unkept<I: Copy, K: Keeper<I>>(pairs: &[(u64, I)], keeper: &K) -> bool {
+fn is_one_unkept<I: Copy, K: Keeper<I>>(pairs: &[(u64, I)], keeper: &K) -> bool
+    ensures some { IsTrue result → (place : ℕ) × (pair : ℕ × I) × (slice_get pairs.now place ≡ Some pair) × (K.kept keeper.now pair.0 pair.1 ≡ false) }
+    ensures none { result ≡ false → (place : ℕ) (pair : ℕ × I) → slice_get pairs.now place ≡ Some pair → IsTrue (K.kept keeper.now pair.0 pair.1) }
+{
     for pair in pairs {
         if !keeper.keeps(pair.0, &pair.1) {
             return true;
@@ -156,6 +167,7 @@ fn is_one_unkept<I: Copy, K: Keeper<I>>(pairs: &[(u64, I)], keeper: &K) -> bool 
 fn is_empty_leaf<K: Copy, I: Copy, A: Allocator>(node: &TreeNode<K, I, A>) -> bool
     ensures leaf { IsTrue result → IsLeaf node.now.body }
     ensures empty { IsTrue result → size_of node.now.body ≡ 0 }
+    ensures other { result ≡ false → node.now.body ≡ Leaf [] → ⊥ }
 {
     if !node.is_leaf() {
         return false;
@@ -167,6 +179,7 @@ fn is_empty_leaf<K: Copy, I: Copy, A: Allocator>(node: &TreeNode<K, I, A>) -> bo
 fn has_others<K: Copy, I: Copy, A: Allocator>(node: &TreeNode<K, I, A>) -> bool
     ensures inner { IsTrue result → IsInner node.now.body }
     ensures more { IsTrue result → 1 < size_of node.now.body }
+    ensures other { result ≡ false → IsInner node.now.body → 1 < size_of node.now.body → ⊥ }
 {
     if node.is_leaf() {
         return false;
@@ -178,6 +191,7 @@ fn has_others<K: Copy, I: Copy, A: Allocator>(node: &TreeNode<K, I, A>) -> bool
 fn has_room<K: Copy, I: Copy, A: Allocator>(node: &TreeNode<K, I, A>) -> bool
     ensures inner { IsTrue result → IsInner node.now.body }
     ensures room { IsTrue result → size_of node.now.body < NODE_SIZE }
+    ensures full { result ≡ false → IsInner node.now.body → size_of node.now.body < NODE_SIZE → ⊥ }
 {
     if node.is_leaf() {
         return false;
@@ -187,7 +201,8 @@ fn has_room<K: Copy, I: Copy, A: Allocator>(node: &TreeNode<K, I, A>) -> bool
 
 // The parent of a node at this place, where it is marked or not as told.
 fn parent_of(place: Place, wanted: bool) -> Option<Handle>
-    ensures { IfSome result (λ parent. place ≡ Place.Linked parent wanted) }
+    ensures some { IfSome result (λ parent. place ≡ Place.Linked parent wanted) }
+    ensures none { IfNone result ((parent : Handle) → place ≡ Place.Linked parent wanted → ⊥) }
 {
     match place {
         Place::Linked { parent, marked } if marked == wanted => Some(parent),
@@ -197,7 +212,8 @@ fn parent_of(place: Place, wanted: bool) -> Option<Handle>
 
 // Where a child stands among others.
 fn place_among(children: &[Handle], child: Handle) -> Option<usize>
-    ensures { IfSome result (λ place. slice_get children.now place ≡ Some child) }
+    ensures some { IfSome result (λ place. slice_get children.now place ≡ Some child) }
+    ensures none { IfNone result ((place : ℕ) → slice_get children.now place ≡ Some child → ⊥) }
 {
     for (place, other) in children.iter().enumerate() {
         if *other == child {

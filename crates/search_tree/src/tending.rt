@@ -1,11 +1,11 @@
 //! Tending: slot by slot a tree lets go of what it no longer needs.
 
-ghost use Rattle.std.specs.Prelude.{◌≡◌, ◌↔◌, ◌+◌, ℕ, Some, Ok, IsTrue, IfOk, IfErr, OnErr};
+ghost use Rattle.std.specs.Prelude.{◌≡◌, ◌+◌, Ok, IsTrue, IsSome, IfOk, IfErr, OnErr};
 ghost use Rattle.node_arena.specs.Slots.{value_at};
 ghost use Rattle.node_arena.specs.declared.handle.Handle.{Handle};
-ghost use Rattle.predicate_locks.specs.Searches.{AllBegunSince, last_number};
+ghost use Rattle.predicate_locks.specs.Searches.{last_number};
 ghost use Rattle.search_tree.specs.Calls.{SameContents};
-ghost use Rattle.search_tree.specs.Needs.{stamp_at};
+ghost use Rattle.search_tree.specs.Dues.{AnswersFirst};
 ghost use Rattle.search_tree.specs.Tends.{HasTended, ContentsLess, ContentsTended, MayClean, MayFree, MayRetire};
 ghost use Rattle.tree_theory.specs.KeyClasses.{class_of};
 
@@ -28,7 +28,8 @@ impl<C: KeyClass, A: Allocator> Tree<C, A> {
     pub fn tend<K: Keeper<C::Item>>(&mut self, slot: u32, keeper: &K) -> Result<Tending, TreeFault>
         ensures tended { IfOk result (HasTended (class_of C.covered C.may_match C.is_match C.key_with C.united) self.old self.new) }
         ensures contents { IfOk result (ContentsTended (class_of C.covered C.may_match C.is_match C.key_with C.united) self.old (λ pair. IsTrue (K.kept keeper.now pair.0 pair.1)) self.new) }
-        ensures freed { (at : Handle) (stamp : ℕ) → at.slot ≡ slot → stamp_at (value_at self.old.nodes at) ≡ Some stamp → ((result ≡ Ok Tending.Freed) ↔ AllBegunSince self.old.running stamp) }
+        ensures first { (at : Handle) → at.slot ≡ slot → IsSome (value_at self.old.nodes at) → AnswersFirst (class_of C.covered C.may_match C.is_match C.key_with C.united) self.old (λ pair. IsTrue (K.kept keeper.now pair.0 pair.1)) at result }
+        ensures nobody { ((at : Handle) → at.slot ≡ slot → IsSome (value_at self.old.nodes at) → ⊥) → result ≡ Ok Tending.Idle }
         ensures spent { IfErr result (λ fault. (fault ≡ TreeFault.Spent) × (self.old.counter ≡ last_number)) }
         ensures err { OnErr result (self.new ≡ self.old) }
     {
@@ -42,7 +43,7 @@ impl<C: KeyClass, A: Allocator> Tree<C, A> {
     fn tend_at<K: Keeper<C::Item>>(&mut self, at: Handle, keeper: &K) -> Result<Tending, TreeFault>
         ensures tended { IfOk result (HasTended (class_of C.covered C.may_match C.is_match C.key_with C.united) self.old self.new) }
         ensures contents { IfOk result (ContentsTended (class_of C.covered C.may_match C.is_match C.key_with C.united) self.old (λ pair. IsTrue (K.kept keeper.now pair.0 pair.1)) self.new) }
-        ensures freed { (stamp : ℕ) → stamp_at (value_at self.old.nodes at) ≡ Some stamp → ((result ≡ Ok Tending.Freed) ↔ AllBegunSince self.old.running stamp) }
+        ensures first { IsSome (value_at self.old.nodes at) → AnswersFirst (class_of C.covered C.may_match C.is_match C.key_with C.united) self.old (λ pair. IsTrue (K.kept keeper.now pair.0 pair.1)) at result }
         ensures spent { IfErr result (λ fault. (fault ≡ TreeFault.Spent) × (self.old.counter ≡ last_number)) }
         ensures err { OnErr result (self.new ≡ self.old) }
     {

@@ -12,7 +12,6 @@ ghost use Rattle.tree_theory.specs.Nodes.{entries_of, pairs_of, followed, is_fol
 ghost use Rattle.tree_theory.specs.declared.TheConstants.{NODE_SIZE};
 
 use crate::answers::Visit;
-use crate::bits::has_bit;
 use crate::fault::TreeFault;
 use crate::node::TreeNode;
 use crate::opening::place_of;
@@ -22,7 +21,7 @@ use crate::tree::Tree;
 use memory::Refused;
 use predicate_locks::Running;
 use std::alloc::Allocator;
-use tree_theory::{KeyClass, Place};
+use tree_theory::{KeyClass, Place, has_bit};
 
 /// How a search stands before a step of it.
 #[derive(Clone, Copy)]

@@ -5,6 +5,7 @@ mod key_class;
 mod laws;
 mod laws_contents;
 mod laws_shape;
+mod masks;
 mod place;
 
 pub use key_class::KeyClass;
@@ -14,6 +15,7 @@ pub use laws::{
 };
 pub use laws_contents::steps_and_contents;
 pub use laws_shape::steps_keep_the_shape;
+pub use masks::{has_bit, with_bit};
 pub use place::Place;
 
 /// How many pairs or entries a node has at most.

@@ -1,0 +1,5 @@
+pub mod Growth
+pub mod MaskBits
+pub mod Middles
+pub mod MaskHulls
+pub mod Stretches

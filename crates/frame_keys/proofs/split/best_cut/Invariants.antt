@@ -1,0 +1,5 @@
+use Rattle.frame_keys.specs.Splits.{IsEven}
+use Rattle.frame_keys.proofs.split.best_cut.Given as goal
+
+abbrev pub invariant-loop-place : goal.invariant-loop-place
+invariant-loop-place l = IsEven l.best.right

@@ -1,0 +1,4 @@
+pub mod Keys
+pub mod Measures
+pub mod Laws
+pub mod Splits

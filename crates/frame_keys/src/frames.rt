@@ -1,0 +1,117 @@
+//! Frames as the keys of a search tree of shapes.
+
+ghost use Rattle.std.specs.Prelude.{◌≡◌, ◌↔◌, ◌-◌, ◌≤◌, ◌<◌, ℕ, Some, IsTrue, IsBitSet, length, count_ones, slice_get};
+ghost use Rattle.plane.specs.Extents.{Extent, IsFrame, joined, extent_of, whole_extent};
+ghost use Rattle.plane.specs.Rows.{Meet};
+ghost use Rattle.frame_keys.specs.Keys.{Encloses, MayMeet};
+ghost use Rattle.frame_keys.specs.Measures.{area, margin};
+ghost use Rattle.tree_theory.specs.declared.TheConstants.{NODE_SIZE};
+
+use crate::measure::{area, margin};
+use crate::split::right_part;
+use plane::{Frame, Shape, covers, frame_of, frames_meet, hull, meets};
+use tree_theory::{KeyClass, with_bit};
+
+/// The class of keys where a key is a frame, and items and queries are shapes: a search finds the shapes that meet its own.
+pub struct Frames;
+
+impl KeyClass for Frames {
+    type Key = Frame;
+
+    type Query = Shape;
+
+    type Item = Shape;
+
+    ghost use Rattle.frame_keys.specs.Laws.{frames_whole_covers, frames_reflexive, frames_transitive, frames_covers_first, frames_covers_second, frames_least, frames_monotone, frames_sound};
+
+    ghost is_key = { IsFrame };
+
+    ghost covered = { Encloses };
+
+    ghost may_match = { MayMeet };
+
+    ghost is_match = { Meet };
+
+    ghost key_with = { extent_of };
+
+    ghost united = { joined };
+
+    ghost whole_key = { whole_extent };
+
+    fn known_key(key: Frame) {
+        let _left = key.x0();
+    }
+
+    fn key_of(item: Shape) -> Frame {
+        frame_of(&item)
+    }
+
+    fn covers(outer: Frame, inner: Frame) -> bool {
+        Self::known_key(inner);
+        covers(outer, inner)
+    }
+
+    fn union(one: Frame, other: Frame) -> Frame {
+        hull(one, other)
+    }
+
+    fn whole() -> Frame {
+        Frame::whole()
+    }
+
+    fn consistent(key: Frame, query: Shape) -> bool {
+        frames_meet(key, frame_of(&query))
+    }
+
+    /// The query's frame is computed once.
+    fn consistent_mask(keys: &[Frame], query: Shape) -> u16 {
+        let frame = frame_of(&query);
+        let mut mask: u16 = 0;
+        for (i, key) in keys.iter().enumerate() {
+            if frames_meet(*key, frame) {
+                mask = with_bit(mask, i);
+            }
+        }
+        mask
+    }
+
+    fn matches(item: Shape, query: Shape) -> bool {
+        meets(&item, &query)
+    }
+
+    /// The growth of the area.
+    fn penalty(key: Frame, other: Frame) -> u64
+        ensures { result ≡ area (joined key other) - area key }
+    {
+        Self::known_key(key);
+        area(hull(key, other)) - area(key)
+    }
+
+    /// The growth of the margin. A flat frame grows along its line by no area at all, so that a far one would tie with one that covers the item.
+    fn second_penalty(key: Frame, other: Frame) -> u64
+        ensures { result ≡ margin (joined key other) - margin key }
+    {
+        Self::known_key(key);
+        margin(hull(key, other)) - margin(key)
+    }
+
+    fn pick_split(keys: &[Frame]) -> u16 {
+        right_part(keys)
+    }
+
+    ghost whole_covers = { frames_whole_covers };
+
+    ghost reflexive = { frames_reflexive };
+
+    ghost transitive = { frames_transitive };
+
+    ghost covers_first = { frames_covers_first };
+
+    ghost covers_second = { frames_covers_second };
+
+    ghost least = { frames_least };
+
+    ghost monotone = { frames_monotone };
+
+    ghost sound = { frames_sound };
+}

@@ -1,6 +1,0 @@
-use Rattle.plane.specs.Rows.{FramesMeet}
-use Rattle.search_tree.proofs.MaskBits.{Tells}
-use Rattle.search_tree.proofs.frames.FramesKeyClass.consistent_mask.Given as goal
-
-abbrev pub invariant-loop-i : goal.invariant-loop-i
-invariant-loop-i l = Tells (λ i key. FramesMeet key l.frame) l.keys l.mask l.i

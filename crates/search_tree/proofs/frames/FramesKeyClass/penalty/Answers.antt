@@ -1,5 +1,0 @@
-use Rattle.search_tree.proofs.Growth.{area_grows}
-use Rattle.search_tree.proofs.frames.FramesKeyClass.penalty.Goals as goal
-
-pub overflow_sub-result : goal.overflow_sub-result
-overflow_sub-result c = rw (c.area.ensures.value, c.area-2.ensures.value, c.hull.ensures.value) (area_grows c.args.key c.args.other c.known_key.ensures)

@@ -1,5 +1,0 @@
-use Rattle.search_tree.proofs.Growth.{margin_grows}
-use Rattle.search_tree.proofs.frames.FramesKeyClass.second_penalty.Goals as goal
-
-pub overflow_sub-result : goal.overflow_sub-result
-overflow_sub-result c = rw (c.margin.ensures.value, c.margin-2.ensures.value, c.hull.ensures.value) (margin_grows c.args.key c.args.other c.known_key.ensures)

@@ -1,5 +1,0 @@
-use Rattle.search_tree.proofs.MaskHulls.{IsLeastOfFirst}
-use Rattle.search_tree.proofs.split.hull_of.Given as goal
-
-abbrev pub invariant-loop-i : goal.invariant-loop-i
-invariant-loop-i l = IsLeastOfFirst l.frame l.keys l.mask l.i
