@@ -2,34 +2,10 @@
 #![tactic(auto)]
 
 use memory::buffered;
-use program::{Folder, ProgramFault, run_program, tell};
-use std::fs::File;
+use program::{HostFolder, ProgramFault, run_program, tell};
 use std::io::{ErrorKind, Stderr, Write};
 use std::process::ExitCode;
 use std::{env, io};
-
-/// The file system of the host.
-#[derive(Drop)]
-struct HostFolder<'a> {
-    rt: &'a HostRuntime,
-}
-
-impl Folder for HostFolder<'_> {
-    ghost use Rattle.std.specs.Prelude.{None};
-
-    type File = File;
-
-    // nothing is known of the host's files
-    ghost holds = { λ folder name. None };
-
-    fn open_file(&self, name: &str) -> Option<File> {
-        let file = File::open(self.rt, name).ok()?;
-        match file.metadata() {
-            Ok(metadata) if !metadata.is_dir() => Some(file),
-            _ => None,
-        }
-    }
-}
 
 /// The program ends by a fault before it runs.
 fn fail(fault: &ProgramFault<'_>, errors: &mut Stderr) -> ExitCode {
@@ -55,7 +31,7 @@ fn main(rt: HostRuntime) -> ExitCode {
     let Ok(mut output) = buffered(rt.alloc(), io::writer(&rt)) else {
         return fail(&ProgramFault::NoMemory, &mut errors);
     };
-    let folder = HostFolder { rt: &rt };
+    let folder = HostFolder::of(&rt);
     let status = run_program(
         rt.alloc(),
         words.as_slice(),

@@ -1,15 +1,17 @@
 -- How the program ends.
 use Rattle.std.specs.Prelude.{ℕ, List, ◌++◌, codes, Result, Ok, Err}
 use Rattle.program.specs.declared.faults.ProgramFault.{ProgramFault}
-use Rattle.program.specs.declared.faults.ProgramFault.TheVariants.{CannotRead, CannotWrite, NoMemory, Config, Run}
+use Rattle.program.specs.declared.faults.ProgramFault.TheVariants.{CannotRead, CannotWrite, NoMemory, Config, World, Run}
 use Rattle.program.specs.ConfigFaults.{config_code_of}
 use Rattle.sessions.specs.Faults.{serve_code_of}
+use Rattle.transactions.specs.FaultCodes.{fault_code}
 
 abbrev pub fault_text : ProgramFault → List ℕ
 fault_text (CannotRead name) = codes "cannot read " ++ name.now
 fault_text CannotWrite = codes "cannot write"
 fault_text NoMemory = codes "V4"
 fault_text (Config fault) = config_code_of fault
+fault_text (World fault) = fault_code fault
 fault_text (Run fault) = serve_code_of fault
 
 -- the one line on standard error

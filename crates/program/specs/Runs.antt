@@ -2,17 +2,26 @@
 use Rattle.std.specs.Prelude.{◌≡◌, ℕ, List, Option, None, Some, IfSome, Ok}
 use Rattle.std.specs.Io.KnownBytes.{Appends}
 use Rattle.sessions.specs.Scripts.{IsScriptText}
-use Rattle.sessions.specs.States.{PlainState}
-use Rattle.sessions.specs.Worlds.{opened}
+use Rattle.transactions.specs.States.{WorldData, opened}
+use Rattle.transactions.specs.declared.settings.TheConstants.{STEP_LIMIT}
+use Rattle.audit_trail.specs.declared.trails.TheConstants.{RECORD_LIMIT}
+use Rattle.features.specs.declared.tables.TheConstants.{FEATURE_LIMIT}
 use Rattle.program.specs.BuiltIn.{built_in_config}
 use Rattle.program.specs.Configs.{ConfigData, config_of}
+
+-- the world that a configuration opens: its subjects, its policies in force as the first edition, no features, and no records
+abbrev pub world_of : ConfigData → WorldData
+world_of config =
+    opened config.subjects (record { document = config.document; edition = 1 })
+    (record { generation = 0; counter = 0; search = 1; version = 0; edition = 1; rolled = 0 })
+    (record { steps = STEP_LIMIT; records = RECORD_LIMIT; features = FEATURE_LIMIT })
 
 -- the script text of the script's bytes, over the world that a configuration opens
 pub record Served (config : ConfigData) (script : List ℕ) (before after : Option (List ℕ)) : Type 0 where
   pub said : List ℕ
-  pub end : PlainState
+  pub end : WorldData
   pub written : Appends before after said
-  pub text : IsScriptText (opened config.subjects) script end said
+  pub text : IsScriptText (world_of config) script end said
 
 -- the configuration of a run: the built-in one, or that of a file, whose bytes may be known
 abbrev pub IsConfigOf : Option (Option (List ℕ)) → ConfigData → Type 0

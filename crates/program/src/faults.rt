@@ -3,6 +3,7 @@ ghost use Rattle.std.specs.Prelude.{◌≡◌};
 use crate::config_faults::ConfigFault;
 use sessions::ServeFault;
 use std::fmt;
+use transactions::Fault;
 
 /// Why the program ends with status 1.
 #[derive(Debug, Drop)]
@@ -16,6 +17,8 @@ pub enum ProgramFault<'a> {
     NoMemory,
     /// The configuration is none.
     Config(ConfigFault),
+    /// The world that the configuration describes cannot be opened.
+    World(Fault),
     /// The run ended by a fault of its own.
     Run(ServeFault),
 }
@@ -35,6 +38,7 @@ impl fmt::Display for ProgramFault<'_> {
             ProgramFault::CannotWrite => f.write_str("cannot write"),
             ProgramFault::NoMemory => f.write_str("V4"),
             ProgramFault::Config(fault) => f.write_str(fault.code()),
+            ProgramFault::World(fault) => f.write_str(fault.code()),
             ProgramFault::Run(fault) => f.write_str(fault.code()),
         }
     }

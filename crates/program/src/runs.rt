@@ -10,10 +10,11 @@ use crate::faults::ProgramFault;
 use crate::files::{FileFault, read_config_file};
 use crate::words::{Asked, ScriptWords, read_words};
 use clap::Error;
-use sessions::{PlainWorld, ServeFault, run_script};
+use sessions::{ServeFault, run_script};
 use std::alloc::{Allocator, Global};
 use std::io;
 use std::io::{Read, Write};
+use transactions::World;
 
 /// Where the files stand that the command line names.
 pub trait Folder {
@@ -28,17 +29,22 @@ pub trait Folder {
 }
 
 /// Runs the script of a file over the world that a configuration opens, and writes the replies.
-/// `CannotWrite` where a write fails, or the flush at the end; else the fault of the run.
+/// `World` where there is no memory for the world; `CannotWrite` where a write fails, or the flush at the end; else the
+/// fault of the run.
 pub fn run_file<'a, A: Allocator + Copy, R: Read, W: Write>(
     alloc: A,
+    heap: Global,
     config: Config<Global>,
     file: &mut R,
     output: &mut W,
 ) -> Result<(), ProgramFault<'a>>
     ensures { OnOk result (IfSome (R.remaining file.old) (λ script. Served (config_data config) script (W.contents output.old) (W.contents output.new))) }
 {
-    let mut world = PlainWorld::open(alloc, config.subjects);
-    let end = run_script(alloc, &mut world, file, output);
+    let mut world = match World::open(alloc, heap, config.subjects, config.document) {
+        Ok(world) => world,
+        Err((_, fault)) => return Err(ProgramFault::World(fault)),
+    };
+    let end = run_script(alloc, heap, &mut world, file, output);
     if output.flush().is_err() {
         return Err(ProgramFault::CannotWrite);
     }
@@ -104,7 +110,7 @@ pub fn run_named<'a, F: Folder, W: Write>(
     let Some(mut file) = folder.open_file(words.script) else {
         return Err(ProgramFault::CannotRead(words.script));
     };
-    run_file(heap, config, &mut file, output)
+    run_file(heap, heap, config, &mut file, output)
 }
 
 /// Writes help to the output.

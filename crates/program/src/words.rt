@@ -26,8 +26,8 @@ const SCRIPT_LONG_ABOUT: &str =
 A line is `label: command`. A label stands for one session, which begins with HELLO and the name of a subject. Empty \
 lines, and lines that begin with #, are skipped.
 
-A configuration gives the subjects; its policies are checked, but not enforced yet: everything is permitted. Without \
-a configuration the subjects are north, south and chief, who is the steward.";
+A configuration gives the subjects, and the policies that are in force until a steward replaces them. Without one the \
+subjects are north, south and chief, who is the steward, and everything is permitted.";
 
 const SCRIPT_EXAMPLES: &str = "Example:
   A file first.map of these lines
@@ -49,7 +49,7 @@ Exit status:
   0  all lines are answered, be it by `error`
   1  the run ended by a fault, of which one line on standard error tells:
      `cannot read FILE`, `cannot write`, or a code: B1 to B5 and N1 to N3 of the configuration,
-     D2 to D8 of its policies, V1 to V4 of the run
+     D2 to D8 of its policies, X12 and V1 to V4 of the run
   2  the command line is wrong";
 
 /// What the command line asks.
@@ -74,7 +74,7 @@ fn script_command<'a>(alloc: Global) -> Result<Command<'a>, AllocError> {
     let config = Arg::new(alloc, "config")
         .long("config")
         .value_name("FILE")
-        .help("The subjects, and policies that are checked but not enforced yet, as JSON");
+        .help("The subjects, and the policies that are in force at first, as JSON");
     let file = Arg::new(alloc, "FILE")
         .help("The script: lines `label: command`")
         .required(true);

@@ -1,0 +1,34 @@
+//! The host's files.
+
+use crate::runs::Folder;
+use std::fs::File;
+
+/// The file system of the host.
+#[derive(Drop)]
+pub struct HostFolder<'a> {
+    rt: &'a HostRuntime,
+}
+
+impl<'a> HostFolder<'a> {
+    /// The folder that the program was started in.
+    pub fn of(rt: &'a HostRuntime) -> Self {
+        HostFolder { rt }
+    }
+}
+
+impl Folder for HostFolder<'_> {
+    ghost use Rattle.std.specs.Prelude.{None};
+
+    type File = File;
+
+    // nothing is known of the host's files
+    ghost holds = { λ folder name. None };
+
+    fn open_file(&self, name: &str) -> Option<File> {
+        let file = File::open(self.rt, name).ok()?;
+        match file.metadata() {
+            Ok(metadata) if !metadata.is_dir() => Some(file),
+            _ => None,
+        }
+    }
+}
