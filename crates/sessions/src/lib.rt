@@ -6,6 +6,7 @@ mod calls;
 mod commands;
 mod desks;
 mod faults;
+mod laws;
 mod lists;
 mod replies;
 mod scripts;
@@ -18,6 +19,7 @@ mod writing;
 
 pub use built_in::built_in_subjects;
 pub use faults::Fault;
+pub use laws::opened_world_is_idle;
 pub use replies::{Reply, Said};
 pub use scripts::{LABEL_LIMIT, run_script};
 pub use services::Service;
