@@ -33,7 +33,7 @@ module _ {Key : Type 0} (growth second_growth : Key → Key → ℕ) (keys : Lis
   best_of_none best held is = record { held = held; is = is; least_is = refl; no_more = λ other place below there. absurd (omega (arith, below)) }
 
   one_more : (n place : ℕ) → place < n + 1 → (place < n) ⊎ (place ≡ n)
-  one_more n place below = elim (cases_eq place n) [ | inl here ↦ inr here | inr apart ↦ inl (omega (arith, below, apart)) ]
+  one_more n place below = elim (cases_eq place n) [ inl here ↦ inr here | inr apart ↦ inl (omega (arith, below, apart)) ]
 
   -- the next key is better
   pub best_is_next : (best n : ℕ) (least : Penalties) (other : Key) → IsBestOf best least n → slice_get keys n ≡ Some other → IsLess (penalties_of growth second_growth other key) least → IsBestOf n (penalties_of growth second_growth other key) (n + 1)

@@ -56,7 +56,14 @@ impl<C: KeyClass, A: Allocator + Copy> Tree<C, A> {
 
 impl<C: KeyClass, A: Allocator> Tree<C, A> {
     // Makes the key of a child's entry, which stands at the place, its union with another key.
-    pub(crate) fn enlarge(&mut self, parent: Handle, place: usize, old: C::Key, key: C::Key, child: Handle)
+    pub(crate) fn enlarge(
+        &mut self,
+        parent: Handle,
+        place: usize,
+        old: C::Key,
+        key: C::Key,
+        child: Handle,
+    )
         requires { MayEnlarge (class_of C.covered C.may_match C.is_match C.key_with C.united) self.old parent place old key child }
         ensures { IsAlike (class_of C.covered C.may_match C.is_match C.key_with C.united) self.old self.new }
     {
