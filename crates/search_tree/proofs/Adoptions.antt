@@ -1,8 +1,8 @@
 -- Nodes get another parent.
-use Rattle.std.proofs.Common.{◌≡◌, ◌≢◌, ◌⊎◌, ℕ, ◌+◌, ◌<◌, ◌≤◌, List, [], ◌∷◌, ◌++◌, Contains, length, slice_index_or, take, Option, None, Some, refl, sym, ap, subst, ◌∙◌, inl, inr, arith}
+use Rattle.std.proofs.Common.{◌≡◌, ◌≢◌, ◌⊎◌, ℕ, ◌+◌, ◌<◌, List, [], ◌∷◌, ◌++◌, Contains, length, slice_index_or, take, Option, None, Some, refl, sym, ap, subst, ◌∙◌, inl, inr, arith}
 use Rattle.std.proofs.lemmas.List.Elements.{Contains-append_left, Contains-push, Contains-push_cases}
 use Rattle.std.specs.Option.{option_map}
-use Rattle.node_arena.specs.Slots.{Slots, SameCounts, IsGiven, CountsGiven, value_at}
+use Rattle.node_arena.specs.Slots.{Slots, IsGiven, CountsGiven, value_at}
 use Rattle.node_arena.specs.declared.handle.Handle.{Handle}
 use Rattle.tree_theory.proofs.ListLemmas.{handle_cases, child_cases, nothing_in}
 use Rattle.tree_theory.specs.Nodes.{PlainNode, place_under, under}

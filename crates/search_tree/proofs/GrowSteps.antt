@@ -1,5 +1,5 @@
 -- The growth of the root keeps what every tree keeps.
-use Rattle.std.proofs.Common.{◌≡◌, ◌≢◌, ◌⊎◌, ℕ, ◌+◌, ◌<◌, ◌≤◌, List, [], ◌∷◌, Contains, IsSome, Option, None, Some, Result, Ok, Err, OnOk, OnErr, refl, sym, ap, subst, ◌∙◌, inl, inr, arith}
+use Rattle.std.proofs.Common.{◌≡◌, ◌≢◌, ℕ, ◌+◌, ◌<◌, ◌≤◌, List, Contains, IsSome, Option, None, Some, Result, Ok, Err, OnOk, OnErr, refl, sym, ap, subst, ◌∙◌, inl, inr, arith}
 use Rattle.std.specs.Option.{option_map}
 use Rattle.node_arena.specs.Slots.{Slots, value_at}
 use Rattle.node_arena.specs.declared.handle.Handle.{Handle}
@@ -12,11 +12,10 @@ use Rattle.tree_theory.proofs.ShapeLists.{parts_differ}
 use Rattle.tree_theory.proofs.ShapeSplit.{child_in, entry_of_child}
 use Rattle.tree_theory.specs.Changes.{IsHalved, IsGrown}
 use Rattle.tree_theory.specs.KeyClasses.{Class}
-use Rattle.tree_theory.specs.Nodes.{PlainBody, PlainNode, Body, Node, entries_of, children_of, size_of, place_under, under}
-use Rattle.tree_theory.specs.Nodes.PlainBody.{Inner}
+use Rattle.tree_theory.specs.Nodes.{PlainBody, PlainNode, Body, Node, children_of, size_of, place_under, under}
 use Rattle.tree_theory.specs.declared.TheConstants.{NODE_SIZE, TOP_LEVEL}
 use Rattle.tree_theory.specs.declared.place.Place.TheVariants.{Root}
-use Rattle.search_tree.specs.Arenas.{IsChanged, AreSame, Holds}
+use Rattle.search_tree.specs.Arenas.{AreSame, Holds}
 use Rattle.search_tree.specs.Calls.{IsAlike}
 use Rattle.search_tree.specs.Splitting.{HasGrown, HasMoreNodes, HasPutBelow, IsFullRoot, IsLower, IsPutOver, MayGrow, MayRise, below}
 use Rattle.search_tree.specs.Trees.{PlainTree, IsSound, level_of, tree_of}

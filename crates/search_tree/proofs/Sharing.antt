@@ -1,7 +1,8 @@
 -- Lists that are shared out by a mask.
 use Rattle.std.specs.Prelude.{count_ones}
-use Rattle.std.proofs.Common.{◌≡◌, ◌≢◌, ℕ, zero, suc, ◌+◌, ◌*◌, ◌/◌, ◌%◌, ◌^◌, ◌<◌, ◌≤◌, List, [], ◌∷◌, ◌++◌, length, slice_get, slice_index_or, take, take_all, zip, map, Option, Some, IsBitSet, refl, sym, ap, subst, ◌∙◌, arith}
+use Rattle.std.proofs.Common.{◌≡◌, ◌≢◌, ◌⊎◌, ℕ, zero, suc, ◌+◌, ◌*◌, ◌/◌, ◌%◌, ◌^◌, ◌<◌, ◌≤◌, List, [], ◌∷◌, ◌++◌, length, slice_get, slice_index_or, take, take_all, zip, map, Option, Some, Contains, IsBitSet, refl, sym, ap, subst, ◌∙◌, inl, inr, arith}
 use Rattle.std.proofs.lemmas.List.{length_push}
+use Rattle.std.proofs.lemmas.List.Elements.{Contains-append_left, Contains-push}
 use Rattle.std.proofs.lemmas.Nat.{pow_pos, bit_set_by_shift}
 use Rattle.std.proofs.lemmas.Nat.Bits.{shr_and_one}
 use lib.Arith.{mod-mul}
@@ -62,10 +63,22 @@ pub record IsSharedUpTo {T : Type 0} (mask n : ℕ) (first left right : List T) 
   pub parted : Parted first left right
   pub long : length first ≡ n
   pub many : length right ≡ count_ones (mask % 2 ^ n)
+  pub goes : (place : ℕ) (x : T) → slice_get first place ≡ Some x → IsBitSet mask place → Contains right x
+  pub stays : (place : ℕ) (x : T) → slice_get first place ≡ Some x → (IsBitSet mask place → ⊥) → Contains left x
+
+-- what stands in a list with one element more
+pushed_cases : {T : Type 0} (xs : List T) (y x : T) (i : ℕ) → slice_get (xs ++ y ∷ []) i ≡ Some x → (slice_get xs i ≡ Some x) ⊎ ((i ≡ length xs) × (y ≡ x))
+pushed_cases [] y x zero e = inr (refl, cc e)
+pushed_cases [] y x (suc i) e = absurd (cc e)
+pushed_cases (z ∷ xs) y x zero e = inl e
+pushed_cases (z ∷ xs) y x (suc i) e = elim (pushed_cases xs y x i e) [
+  | inl before ↦ inl before
+  | inr last ↦ let at = last.0 in inr (omega (arith, at), last.1)
+]
 
 module _ {T : Type 0} (mask : ℕ) where
   pub shared_none : (left right : List T) → left ≡ [] → right ≡ [] → IsSharedUpTo mask 0 [] left right
-  shared_none left right no_left no_right = rw (no_left, no_right) (record { parted = none; long = refl; many = sym (ap count_ones nothing ∙ no_bit) })
+  shared_none left right no_left no_right = rw (no_left, no_right) (record { parted = none; long = refl; many = sym (ap count_ones nothing ∙ no_bit); goes = λ place x at set. absurd (cc at); stays = λ place x at unset. absurd (cc at) })
     where
       nothing : mask % 2 ^ 0 ≡ 0
       nothing = omega arith
@@ -77,7 +90,19 @@ module _ {T : Type 0} (mask : ℕ) where
       let counted = ones_set mask n set in
       let long = s.long in
       let many = s.many in
-      record { parted = parted_to_other x s.parted; long = omega (arith, longer, long); many = omega (arith, more, counted, many) }
+      record {
+        parted = parted_to_other x s.parted;
+        long = omega (arith, longer, long);
+        many = omega (arith, more, counted, many);
+        goes = λ place y at bit. elim (pushed_cases first x y place at) [
+          | inl before ↦ Contains-append_left right (x ∷ []) y (s.goes place y before bit)
+          | inr last ↦ subst (Contains (right ++ x ∷ [])) last.1 (Contains-push right x)
+        ];
+        stays = λ place y at not. elim (pushed_cases first x y place at) [
+          | inl before ↦ s.stays place y before not
+          | inr last ↦ absurd (not (subst (λ k. IsBitSet mask k) (sym (last.0 ∙ s.long)) set))
+        ];
+      }
 
   pub shared_left : (n : ℕ) (first left right : List T) (x : T) → (IsBitSet mask n → ⊥) → IsSharedUpTo mask n first left right → IsSharedUpTo mask (n + 1) (first ++ x ∷ []) (left ++ x ∷ []) right
   shared_left n first left right x unset s =
@@ -85,7 +110,19 @@ module _ {T : Type 0} (mask : ℕ) where
       let counted = ones_not mask n unset in
       let long = s.long in
       let many = s.many in
-      record { parted = parted_to_one x s.parted; long = omega (arith, longer, long); many = omega (arith, counted, many) }
+      record {
+        parted = parted_to_one x s.parted;
+        long = omega (arith, longer, long);
+        many = omega (arith, counted, many);
+        goes = λ place y at bit. elim (pushed_cases first x y place at) [
+          | inl before ↦ s.goes place y before bit
+          | inr last ↦ absurd (unset (subst (λ k. IsBitSet mask k) (last.0 ∙ s.long) bit))
+        ];
+        stays = λ place y at not. elim (pushed_cases first x y place at) [
+          | inl before ↦ Contains-append_left left (x ∷ []) y (s.stays place y before not)
+          | inr last ↦ subst (Contains (left ++ x ∷ [])) last.1 (Contains-push left x)
+        ];
+      }
 
   -- neither part has more than there were
   pub right_fits : (n : ℕ) (first left right : List T) → IsSharedUpTo mask n first left right → length right ≤ n
@@ -95,7 +132,7 @@ module _ {T : Type 0} (mask : ℕ) where
   left_fits n first left right s = let sizes = parted_sizes s.parted in let long = s.long in omega (arith, sizes, long)
 
   pub shared_all : (whole left right : List T) → mask < 2 ^ 16 → IsSharedUpTo mask 16 whole left right → IsShared mask whole left right
-  shared_all whole left right fits s = record { parted = s.parted; many = s.many ∙ ap count_ones (mod-eq_of_lt fits) }
+  shared_all whole left right fits s = record { parted = s.parted; many = s.many ∙ ap count_ones (mod-eq_of_lt fits); goes = s.goes; stays = s.stays }
 
 -- ---- a list of keys and a list of children
 

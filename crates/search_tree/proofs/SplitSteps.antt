@@ -1,7 +1,7 @@
 -- The split of a node keeps what every tree keeps.
-use Rattle.std.proofs.Common.{◌≡◌, ◌≢◌, ◌⊎◌, ℕ, ◌+◌, ◌≤◌, List, [], Contains, Option, None, Some, Result, Ok, Err, IfOk, OnOk, OnErr, false, refl, sym, ap, subst, ◌∙◌, inl, inr, arith}
+use Rattle.std.proofs.Common.{◌≡◌, ◌≢◌, ◌⊎◌, ℕ, List, Contains, Option, None, Some, Result, Ok, Err, IfOk, OnOk, OnErr, false, refl, sym, ap, subst, ◌∙◌, inl, inr, arith}
 use Rattle.std.specs.Option.{option_map}
-use Rattle.node_arena.specs.Slots.{Slots, value_at, taken_count, slot_count}
+use Rattle.node_arena.specs.Slots.{Slots, value_at}
 use Rattle.node_arena.specs.declared.handle.Handle.{Handle}
 use Rattle.tree_theory.proofs.ContentsSplit.{contents_split}
 use Rattle.tree_theory.proofs.ListLemmas.{handle_cases, child_cases}

@@ -1,5 +1,5 @@
 -- What a split and the growth of the root need, and what they leave.
-use Rattle.std.specs.Prelude.{◌≡◌, ◌≢◌, ℕ, ◌+◌, ◌<◌, ◌≤◌, false, true, List, [], ◌∷◌, Contains, Option, None, Some, IsSome}
+use Rattle.std.specs.Prelude.{◌≡◌, ◌≢◌, ℕ, ◌+◌, ◌<◌, ◌≤◌, false, true, List, [], ◌∷◌, Contains, None, Some, IsSome}
 use Rattle.std.specs.Option.{option_map}
 use Rattle.node_arena.specs.Slots.{Slots, SameCounts, value_at, taken_count, slot_count}
 use Rattle.node_arena.specs.declared.handle.Handle.{Handle}

@@ -1,4 +1,4 @@
-use Rattle.std.proofs.Common.{◌≡◌, ◌≤◌, ◌-◌, length, map, take, vec_capacity}
+use Rattle.std.proofs.Common.{◌≡◌, ◌≤◌, map, take, vec_capacity}
 use Rattle.tree_theory.specs.declared.TheConstants.{NODE_SIZE}
 use Rattle.search_tree.proofs.halves.keys_of.Given as goal
 

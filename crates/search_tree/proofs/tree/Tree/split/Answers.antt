@@ -1,4 +1,4 @@
-use Rattle.search_tree.proofs.SplitSteps.{split_sound_either, split_call_ok, split_call_err, split_leads}
+use Rattle.search_tree.proofs.SplitSteps.{split_sound_either, split_call_ok, split_call_err}
 use Rattle.search_tree.proofs.tree.Tree.split.Goals as goal
 
 pub invariant_of-self : goal.invariant_of-self
