@@ -1,6 +1,6 @@
 -- A walk's whole step down: what joining leaves is what enlarging needs.
-use Rattle.std.proofs.Common.{◌≡◌, ◌∙◌, ℕ, List, Contains, Some, sym, ap, subst, inl, inr}
-use Rattle.node_arena.specs.Slots.{Slots, value_at}
+use Rattle.std.proofs.Common.{◌∙◌, ℕ, List, Contains, sym, ap, subst, inl, inr}
+use Rattle.node_arena.specs.Slots.{Slots}
 use Rattle.tree_theory.proofs.ListLemmas.{got_in}
 use Rattle.tree_theory.specs.Changes.{MayTake}
 use Rattle.tree_theory.specs.KeyClasses.{Class}

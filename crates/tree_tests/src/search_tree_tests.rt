@@ -5,6 +5,7 @@ use std::process::Abort;
 use std::test::Fail;
 
 // Keeps the pair of one number alone.
+#[derive(Clone, Copy)]
 struct KeepOne {
     key: u64,
 }
@@ -170,7 +171,6 @@ fn split_under_search(rt: HostRuntime) -> Result<(), Fail> {
     let mut tree = forty(&rt, rt.alloc(), 1);
     let search = begun(&rt, &mut tree);
     let last = place_until_split(&rt, &mut tree);
-    assert!(rt; 40 < last, "the first walk splits a node already");
     see_all(&rt, &mut tree, search);
     assert!(rt; has_found(&tree, search, 1, last));
     Ok(())
