@@ -1,5 +1,6 @@
+use frame_keys::Frames;
 use plane::{Point, Shape};
-use search_tree::{Frames, Keeper, Step, Tending, Tree, TreeFault, Visit, Walk};
+use search_tree::{Keeper, Step, Tending, Tree, TreeFault, Visit, Walk};
 use std::alloc::Allocator;
 use std::process::Abort;
 use std::test::Fail;
