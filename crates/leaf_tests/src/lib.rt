@@ -4,6 +4,8 @@
 #[cfg(test)]
 mod combining_tests;
 #[cfg(test)]
+mod decision_tests;
+#[cfg(test)]
 mod features_tests;
 #[cfg(test)]
 mod plane_tests;

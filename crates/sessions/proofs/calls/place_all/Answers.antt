@@ -8,19 +8,19 @@ use Rattle.sessions.proofs.calls.place_all.Goals as goal
 pub returns-in-Ok-AllPlaced : goal.returns-in-Ok-AllPlaced
 returns-in-Ok-AllPlaced g c w subject changes seated start =
     let so_far = c.loop.invariant w subject changes seated start in
-    let told = rw c.in-Ok-AllPlaced.field-0-is at c.in-Ok-AllPlaced.ensures in
+    let told = rw c.in-Ok-AllPlaced.field-0-is at c.in-Ok-AllPlaced.ensures.happens in
     let left = advancing c.args.number c.args.seat w subject seated changes so_far.0 c.advance.new.self (Advanced advances.AllPlaced) (from_same (AdvanceWalk c.args.seat c.args.number) _ _ _ _ so_far.1 told) in
     (so_far.0, left.0, left.1)
 
 pub returns-in-Err : goal.returns-in-Err
 returns-in-Err g c w subject changes seated start =
     let so_far = c.loop.invariant w subject changes seated start in
-    advancing c.args.number c.args.seat w subject seated changes so_far.0 c.advance.new.self (Refused c.in-Err.fault) (from_same (AdvanceWalk c.args.seat c.args.number) _ _ _ _ so_far.1 c.in-Err.ensures)
+    advancing c.args.number c.args.seat w subject seated changes so_far.0 c.advance.new.self (Refused c.in-Err.fault) (from_same (AdvanceWalk c.args.seat c.args.number) _ _ _ _ so_far.1 c.in-Err.ensures.happens)
 
 pub loop-preserved : goal.loop-preserved
 loop-preserved g c w subject changes seated start =
     let so_far = c.loop.invariant w subject changes seated start in
-    let told = rw c.in-Ok-Walked.field-0-is at c.in-Ok-Walked.ensures in
+    let told = rw c.in-Ok-Walked.field-0-is at c.in-Ok-Walked.ensures.happens in
     advancing c.args.number c.args.seat w subject seated changes so_far.0 c.advance.new.self (Advanced (advances.Walked c.in-Ok-Walked.field-0-0)) (from_same (AdvanceWalk c.args.seat c.args.number) _ _ _ _ so_far.1 told)
 
 pub returns : goal.returns

@@ -1,0 +1,333 @@
+//! Documents that are made up, each compiled, folded, and asked in both forms what `evaluate` answers.
+use combining::{Decision, Question, Verdict, evaluate};
+use decision::{Decider, Folded, Ruling};
+use features::{Action, Name, Subject};
+use plane::{Point, Shape};
+use policy_text::read_document;
+use std::alloc::{AllocError, Global};
+use std::process::Abort;
+use std::test::Fail;
+
+/// How many documents are made up.
+const DOCUMENTS: u64 = 500;
+
+/// For how many subjects and actions each of them is folded.
+const FOLDS: u64 = 4;
+
+/// How many questions are asked of each folded document.
+const QUESTIONS: u64 = 5;
+
+const ZONES: &str =
+    r#""zones":[{"shape":"POLYGON ((0 0, 4 0, 0 4, 0 0))","zone":"field"},{"shape":"POINT (9 9)","zone":"post"}]"#;
+
+/// Numbers that look like chance, from a linear congruence.
+#[derive(Drop)]
+struct Dice {
+    state: u64,
+}
+
+impl Dice {
+    /// A number below this one, or 0 where that is 0.
+    fn below(&mut self, sides: u64) -> u64 {
+        self.state = self
+            .state
+            .wrapping_mul(6_364_136_223_846_793_005)
+            .wrapping_add(1_442_695_040_888_963_407);
+        (self.state >> 33).checked_rem(sides).unwrap_or(0)
+    }
+
+    /// One of two.
+    fn either(&mut self, one: &'static str, other: &'static str) -> &'static str {
+        if self.below(2) == 0 { one } else { other }
+    }
+}
+
+/// The text of a document that is being made up, and how many names stand in it.
+#[derive(Drop)]
+struct Draft {
+    heap: Global,
+    text: String,
+    names: u64,
+}
+
+impl Draft {
+    fn push(&mut self, part: &str) -> Result<(), AllocError> {
+        self.text.push_str(part)
+    }
+
+    /// A name that stands nowhere else in the document, under a key.
+    fn push_name(&mut self, key: &str) -> Result<(), AllocError> {
+        self.names = self.names.wrapping_add(1);
+        let number = self.names;
+        let member = format!(in self.heap; "\"{key}\":\"n{number}\"")?;
+        self.text.push_str(&member)
+    }
+}
+
+fn algorithm(dice: &mut Dice) -> &'static str {
+    match dice.below(5) {
+        0 => "deny-overrides",
+        1 => "permit-overrides",
+        2 => "deny-unless-permit",
+        3 => "permit-unless-deny",
+        _ => "first-applicable",
+    }
+}
+
+fn test(dice: &mut Dice) -> &'static str {
+    match dice.below(9) {
+        0 => r#"{"role":"editor"}"#,
+        1 => r#"{"role":"clerk"}"#,
+        2 => r#"{"office":"north"}"#,
+        3 => r#"{"class":"mast"}"#,
+        4 => r#"{"owner":"north"}"#,
+        5 => r#"{"zone":"field"}"#,
+        6 => r#"{"zone":"post"}"#,
+        7 => r#"{"action":"add"}"#,
+        _ => r#"{"action":"read"}"#,
+    }
+}
+
+fn atom(dice: &mut Dice) -> &'static str {
+    match dice.below(6) {
+        0 => r#"{"own":true}"#,
+        1 => r#"{"not":{"own":true}}"#,
+        2 => r#"{"not":{"role":"editor"}}"#,
+        3 => r#"{"not":{"zone":"field"}}"#,
+        4 => r#"{"not":{"action":"read"}}"#,
+        _ => test(dice),
+    }
+}
+
+/// One or two matches, all of which have to hold.
+fn push_matches(draft: &mut Draft, dice: &mut Dice) -> Result<(), AllocError> {
+    draft.push("[")?;
+    draft.push(test(dice))?;
+    if dice.below(3) == 0 {
+        draft.push(",")?;
+        draft.push(test(dice))?;
+    }
+    draft.push("]")
+}
+
+/// One or two alternatives.
+fn push_part(draft: &mut Draft, dice: &mut Dice) -> Result<(), AllocError> {
+    draft.push("[")?;
+    push_matches(draft, dice)?;
+    if dice.below(2) == 0 {
+        draft.push(",")?;
+        push_matches(draft, dice)?;
+    }
+    draft.push("]")
+}
+
+/// A target with no part, mostly, or with one or two.
+fn push_target(draft: &mut Draft, dice: &mut Dice) -> Result<(), AllocError> {
+    draft.push(r#""target":["#)?;
+    let parts = dice.below(5);
+    if parts > 2 {
+        push_part(draft, dice)?;
+    }
+    if parts > 3 {
+        draft.push(",")?;
+        push_part(draft, dice)?;
+    }
+    draft.push("]")
+}
+
+fn push_rule(draft: &mut Draft, dice: &mut Dice) -> Result<(), AllocError> {
+    draft.push(dice.either(r#"{"effect":"permit","#, r#"{"effect":"deny","#))?;
+    draft.push_name("rule")?;
+    draft.push(",")?;
+    push_target(draft, dice)?;
+    draft.push(r#","when":["#)?;
+    let atoms = dice.below(4);
+    if atoms > 1 {
+        draft.push(atom(dice))?;
+    }
+    if atoms > 2 {
+        draft.push(",")?;
+        draft.push(atom(dice))?;
+    }
+    draft.push("]}")
+}
+
+/// What a set and a policy have in common.
+fn push_head(draft: &mut Draft, dice: &mut Dice, kind: &str) -> Result<(), AllocError> {
+    draft.push(r#"{"combine":""#)?;
+    draft.push(algorithm(dice))?;
+    draft.push(r#"","#)?;
+    draft.push_name(kind)?;
+    draft.push(",")?;
+    push_target(draft, dice)
+}
+
+/// A policy of no rule up to three.
+fn push_policy(draft: &mut Draft, dice: &mut Dice) -> Result<(), AllocError> {
+    push_head(draft, dice, "policy")?;
+    draft.push(r#","rules":["#)?;
+    for index in 0..dice.below(4) {
+        if index > 0 {
+            draft.push(",")?;
+        }
+        push_rule(draft, dice)?;
+    }
+    draft.push("]}")
+}
+
+/// A set of no policy up to two.
+fn push_inner_set(draft: &mut Draft, dice: &mut Dice) -> Result<(), AllocError> {
+    push_head(draft, dice, "set")?;
+    draft.push(r#","of":["#)?;
+    for index in 0..dice.below(3) {
+        if index > 0 {
+            draft.push(",")?;
+        }
+        push_policy(draft, dice)?;
+    }
+    draft.push("]}")
+}
+
+/// A set of no child up to two, which are policies or sets of policies.
+fn push_set(draft: &mut Draft, dice: &mut Dice) -> Result<(), AllocError> {
+    push_head(draft, dice, "set")?;
+    draft.push(r#","of":["#)?;
+    for index in 0..dice.below(3) {
+        if index > 0 {
+            draft.push(",")?;
+        }
+        if dice.below(2) == 0 {
+            push_policy(draft, dice)?;
+        } else {
+            push_inner_set(draft, dice)?;
+        }
+    }
+    draft.push("]}")
+}
+
+/// A document of sets and policies within one another.
+fn document_text(heap: Global, dice: &mut Dice) -> Result<String, AllocError> {
+    let mut draft = Draft {
+        heap,
+        text: String::new(heap),
+        names: 0,
+    };
+    draft.push(r#"{"root":"#)?;
+    push_head(&mut draft, dice, "set")?;
+    draft.push(r#","of":["#)?;
+    for index in 0..dice.below(4) {
+        if index > 0 {
+            draft.push(",")?;
+        }
+        if dice.below(2) == 0 {
+            push_policy(&mut draft, dice)?;
+        } else {
+            push_set(&mut draft, dice)?;
+        }
+    }
+    draft.push("]},")?;
+    draft.push(ZONES)?;
+    draft.push("}")?;
+    Ok(draft.text)
+}
+
+fn name(rt: &impl Abort, text: &str) -> Name {
+    let name = Name::new(text.as_bytes());
+    assert!(rt; name.is_some());
+    name.unwrap()
+}
+
+/// A point of the field, the post, or a point that lies in the field's frame and not in the field.
+fn shape(rt: &impl Abort, dice: &mut Dice) -> Shape {
+    let point = match dice.below(3) {
+        0 => Point { x: 1, y: 1 },
+        1 => Point { x: 9, y: 9 },
+        _ => Point { x: 3, y: 3 },
+    };
+    let shape = Shape::point(point);
+    assert!(rt; shape.is_ok());
+    shape.unwrap()
+}
+
+fn question(rt: &impl Abort, dice: &mut Dice) -> Question {
+    let shape = shape(rt, dice);
+    let action = match dice.below(2) {
+        0 => Action::Read,
+        _ => Action::Add,
+    };
+    Question {
+        subject: Subject {
+            name: name(rt, "ann"),
+            office: name(rt, dice.either("north", "south")),
+            role: name(rt, dice.either("editor", "clerk")),
+            steward: false,
+        },
+        action,
+        owner: name(rt, dice.either("north", "south")),
+        class: name(rt, dice.either("mast", "road")),
+        shape,
+    }
+}
+
+fn decider(rt: &impl Abort, heap: Global, text: &str) -> Decider {
+    let read = read_document(heap, heap, text.as_bytes());
+    assert!(rt; read.is_ok(), "{text}");
+    let made = Decider::new(read.unwrap(), 1);
+    assert!(rt; made.is_ok());
+    made.unwrap()
+}
+
+/// The ruling that a verdict gives.
+fn ruling(verdict: Verdict) -> Ruling {
+    match (verdict.decision, verdict.rule) {
+        (Decision::Permit, rule) => Ruling::Permit(rule),
+        (Decision::Deny, Some(rule)) => Ruling::DeniedBy(rule),
+        (Decision::Deny, None) | (Decision::NotApplicable, _) => Ruling::NoneApplied,
+    }
+}
+
+/// The document, folded for the subject and the action of a question.
+fn folded<'a>(rt: &impl Abort, decider: &'a Decider, question: &Question) -> Folded<'a> {
+    let folded = decider.fold(&question.subject, &question.action);
+    assert!(rt; folded.is_ok());
+    folded.unwrap()
+}
+
+/// That the document, its decider and the folded document answer alike.
+fn assert_alike(
+    rt: &impl Abort,
+    decider: &Decider,
+    folded: &Folded<'_>,
+    question: &Question,
+    text: &str,
+) {
+    let wanted = ruling(evaluate(decider.document(), question));
+    assert_eq!(rt; decider.decide(question), wanted, "{text}");
+    let told = folded.decide(question.owner, question.class, question.shape);
+    assert_eq!(rt; told, wanted, "{text}");
+}
+
+/// Questions of one subject who asks for one action.
+fn ask(rt: &impl Abort, dice: &mut Dice, decider: &Decider, text: &str) {
+    let first = question(rt, dice);
+    let folded = folded(rt, decider, &first);
+    for _ in 0..QUESTIONS {
+        let mut question = question(rt, dice);
+        question.subject = first.subject;
+        question.action = first.action;
+        assert_alike(rt, decider, &folded, &question, text);
+    }
+}
+
+#[test]
+fn deciders_rule_as_documents(rt: HostRuntime) -> Result<(), Fail> {
+    let mut dice = Dice { state: 20_261_122 };
+    for _ in 0..DOCUMENTS {
+        let text = document_text(rt.alloc(), &mut dice)?;
+        let decider = decider(&rt, rt.alloc(), &text);
+        for _ in 0..FOLDS {
+            ask(&rt, &mut dice, &decider, &text);
+        }
+    }
+    Ok(())
+}
