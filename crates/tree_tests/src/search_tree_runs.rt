@@ -143,6 +143,11 @@ struct Tally {
     freed: u32,
 }
 
+// Counts one more.
+fn count(number: &mut u32) {
+    *number = number.saturating_add(1);
+}
+
 const NOTHING: Tally = Tally {
     ready: 0,
     closed: 0,
@@ -259,7 +264,7 @@ fn try_visit(rt: &impl Abort, dice: &mut Dice, plain: &mut Plain, tree: &mut Tre
     assert!(rt; answer.is_ok() && (!look.ready || answer == Ok(Visit::Ready)));
     if answer == Ok(Visit::Ready) && !look.ready {
         check_ready(rt, plain, tree, &look);
-        plain.tally.ready += 1;
+        count(&mut plain.tally.ready);
         for other in plain.looks.iter_mut() {
             if other.number == look.number {
                 other.ready = true;
@@ -275,7 +280,7 @@ fn close(rt: &impl Abort, plain: &mut Plain, tree: &mut Tree<Frames, Global>, at
     };
     if look.ready {
         check_ready(rt, plain, tree, &look);
-        plain.tally.closed += 1;
+        count(&mut plain.tally.closed);
     }
     tree.close_search(look.number);
     assert!(rt; tree.found(look.number).is_empty());
@@ -313,7 +318,7 @@ fn note_placed(rt: &impl Abort, plain: &mut Plain, key: u64) {
             .any(|look| look.ready && look.window.meets(&square))
     );
     assert!(rt; plain.live.push(key).is_ok());
-    plain.tally.placed += 1;
+    count(&mut plain.tally.placed);
 }
 
 // A search that holds a pair back runs, and looks for it.
@@ -345,12 +350,12 @@ fn try_advance(
             plain.walks.retain(|other| !other.placed());
             note_placed(rt, plain, key);
         }
-        Ok(Step::Split) => plain.tally.split += 1,
-        Ok(Step::Restarted) => plain.tally.restarted += 1,
+        Ok(Step::Split) => count(&mut plain.tally.split),
+        Ok(Step::Restarted) => count(&mut plain.tally.restarted),
         Ok(_) => {}
         Err(TreeFault::Held(search)) => {
             check_held(rt, plain, key, search);
-            plain.tally.held += 1;
+            count(&mut plain.tally.held);
         }
         Err(_) => panic!(rt; "a walk is refused"),
     }
@@ -413,7 +418,7 @@ fn note_cleaned(rt: &impl Abort, plain: &mut Plain, tree: &mut Tree<Frames, Glob
     tree.close_search(look.number);
     let lost = drop_lost(rt, plain, look.number);
     assert!(rt; 0 < lost && lost <= 16, "{lost} went");
-    plain.tally.cleaned += 1;
+    count(&mut plain.tally.cleaned);
 }
 
 // Closes a search before it is known which pairs went.
@@ -436,8 +441,8 @@ fn tend_slot(
     let done = answer.unwrap();
     match done {
         Tending::Cleaned => note_cleaned(rt, plain, tree),
-        Tending::Retired => plain.tally.retired += 1,
-        Tending::Freed => plain.tally.freed += 1,
+        Tending::Retired => count(&mut plain.tally.retired),
+        Tending::Freed => count(&mut plain.tally.freed),
         Tending::Installed | Tending::Idle => {}
     }
     done
