@@ -149,7 +149,7 @@ fn begun<A: Allocator + Copy>(rt: &impl Abort, tree: &mut Tree<Frames, A>) -> u6
 
 // Advances walks of rising numbers from 41 on, until one answers Split. The last number that was placed.
 fn place_until_split<A: Allocator + Copy>(rt: &impl Abort, tree: &mut Tree<Frames, A>) -> u64 {
-    let mut x = 41;
+    let mut x: i32 = 41;
     for key in 41..=200 {
         let mut walk = tree.start_walk(key, pin(rt, x, 0));
         for _ in 0..100 {
@@ -162,7 +162,7 @@ fn place_until_split<A: Allocator + Copy>(rt: &impl Abort, tree: &mut Tree<Frame
                 return key - 1;
             }
         }
-        x += 1;
+        x = x.saturating_add(1);
     }
     panic!(rt; "no node splits")
 }
