@@ -8,4 +8,8 @@ mod node_arena_tests;
 #[cfg(test)]
 mod predicate_locks_tests;
 #[cfg(test)]
+mod search_tree_refusals;
+#[cfg(test)]
+mod search_tree_runs;
+#[cfg(test)]
 mod search_tree_tests;

@@ -1,0 +1,312 @@
+//! Each allocation of a tree's calls refused in turn.
+use frame_keys::Frames;
+use plane::{Point, Shape};
+use refusing::Refusing;
+use search_tree::{Tree, TreeFault, Visit, Walk};
+use std::alloc::Allocator;
+use std::process::Abort;
+use std::test::Fail;
+
+// A point on the line across, or above it.
+fn pin(rt: &impl Abort, x: i32, y: i32) -> Shape {
+    let made = Shape::point(Point { x, y });
+    assert!(rt; made.is_ok());
+    made.unwrap()
+}
+
+// A band along the line across, from one height to another.
+fn band(rt: &impl Abort, low: i32, high: i32) -> Shape {
+    let made = Shape::polygon(&[
+        Point { x: 0, y: low },
+        Point { x: 100, y: low },
+        Point { x: 100, y: high },
+        Point { x: 0, y: high },
+        Point { x: 0, y: low },
+    ]);
+    assert!(rt; made.is_ok());
+    made.unwrap()
+}
+
+// Advances a walk once. Where that is refused it is for want of memory, nothing is found that was not there before, and the same step is made where there is memory.
+fn step<B: Allocator>(
+    rt: &impl Abort,
+    memory: &Refusing<B>,
+    tree: &mut Tree<Frames, &Refusing<B>>,
+    walk: &mut Walk<Shape>,
+) {
+    let (slot, refused) = (walk.slot(), memory.has_refused());
+    let Err(fault) = tree.advance(walk) else {
+        assert!(rt;
+            memory.has_refused() == refused,
+            "a refusal was not answered"
+        );
+        return;
+    };
+    assert_eq!(rt; fault.code(), "S8");
+    assert!(rt; memory.has_refused() && !walk.placed() && walk.slot() == slot);
+    memory.refuse(0);
+    let before = walk.key().saturating_sub(1);
+    assert!(rt; finds(rt, tree, before), "contents changed");
+    assert!(rt; tree.advance(walk).is_ok());
+}
+
+// Advances a walk by steps as above until its pair is placed.
+fn finish<B: Allocator>(
+    rt: &impl Abort,
+    memory: &Refusing<B>,
+    tree: &mut Tree<Frames, &Refusing<B>>,
+    walk: &mut Walk<Shape>,
+) {
+    for _ in 0..100 {
+        if walk.placed() {
+            return;
+        }
+        step(rt, memory, tree, walk);
+    }
+    panic!(rt; "a walk makes more than 100 steps");
+}
+
+// Places the pairs of the numbers from first to last, each at its number's place on the line.
+fn fill<B: Allocator>(
+    rt: &impl Abort,
+    memory: &Refusing<B>,
+    tree: &mut Tree<Frames, &Refusing<B>>,
+    first: u64,
+    last: u64,
+) {
+    let mut x: i32 = 0;
+    for key in 0..=last {
+        if first <= key {
+            let mut walk = tree.start_walk(key, pin(rt, x, 0));
+            finish(rt, memory, tree, &mut walk);
+        }
+        x = x.saturating_add(1);
+    }
+}
+
+// Visits until the search is ready.
+fn see_all<A: Allocator + Copy>(rt: &impl Abort, tree: &mut Tree<Frames, A>, search: u64) {
+    for _ in 0..1_000 {
+        let answer = tree.visit(search);
+        assert!(rt; answer.is_ok());
+        if answer == Ok(Visit::Ready) {
+            return;
+        }
+    }
+    panic!(rt; "a search makes more than 1,000 steps");
+}
+
+// Whether these are, in some order, the pairs from 1 to the last, each once.
+fn is_whole(found: &[(u64, Shape)], last: u64) -> bool {
+    if found.len() as u64 != last {
+        return false;
+    }
+    for key in 1..=last {
+        if !found.iter().any(|pair| pair.0 == key) {
+            return false;
+        }
+    }
+    true
+}
+
+// Whether a search for everything finds the pairs from 1 to the last.
+fn finds<A: Allocator + Copy>(rt: &impl Abort, tree: &mut Tree<Frames, A>, last: u64) -> bool {
+    let opened = tree.open_search(band(rt, -1, 100));
+    assert!(rt; opened.is_ok());
+    let search = opened.unwrap();
+    see_all(rt, tree, search);
+    let whole = is_whole(tree.found(search), last);
+    tree.close_search(search);
+    whole
+}
+
+// A tree of the pairs from 1 to the last.
+fn filled<'m, B: Allocator>(
+    rt: &impl Abort,
+    memory: &'m Refusing<B>,
+    last: u64,
+) -> Tree<Frames, &'m Refusing<B>> {
+    memory.refuse(0);
+    let made = Tree::new(memory);
+    assert!(rt; made.is_ok());
+    let mut tree = made.unwrap();
+    fill(rt, memory, &mut tree, 1, last);
+    tree
+}
+
+// Opens so many searches, each for the band above the line, and visits them until they are ready.
+fn look_above<A: Allocator + Copy>(rt: &impl Abort, tree: &mut Tree<Frames, A>, count: u32) {
+    for _ in 0..count {
+        let opened = tree.open_search(band(rt, 5, 8));
+        assert!(rt; opened.is_ok());
+        see_all(rt, tree, opened.unwrap());
+    }
+}
+
+#[test]
+fn each_allocation_of_new_refused(rt: HostRuntime) -> Result<(), Fail> {
+    let memory = Refusing::new(rt.alloc(), 0);
+    for at in 1..20 {
+        memory.refuse(at);
+        let made: Result<Tree<Frames, _>, TreeFault> = Tree::new(&memory);
+        if !memory.has_refused() {
+            assert!(rt; made.is_ok() && at > 1, "nothing was refused");
+            return Ok(());
+        }
+        let Err(fault) = made else {
+            panic!(rt; "a refusal was not answered");
+        };
+        assert_eq!(rt; fault.code(), "S8");
+        // The same call succeeds now.
+        assert!(rt; finds(&rt, &mut filled(&rt, &memory, 1), 1));
+    }
+    panic!(rt; "each allocation was refused");
+}
+
+// Opens a search where allocation number `at` is refused; whether that came about.
+fn open_refused<B: Allocator>(rt: &impl Abort, memory: &Refusing<B>, at: u64) -> bool {
+    let mut tree = filled(rt, memory, 40);
+    memory.refuse(at);
+    let answer = tree.open_search(band(rt, -1, 1));
+    if !memory.has_refused() {
+        assert!(rt; answer.is_ok() && at > 1, "nothing was refused");
+        return false;
+    }
+    memory.refuse(0);
+    let Err(fault) = answer else {
+        panic!(rt; "a refusal was not answered");
+    };
+    assert_eq!(rt; fault.code(), "S8");
+    assert!(rt; finds(rt, &mut tree, 40));
+    assert!(rt; tree.open_search(band(rt, -1, 1)).is_ok());
+    true
+}
+
+#[test]
+fn each_allocation_of_open_search_refused(rt: HostRuntime) -> Result<(), Fail> {
+    let memory = Refusing::new(rt.alloc(), 0);
+    for at in 1..20 {
+        if !open_refused(&rt, &memory, at) {
+            return Ok(());
+        }
+    }
+    panic!(rt; "each allocation was refused");
+}
+
+// Visits once, as `step` advances: a visit that is refused succeeds where there is memory. Whether the search is ready.
+fn visit<B: Allocator>(
+    rt: &impl Abort,
+    memory: &Refusing<B>,
+    tree: &mut Tree<Frames, &Refusing<B>>,
+    search: u64,
+) -> bool {
+    let count = tree.found(search).len();
+    let refused = memory.has_refused();
+    let answer = tree.visit(search);
+    let Err(fault) = answer else {
+        assert!(rt;
+            memory.has_refused() == refused,
+            "a refusal was not answered"
+        );
+        return answer == Ok(Visit::Ready);
+    };
+    assert_eq!(rt; fault.code(), "S8");
+    assert!(rt; memory.has_refused() && tree.found(search).len() == count);
+    memory.refuse(0);
+    assert!(rt; finds(rt, tree, 40), "contents changed");
+    let again = tree.visit(search);
+    assert!(rt; again.is_ok());
+    again == Ok(Visit::Ready)
+}
+
+// Visits until a search is ready, where allocation number `at` is refused; whether that came about.
+fn visit_refused<B: Allocator>(rt: &impl Abort, memory: &Refusing<B>, at: u64) -> bool {
+    let mut tree = filled(rt, memory, 40);
+    look_along(rt, &mut tree, 8);
+    let opened = tree.open_search(band(rt, -1, 1));
+    assert!(rt; opened.is_ok());
+    let search = opened.unwrap();
+    memory.refuse(at);
+    for _ in 0..100 {
+        if visit(rt, memory, &mut tree, search) {
+            break;
+        }
+    }
+    let refused = memory.has_refused();
+    assert!(rt; is_whole(tree.found(search), 40));
+    refused
+}
+
+// Opens so many searches, each for the line, and visits them until they are ready.
+fn look_along<A: Allocator + Copy>(rt: &impl Abort, tree: &mut Tree<Frames, A>, count: u32) {
+    for _ in 0..count {
+        let opened = tree.open_search(band(rt, -1, 1));
+        assert!(rt; opened.is_ok());
+        see_all(rt, tree, opened.unwrap());
+    }
+}
+
+#[test]
+fn each_allocation_of_visit_refused(rt: HostRuntime) -> Result<(), Fail> {
+    let memory = Refusing::new(rt.alloc(), 0);
+    for at in 1..100 {
+        if !visit_refused(&rt, &memory, at) {
+            assert!(rt; at > 2, "nothing was refused");
+            return Ok(());
+        }
+    }
+    panic!(rt; "each allocation was refused");
+}
+
+// Places forty pairs in a new tree, of which a full root grows and full leaves split, where allocation number `at` is refused; whether that came about.
+fn fill_refused<B: Allocator>(rt: &impl Abort, memory: &Refusing<B>, at: u64) -> bool {
+    let mut tree = filled(rt, memory, 1);
+    memory.refuse(at);
+    fill(rt, memory, &mut tree, 2, 40);
+    let refused = memory.has_refused();
+    memory.refuse(0);
+    assert!(rt; finds(rt, &mut tree, 40));
+    refused
+}
+
+#[test]
+fn each_allocation_of_splits_refused(rt: HostRuntime) -> Result<(), Fail> {
+    let memory = Refusing::new(rt.alloc(), 0);
+    for at in 1..100 {
+        if !fill_refused(&rt, &memory, at) {
+            assert!(rt; at > 4, "nothing was refused");
+            return Ok(());
+        }
+    }
+    panic!(rt; "each allocation was refused");
+}
+
+// A walk above the line leads searches for what lies between to a leaf that they have not seen, which takes memory to note there. Allocation number `at` is refused; whether that came about.
+fn descend_refused<B: Allocator>(rt: &impl Abort, memory: &Refusing<B>, at: u64) -> bool {
+    let mut tree = filled(rt, memory, 40);
+    look_above(rt, &mut tree, 12);
+    let slots = tree.slots();
+    let mut walk = tree.start_walk(41, pin(rt, 20, 10));
+    let root = walk.slot();
+    memory.refuse(at);
+    step(rt, memory, &mut tree, &mut walk);
+    let refused = memory.has_refused();
+    memory.refuse(0);
+    // That step led down, and split nothing.
+    assert!(rt; walk.slot() != root && tree.slots() == slots);
+    finish(rt, memory, &mut tree, &mut walk);
+    assert!(rt; finds(rt, &mut tree, 41));
+    refused
+}
+
+#[test]
+fn each_allocation_of_descents_refused(rt: HostRuntime) -> Result<(), Fail> {
+    let memory = Refusing::new(rt.alloc(), 0);
+    for at in 1..20 {
+        if !descend_refused(&rt, &memory, at) {
+            assert!(rt; at > 1, "nothing was refused");
+            return Ok(());
+        }
+    }
+    panic!(rt; "each allocation was refused");
+}

@@ -1,0 +1,571 @@
+//! A hundred thousand steps of a tree over frames, in an order that nobody chose, beside a plain list of its pairs.
+use frame_keys::Frames;
+use plane::{Point, Shape};
+use search_tree::{Keeper, Step, Tending, Tree, TreeFault, Visit, Walk};
+use std::alloc::Global;
+use std::process::Abort;
+use std::test::Fail;
+
+// How many steps are tried.
+const STEPS: u32 = 100_000;
+
+// How many searches run at most, and how many walks are under way.
+const SEARCHES: usize = 16;
+
+const WALKS: usize = 64;
+
+// The plane is so wide and high, and the sides of items and windows are shorter than these.
+const WIDTH: u32 = 64;
+
+const ITEM: u32 = 4;
+
+const WINDOW: u32 = 20;
+
+// The step of what has not come about.
+const NEVER: u32 = u32::MAX;
+
+// Keeps the pairs from this number on.
+#[derive(Clone, Copy)]
+struct KeepFrom {
+    first: u64,
+}
+
+impl<I> Keeper<I> for KeepFrom {
+    ghost use Rattle.std.specs.Prelude.{nat_le};
+
+    ghost kept = { λ keeper key item. nat_le keeper.first key };
+
+    fn keeps(&self, key: u64, item: &I) -> bool {
+        self.first <= key
+    }
+}
+
+// Numbers that look like chance, from a linear congruence.
+#[derive(Drop)]
+struct Dice {
+    state: u64,
+}
+
+impl Dice {
+    // A number below this one, or 0 where that is 0.
+    fn below(&mut self, sides: u32) -> u32 {
+        self.state = self
+            .state
+            .wrapping_mul(6_364_136_223_846_793_005)
+            .wrapping_add(1_442_695_040_888_963_407);
+        let number = (self.state >> 33)
+            .checked_rem(u64::from(sides))
+            .unwrap_or(0);
+        u32::try_from(number).unwrap_or(0)
+    }
+
+    // A square in the plane, with a side below this one.
+    fn square(&mut self, side: u32) -> Square {
+        Square {
+            x: i32::try_from(self.below(WIDTH)).unwrap_or(0),
+            y: i32::try_from(self.below(WIDTH)).unwrap_or(0),
+            side: i32::try_from(self.below(side)).unwrap_or(0),
+        }
+    }
+}
+
+// A square with its border; where its side is 0 it is a point.
+#[derive(Clone, Copy, Debug, PartialEq, Eq)]
+struct Square {
+    x: i32,
+    y: i32,
+    side: i32,
+}
+
+impl Square {
+    fn right(&self) -> i32 {
+        self.x.saturating_add(self.side)
+    }
+
+    fn top(&self) -> i32 {
+        self.y.saturating_add(self.side)
+    }
+
+    fn meets(&self, other: &Square) -> bool {
+        let over = self.x <= other.right() && other.x <= self.right();
+        over && self.y <= other.top() && other.y <= self.top()
+    }
+}
+
+fn shape(rt: &impl Abort, square: &Square) -> Shape {
+    let (x, y) = (square.x, square.y);
+    let made = if square.side == 0 {
+        Shape::point(Point { x, y })
+    } else {
+        let (right, top) = (square.right(), square.top());
+        Shape::polygon(&[
+            Point { x, y },
+            Point { x: right, y },
+            Point { x: right, y: top },
+            Point { x, y: top },
+            Point { x, y },
+        ])
+    };
+    assert!(rt; made.is_ok());
+    made.unwrap()
+}
+
+// A pair of the list: from one step to another it stood in the tree.
+#[derive(Clone, Copy, Debug)]
+struct Pair {
+    square: Square,
+    placed: u32,
+    dropped: u32,
+    // The last search that was seen to have found it.
+    seen: u64,
+}
+
+// A search.
+#[derive(Clone, Copy, Debug)]
+struct Look {
+    number: u64,
+    window: Square,
+    opened: u32,
+    ready: bool,
+}
+
+// How often things came about.
+#[derive(Clone, Copy, Debug)]
+struct Tally {
+    ready: u32,
+    closed: u32,
+    held: u32,
+    placed: u32,
+    split: u32,
+    restarted: u32,
+    cleaned: u32,
+    retired: u32,
+    freed: u32,
+}
+
+// Counts one more.
+fn count(number: &mut u32) {
+    *number = number.saturating_add(1);
+}
+
+const NOTHING: Tally = Tally {
+    ready: 0,
+    closed: 0,
+    held: 0,
+    placed: 0,
+    split: 0,
+    restarted: 0,
+    cleaned: 0,
+    retired: 0,
+    freed: 0,
+};
+
+// What stands beside the tree: all pairs by their numbers, those that are in the tree, searches, and walks.
+#[derive(Drop)]
+struct Plain {
+    pairs: Vec<Pair>,
+    live: Vec<u64>,
+    looks: Vec<Look>,
+    walks: Vec<Walk<Shape>>,
+    keeper: KeepFrom,
+    step: u32,
+    tally: Tally,
+}
+
+impl Plain {
+    fn new(heap: Global) -> Self {
+        Plain {
+            pairs: Vec::new(heap),
+            live: Vec::new(heap),
+            looks: Vec::new(heap),
+            walks: Vec::new(heap),
+            keeper: KeepFrom { first: 0 },
+            step: 0,
+            tally: NOTHING,
+        }
+    }
+
+    fn next_key(&self) -> u64 {
+        self.pairs.len() as u64
+    }
+
+    fn pair(&self, key: u64) -> Option<Pair> {
+        self.pairs.get(key as usize).copied()
+    }
+}
+
+fn new_tree(rt: &impl Abort, heap: Global) -> Tree<Frames, Global> {
+    let made = Tree::new(heap);
+    assert!(rt; made.is_ok());
+    made.unwrap()
+}
+
+// Notes what a search has found: each of these stood in the tree at some time since it was opened.
+fn note_found(rt: &impl Abort, plain: &mut Plain, look: &Look, found: &[(u64, Shape)]) {
+    for (key, item) in found {
+        let known = plain.pairs.get_mut(*key as usize);
+        assert!(rt; known.is_some(), "a pair of no number");
+        let pair = known.unwrap();
+        assert!(rt;
+            pair.placed != NEVER && look.opened < pair.dropped,
+            "{key} was not there"
+        );
+        assert!(rt; pair.square.meets(&look.window), "{key} is not looked for");
+        assert!(rt; *item == shape(rt, &pair.square), "{key} is another");
+        pair.seen = look.number;
+    }
+}
+
+// Each pair of the list that the window meets was noted as found.
+fn check_complete(rt: &impl Abort, plain: &Plain, look: &Look) {
+    for key in &plain.live {
+        let known = plain.pair(*key);
+        assert!(rt; known.is_some());
+        let pair = known.unwrap();
+        assert!(rt;
+            pair.seen == look.number || !pair.square.meets(&look.window),
+            "{key} is missed"
+        );
+    }
+}
+
+// What a search that is ready has found.
+fn check_ready(rt: &impl Abort, plain: &mut Plain, tree: &Tree<Frames, Global>, look: &Look) {
+    note_found(rt, plain, look, tree.found(look.number));
+    check_complete(rt, plain, look);
+}
+
+fn try_open(rt: &impl Abort, dice: &mut Dice, plain: &mut Plain, tree: &mut Tree<Frames, Global>) {
+    let window = dice.square(WINDOW);
+    let answer = tree.open_search(shape(rt, &window));
+    if plain.looks.len() >= SEARCHES {
+        assert!(rt; answer == Err(TreeFault::TooMany));
+        return;
+    }
+    assert!(rt; answer.is_ok());
+    let look = Look {
+        number: answer.unwrap(),
+        window,
+        opened: plain.step,
+        ready: false,
+    };
+    assert!(rt; plain.looks.push(look).is_ok());
+}
+
+fn try_visit(rt: &impl Abort, dice: &mut Dice, plain: &mut Plain, tree: &mut Tree<Frames, Global>) {
+    let sides = u32::try_from(plain.looks.len()).unwrap_or(0);
+    let at = dice.below(sides.saturating_add(1)) as usize;
+    let Some(look) = plain.looks.get(at).copied() else {
+        // The numbers of searches start at 1.
+        assert!(rt; tree.visit(0) == Err(TreeFault::NoSearch));
+        return;
+    };
+    let answer = tree.visit(look.number);
+    assert!(rt; answer.is_ok() && (!look.ready || answer == Ok(Visit::Ready)));
+    if answer == Ok(Visit::Ready) && !look.ready {
+        check_ready(rt, plain, tree, &look);
+        count(&mut plain.tally.ready);
+        for other in plain.looks.iter_mut() {
+            if other.number == look.number {
+                other.ready = true;
+            }
+        }
+    }
+}
+
+// Closes this search. One that is ready misses nothing even now.
+fn close(rt: &impl Abort, plain: &mut Plain, tree: &mut Tree<Frames, Global>, at: usize) {
+    let Some(look) = plain.looks.get(at).copied() else {
+        return;
+    };
+    if look.ready {
+        check_ready(rt, plain, tree, &look);
+        count(&mut plain.tally.closed);
+    }
+    tree.close_search(look.number);
+    assert!(rt; tree.found(look.number).is_empty());
+    plain.looks.retain(|other| other.number != look.number);
+}
+
+fn try_start(rt: &impl Abort, dice: &mut Dice, plain: &mut Plain, tree: &Tree<Frames, Global>) {
+    if plain.walks.len() >= WALKS {
+        return;
+    }
+    let square = dice.square(ITEM);
+    let walk = tree.start_walk(plain.next_key(), shape(rt, &square));
+    let pair = Pair {
+        square,
+        placed: NEVER,
+        dropped: NEVER,
+        seen: 0,
+    };
+    assert!(rt; plain.pairs.push(pair).is_ok() && plain.walks.push(walk).is_ok());
+}
+
+// A pair is in the tree from now on. No search that is ready looks for it.
+fn note_placed(rt: &impl Abort, plain: &mut Plain, key: u64) {
+    let step = plain.step;
+    let known = plain.pairs.get_mut(key as usize);
+    assert!(rt; known.is_some());
+    let pair = known.unwrap();
+    assert!(rt; pair.placed == NEVER);
+    pair.placed = step;
+    let square = pair.square;
+    assert!(rt;
+        !plain
+            .looks
+            .iter()
+            .any(|look| look.ready && look.window.meets(&square))
+    );
+    assert!(rt; plain.live.push(key).is_ok());
+    count(&mut plain.tally.placed);
+}
+
+// A search that holds a pair back runs, and looks for it.
+fn check_held(rt: &impl Abort, plain: &Plain, key: u64, search: u64) {
+    let known = plain.pair(key);
+    assert!(rt; known.is_some());
+    let square = known.unwrap().square;
+    assert!(rt;
+        plain
+            .looks
+            .iter()
+            .any(|look| look.number == search && look.window.meets(&square))
+    );
+}
+
+fn try_advance(
+    rt: &impl Abort,
+    dice: &mut Dice,
+    plain: &mut Plain,
+    tree: &mut Tree<Frames, Global>,
+) {
+    let at = dice.below(u32::try_from(plain.walks.len()).unwrap_or(0)) as usize;
+    let Some(walk) = plain.walks.get_mut(at) else {
+        return;
+    };
+    let key = walk.key();
+    match tree.advance(walk) {
+        Ok(Step::Placed) => {
+            plain.walks.retain(|other| !other.placed());
+            note_placed(rt, plain, key);
+        }
+        Ok(Step::Split) => count(&mut plain.tally.split),
+        Ok(Step::Restarted) => count(&mut plain.tally.restarted),
+        Ok(_) => {}
+        Err(TreeFault::Held(search)) => {
+            check_held(rt, plain, key, search);
+            count(&mut plain.tally.held);
+        }
+        Err(_) => panic!(rt; "a walk is refused"),
+    }
+}
+
+// A search for everything, opened and ready at this step.
+fn everything(rt: &impl Abort, plain: &Plain, tree: &mut Tree<Frames, Global>) -> Look {
+    let window = Square {
+        x: -1,
+        y: -1,
+        side: 100,
+    };
+    let opened = tree.open_search(shape(rt, &window));
+    assert!(rt; opened.is_ok());
+    let number = opened.unwrap();
+    for _ in 0..100_000 {
+        let answer = tree.visit(number);
+        assert!(rt; answer.is_ok());
+        if answer == Ok(Visit::Ready) {
+            break;
+        }
+    }
+    Look {
+        number,
+        window,
+        opened: plain.step,
+        ready: true,
+    }
+}
+
+// Lets the pairs go that a search for everything no longer finds. Each is one that is not kept; how many went.
+fn drop_lost(rt: &impl Abort, plain: &mut Plain, search: u64) -> usize {
+    let before = plain.live.len();
+    let first = plain.keeper.first;
+    let step = plain.step;
+    for key in &plain.live {
+        let known = plain.pairs.get_mut(*key as usize);
+        assert!(rt; known.is_some());
+        let pair = known.unwrap();
+        if pair.seen != search {
+            assert!(rt; *key < first, "{key} is to stay");
+            pair.dropped = step;
+        }
+    }
+    let pairs = &plain.pairs;
+    plain.live.retain(|key| match pairs.get(*key as usize) {
+        Some(pair) => pair.dropped == NEVER,
+        None => false,
+    });
+    before.saturating_sub(plain.live.len())
+}
+
+// After a cleaning: some pairs are gone, no more than a leaf has.
+fn note_cleaned(rt: &impl Abort, plain: &mut Plain, tree: &mut Tree<Frames, Global>) {
+    if plain.looks.len() >= SEARCHES {
+        close_after(rt, plain, tree);
+    }
+    let look = everything(rt, plain, tree);
+    note_found(rt, plain, &look, tree.found(look.number));
+    tree.close_search(look.number);
+    let lost = drop_lost(rt, plain, look.number);
+    assert!(rt; 0 < lost && lost <= 16, "{lost} went");
+    count(&mut plain.tally.cleaned);
+}
+
+// Closes a search before it is known which pairs went.
+fn close_after(rt: &impl Abort, plain: &mut Plain, tree: &mut Tree<Frames, Global>) {
+    let Some(look) = plain.looks.pop() else {
+        return;
+    };
+    tree.close_search(look.number);
+}
+
+fn tend_slot(
+    rt: &impl Abort,
+    plain: &mut Plain,
+    tree: &mut Tree<Frames, Global>,
+    slot: u32,
+) -> Tending {
+    let keeper = plain.keeper;
+    let answer = tree.tend(slot, &keeper);
+    assert!(rt; answer.is_ok());
+    let done = answer.unwrap();
+    match done {
+        Tending::Cleaned => note_cleaned(rt, plain, tree),
+        Tending::Retired => count(&mut plain.tally.retired),
+        Tending::Freed => count(&mut plain.tally.freed),
+        Tending::Installed | Tending::Idle => {}
+    }
+    done
+}
+
+fn try_tend(rt: &impl Abort, dice: &mut Dice, plain: &mut Plain, tree: &mut Tree<Frames, Global>) {
+    let slot = dice.below(tree.slots().saturating_add(1));
+    tend_slot(rt, plain, tree, slot);
+}
+
+// Another keeper: of all, of the later pairs, or of none that is placed.
+fn change_keeper(dice: &mut Dice, plain: &mut Plain) {
+    let next = plain.next_key();
+    let first = match dice.below(4) {
+        0 => 0,
+        1 => next,
+        2 => next.saturating_sub(300),
+        _ => next.saturating_sub(600),
+    };
+    plain.keeper = KeepFrom { first };
+}
+
+fn try_one(rt: &impl Abort, dice: &mut Dice, plain: &mut Plain, tree: &mut Tree<Frames, Global>) {
+    // At times many searches run, and hold pairs back.
+    let most = if plain.step / 4_000 % 5 == 4 {
+        1_100
+    } else {
+        1_000
+    };
+    match dice.below(most) {
+        0..=29 => try_open(rt, dice, plain, tree),
+        30..=299 => try_visit(rt, dice, plain, tree),
+        300..=349 => {
+            let at = dice.below(16) as usize;
+            close(rt, plain, tree, at);
+        }
+        350..=469 => try_start(rt, dice, plain, tree),
+        470..=869 => try_advance(rt, dice, plain, tree),
+        870..=998 => try_tend(rt, dice, plain, tree),
+        999 => change_keeper(dice, plain),
+        _ => try_open(rt, dice, plain, tree),
+    }
+}
+
+// Closes all searches, and advances the walks until there are none.
+fn finish_all(
+    rt: &impl Abort,
+    dice: &mut Dice,
+    plain: &mut Plain,
+    tree: &mut Tree<Frames, Global>,
+) {
+    for _ in 0..SEARCHES {
+        close(rt, plain, tree, 0);
+    }
+    for _ in 0..10_000 {
+        if plain.walks.is_empty() {
+            break;
+        }
+        plain.step = plain.step.saturating_add(1);
+        try_advance(rt, dice, plain, tree);
+    }
+    assert!(rt; plain.looks.is_empty() && plain.walks.is_empty());
+}
+
+// Tends all slots in turn until a whole round answers Idle alone.
+fn tend_until_idle(rt: &impl Abort, plain: &mut Plain, tree: &mut Tree<Frames, Global>) {
+    for _ in 0..100 {
+        let mut idle = true;
+        for slot in 0..tree.slots() {
+            plain.step = plain.step.saturating_add(1);
+            if tend_slot(rt, plain, tree, slot) != Tending::Idle {
+                idle = false;
+            }
+        }
+        if idle {
+            return;
+        }
+    }
+    panic!(rt; "tending has no end");
+}
+
+// With a keeper of nothing, tends until nothing is left. How many slots were used so far.
+fn clear(rt: &impl Abort, plain: &mut Plain, tree: &mut Tree<Frames, Global>) -> u32 {
+    plain.keeper = KeepFrom { first: u64::MAX };
+    tend_until_idle(rt, plain, tree);
+    assert!(rt; plain.live.is_empty());
+    let look = everything(rt, plain, tree);
+    assert!(rt; tree.found(look.number).is_empty());
+    tree.close_search(look.number);
+    tree.slots()
+}
+
+// Starts as many walks as may be under way, and finishes them.
+fn refill(rt: &impl Abort, dice: &mut Dice, plain: &mut Plain, tree: &mut Tree<Frames, Global>) {
+    for _ in 0..WALKS {
+        try_start(rt, dice, plain, tree);
+    }
+    finish_all(rt, dice, plain, tree);
+    assert_eq!(rt; plain.live.len(), WALKS);
+}
+
+#[test]
+fn beside_a_list_of_pairs(rt: HostRuntime) -> Result<(), Fail> {
+    let mut plain = Plain::new(rt.alloc());
+    let mut tree = new_tree(&rt, rt.alloc());
+    let mut dice = Dice { state: 2_026 };
+    for step in 0..STEPS {
+        plain.step = step;
+        try_one(&rt, &mut dice, &mut plain, &mut tree);
+    }
+    check_tally(&rt, &plain.tally);
+    finish_all(&rt, &mut dice, &mut plain, &mut tree);
+    let slots = clear(&rt, &mut plain, &mut tree);
+    refill(&rt, &mut dice, &mut plain, &mut tree);
+    assert_eq!(rt; clear(&rt, &mut plain, &mut tree), slots);
+    Ok(())
+}
+
+// Enough has happened.
+fn check_tally(rt: &impl Abort, tally: &Tally) {
+    let searched = tally.ready > 100 && tally.closed > 100;
+    let walked = tally.placed > 1_000 && tally.split > 50;
+    let hindered = tally.held > 500 && tally.restarted > 10;
+    let tended = tally.cleaned > 100 && tally.retired > 20 && tally.freed > 20;
+    assert!(rt; searched && walked && hindered && tended, "{tally:?}");
+}
