@@ -3,8 +3,7 @@ use crate::fakes::{
     CountingReader, FIRST_POINT, FIRST_REPLIES, FailingReader, FailingWriter, Failure, LongReader,
 };
 use program::{
-    CONFIG_LIMIT, Folder, ProgramFault, built_in_config, run_file, run_program, status_of,
-    tell,
+    CONFIG_LIMIT, Folder, ProgramFault, built_in_config, run_file, run_program, status_of, tell,
 };
 use refusing::Refusing;
 use std::alloc::{AllocError, Global};
@@ -185,10 +184,7 @@ fn a_configuration_is_read(rt: HostRuntime) -> Result<(), Fail> {
         rt.alloc(),
         BY_INES,
         0,
-        (
-            "n: error H1\ni: hello ines\ni: denied none edition 1\n",
-            "",
-        ),
+        ("n: error H1\ni: hello ines\ni: denied none edition 1\n", ""),
     )?;
     configured(&rt, rt.alloc(), "{", 1, ("", "landmap: B1\n"))?;
     configured(&rt, rt.alloc(), "{}", 1, ("", "landmap: B2\n"))?;
@@ -313,7 +309,13 @@ fn without_memory(rt: &impl Abort, alloc: Global, number: u64) -> Result<bool, A
     let memory = Refusing::new(alloc, number);
     let mut output = Vec::new(alloc);
     let mut errors = Vec::new(alloc);
-    let end = run_file(&memory, alloc, config, &mut FIRST_POINT.as_bytes(), &mut output);
+    let end = run_file(
+        &memory,
+        alloc,
+        config,
+        &mut FIRST_POINT.as_bytes(),
+        &mut output,
+    );
     assert_eq!(rt; status_of(&end), 1);
     if let Err(fault) = &end {
         assert!(rt; tell(fault, &mut errors).is_ok());
@@ -328,11 +330,14 @@ fn without_memory(rt: &impl Abort, alloc: Global, number: u64) -> Result<bool, A
 
 #[test]
 fn memory_is_refused(rt: HostRuntime) -> Result<(), Fail> {
-    let mut number = 1;
-    while number < 100 && !without_memory(&rt, rt.alloc(), number)? {
-        number += 1;
+    let mut first_of_buffers = 0;
+    for number in 1..100 {
+        if without_memory(&rt, rt.alloc(), number)? {
+            first_of_buffers = number;
+            break;
+        }
     }
-    assert!(rt; 1 < number && number < 100);
+    assert!(rt; 1 < first_of_buffers);
     let mut errors = Vec::new(rt.alloc());
     assert!(rt; tell(&ProgramFault::NoMemory, &mut errors).is_ok());
     assert_eq!(rt; errors.as_slice(), b"landmap: V4\n".as_slice());
