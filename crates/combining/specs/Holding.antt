@@ -4,7 +4,7 @@ use Rattle.std.specs.Prelude.{ℕ, Bool, not, ◌&&◌, List, [], ◌∷◌}
 use Rattle.std.specs.List.{list_all, list_any}
 use Rattle.plane.specs.Rows.{Meet}
 use Rattle.plane.specs.declared.point.Point.{Point}
-use Rattle.policy_text.specs.Names.{is_name}
+use Rattle.features.specs.Equality.{same_name}
 use Rattle.policy_text.specs.Documents.{RuleData}
 use Rattle.policy_text.specs.Equality.{same_action}
 use Rattle.policy_text.specs.declared.matches.Match.{Match}
@@ -24,16 +24,16 @@ pub data AreMet (shape : List Point) : List Zone → List (List ℕ) → Type 0 
 
 -- role and office are the subject's, owner and class the question's
 abbrev pub match_holds : Question → List (List ℕ) → Match → Bool
-match_holds q met (matches.Role name) = is_name q.subject.role name
-match_holds q met (matches.Office name) = is_name q.subject.office name
-match_holds q met (matches.Class name) = is_name q.class name
-match_holds q met (matches.Owner name) = is_name q.owner name
-match_holds q met (matches.Zone name) = list_any (is_name name) met
+match_holds q met (matches.Role name) = same_name q.subject.role name
+match_holds q met (matches.Office name) = same_name q.subject.office name
+match_holds q met (matches.Class name) = same_name q.class name
+match_holds q met (matches.Owner name) = same_name q.owner name
+match_holds q met (matches.Zone name) = list_any (same_name name) met
 match_holds q met (matches.Action action) = same_action q.action action
 
 abbrev pub term_holds : Question → List (List ℕ) → Term → Bool
 term_holds q met (terms.Match m) = match_holds q met m
-term_holds q met terms.Own = is_name q.owner q.subject.office
+term_holds q met terms.Own = same_name q.owner q.subject.office
 
 abbrev pub atom_holds : Question → List (List ℕ) → Atom → Bool
 atom_holds q met (atoms.Is term) = term_holds q met term

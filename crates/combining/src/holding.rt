@@ -2,7 +2,7 @@
 
 ghost use Rattle.std.specs.Prelude.{◌≡◌};
 ghost use Rattle.std.specs.List.{list_all, list_any};
-ghost use Rattle.policy_text.specs.Names.{is_name};
+ghost use Rattle.features.specs.Equality.{same_name};
 ghost use Rattle.combining.specs.Holding.{match_holds, term_holds, atom_holds, target_holds, rule_applies};
 
 use crate::questions::Question;
@@ -12,7 +12,7 @@ use std::alloc::Allocator;
 
 /// Whether the name is one of these.
 fn is_met(met: &[Name], name: Name) -> bool
-    ensures { result ≡ list_any (is_name name) met.now }
+    ensures { result ≡ list_any (same_name name) met.now }
 {
     met.iter().any(|zone| name == *zone)
 }

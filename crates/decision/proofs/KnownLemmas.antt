@@ -2,7 +2,7 @@
 use Rattle.std.proofs.Common.{◌≡◌, ℕ, ◌+◌, ◌<◌, ◌≤◌, Bool, true, false, not, ◌&&◌, ◌||◌, List, [], ◌∷◌, ◌++◌, length, get_or, take, Option, Some, None, option_map, refl, sym, ap, ◌∙◌, arith}
 use Rattle.std.proofs.lemmas.List.{take_all}
 use Rattle.std.specs.List.{list_all, list_any}
-use Rattle.policy_text.specs.Names.{is_name}
+use Rattle.features.specs.Equality.{same_name}
 use Rattle.policy_text.specs.Equality.{same_action}
 use Rattle.policy_text.specs.declared.matches.Match.{Match}
 use Rattle.policy_text.specs.declared.matches.Match.TheVariants as matches
@@ -21,8 +21,8 @@ the_same a b c e f = let g : c ≡ b = cc in e ∙ g
 
 pub told-match : (known : Known) (m : Match) (b : Bool) → told_match known m ≡ Some b → (q : Question) (met : List (List ℕ)) → Fits known q → match_holds q met m ≡ b
 told-match Nothing m b e q met fits = absurd cc
-told-match (Asked subject action) (matches.Role name) b e q met fits = the_same _ b (is_name subject.role name) (ap (λ s. is_name s.role name) fits.0) e
-told-match (Asked subject action) (matches.Office name) b e q met fits = the_same _ b (is_name subject.office name) (ap (λ s. is_name s.office name) fits.0) e
+told-match (Asked subject action) (matches.Role name) b e q met fits = the_same _ b (same_name subject.role name) (ap (λ s. same_name s.role name) fits.0) e
+told-match (Asked subject action) (matches.Office name) b e q met fits = the_same _ b (same_name subject.office name) (ap (λ s. same_name s.office name) fits.0) e
 told-match (Asked subject action) (matches.Class name) b e q met fits = absurd cc
 told-match (Asked subject action) (matches.Owner name) b e q met fits = absurd cc
 told-match (Asked subject action) (matches.Zone name) b e q met fits = absurd cc

@@ -6,7 +6,7 @@ use Rattle.policy_text.specs.declared.matches.Atom.{Atom}
 use Rattle.policy_text.specs.declared.matches.Match.TheVariants as matches
 use Rattle.policy_text.specs.declared.matches.Term.TheVariants as terms
 use Rattle.policy_text.specs.declared.matches.Atom.TheVariants as atoms
-use Rattle.policy_text.specs.Names.{is_name}
+use Rattle.features.specs.Equality.{same_name}
 use Rattle.policy_text.specs.Equality.{same_action}
 use Rattle.combining.specs.declared.questions.Question.{Question}
 use Rattle.decision.specs.declared.known.Known.{Known}
@@ -23,8 +23,8 @@ Fits (Asked subject action) q = (q.subject ≡ subject) × (q.action ≡ action)
 -- whether a match holds, where what is known tells: role and office are the subject's
 abbrev pub told_match : Known → Match → Option Bool
 told_match Nothing m = None
-told_match (Asked subject action) (matches.Role name) = Some (is_name subject.role name)
-told_match (Asked subject action) (matches.Office name) = Some (is_name subject.office name)
+told_match (Asked subject action) (matches.Role name) = Some (same_name subject.role name)
+told_match (Asked subject action) (matches.Office name) = Some (same_name subject.office name)
 told_match (Asked subject action) (matches.Class name) = None
 told_match (Asked subject action) (matches.Owner name) = None
 told_match (Asked subject action) (matches.Zone name) = None

@@ -9,7 +9,7 @@ use std::process::Abort;
 use std::test::Fail;
 
 /// How many documents are made up.
-const DOCUMENTS: u64 = 500;
+const DOCUMENTS: u64 = 5_000;
 
 /// For how many subjects and actions each of them is folded.
 const FOLDS: u64 = 4;

@@ -6,7 +6,7 @@ use Rattle.features.specs.Names as spelling
 use Rattle.serde_json.specs.Data.{Data, Items, no_items, item}
 use Rattle.serde_json.specs.Find.{as_str}
 use Rattle.policy_text.specs.Documents.{is_filled}
-use Rattle.policy_text.specs.Names.{is_name}
+use Rattle.features.specs.Equality.{same_name}
 use Rattle.policy_text.specs.Reading.{◌>>=◌, at_item, each_at, items_in, is_empty, name_in, value_of, at_key, fresh, within}
 use Rattle.policy_text.specs.declared.paths.Step.{Step}
 use Rattle.policy_text.specs.declared.paths.Key.{Key}
@@ -56,8 +56,8 @@ name_in-spelled key path d name = under (option_and_then as_str (value_of key d)
     under (Some text) told = of_test (spelling.is_name text) text refl told
 
 -- one name more, that was not seen before
-pub fresh-read : (name : List ℕ) (before after : List (List ℕ)) → fresh name before ≡ Ok after → (list_any (is_name name) before ≡ false) × (before ++ name ∷ [] ≡ after)
-fresh-read name before after told = passed (list_any (is_name name) before) (before ++ name ∷ []) after _ told
+pub fresh-read : (name : List ℕ) (before after : List (List ℕ)) → fresh name before ≡ Ok after → (list_any (same_name name) before ≡ false) × (before ++ name ∷ [] ≡ after)
+fresh-read name before after told = passed (list_any (same_name name) before) (before ++ name ∷ []) after _ told
 
 -- one more of a kind of which there may be so many
 pub within-read : (limit before after : ℕ) → within limit before ≡ Ok after → (before < limit) × (before + 1 ≡ after)

@@ -5,20 +5,20 @@ use Rattle.std.proofs.lemmas.Bool.{and_parts, and_from, or_parts, or_from, not-t
 use Rattle.std.proofs.lemmas.Cmp.{nat_list_eq_equiv}
 use Rattle.std.proofs.lemmas.List.Folds.{list_any-append}
 use Rattle.policy_text.specs.Documents.{are_distinct}
-use Rattle.policy_text.specs.Names.{is_name}
+use Rattle.features.specs.Equality.{same_name}
 
 -- two names are one in either order
-is_name-sym : (a b : List ℕ) → is_name a b ≡ is_name b a
-is_name-sym a b = nat_list_eq_equiv.symm a b
+same_name-sym : (a b : List ℕ) → same_name a b ≡ same_name b a
+same_name-sym a b = nat_list_eq_equiv.symm a b
 
 -- a new name behind others
-pub are_distinct-push : (names : List (List ℕ)) (name : List ℕ) → IsTrue (are_distinct names) → list_any (is_name name) names ≡ false → IsTrue (are_distinct (names ++ name ∷ []))
+pub are_distinct-push : (names : List (List ℕ)) (name : List ℕ) → IsTrue (are_distinct names) → list_any (same_name name) names ≡ false → IsTrue (are_distinct (names ++ name ∷ []))
 are_distinct-push [] name distinct new = refl
 are_distinct-push (first ∷ rest) name distinct new =
     let parts = and_parts _ _ distinct in
     let apart = or_parts _ _ new in
-    let others : list_any (is_name first) rest ≡ false = not-true _ parts.0 in
-    let behind : list_any (is_name first) (rest ++ name ∷ []) ≡ false = list_any-append (is_name first) rest (name ∷ []) ∙ or_from _ _ others (or_from _ _ (is_name-sym first name ∙ apart.0) refl) in
+    let others : list_any (same_name first) rest ≡ false = not-true _ parts.0 in
+    let behind : list_any (same_name first) (rest ++ name ∷ []) ≡ false = list_any-append (same_name first) rest (name ∷ []) ∙ or_from _ _ others (or_from _ _ (same_name-sym first name ∙ apart.0) refl) in
     and_from _ _ (ap not behind) (are_distinct-push rest name parts.1 apart.1)
 
 -- a test of the names of several, or of each by its name

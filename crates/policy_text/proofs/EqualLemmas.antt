@@ -3,7 +3,7 @@ use Rattle.std.proofs.Common.{◌≡◌, ◌↔◌, ℕ, ◌+◌, ◌<◌, Bool,
 use Rattle.std.proofs.lemmas.Bool.Decides.{Decides-at}
 use Rattle.std.specs.Cmp.Lexicographic.{pointwise, pointwise_decides}
 use Rattle.std.specs.Option.{option_eq}
-use Rattle.policy_text.specs.Names.{is_name}
+use Rattle.features.specs.Equality.{same_name}
 use Rattle.policy_text.proofs.RowLemmas.{same_from, same_from-more_at, same_from-other_at}
 use Rattle.policy_text.specs.Equality.{same_action, same_match, same_term, same_match_decides, same_target, same_atom, same_atom_decides, same_conditions, same_rule, same_rule_decides, same_node, same_node_decides, same_point, same_shape, same_zone, same_zones, same_document, same_document_decides}
 use Rattle.features.specs.contracts.actors.ActionPartialEq.TheImpl as acting
@@ -92,7 +92,7 @@ same_shape_derived : (a b : List Point) → shaping.eq-value.it a b ≡ same_sha
 same_shape_derived a b = refl
 
 same_zone_derived : (a b : Zone) → zoning.eq-value.it a b ≡ same_zone a b
-same_zone_derived a b = ap (λ s. is_name a.name b.name && s) (same_shape_derived a.shape b.shape)
+same_zone_derived a b = ap (λ s. same_name a.name b.name && s) (same_shape_derived a.shape b.shape)
 
 abbrev differ : Option Zone → Option Zone → Bool
 differ o p = not (option_eq zoning.eq-value.it o p)

@@ -10,7 +10,7 @@ use Rattle.wkt.specs.contracts.fault.WktFaultPartialEq.TheImpl as reading
 use Rattle.wkt.specs.declared.fault.WktFault.{WktFault}
 use Rattle.wkt.specs.declared.fault.WktFault.TheVariants as texts
 use Rattle.policy_text.specs.Equality.{decides_by}
-use Rattle.policy_text.specs.Names.{is_name}
+use Rattle.features.specs.Equality.{same_name}
 use Rattle.policy_text.specs.Places.{same_path_decides}
 use Rattle.policy_text.specs.contracts.faults.TextFaultPartialEq.TheImpl as comparing
 use Rattle.policy_text.specs.declared.faults.TextFault.{TextFault}
@@ -77,8 +77,8 @@ text_fault-told (faults.UnknownKey a) (faults.UnknownKey b) e = ap faults.Unknow
 text_fault-told (faults.NameTwice a) (faults.NameTwice b) e = ap faults.NameTwice ((bytes_decides a b).0 e)
 text_fault-told (faults.NoZone a) (faults.NoZone b) e = ap faults.NoZone ((bytes_decides a b).0 e)
 text_fault-told (faults.BadZone m a) (faults.BadZone n b) e =
-    let name = (bytes_decides m n).0 (first_so (is_name m n) (reading.eq-value.it a b) e) in
-    let fault = wkt_fault-told a b (second_so (is_name m n) (reading.eq-value.it a b) e) in
+    let name = (bytes_decides m n).0 (first_so (same_name m n) (reading.eq-value.it a b) e) in
+    let fault = wkt_fault-told a b (second_so (same_name m n) (reading.eq-value.it a b) e) in
     λ i. faults.BadZone (name i) (fault i)
 text_fault-told a b e = absurd (false≢true e)
 

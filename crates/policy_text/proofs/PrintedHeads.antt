@@ -3,7 +3,7 @@ use Rattle.std.proofs.Common.{◌≡◌, ℕ, ◌+◌, ◌<◌, ◌≤◌, false
 use Rattle.std.specs.List.{list_any, list_all}
 use Rattle.serde_json.specs.Data.{Data, string, array, object, Items, no_items, item, no_members}
 use Rattle.features.specs.Names as spelling
-use Rattle.policy_text.specs.Names.{is_name}
+use Rattle.features.specs.Equality.{same_name}
 use Rattle.policy_text.specs.Documents.{Head, is_target, target_matches}
 use Rattle.policy_text.specs.Reading.{at_key, has_key, object_in, optional_array_in, set_keys, policy_keys, head_at, Seen}
 use Rattle.policy_text.specs.Printed.{algorithm_text, keyed, keyed_items, target_items}
@@ -53,7 +53,7 @@ pub record IsHeadHere (zones : List Zone) (seen : Seen) (head : Head) : Type 0 w
   pub spelled : IsTrue (spelling.is_name head.name)
   pub target : IsTrue (is_target head.target)
   pub matches : IsTrue (list_all (is_readable zones) (target_matches head.target))
-  pub fresh : list_any (is_name head.name) seen.names ≡ false
+  pub fresh : list_any (same_name head.name) seen.names ≡ false
   pub nodes : seen.nodes < 512
   pub tests : seen.tests + length (target_matches head.target) ≤ 4096
 

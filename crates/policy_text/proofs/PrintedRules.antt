@@ -6,7 +6,7 @@ use Rattle.std.proofs.lemmas.List.Folds.{list_all-append}
 use Rattle.serde_json.specs.Data.{Data, string, object, Items, no_items, item, no_members}
 use Rattle.serde_json.specs.View.{items_of}
 use Rattle.features.specs.Names as spelling
-use Rattle.policy_text.specs.Names.{is_name}
+use Rattle.features.specs.Equality.{same_name}
 use Rattle.policy_text.specs.Documents.{RuleData, is_target, are_distinct, target_matches, atom_term, term_matches, atom_sizes, rule_sizes, rule_matches}
 use Rattle.policy_text.specs.Reading.{at_key, at_item, object_in, optional_array_in, rule_keys, each_at, rule_at, Seen}
 use Rattle.policy_text.proofs.SeenAfter.{after_rules}
@@ -50,7 +50,7 @@ record IsRuleHere (zones : List Zone) (seen : Seen) (rule : RuleData) : Type 0 w
   spelled : IsTrue (spelling.is_name rule.name)
   target : IsTrue (is_target rule.target)
   matches : IsTrue (list_all (is_readable zones) (rule_matches rule))
-  fresh : list_any (is_name rule.name) seen.names ≡ false
+  fresh : list_any (same_name rule.name) seen.names ≡ false
   rules : seen.rules < 512
   tests : seen.tests + (length (target_matches rule.target) + atom_sizes rule.when) ≤ 4096
 

@@ -8,7 +8,7 @@ use Rattle.std.proofs.lemmas.List.Folds.{list_any-append}
 use Rattle.features.specs.Names as spelling
 use Rattle.features.specs.declared.actors.Action.{Action}
 use Rattle.features.specs.declared.actors.Action.TheVariants as actions
-use Rattle.policy_text.specs.Names.{is_name}
+use Rattle.features.specs.Equality.{same_name}
 use Rattle.policy_text.specs.Documents.{are_distinct, is_zone_known}
 use Rattle.policy_text.specs.Reading.{counted, within, fresh, known_in, algorithm_named, effect_named, action_named, Seen}
 use Rattle.policy_text.specs.Printed.{algorithm_text, effect_text, action_text}
@@ -52,7 +52,7 @@ within_room limit count h = rw (lt-ltb count limit h) refl
 
 -- ---- names and zones that were seen before
 
-pub fresh_read : (name : List ℕ) (names : List (List ℕ)) → list_any (is_name name) names ≡ false → fresh name names ≡ Ok (names ++ name ∷ [])
+pub fresh_read : (name : List ℕ) (names : List (List ℕ)) → list_any (same_name name) names ≡ false → fresh name names ≡ Ok (names ++ name ∷ [])
 fresh_read name names h = rw h refl
 
 pub known_read : (zones : List Zone) (m : Match) → IsTrue (is_zone_known zones m) → known_in zones m ≡ Ok tt
@@ -63,26 +63,26 @@ known_read zones (matches.Owner name) h = refl
 known_read zones (matches.Zone name) h = rw h refl
 known_read zones (matches.Action action) h = refl
 
-is_name-laws : IsEquivalence is_name
-is_name-laws = search (comparing, rules)
+same_name-laws : IsEquivalence same_name
+same_name-laws = search (comparing, rules)
 
 -- a name is none of those before it
-pub distinct_behind : (xs : List (List ℕ)) (name : List ℕ) (ys : List (List ℕ)) → IsTrue (are_distinct (xs ++ name ∷ ys)) → list_any (is_name name) xs ≡ false
+pub distinct_behind : (xs : List (List ℕ)) (name : List ℕ) (ys : List (List ℕ)) → IsTrue (are_distinct (xs ++ name ∷ ys)) → list_any (same_name name) xs ≡ false
 distinct_behind [] name ys h = refl
 distinct_behind (x ∷ xs) name ys h =
-    let parts = and_parts (not (list_any (is_name x) (xs ++ name ∷ ys))) (are_distinct (xs ++ name ∷ ys)) h in
-    let absent = not-true (list_any (is_name x) (xs ++ name ∷ ys)) parts.0 in
-    let apart = or_parts (list_any (is_name x) xs) (list_any (is_name x) (name ∷ ys)) (sym (list_any-append (is_name x) xs (name ∷ ys)) ∙ absent) in
-    let here = or_parts (is_name x name) (list_any (is_name x) ys) apart.1 in
-    or_from (is_name name x) (list_any (is_name name) xs) (is_name-laws.symm name x ∙ here.0) (distinct_behind xs name ys parts.1)
+    let parts = and_parts (not (list_any (same_name x) (xs ++ name ∷ ys))) (are_distinct (xs ++ name ∷ ys)) h in
+    let absent = not-true (list_any (same_name x) (xs ++ name ∷ ys)) parts.0 in
+    let apart = or_parts (list_any (same_name x) xs) (list_any (same_name x) (name ∷ ys)) (sym (list_any-append (same_name x) xs (name ∷ ys)) ∙ absent) in
+    let here = or_parts (same_name x name) (list_any (same_name x) ys) apart.1 in
+    or_from (same_name name x) (list_any (same_name name) xs) (same_name-laws.symm name x ∙ here.0) (distinct_behind xs name ys parts.1)
 
 pub distinct_front : (xs ys : List (List ℕ)) → IsTrue (are_distinct (xs ++ ys)) → IsTrue (are_distinct xs)
 distinct_front [] ys h = refl
 distinct_front (x ∷ xs) ys h =
-    let parts = and_parts (not (list_any (is_name x) (xs ++ ys))) (are_distinct (xs ++ ys)) h in
-    let absent = not-true (list_any (is_name x) (xs ++ ys)) parts.0 in
-    let apart = or_parts (list_any (is_name x) xs) (list_any (is_name x) ys) (sym (list_any-append (is_name x) xs ys) ∙ absent) in
-    and_from (not (list_any (is_name x) xs)) (are_distinct xs) (not_from_false (list_any (is_name x) xs) apart.0) (distinct_front xs ys parts.1)
+    let parts = and_parts (not (list_any (same_name x) (xs ++ ys))) (are_distinct (xs ++ ys)) h in
+    let absent = not-true (list_any (same_name x) (xs ++ ys)) parts.0 in
+    let apart = or_parts (list_any (same_name x) xs) (list_any (same_name x) ys) (sym (list_any-append (same_name x) xs ys) ∙ absent) in
+    and_from (not (list_any (same_name x) xs)) (are_distinct xs) (not_from_false (list_any (same_name x) xs) apart.0) (distinct_front xs ys parts.1)
 
 -- ---- what was seen, by its parts
 

@@ -4,7 +4,7 @@ use Rattle.std.specs.List.{list_any, AllByRecursion}
 use Rattle.std.proofs.lemmas.List.{map-append}
 use Rattle.wkt.specs.Printing.{printed}
 use Rattle.wkt.proofs.PrintedShapes.{printed_is_read}
-use Rattle.policy_text.specs.Names.{is_name}
+use Rattle.features.specs.Equality.{same_name}
 use Rattle.policy_text.specs.Documents.{IsZone, are_distinct}
 use Rattle.policy_text.specs.Reading.{at_item, with_zone, zone_at, zones_at, shape_in}
 use Rattle.policy_text.specs.Printed.{zone_data, zones_items}
@@ -17,18 +17,18 @@ abbrev pub names_of_zones : List Zone → List (List ℕ)
 names_of_zones zones = map (λ z. z.name) zones
 
 -- the name of a zone is looked for among the names
-list_any-names : (name : List ℕ) (zones : List Zone) → list_any (λ z. is_name name z.name) zones ≡ list_any (is_name name) (names_of_zones zones)
+list_any-names : (name : List ℕ) (zones : List Zone) → list_any (λ z. same_name name z.name) zones ≡ list_any (same_name name) (names_of_zones zones)
 list_any-names name [] = refl
 list_any-names name (z ∷ zs) = rw (list_any-names name zs) refl
 
-with_zone_read : (z : Zone) (zones : List Zone) → list_any (is_name z.name) (names_of_zones zones) ≡ false → length zones < 64 → with_zone z.name z.shape zones ≡ Ok (zones ++ z ∷ [])
+with_zone_read : (z : Zone) (zones : List Zone) → list_any (same_name z.name) (names_of_zones zones) ≡ false → length zones < 64 → with_zone z.name z.shape zones ≡ Ok (zones ++ z ∷ [])
 unfolding with_zone
 with_zone_read z zones absent room = rw (list_any-names z.name zones, absent, within_room 64 (length zones) room) refl
 
 shape_read : (z : Zone) → IsZone z → shape_in z.name (printed z.shape) ≡ Ok z.shape
 shape_read z h = rw (printed_is_read z.shape h.shape) refl
 
-zone_read : (path : List Step) (z : Zone) (zones : List Zone) → IsZone z → list_any (is_name z.name) (names_of_zones zones) ≡ false → length zones < 64 →
+zone_read : (path : List Step) (z : Zone) (zones : List Zone) → IsZone z → list_any (same_name z.name) (names_of_zones zones) ≡ false → length zones < 64 →
     zone_at path zones (zone_data z) ≡ Ok (zones ++ z ∷ [])
 unfolding zone_at
 zone_read path z zones h absent room = rw (name_read z.name h.name, shape_read z h) (with_zone_read z zones absent room)

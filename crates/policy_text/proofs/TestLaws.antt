@@ -6,7 +6,7 @@ use Rattle.std.proofs.lemmas.List.Folds.{list_all-append}
 use Rattle.features.specs.Names as spelling
 use Rattle.serde_json.specs.Data.{Data, Items}
 use Rattle.policy_text.specs.Documents.{is_zone_known, is_match_spelled}
-use Rattle.policy_text.specs.Names.{is_name}
+use Rattle.features.specs.Equality.{same_name}
 use Rattle.policy_text.specs.Reading.{◌>>=◌, has_key, name_in, action_in, match_in, known_in, counted, match_at, each_at}
 use Rattle.policy_text.specs.declared.zones.Zone.{Zone}
 use Rattle.policy_text.specs.declared.paths.Key.{Key}
@@ -83,7 +83,7 @@ module _ (zones : List Zone) where
   known_if b u e told = (taken b tt u e told).0
 
   pub known_in-known : (m : Match) (u : Unit {0}) → known_in zones m ≡ Ok u → IsTrue (is_zone_known zones m)
-  known_in-known (matches.Zone name) u told = known_if (list_any (λ z. is_name name z.name) zones) u _ told
+  known_in-known (matches.Zone name) u told = known_if (list_any (λ z. same_name name z.name) zones) u _ told
   known_in-known (matches.Role name) u told = refl
   known_in-known (matches.Office name) u told = refl
   known_in-known (matches.Class name) u told = refl

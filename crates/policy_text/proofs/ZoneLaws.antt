@@ -11,7 +11,7 @@ use Rattle.wkt.specs.declared.fault.WktFault.{WktFault}
 use Rattle.wkt.proofs.CanonicalShapes.{shape_canonical}
 use Rattle.serde_json.specs.Data.{Data, Items, no_items, item}
 use Rattle.policy_text.specs.Documents.{IsZone, are_distinct}
-use Rattle.policy_text.specs.Names.{is_name}
+use Rattle.features.specs.Equality.{same_name}
 use Rattle.policy_text.specs.Reading.{◌>>=◌, at_item, object_in, zone_keys, name_in, text_in, shape_in, unseen, within, with_zone, zone_at, zones_at}
 use Rattle.policy_text.specs.declared.zones.Zone.{Zone}
 use Rattle.policy_text.specs.declared.paths.Key.TheVariants as keys
@@ -32,11 +32,11 @@ pub record AreZones (zones : List Zone) : Type 0 where
 no_zones : AreZones []
 no_zones = record { count = omega arith; distinct = refl; sound = All-nil IsZone }
 
-one_more : (zones : List Zone) (z : Zone) → AreZones zones → list_any (λ y. is_name z.name y.name) zones ≡ false → length zones < 64 → IsZone z → AreZones (zones ++ z ∷ [])
+one_more : (zones : List Zone) (z : Zone) → AreZones zones → list_any (λ y. same_name z.name y.name) zones ≡ false → length zones < 64 → IsZone z → AreZones (zones ++ z ∷ [])
 one_more zones z h new room sound = record {
   count = omega (arith, length-append zones (z ∷ []));
   distinct = subst (λ names. IsTrue (are_distinct names)) (sym (map-append name_of_zone zones (z ∷ [])))
-      (are_distinct-push (map name_of_zone zones) z.name h.distinct (sym (list_any-names (is_name z.name) name_of_zone zones) ∙ new));
+      (are_distinct-push (map name_of_zone zones) z.name h.distinct (sym (list_any-names (same_name z.name) name_of_zone zones) ∙ new));
   sound = All-push IsZone zones z h.sound sound;
 }
 
@@ -53,7 +53,7 @@ with_zone-sound : (name : List ℕ) (shape : List Point) (zones more : List Zone
 unfolding with_zone
 with_zone-sound name shape zones more h spelled whole told = bound (unseen name zones) _ more told (λ u new counted. bound (within 64 (length zones)) _ more counted (λ n room end.
     subst AreZones (same_value (zones ++ record { name = name; shape = shape } ∷ []) more end)
-    (one_more zones (record { name = name; shape = shape }) h (passed (list_any (λ z. is_name name z.name) zones) tt u _ new).0 (within-read 64 (length zones) n room).0
+    (one_more zones (record { name = name; shape = shape }) h (passed (list_any (λ z. same_name name z.name) zones) tt u _ new).0 (within-read 64 (length zones) n room).0
     (record { name = spelled; shape = whole }))))
 
 zone_at-sound : (path : List Step) (zones more : List Zone) (d : Data) → AreZones zones → zone_at path zones d ≡ Ok more → AreZones more

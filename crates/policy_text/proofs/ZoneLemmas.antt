@@ -12,14 +12,14 @@ use Rattle.std.specs.Map.{keys_of, lookup}
 use Rattle.indexmap.specs.IndexMap.{IndexMap, insert_entry}
 use Rattle.indexmap.proofs.CallerLemmas.{insert_entry-new}
 use Rattle.indexmap.proofs.MapLemmas.{absent_before}
-use Rattle.policy_text.specs.Names.{is_name}
+use Rattle.features.specs.Equality.{same_name}
 use Rattle.policy_text.specs.Documents.{zone_shape}
 use Rattle.policy_text.specs.Views.{zone_of}
 use Rattle.policy_text.specs.declared.zones.ZoneName.{ZoneName}
 use Rattle.plane.specs.declared.point.Point.{Point}
 
 abbrev pub same_key : ZoneName → ZoneName → Bool
-same_key a b = is_name a.name b.name
+same_key a b = same_name a.name b.name
 
 pub same_key-laws : IsEquivalence same_key
 same_key-laws = search (comparing, rules)
@@ -35,13 +35,13 @@ lookup-zone_shape key [] = refl
 lookup-zone_shape key (e ∷ es) = found_or_behind (same_key key e.0) key e es refl (lookup-zone_shape key es)
 
 known_or_behind : (b : Bool) (key : ZoneName) (e : ZoneName × List Point) (es : List (ZoneName × List Point)) → same_key key e.0 ≡ b →
-    is_some (lookup (same_key key) es) ≡ list_any (λ z. is_name key.name z.name) (map zone_of es) →
-    is_some (lookup (same_key key) (e ∷ es)) ≡ list_any (λ z. is_name key.name z.name) (map zone_of (e ∷ es))
+    is_some (lookup (same_key key) es) ≡ list_any (λ z. same_name key.name z.name) (map zone_of es) →
+    is_some (lookup (same_key key) (e ∷ es)) ≡ list_any (λ z. same_name key.name z.name) (map zone_of (e ∷ es))
 known_or_behind true key e es test behind = rw test refl
 known_or_behind false key e es test behind = rw test behind
 
 -- the map has a zone that the list has
-pub lookup-list_any : (key : ZoneName) (es : List (ZoneName × List Point)) → is_some (lookup (same_key key) es) ≡ list_any (λ z. is_name key.name z.name) (map zone_of es)
+pub lookup-list_any : (key : ZoneName) (es : List (ZoneName × List Point)) → is_some (lookup (same_key key) es) ≡ list_any (λ z. same_name key.name z.name) (map zone_of es)
 lookup-list_any key [] = refl
 lookup-list_any key (e ∷ es) = known_or_behind (same_key key e.0) key e es refl (lookup-list_any key es)
 
@@ -56,23 +56,23 @@ none_from_is_some (Some x) h = cc
 
 -- where the list of zones has no such name, one more goes last
 pub zones-insert_entry : (S : Type 0) (m : IndexMap ZoneName (List Point) S) (key : ZoneName) (shape : List Point) →
-    false ≡ list_any (λ z. is_name key.name z.name) (map zone_of m.entries) →
+    false ≡ list_any (λ z. same_name key.name z.name) (map zone_of m.entries) →
     map zone_of (insert_entry same_key m.entries key shape) ≡ map zone_of m.entries ++ zone_of (key, shape) ∷ []
 zones-insert_entry S m key shape absent =
     ap (map zone_of) (insert_entry-new same_key m key shape (none_from_is_some _ (lookup-list_any key m.entries ∙ sym absent))) ∙ map-append zone_of m.entries ((key, shape) ∷ [])
 
 pub with_zone-read : {S : Type 0} (m : IndexMap ZoneName (List Point) S) (name : List ℕ) (shape : List Point) (es : List (ZoneName × List Point)) →
-    false ≡ list_any (λ z. is_name name z.name) (map zone_of m.entries) → length m.entries < 64 → es ≡ insert_entry same_key m.entries (record { name = name }) shape →
+    false ≡ list_any (λ z. same_name name z.name) (map zone_of m.entries) → length m.entries < 64 → es ≡ insert_entry same_key m.entries (record { name = name }) shape →
     with_zone name shape (map zone_of m.entries) ≡ Ok (map zone_of es)
 unfolding with_zone
 with_zone-read {S = S} m name shape es absent room inserted =
     rw (← absent, length-map, lt-ltb _ _ room)
     (ap Ok (sym (ap (map zone_of) inserted ∙ zones-insert_entry S m (record { name = name }) shape absent)))
 
-pub with_zone-twice : (name : List ℕ) (shape : List Point) (zones : List Zone) → true ≡ list_any (λ z. is_name name z.name) zones → with_zone name shape zones ≡ Err (faults.NameTwice name)
+pub with_zone-twice : (name : List ℕ) (shape : List Point) (zones : List Zone) → true ≡ list_any (λ z. same_name name z.name) zones → with_zone name shape zones ≡ Err (faults.NameTwice name)
 unfolding with_zone
 with_zone-twice name shape zones twice = rw (← twice) refl
 
-pub with_zone-many : (name : List ℕ) (shape : List Point) (zones : List Zone) → false ≡ list_any (λ z. is_name name z.name) zones → 64 ≤ length zones → with_zone name shape zones ≡ Err faults.TooMany
+pub with_zone-many : (name : List ℕ) (shape : List Point) (zones : List Zone) → false ≡ list_any (λ z. same_name name z.name) zones → 64 ≤ length zones → with_zone name shape zones ≡ Err faults.TooMany
 unfolding with_zone
 with_zone-many name shape zones absent many = rw (← absent, le-ltb _ _ many) refl

@@ -3,7 +3,7 @@ use Rattle.std.specs.Prelude.{ℕ, zero, suc, ◌+◌, ◌≤◌, Bool, true, fa
 use Rattle.std.specs.List.{list_all, list_any, flat_map}
 use Rattle.plane.specs.Canonical.{IsCanonical}
 use Rattle.features.specs.Names as spelling
-use Rattle.policy_text.specs.Names.{is_name}
+use Rattle.features.specs.Equality.{same_name}
 use Rattle.policy_text.specs.declared.algorithms.Algorithm.{Algorithm}
 use Rattle.policy_text.specs.declared.algorithms.Effect.{Effect}
 use Rattle.policy_text.specs.declared.matches.Match.{Match}
@@ -49,7 +49,7 @@ pub record DocumentData : Type 0 where
 
 -- the shape of the zone of this name
 abbrev pub zone_shape : List ℕ → List Zone → Option (List Point)
-zone_shape name zones = option_map (λ z. z.shape) (find (λ z. is_name name z.name) zones)
+zone_shape name zones = option_map (λ z. z.shape) (find (λ z. same_name name z.name) zones)
 
 -- the rules below a node, in document order
 abbrev mutual
@@ -175,11 +175,11 @@ abbrev mutual
 -- no name of the list stands in it again
 abbrev pub are_distinct : List (List ℕ) → Bool
 are_distinct [] = true
-are_distinct (name ∷ rest) = not (list_any (is_name name) rest) && are_distinct rest
+are_distinct (name ∷ rest) = not (list_any (same_name name) rest) && are_distinct rest
 
 -- the zone of which a match speaks, if it speaks of one, is among these
 abbrev pub is_zone_known : List Zone → Match → Bool
-is_zone_known zones (matches.Zone name) = list_any (λ z. is_name name z.name) zones
+is_zone_known zones (matches.Zone name) = list_any (λ z. same_name name z.name) zones
 is_zone_known zones (matches.Role name) = true
 is_zone_known zones (matches.Office name) = true
 is_zone_known zones (matches.Class name) = true

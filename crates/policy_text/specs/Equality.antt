@@ -9,7 +9,7 @@ use Rattle.std.proofs.lemmas.Bool.{false≢true}
 use Rattle.features.specs.declared.actors.Action.{Action}
 use Rattle.features.specs.declared.actors.Action.TheVariants as actions
 use Rattle.plane.specs.declared.point.Point.{Point}
-use Rattle.policy_text.specs.Names.{is_name}
+use Rattle.features.specs.Equality.{same_name}
 use Rattle.policy_text.specs.Documents.{RuleData, Head, NodeData, set, policy, Children, no_children, child, DocumentData}
 use Rattle.policy_text.specs.declared.algorithms.Algorithm.{Algorithm}
 use Rattle.policy_text.specs.declared.algorithms.Algorithm.TheVariants as algorithms
@@ -97,34 +97,34 @@ pub same_algorithm_decides : (a b : Algorithm) → Decides (same_algorithm a b) 
 same_algorithm_decides = decides_by same_algorithm same_algorithm-itself same_algorithm-told
 
 abbrev pub same_match : Match → Match → Bool
-same_match (matches.Role a) (matches.Role b) = is_name a b
-same_match (matches.Office a) (matches.Office b) = is_name a b
-same_match (matches.Class a) (matches.Class b) = is_name a b
-same_match (matches.Owner a) (matches.Owner b) = is_name a b
-same_match (matches.Zone a) (matches.Zone b) = is_name a b
+same_match (matches.Role a) (matches.Role b) = same_name a b
+same_match (matches.Office a) (matches.Office b) = same_name a b
+same_match (matches.Class a) (matches.Class b) = same_name a b
+same_match (matches.Owner a) (matches.Owner b) = same_name a b
+same_match (matches.Zone a) (matches.Zone b) = same_name a b
 same_match (matches.Action a) (matches.Action b) = same_action a b
 same_match a b = false
 
-is_name-itself : (a : List ℕ) → is_name a a ≡ true
-is_name-itself a = (bytes_decides a a).1 refl
+same_name-itself : (a : List ℕ) → same_name a a ≡ true
+same_name-itself a = (bytes_decides a a).1 refl
 
-is_name-told : (a b : List ℕ) → is_name a b ≡ true → a ≡ b
-is_name-told a b = (bytes_decides a b).0
+same_name-told : (a b : List ℕ) → same_name a b ≡ true → a ≡ b
+same_name-told a b = (bytes_decides a b).0
 
 same_match-itself : (a : Match) → same_match a a ≡ true
-same_match-itself (matches.Role a) = is_name-itself a
-same_match-itself (matches.Office a) = is_name-itself a
-same_match-itself (matches.Class a) = is_name-itself a
-same_match-itself (matches.Owner a) = is_name-itself a
-same_match-itself (matches.Zone a) = is_name-itself a
+same_match-itself (matches.Role a) = same_name-itself a
+same_match-itself (matches.Office a) = same_name-itself a
+same_match-itself (matches.Class a) = same_name-itself a
+same_match-itself (matches.Owner a) = same_name-itself a
+same_match-itself (matches.Zone a) = same_name-itself a
 same_match-itself (matches.Action a) = same_action-itself a
 
 same_match-told : (a b : Match) → same_match a b ≡ true → a ≡ b
-same_match-told (matches.Role a) (matches.Role b) e = ap matches.Role (is_name-told a b e)
-same_match-told (matches.Office a) (matches.Office b) e = ap matches.Office (is_name-told a b e)
-same_match-told (matches.Class a) (matches.Class b) e = ap matches.Class (is_name-told a b e)
-same_match-told (matches.Owner a) (matches.Owner b) e = ap matches.Owner (is_name-told a b e)
-same_match-told (matches.Zone a) (matches.Zone b) e = ap matches.Zone (is_name-told a b e)
+same_match-told (matches.Role a) (matches.Role b) e = ap matches.Role (same_name-told a b e)
+same_match-told (matches.Office a) (matches.Office b) e = ap matches.Office (same_name-told a b e)
+same_match-told (matches.Class a) (matches.Class b) e = ap matches.Class (same_name-told a b e)
+same_match-told (matches.Owner a) (matches.Owner b) e = ap matches.Owner (same_name-told a b e)
+same_match-told (matches.Zone a) (matches.Zone b) e = ap matches.Zone (same_name-told a b e)
 same_match-told (matches.Action a) (matches.Action b) e = ap matches.Action (same_action-told a b e)
 same_match-told a b e = absurd (false≢true e)
 
@@ -191,11 +191,11 @@ pub same_conditions_decides : (a b : List Atom) → Decides (same_conditions a b
 same_conditions_decides = pointwise_decides same_atom_decides
 
 abbrev pub same_rule : RuleData → RuleData → Bool
-same_rule a b = is_name a.name b.name && same_effect a.effect b.effect && same_target a.target b.target && same_conditions a.when b.when
+same_rule a b = same_name a.name b.name && same_effect a.effect b.effect && same_target a.target b.target && same_conditions a.when b.when
 
 same_rule-itself : (a : RuleData) → same_rule a a ≡ true
 same_rule-itself a =
-    both_so _ _ (both_so _ _ (both_so _ _ (is_name-itself a.name) (same_effect-itself a.effect)) ((same_target_decides a.target a.target).1 refl))
+    both_so _ _ (both_so _ _ (both_so _ _ (same_name-itself a.name) (same_effect-itself a.effect)) ((same_target_decides a.target a.target).1 refl))
     ((same_conditions_decides a.when a.when).1 refl)
 
 same_rule-by : (a b : RuleData) → a.name ≡ b.name → a.effect ≡ b.effect → a.target ≡ b.target → a.when ≡ b.when → a ≡ b
@@ -203,31 +203,31 @@ same_rule-by a b p q r s = λ i. record { name = p i; effect = q i; target = r i
 
 same_rule-told : (a b : RuleData) → same_rule a b ≡ true → a ≡ b
 same_rule-told a b e =
-    let three = first_so (is_name a.name b.name && same_effect a.effect b.effect && same_target a.target b.target) (same_conditions a.when b.when) e in
-    let two = first_so (is_name a.name b.name && same_effect a.effect b.effect) (same_target a.target b.target) three in
-    same_rule-by a b (is_name-told a.name b.name (first_so (is_name a.name b.name) (same_effect a.effect b.effect) two))
-    (same_effect-told a.effect b.effect (second_so (is_name a.name b.name) (same_effect a.effect b.effect) two))
-    ((same_target_decides a.target b.target).0 (second_so (is_name a.name b.name && same_effect a.effect b.effect) (same_target a.target b.target) three))
-    ((same_conditions_decides a.when b.when).0 (second_so (is_name a.name b.name && same_effect a.effect b.effect && same_target a.target b.target) (same_conditions a.when b.when) e))
+    let three = first_so (same_name a.name b.name && same_effect a.effect b.effect && same_target a.target b.target) (same_conditions a.when b.when) e in
+    let two = first_so (same_name a.name b.name && same_effect a.effect b.effect) (same_target a.target b.target) three in
+    same_rule-by a b (same_name-told a.name b.name (first_so (same_name a.name b.name) (same_effect a.effect b.effect) two))
+    (same_effect-told a.effect b.effect (second_so (same_name a.name b.name) (same_effect a.effect b.effect) two))
+    ((same_target_decides a.target b.target).0 (second_so (same_name a.name b.name && same_effect a.effect b.effect) (same_target a.target b.target) three))
+    ((same_conditions_decides a.when b.when).0 (second_so (same_name a.name b.name && same_effect a.effect b.effect && same_target a.target b.target) (same_conditions a.when b.when) e))
 
 pub same_rule_decides : (a b : RuleData) → Decides (same_rule a b) (a ≡ b)
 same_rule_decides = decides_by same_rule same_rule-itself same_rule-told
 
 abbrev pub same_head : Head → Head → Bool
-same_head a b = is_name a.name b.name && same_algorithm a.combine b.combine && same_target a.target b.target
+same_head a b = same_name a.name b.name && same_algorithm a.combine b.combine && same_target a.target b.target
 
 same_head-itself : (a : Head) → same_head a a ≡ true
-same_head-itself a = both_so _ _ (both_so _ _ (is_name-itself a.name) (same_algorithm-itself a.combine)) ((same_target_decides a.target a.target).1 refl)
+same_head-itself a = both_so _ _ (both_so _ _ (same_name-itself a.name) (same_algorithm-itself a.combine)) ((same_target_decides a.target a.target).1 refl)
 
 same_head-by : (a b : Head) → a.name ≡ b.name → a.combine ≡ b.combine → a.target ≡ b.target → a ≡ b
 same_head-by a b p q r = λ i. record { name = p i; combine = q i; target = r i }
 
 same_head-told : (a b : Head) → same_head a b ≡ true → a ≡ b
 same_head-told a b e =
-    let two = first_so (is_name a.name b.name && same_algorithm a.combine b.combine) (same_target a.target b.target) e in
-    same_head-by a b (is_name-told a.name b.name (first_so (is_name a.name b.name) (same_algorithm a.combine b.combine) two))
-    (same_algorithm-told a.combine b.combine (second_so (is_name a.name b.name) (same_algorithm a.combine b.combine) two))
-    ((same_target_decides a.target b.target).0 (second_so (is_name a.name b.name && same_algorithm a.combine b.combine) (same_target a.target b.target) e))
+    let two = first_so (same_name a.name b.name && same_algorithm a.combine b.combine) (same_target a.target b.target) e in
+    same_head-by a b (same_name-told a.name b.name (first_so (same_name a.name b.name) (same_algorithm a.combine b.combine) two))
+    (same_algorithm-told a.combine b.combine (second_so (same_name a.name b.name) (same_algorithm a.combine b.combine) two))
+    ((same_target_decides a.target b.target).0 (second_so (same_name a.name b.name && same_algorithm a.combine b.combine) (same_target a.target b.target) e))
 
 pub same_head_decides : (a b : Head) → Decides (same_head a b) (a ≡ b)
 same_head_decides = decides_by same_head same_head-itself same_head-told
@@ -317,18 +317,18 @@ pub same_shape_decides : (a b : List Point) → Decides (same_shape a b) (a ≡ 
 same_shape_decides = pointwise_decides same_point_decides
 
 abbrev pub same_zone : Zone → Zone → Bool
-same_zone a b = is_name a.name b.name && same_shape a.shape b.shape
+same_zone a b = same_name a.name b.name && same_shape a.shape b.shape
 
 same_zone-itself : (a : Zone) → same_zone a a ≡ true
-same_zone-itself a = both_so _ _ (is_name-itself a.name) ((same_shape_decides a.shape a.shape).1 refl)
+same_zone-itself a = both_so _ _ (same_name-itself a.name) ((same_shape_decides a.shape a.shape).1 refl)
 
 same_zone-by : (a b : Zone) → a.name ≡ b.name → a.shape ≡ b.shape → a ≡ b
 same_zone-by a b p q = λ i. record { name = p i; shape = q i }
 
 same_zone-told : (a b : Zone) → same_zone a b ≡ true → a ≡ b
 same_zone-told a b e =
-    same_zone-by a b (is_name-told a.name b.name (first_so (is_name a.name b.name) (same_shape a.shape b.shape) e))
-    ((same_shape_decides a.shape b.shape).0 (second_so (is_name a.name b.name) (same_shape a.shape b.shape) e))
+    same_zone-by a b (same_name-told a.name b.name (first_so (same_name a.name b.name) (same_shape a.shape b.shape) e))
+    ((same_shape_decides a.shape b.shape).0 (second_so (same_name a.name b.name) (same_shape a.shape b.shape) e))
 
 pub same_zone_decides : (a b : Zone) → Decides (same_zone a b) (a ≡ b)
 same_zone_decides = decides_by same_zone same_zone-itself same_zone-told

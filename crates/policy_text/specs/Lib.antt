@@ -1,4 +1,3 @@
-pub mod Names
 pub mod Documents
 pub mod Views
 pub mod Equality

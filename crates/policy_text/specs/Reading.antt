@@ -13,7 +13,7 @@ use Rattle.wkt.specs.Reading.{shape_of}
 use Rattle.wkt.specs.declared.fault.WktFault.{WktFault}
 use Rattle.serde_json.specs.Read.{read}
 use Rattle.policy_text.specs.Documents.{DocumentData, RuleData, Head, NodeData, set, policy, children_of}
-use Rattle.policy_text.specs.Names.{is_name}
+use Rattle.features.specs.Equality.{same_name}
 use Rattle.policy_text.specs.Keys.{key_text}
 use Rattle.policy_text.specs.declared.documents.TheConstants.{ZONE_LIMIT}
 use Rattle.policy_text.specs.declared.reading.TheConstants.{DEPTH_LIMIT, NODE_LIMIT, RULE_LIMIT}
@@ -167,7 +167,7 @@ match_in path d =
 
 -- the zone of which a match speaks is there
 abbrev pub known_in : List Zone → Match → Result (Unit {0}) TextFault
-known_in zones (matches.Zone name) = if list_any (λ z. is_name name z.name) zones then Ok tt else Err (faults.NoZone name)
+known_in zones (matches.Zone name) = if list_any (λ z. same_name name z.name) zones then Ok tt else Err (faults.NoZone name)
 known_in zones (matches.Role name) = Ok tt
 known_in zones (matches.Office name) = Ok tt
 known_in zones (matches.Class name) = Ok tt
@@ -267,7 +267,7 @@ pub record Seen : Type 0 where
 
 -- one name more, that was not seen before
 abbrev pub fresh : List ℕ → List (List ℕ) → Result (List (List ℕ)) TextFault
-fresh name names = if list_any (is_name name) names then Err (faults.NameTwice name) else Ok (names ++ name ∷ [])
+fresh name names = if list_any (same_name name) names then Err (faults.NameTwice name) else Ok (names ++ name ∷ [])
 
 abbrev pub rule_keys : List Key
 rule_keys = keys.Rule ∷ keys.Effect ∷ keys.Target ∷ keys.When ∷ []
@@ -328,7 +328,7 @@ shape_in name text = zone_fault (shape_of text)
 
 -- no zone has the name yet
 abbrev pub unseen : List ℕ → List Zone → Result (Unit {0}) TextFault
-unseen name zones = if list_any (λ z. is_name name z.name) zones then Err (faults.NameTwice name) else Ok tt
+unseen name zones = if list_any (λ z. same_name name z.name) zones then Err (faults.NameTwice name) else Ok tt
 
 -- the zones with one more, whose name is new
 unfoldable pub with_zone : List ℕ → List Point → List Zone → Result (List Zone) TextFault

@@ -3,7 +3,7 @@
 ghost use Rattle.std.specs.Prelude.{◌≡◌, ◌+◌, ◌*◌, ◌<◌, ◌≤◌, length, map};
 ghost use Rattle.std.specs.List.{list_any};
 ghost use Rattle.serde_json.specs.View.{view, items_view};
-ghost use Rattle.policy_text.specs.Names.{is_name};
+ghost use Rattle.features.specs.Equality.{same_name};
 ghost use Rattle.policy_text.specs.SeenViews.{seen_view, head_view};
 ghost use Rattle.policy_text.specs.Views.{zone_of, node_view};
 ghost use Rattle.policy_text.specs.Reading.{Gives, Tells, fresh, each_at, rule_at, head_at, policy_at, set_at, node_at};
@@ -74,7 +74,7 @@ struct Headed<A: Allocator> {
 
 /// Whether the name is one of these.
 fn has_name(names: &[Name], name: Name) -> bool
-    ensures { result ≡ list_any (is_name name) names.now }
+    ensures { result ≡ list_any (same_name name) names.now }
 {
     names.iter().any(|other| name == *other)
 }

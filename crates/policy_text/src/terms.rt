@@ -3,7 +3,7 @@
 ghost use Rattle.std.specs.Prelude.{◌≡◌, ◌<◌, ◌≤◌, length, map};
 ghost use Rattle.std.specs.List.{list_any};
 ghost use Rattle.serde_json.specs.View.{view};
-ghost use Rattle.policy_text.specs.Names.{is_name};
+ghost use Rattle.features.specs.Equality.{same_name};
 ghost use Rattle.policy_text.specs.Views.{zone_of};
 ghost use Rattle.policy_text.specs.Reading.{match_in, known_in, match_at, term_in, known_term, term_of, term_at, atom_at, own_in};
 
@@ -77,7 +77,7 @@ fn match_in(value: &Value, path: Path) -> Result<Match, TextFault>
 
 /// Whether there is a zone of this name.
 pub(crate) fn has_zone<A: Allocator>(zones: &Zones<A>, name: Name) -> bool
-    ensures { result ≡ list_any (λ z. is_name name z.name) (map zone_of zones.now.entries) }
+    ensures { result ≡ list_any (λ z. same_name name z.name) (map zone_of zones.now.entries) }
 {
     zones.contains_key(&ZoneName { name })
 }

@@ -3,7 +3,7 @@
 ghost use Rattle.std.specs.Hash as fed;
 ghost use Rattle.std.specs.Cmp.Rules.{comparing, hashing};
 ghost use Rattle.std.proofs.Common.{rules};
-ghost use Rattle.policy_text.specs.Names.{is_name};
+ghost use Rattle.features.specs.Equality.{same_name};
 
 use features::Name;
 use plane::Shape;
@@ -23,7 +23,7 @@ pub(crate) struct ZoneName {
 }
 
 impl PartialEq for ZoneName {
-    ghost eq = { λ a b. is_name a.name b.name };
+    ghost eq = { λ a b. same_name a.name b.name };
 
     ghost laws = { Prim.search (comparing, rules) };
 

@@ -2,7 +2,7 @@
 use Rattle.std.proofs.Common.{◌≡◌, ◌∙◌, ℕ, List, Option, None, Some, subst, IfSome, OnOk, Result, Ok, Err}
 use Rattle.std.specs.Io.KnownBytes.{Appends, Keeps}
 use Rattle.sessions.specs.Scripts.{IsScriptText}
-use Rattle.transactions.specs.States.{WorldData}
+use Rattle.plain_world.specs.States.{WorldData}
 use Rattle.program.specs.ConfigFiles.{FileGives}
 use Rattle.program.specs.Configs.{ConfigData, config_data}
 use Rattle.program.specs.Runs.{IsConfigOf, Ran, Served, world_of}

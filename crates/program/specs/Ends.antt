@@ -4,7 +4,7 @@ use Rattle.program.specs.declared.faults.ProgramFault.{ProgramFault}
 use Rattle.program.specs.declared.faults.ProgramFault.TheVariants.{CannotRead, CannotWrite, NoMemory, Config, World, Run}
 use Rattle.program.specs.ConfigFaults.{config_code_of}
 use Rattle.sessions.specs.Faults.{serve_code_of}
-use Rattle.transactions.specs.FaultCodes.{fault_code}
+use Rattle.plain_world.specs.FaultCodes.{fault_code}
 
 abbrev pub fault_text : ProgramFault → List ℕ
 fault_text (CannotRead name) = codes "cannot read " ++ name.now

@@ -2,8 +2,8 @@
 use Rattle.std.specs.Prelude.{◌≡◌, ℕ, List, Option, None, Some, IfSome, Ok}
 use Rattle.std.specs.Io.KnownBytes.{Appends}
 use Rattle.sessions.specs.Scripts.{IsScriptText}
-use Rattle.transactions.specs.States.{WorldData, opened}
-use Rattle.transactions.specs.declared.settings.TheConstants.{STEP_LIMIT}
+use Rattle.plain_world.specs.States.{WorldData, opened}
+use Rattle.plain_world.specs.declared.settings.TheConstants.{STEP_LIMIT}
 use Rattle.audit_trail.specs.declared.trails.TheConstants.{RECORD_LIMIT}
 use Rattle.features.specs.declared.tables.TheConstants.{FEATURE_LIMIT}
 use Rattle.program.specs.BuiltIn.{built_in_config}

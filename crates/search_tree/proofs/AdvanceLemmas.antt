@@ -1,6 +1,52 @@
--- What is said of a success, by what was said of it.
-use Rattle.std.proofs.Common.{Result, Ok, Err, IfOk}
+-- What is said of a success, by what was said of it, and which step a walk takes, by what is next for it.
+use Rattle.std.proofs.Common.{◌≡◌, ◌≢◌, ◌⊎◌, ◌+◌, ◌<◌, ℕ, Result, Ok, Err, IfOk, refl, ap, sym, subst, inl, inr}
+use Rattle.memory.specs.Refused.{refused}
+use Rattle.node_arena.specs.Slots.{taken_count}
+use Rattle.node_arena.specs.declared.TheConstants.{MAX_SLOTS}
+use Rattle.node_arena.specs.declared.handle.Handle.{Handle}
+use Rattle.predicate_locks.specs.Searches.{last_number}
+use Rattle.search_tree.specs.Cases.{Answers, Change, TakesStep, Wants}
+use Rattle.search_tree.specs.Cases.Answers.{counter_ends, no_memory, no_memory_to_grow, no_slot, no_slots, top_level}
+use Rattle.search_tree.specs.Cases.Change.{Linking, Parting, Growing}
+use Rattle.search_tree.specs.Cases.TakesStep.{makes}
+use Rattle.search_tree.specs.Nexts.{ComesTo, IsChange, Makes}
+use Rattle.search_tree.specs.Trees.{PlainTree, root_level}
+use Rattle.search_tree.specs.declared.answers.Step.{Step}
+use Rattle.search_tree.specs.declared.fault.TreeFault.{TreeFault}
+use Rattle.search_tree.specs.declared.fault.TreeFault.TheVariants.{Full, Memory, Spent, TooHigh}
+use Rattle.search_tree.specs.declared.rooms.Room.{Room}
+use Rattle.search_tree.specs.declared.rooms.Room.TheVariants.{Install, Split, Grow, Behind, Nothing}
+use Rattle.tree_theory.specs.KeyClasses.{Class}
+use Rattle.tree_theory.specs.declared.TheConstants.{TOP_LEVEL}
 
 pub if_ok : {T E : Type 0} (r : Result T E) {P Q : T → Type 0} → ((x : T) → P x → Q x) → IfOk r P → IfOk r Q
 if_ok (Ok x) goes p = goes x p
 if_ok (Err e) goes p = tt
+
+module _ (C : Class) (t u : PlainTree C.Key C.Query C.Item) (at now : Handle) where
+  -- a walk that has to wait for a change makes it, or is refused
+  pub makes_room : (growth second_growth : C.Key → C.Key → ℕ) (pair : ℕ × C.Item) (room : Room C.Key) (answer : Result Step TreeFault) → IsChange room × ((change : Change) → ComesTo C t room change → Wants C t at pair.1 change) → Makes C t u at now room answer → TakesStep C t u at now growth second_growth pair answer
+  makes_room growth second_growth pair (Install entry) answer next made = makes (next.1 (Linking entry.left) refl) made
+  makes_room growth second_growth pair (Split full) answer next made = makes (next.1 (Parting full) refl) made
+  makes_room growth second_growth pair Grow answer next made = makes (next.1 Growing refl) made
+  makes_room growth second_growth pair (Behind left) answer next made = absurd made
+  makes_room growth second_growth pair Nothing answer next made = absurd made
+
+  -- why each change is refused
+  pub not_linked : (left : Handle) (fault : TreeFault) → (fault ≡ Spent) × (t.counter ≡ last_number) → Answers C t u at now (Linking left) (Err fault)
+  not_linked left fault is = subst (λ f. Answers C t u at now (Linking left) (Err f)) (sym is.0) (counter_ends is.1)
+
+  pub not_parted : (T : Type 0) (full : Handle) (fault : TreeFault) → (fault ≡ Full) ⊎ (fault ≡ Memory refused) → (◌≡◌ {A = Result T TreeFault} (Err fault) (Err Full) → MAX_SLOTS < taken_count t.nodes + 1) → Answers C t u at now (Parting full) (Err fault)
+  not_parted T full fault is slots = elim is [
+    | inl none_left ↦ subst (λ f. Answers C t u at now (Parting full) (Err f)) (sym none_left) (no_slot (slots (ap (λ (f : TreeFault). Err f) none_left)))
+    | inr no_room ↦ subst (λ f. Answers C t u at now (Parting full) (Err f)) (sym no_room) no_memory
+  ]
+
+  pub not_grown : (T : Type 0) (fault : TreeFault) → (fault ≡ TooHigh) ⊎ (fault ≡ Full) ⊎ (fault ≡ Memory refused) → (◌≡◌ {A = Result T TreeFault} (Err fault) (Err TooHigh) → root_level t ≡ TOP_LEVEL) → (◌≡◌ {A = Result T TreeFault} (Err fault) (Err Full) → (root_level t ≢ TOP_LEVEL) × (MAX_SLOTS < taken_count t.nodes + 2)) → Answers C t u at now Growing (Err fault)
+  not_grown T fault is high slots = elim is [
+    | inl top ↦ subst (λ f. Answers C t u at now Growing (Err f)) (sym top) (top_level (high (ap (λ (f : TreeFault). Err f) top)))
+    | inr other ↦ elim other [
+      | inl none_left ↦ let few = slots (ap (λ (f : TreeFault). Err f) none_left) in subst (λ f. Answers C t u at now Growing (Err f)) (sym none_left) (no_slots few.0 few.1)
+      | inr no_room ↦ subst (λ f. Answers C t u at now Growing (Err f)) (sym no_room) no_memory_to_grow
+    ]
+  ]

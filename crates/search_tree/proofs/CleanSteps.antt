@@ -2,7 +2,7 @@
 use Rattle.std.proofs.Common.{◌≡◌, ℕ, Bool, true, false, List, [], ◌∷◌, IsTrue, cond, filter, refl, sym, subst, ◌∙◌, inl, inr, arith}
 use Rattle.node_arena.specs.Slots.{Slots}
 use Rattle.node_arena.specs.declared.handle.Handle.{Handle}
-use Rattle.tree_theory.proofs.ContentsKept.{contents_cleaned}
+use Rattle.tree_theory.proofs.ContentsKept.{contents_sifted}
 use Rattle.tree_theory.proofs.ListLemmas.{in_cases, picked_none}
 use Rattle.tree_theory.proofs.SearchPlace.{searches_cleaned}
 use Rattle.tree_theory.proofs.ShapePlace.{shape_cleaned}
@@ -81,14 +81,14 @@ module _ (C : Class) (t : PlainTree C.Key C.Query C.Item) (at : Handle) (may : M
         }
 
     pub cleaned_less : IsSound C t → ContentsLess C t sifted (λ pair. IsTrue (kept pair))
-    cleaned_less sound xs ys = contents_cleaned sound.invariant.shape cleaned_step
+    cleaned_less sound xs = contents_sifted sound.invariant.shape cleaned_step
 
     pub cleaned_call : HasTended C t sifted Cleaned
     cleaned_call =
         record {
           searches = λ s. refl;
           steps = λ s. refl;
-          next = refl;
+          running = refl;
           limit = refl;
           level = level_stays t.root changed (λ n. refl);
           slots = changed.counts.slots;

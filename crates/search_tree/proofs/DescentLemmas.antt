@@ -33,7 +33,7 @@ module _ (C : Class) where
       record {
         searches = λ s. two.searches s ∙ one.searches s;
         steps = λ s. two.steps s ∙ one.steps s;
-        next = two.next ∙ one.next;
+        running = two.running ∙ one.running;
         contents = λ xs is. two.contents xs (one.contents xs is);
         counts = record {
           counter = two.counts.counter ∙ one.counts.counter;

@@ -268,7 +268,7 @@ module _ (C : Class) (t : PlainTree C.Key C.Query C.Item) where
               contents = λ xs. contents_grown (below_top low);
               searches = λ s. refl;
               steps = λ s. refl;
-              next = refl;
+              running = refl;
               limit = refl;
               counter = refl;
               level = ap level_of grown.root_now ∙ ap (λ (o : Option (Node C)). level_of o + 1) (sym grown.is);

@@ -99,7 +99,7 @@ module _ (C : Class) (t : PlainTree C.Key C.Query C.Item) (e : NewEntry C.Key) (
       abbrev put_in : PlainTree C.Key C.Query C.Item
       put_in = record t { nodes = n5; counter = seq }
 
-      installed_step : IsInstalled (tree_of C t) (tree_of C put_in) e.parent e.left e.right
+      pub installed_step : IsInstalled (tree_of C t) (tree_of C put_in) e.parent e.left e.right
       installed_step =
           record {
             node = may.node;
@@ -143,7 +143,7 @@ module _ (C : Class) (t : PlainTree C.Key C.Query C.Item) (e : NewEntry C.Key) (
           record {
             searches = λ s. refl;
             steps = λ s. refl;
-            next = refl;
+            running = refl;
             limit = refl;
             level = level_stays t.root joined (λ n. refl) ∙ (level_stays t.root numbered (λ n. refl) ∙ (level_stays t.root linked (λ n. refl) ∙ (level_stays t.root pushed (λ n. refl) ∙ level_stays t.root keyed (λ n. refl))));
             slots = joined.counts.slots ∙ (numbered.counts.slots ∙ (linked.counts.slots ∙ (pushed.counts.slots ∙ keyed.counts.slots)));

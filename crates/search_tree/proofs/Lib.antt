@@ -14,6 +14,7 @@ pub mod StandingLemmas
 pub mod DescentLemmas
 pub mod DescendSteps
 pub mod PenaltyLemmas
+pub mod CaseLemmas
 pub mod NextLemmas
 pub mod AdvanceLemmas
 pub mod TendSteps

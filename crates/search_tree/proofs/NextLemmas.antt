@@ -7,14 +7,22 @@ use Rattle.node_arena.specs.Slots.{value_at}
 use Rattle.node_arena.specs.declared.handle.Handle.{Handle}
 use Rattle.tree_theory.specs.Changes.{MayTake}
 use Rattle.tree_theory.specs.KeyClasses.{Class}
-use Rattle.tree_theory.specs.Nodes.{Body, Node, children_of, entries_of}
+use Rattle.tree_theory.specs.Nodes.{Body, Node, children_of, entries_of, size_of}
+use Rattle.tree_theory.specs.Nodes.PlainBody.{Inner}
+use Rattle.tree_theory.specs.declared.TheConstants.{NODE_SIZE}
 use Rattle.tree_theory.specs.declared.place.Place.TheVariants.{Linked, Root}
 use Rattle.search_tree.specs.Advances.{IsHeldBy}
-use Rattle.search_tree.specs.Standings.{IsHere}
-use Rattle.search_tree.specs.Trees.{PlainTree, IsInner, IsSound, seen, tree_of}
-use Rattle.search_tree.specs.Walks.{IsHolder, MayDescend}
+use Rattle.search_tree.specs.Cases.{Change, IsAtLeaf, IsFree, IsWayDown, MakesRoom, Wants}
+use Rattle.search_tree.specs.Nexts.{ComesTo, IsChange, LooksFrom}
+use Rattle.search_tree.specs.Penalties.{IsBest}
+use Rattle.search_tree.specs.Standings.{IsHere, IsUnlinked}
+use Rattle.search_tree.specs.Trees.{PlainTree, IsInner, IsLeaf, IsSound, seen, tree_of}
+use Rattle.search_tree.specs.Walks.{IsHolder, MayDescend, MayPlace, NoneHolds}
+use Rattle.search_tree.specs.declared.rooms.Room.{Room}
+use Rattle.search_tree.specs.declared.rooms.Room.TheVariants.{Behind}
+use Rattle.search_tree.proofs.CaseLemmas.{looks_left, looks_lower}
 use Rattle.search_tree.proofs.DescentLemmas.{known}
-use Rattle.search_tree.proofs.ListEnds.{both_at, get_some}
+use Rattle.search_tree.proofs.ListEnds.{both_at, filled, get_some}
 use Rattle.search_tree.proofs.TendSteps.{some_one}
 
 module _ (C : Class) (t : PlainTree C.Key C.Query C.Item) (sound : IsSound C t) where
@@ -69,3 +77,92 @@ module _ (C : Class) (t : PlainTree C.Key C.Query C.Item) (sound : IsSound C t) 
         runs = ap (option_map seen) there.is;
         matches = subst (λ q. C.Matches item q) (sym there.query) holder.matches;
       }
+
+  -- an inner node has a key
+  pub has_keys : (at : Handle) (node : Node C) → value_at t.nodes at ≡ Some node → IsInner node.body → (keys : List C.Key) → keys ≡ map (λ (entry : C.Key × Handle). entry.0) (entries_of node.body) → 0 < length keys
+  has_keys at node is inner keys keys_are =
+      let listed : keys ≡ map (λ (entry : C.Key × Handle). entry.0) inner.0 = keys_are ∙ ap (λ (b : Body C). map (λ (entry : C.Key × Handle). entry.0) (entries_of b)) inner.1 in
+      let same : length keys ≡ length inner.0 = ap length listed ∙ length-map inner.0 (λ (entry : C.Key × Handle). entry.0) in
+      let some : 0 < length inner.0 = filled inner.0 (λ e. sound.invariant.shape.inner_filled at node is (inner.1 ∙ ap (λ (es : List (C.Key × Handle)). Inner es) e)) in
+      omega (arith, same, some)
+
+  pub inner_at : (at : Handle) (node : Node C) → value_at t.nodes at ≡ Some node → (n : Node C) × (value_at t.nodes at ≡ Some n) × IsInner n.body → IsInner node.body
+  inner_at at node is known_inner = subst (λ (n : Node C). IsInner n.body) (some_one known_inner.1 is) known_inner.2
+
+  -- the entry of least penalties
+  pub is_way_down : (growth second_growth : C.Key → C.Key → ℕ) (at : Handle) (key : C.Key) → IsHere C t.nodes at key → (node : Node C) → value_at t.nodes at ≡ Some node → (place : ℕ) (old : C.Key) (child : Handle) → MayDescend C t (record { parent = at; place = place; key = old; child = child }) key → (keys : List C.Key) → keys ≡ map (λ (entry : C.Key × Handle). entry.0) (entries_of node.body) → IsBest growth second_growth keys key place → IsWayDown C t growth second_growth at key child old
+  is_way_down growth second_growth at key here node is place old child may keys keys_are best =
+      let body : node.body ≡ Inner may.entries = ap (λ (n : Node C). n.body) (some_one is may.is) ∙ may.body in
+      record {
+        here = here;
+        node = may.node;
+        is = may.is;
+        entries = may.entries;
+        body = may.body;
+        place = place;
+        entry = may.entry;
+        best = subst (λ (ks : List C.Key). IsBest growth second_growth ks key place) (keys_are ∙ ap (λ (b : Body C). map (λ (entry : C.Key × Handle). entry.0) (entries_of b)) body) best;
+      }
+
+  -- the leaf where a walk stands
+  pub at_leaf : (at : Handle) (item : C.Item) (node : Node C) → value_at t.nodes at ≡ Some node → (leaf : Node C) × IsAtLeaf C t at item leaf → IsAtLeaf C t at item node
+  at_leaf at item node is there = subst (λ (n : Node C). IsAtLeaf C t at item n) (some_one there.1.is is) there.1
+
+  pub leaf_here : (at : Handle) (item : C.Item) (node : Node C) → value_at t.nodes at ≡ Some node → IsHere C t.nodes at (C.key_of item) → IsLeaf node.body → (leaf : Node C) × IsAtLeaf C t at item leaf
+  leaf_here at item node is here body = (node, record { here = here; is = is; body = body })
+
+  pub held_here : (at : Handle) (item : C.Item) (node : Node C) → value_at t.nodes at ≡ Some node → (leaf : Node C) × IsAtLeaf C t at item leaf → (numbers : List ℕ) → numbers ≡ node.attached → (number : ℕ) → IsHolder C t.running numbers item number → (leaf : Node C) × IsAtLeaf C t at item leaf × IsHolder C t.running leaf.attached item number
+  held_here at item node is there numbers are number holder = (node, at_leaf at item node is there, subst (λ ns. IsHolder C t.running ns item number) are holder)
+
+  pub free_here : (at : Handle) (item : C.Item) (node : Node C) → value_at t.nodes at ≡ Some node → (leaf : Node C) × IsAtLeaf C t at item leaf → (numbers : List ℕ) → numbers ≡ node.attached → NoneHolds C t.running numbers item → IsFree C t at item node
+  free_here at item node is there numbers are none = record { at_leaf = at_leaf at item node is there; free = subst (λ ns. NoneHolds C t.running ns item) are none }
+
+  -- a leaf that may take the pair
+  pub may_place : (at : Handle) (item : C.Item) (leaf : Node C) → IsFree C t at item leaf → size_of leaf.body < NODE_SIZE → (key : ℕ) → MayPlace C t at (key, item)
+  may_place at item leaf free room key =
+      record {
+        node = leaf;
+        is = free.at_leaf.is;
+        pairs = free.at_leaf.body.0;
+        body = free.at_leaf.body.1;
+        room = subst (λ (b : Body C). size_of b < NODE_SIZE) free.at_leaf.body.1 room;
+        may_take = here_takes at (C.key_of item) free.at_leaf.here leaf free.at_leaf.is;
+        none_matches = free.free;
+      }
+
+  -- a right node that has no entry yet waits for it
+  pub waits_behind : (at left : Handle) (item : C.Item) (room : Room C.Key) → IsUnlinked t.nodes at left → ((change : Change) → ComesTo C t room change → ComesTo C t (Behind left) change) → (LooksFrom C t 0 (Behind left) → IsChange room) → IsChange room × ((change : Change) → ComesTo C t room change → Wants C t at item change)
+  waits_behind at left item room unlinked first last =
+      (last (looks_lower C t 0 unlinked.node.level (Behind left) (omega arith) (looks_left C t sound at left unlinked.node unlinked.is unlinked.place)), λ change comes. inl (left, unlinked, first change comes))
+
+  -- a full leaf
+  pub waits_at : (at : Handle) (item : C.Item) (leaf : Node C) (wanted room : Room C.Key) → IsFree C t at item leaf → size_of leaf.body ≡ NODE_SIZE
+      → ((change : Change) → ComesTo C t wanted change → (n : Node C) × (value_at t.nodes at ≡ Some n) × (size_of n.body ≡ NODE_SIZE) × MakesRoom C t at n.place change)
+      → ((n : Node C) → value_at t.nodes at ≡ Some n → size_of n.body ≡ NODE_SIZE → LooksFrom C t n.level wanted)
+      → ((change : Change) → ComesTo C t room change → ComesTo C t wanted change) → (LooksFrom C t 0 wanted → IsChange room)
+      → IsChange room × ((change : Change) → ComesTo C t room change → Wants C t at item change)
+  waits_at at item leaf wanted room free full found looks first last =
+      (last (looks_lower C t 0 leaf.level wanted (omega arith) (looks leaf free.at_leaf.is full)), wants)
+    where
+      wants : (change : Change) → ComesTo C t room change → Wants C t at item change
+      wants change comes =
+          let here = found change (first change comes) in
+          inr (leaf, free, full, subst (λ (n : Node C). MakesRoom C t at n.place change) (some_one here.1 free.at_leaf.is) here.3)
+
+  -- what is next at a leaf where no search holds the item back
+  module _ (at : Handle) (item : C.Item) (node : Node C) (is : value_at t.nodes at ≡ Some node) (there : (leaf : Node C) × IsFree C t at item leaf) where
+    here_free : IsFree C t at item node
+    here_free = subst (λ (n : Node C). IsFree C t at item n) (some_one there.1.at_leaf.is is) there.1
+
+    pub place_may : size_of node.body < NODE_SIZE → (key : ℕ) → MayPlace C t at (key, item)
+    place_may room key = may_place at item node here_free room key
+
+    pub place_next : size_of node.body < NODE_SIZE → (leaf : Node C) × IsFree C t at item leaf × (size_of leaf.body < NODE_SIZE)
+    place_next room = (node, here_free, room)
+
+    pub wait_next : (wanted room : Room C.Key) → size_of node.body ≡ NODE_SIZE
+        → ((change : Change) → ComesTo C t wanted change → (n : Node C) × (value_at t.nodes at ≡ Some n) × (size_of n.body ≡ NODE_SIZE) × MakesRoom C t at n.place change)
+        → ((n : Node C) → value_at t.nodes at ≡ Some n → size_of n.body ≡ NODE_SIZE → LooksFrom C t n.level wanted)
+        → ((change : Change) → ComesTo C t room change → ComesTo C t wanted change) → (LooksFrom C t 0 wanted → IsChange room)
+        → IsChange room × ((change : Change) → ComesTo C t room change → Wants C t at item change)
+    wait_next wanted room full found looks first last = waits_at at item node wanted room here_free full found looks first last

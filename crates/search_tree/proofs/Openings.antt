@@ -1,7 +1,7 @@
 -- Searches begin and end.
-use Rattle.std.proofs.Common.{◌≡◌, ◌≢◌, ℕ, ◌==◌, true, false, not, [], ◌∷◌, ◌++◌, filter, slice_index_or, Option, Some, None, is_some, refl, sym, ap, subst, ◌∙◌, inl, inr}
+use Rattle.std.proofs.Common.{◌≡◌, ◌≢◌, ℕ, ◌==◌, true, false, not, List, [], ◌∷◌, ◌++◌, ◌+◌, length, length-append, filter, slice_index_or, Option, Some, None, is_some, refl, sym, ap, subst, ◌∙◌, inl, inr}
 use Rattle.std.proofs.lemmas.Bool.{cases_eq}
-use Rattle.predicate_locks.specs.Searches.{Searches as RunningSearches, search_at, IsEntered, IsLeft}
+use Rattle.predicate_locks.specs.Searches.{Searches as RunningSearches, search_at, does_run, IsEntered, IsLeft}
 use Rattle.predicate_locks.specs.declared.running.RunningSearch.{RunningSearch}
 use Rattle.tree_theory.proofs.ContentsKept.{contents_opened, contents_closed}
 use Rattle.tree_theory.proofs.SearchVisit.{searches_opened, searches_closed}
@@ -10,7 +10,7 @@ use Rattle.tree_theory.specs.Changes.{IsOpened, IsClosed}
 use Rattle.tree_theory.specs.KeyClasses.{Class}
 use Rattle.std.specs.Option.{option_map}
 use Rattle.search_tree.specs.Calls.{IsOpen, IsShut, found_in, found_of}
-use Rattle.search_tree.specs.Trees.{PlainProgress, PlainTree, IsFirstOf, IsSound, search_of, progress_at, seen, tree_of}
+use Rattle.search_tree.specs.Trees.{PlainProgress, PlainTree, IsFirstOf, IsSound, search_of, progress_at, search_in, seen, tree_of}
 use Rattle.search_tree.proofs.ListEnds.{read_any}
 use Rattle.search_tree.proofs.ProgressLemmas.{first_read, pushed_here, pushed_other, filtered_here, filtered_other}
 
@@ -22,6 +22,7 @@ module _ (C : Class) (t : PlainTree C.Key C.Query C.Item) where
   -- a search more, which has the root before it
   pub record HasEntered (running : RunningSearches C.Query) (p : PlainProgress C.Item) (query : C.Query) : Type 0 where
     pub entered : IsEntered t.running running (record { number = p.number; query = query; begun = t.counter })
+    pub listed : running.running ≡ t.running.running ++ record { number = p.number; query = query; begun = t.counter } ∷ []
     pub stack : p.stack ≡ (t.root, t.counter) ∷ []
     pub found : p.found ≡ []
 
@@ -66,6 +67,7 @@ module _ (C : Class) (t : PlainTree C.Key C.Query C.Item) where
         runs = rw (has.entered.runs, pushed_here t.progress p (absent sound has), has.stack, has.found) refl;
         others = λ x apart. rw (has.entered.others x apart, pushed_other x t.progress p (λ e. apart (sym e))) refl;
         next = has.entered.next;
+        more = ap length has.listed ∙ length-append t.running.running (record { number = p.number; query = query; begun = t.counter } ∷ []);
         contents = λ xs. contents_opened (opened_step sound has);
         counts = record { counter = refl; limit = refl; level = refl; taken = refl; slots = refl };
       }
@@ -94,12 +96,22 @@ module _ (C : Class) (t : PlainTree C.Key C.Query C.Item) where
         ];
       }
 
-  pub closed_call : {running : RunningSearches C.Query} {number : ℕ} → IsSound C t → IsLeft t.running running number → IsShut C t (without running number) number
-  closed_call {running = running} {number = number} sound left =
+  -- a search that callers see runs
+  seen_runs : (number : ℕ) → is_some (search_in t number) ≡ true → does_run t.running number ≡ true
+  seen_runs number has = go (search_at t.running number) refl
+    where
+      go : (o : Option (RunningSearch C.Query)) → search_at t.running number ≡ o → does_run t.running number ≡ true
+      go None e = let no : false ≡ true = sym (ap (λ o. is_some (option_map seen (search_of o (progress_at number t.progress)))) e) ∙ has in absurd (cc)
+      go (Some run) e = ap is_some e
+
+  pub closed_call : {running : RunningSearches C.Query} {number : ℕ} → IsSound C t → IsLeft t.running running number
+      → (does_run t.running number ≡ true → length running.running + 1 ≡ length t.running.running) → IsShut C t (without running number) number
+  closed_call {running = running} {number = number} sound left fewer =
       record {
         gone = rw left.gone refl;
         others = λ x apart. rw (left.others x apart, filtered_other number x t.progress apart) refl;
         next = left.next;
+        fewer = λ has. fewer (seen_runs number has);
         contents = λ xs. contents_closed (closed_step left);
         counts = record { counter = refl; limit = refl; level = refl; taken = refl; slots = refl };
       }

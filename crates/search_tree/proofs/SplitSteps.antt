@@ -153,7 +153,7 @@ module _ (C : Class) (t : PlainTree C.Key C.Query C.Item) (nodes : Slots (Node C
           contents = λ xs. contents_split split_step;
           searches = λ s. refl;
           steps = λ s. refl;
-          next = refl;
+          running = refl;
           limit = refl;
           counter = refl;
           level = omega (arith, level);

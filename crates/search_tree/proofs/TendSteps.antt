@@ -96,7 +96,7 @@ module _ (C : Class) (t : PlainTree C.Key C.Query C.Item) where
         record {
           searches = λ s. refl;
           steps = λ s. refl;
-          next = refl;
+          running = refl;
           limit = refl;
           level = ap level_of (changed.other_values t.root not_root);
           slots = slots;
@@ -151,7 +151,7 @@ module _ (C : Class) (t : PlainTree C.Key C.Query C.Item) where
         record {
           searches = λ s. refl;
           steps = λ s. refl;
-          next = refl;
+          running = refl;
           limit = refl;
           level = level_stays t.root removed (λ n. refl) ∙ level_stays t.root stamped (λ n. refl);
           slots = removed.counts.slots ∙ stamped.counts.slots;

@@ -77,7 +77,7 @@ module _ (C : Class) (t : PlainTree C.Key C.Query C.Item) (at search : ℕ) wher
               (rw (set_here search t.progress at q first (ap (λ (d : PlainProgress C.Item). d.number) same ∙ (ap (λ (d : PlainProgress C.Item). d.number) (sym (reads p)) ∙ first.named p)), first_read search t.progress at p first reads, same) refl)
           | inr other ↦ ap steps_of (set_other search s t.progress at q first (ap (λ (d : PlainProgress C.Item). d.number) same ∙ (ap (λ (d : PlainProgress C.Item). d.number) (sym (reads p)) ∙ first.named p)) other)
         ];
-        next = refl;
+        running = refl;
         contents = λ xs. contents_closed step;
         counts = record { counter = refl; limit = refl; level = ap level_of (same_nodes.each t.root); taken = same_nodes.counts.taken; slots = same_nodes.counts.slots };
       }
@@ -117,7 +117,7 @@ module _ (C : Class) (t : PlainTree C.Key C.Query C.Item) (at search : ℕ) wher
           now = rw (runs, new, saw.found) refl;
           steps = rw (new, old) visited.steps;
           others = others;
-          next = refl;
+          running = refl;
           contents = λ xs. contents_visited (visited_seen C t at search run p q nodes runs first reads visited.x visited.memo visited.rest visited.popped number named saw);
           counts = record { counter = refl; limit = refl; level = level_kept nodes visited.x _ saw.changed (λ n. refl); taken = saw.changed.counts.taken; slots = saw.changed.counts.slots };
         }
@@ -132,7 +132,7 @@ module _ (C : Class) (t : PlainTree C.Key C.Query C.Item) (at search : ℕ) wher
           now = rw (runs, new, gone.found, append-nil p.found) refl;
           steps = rw (new, old) visited.steps;
           others = others;
-          next = refl;
+          running = refl;
           contents = λ xs. contents_visited_gone (visited_gone C t at search run p q nodes runs first reads visited.x visited.memo visited.rest visited.popped number gone);
           counts = record { counter = refl; limit = refl; level = ap level_of (gone.same.each t.root); taken = gone.same.counts.taken; slots = gone.same.counts.slots };
         }

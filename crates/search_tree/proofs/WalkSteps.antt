@@ -21,7 +21,7 @@ use Rattle.search_tree.specs.Advances.{HasPlacedBehindNone}
 use Rattle.search_tree.specs.Arenas.{IsChanged, AreSame, Holds}
 use Rattle.search_tree.specs.Calls.{IsAlike}
 use Rattle.search_tree.specs.Trees.{PlainTree, SeenSearch, IsSound, IsInner, level_of, search_in, search_of, seen, progress_at, tree_of}
-use Rattle.search_tree.specs.Walks.{MayPlace, HasPlaced, MayJoinAll, HasJoined, MayEnlarge}
+use Rattle.search_tree.specs.Walks.{MayPlace, HasEnlarged, HasPlaced, MayJoinAll, HasJoined, MayEnlarge}
 use Rattle.search_tree.proofs.Complete.{nothing_left}
 use Rattle.search_tree.proofs.Kept.{Parts, parts_of, with_all_kept}
 use Rattle.search_tree.proofs.TendSteps.{some_one}
@@ -36,7 +36,7 @@ module _ (C : Class) (t : PlainTree C.Key C.Query C.Item) (nodes : Slots (Node C
   running : (s : ℕ) (search : Search C) → search_of (search_at t.running s) (progress_at s t.progress) ≡ Some search → Parts (search_at t.running s) (progress_at s t.progress) search
   running s search is = parts_of (search_at t.running s) (progress_at s t.progress) search is
 
-  placed_step : (at : Handle) (pair : ℕ × C.Item) → MayPlace C t at pair → IsChanged t.nodes nodes at (λ n. record n { body = Leaf (pairs_of n.body ++ pair ∷ []) }) → IsPlaced (tree_of C t) (tree_of C now) at pair
+  pub placed_step : (at : Handle) (pair : ℕ × C.Item) → MayPlace C t at pair → IsChanged t.nodes nodes at (λ n. record n { body = Leaf (pairs_of n.body ++ pair ∷ []) }) → IsPlaced (tree_of C t) (tree_of C now) at pair
   placed_step at pair may changed =
       record {
         node = may.node;
@@ -66,7 +66,7 @@ module _ (C : Class) (t : PlainTree C.Key C.Query C.Item) (nodes : Slots (Node C
         contents = λ xs. contents_placed (placed_step at pair may changed);
         searches = λ s. refl;
         steps = λ s. refl;
-        next = refl;
+        running = refl;
         counts = record { counter = refl; limit = refl; level = level_kept C t 0 0 nodes at _ changed (λ n. refl); taken = changed.counts.taken; slots = changed.counts.slots };
       }
 
@@ -111,7 +111,7 @@ module _ (C : Class) (t : PlainTree C.Key C.Query C.Item) (nodes : Slots (Node C
         alike = record {
           searches = λ s. refl;
           steps = λ s. refl;
-          next = refl;
+          running = refl;
           contents = λ xs. contents_joined (joined_step at more may changed);
           counts = record { counter = refl; limit = refl; level = level_kept C t 0 0 nodes at _ changed (λ n. refl); taken = changed.counts.taken; slots = changed.counts.slots };
         };
@@ -134,7 +134,7 @@ module _ (C : Class) (t : PlainTree C.Key C.Query C.Item) (nodes : Slots (Node C
       record {
         searches = λ s. refl;
         steps = λ s. refl;
-        next = refl;
+        running = refl;
         contents = λ xs. contents_closed (same_step same sound);
         counts = record { counter = refl; limit = refl; level = ap level_of (same.each t.root); taken = same.counts.taken; slots = same.counts.slots };
       }
@@ -161,6 +161,10 @@ module _ (C : Class) (t : PlainTree C.Key C.Query C.Item) (nodes : Slots (Node C
         clock = record { root = refl; counter = refl; next = refl };
       }
 
+  pub has_enlarged : (p : Handle) (place : ℕ) (old key : C.Key) (child : Handle) → MayEnlarge C t p place old key child → IsChanged t.nodes nodes p (λ n. record n { body = Inner (slice_set (entries_of n.body) place (C.united old key, child)) }) → HasEnlarged C t now p old key child
+  unfolding enlarged_step
+  has_enlarged p place old key child may changed = record { step = enlarged_step p place old key child may changed; old_is = refl; child_is = refl }
+
   pub enlarged_sound : Laws C → (p : Handle) (place : ℕ) (old key : C.Key) (child : Handle) → MayEnlarge C t p place old key child → IsChanged t.nodes nodes p (λ n. record n { body = Inner (slice_set (entries_of n.body) place (C.united old key, child)) }) → IsSound C t → IsSound C now
   enlarged_sound laws p place old key child may changed sound =
       let step = enlarged_step p place old key child may changed in
@@ -174,7 +178,7 @@ module _ (C : Class) (t : PlainTree C.Key C.Query C.Item) (nodes : Slots (Node C
       record {
         searches = λ s. refl;
         steps = λ s. refl;
-        next = refl;
+        running = refl;
         contents = λ xs. contents_enlarged (enlarged_step p place old key child may changed);
         counts = record { counter = refl; limit = refl; level = level_kept C t 0 0 nodes p _ changed (λ n. refl); taken = changed.counts.taken; slots = changed.counts.slots };
       }

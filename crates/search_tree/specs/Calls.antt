@@ -1,5 +1,5 @@
 -- What the calls do, as callers see it: the contents, the searches, and the counts.
-use Rattle.std.specs.Prelude.{◌≡◌, ◌≢◌, ◌+◌, ◌++◌, ◌<◌, ◌≤◌, ℕ, Bool, true, false, [], List, Contains, length, slice_index_or, Option, None, Some, Result, Ok, Err}
+use Rattle.std.specs.Prelude.{◌≡◌, ◌≢◌, ◌+◌, ◌++◌, ◌<◌, ◌≤◌, ℕ, Bool, true, false, [], List, Contains, length, slice_index_or, Option, None, Some, is_some, Result, Ok, Err}
 use Rattle.std.specs.Option.{option_map}
 use Rattle.memory.specs.declared.refused.Refused.{Refused}
 use Rattle.predicate_locks.specs.Searches.{last_number}
@@ -41,6 +41,7 @@ module _ (C : Class) where
     pub runs : search_in u search ≡ Some (record { query = query; found = []; ready = false })
     pub others : (other : ℕ) → other ≢ search → search_in u other ≡ search_in t other
     pub next : u.running.next ≡ t.running.next + 1
+    pub more : length u.running.running ≡ length t.running.running + 1
     pub contents : SameContents t u
     pub counts : SameCounts t u
 
@@ -49,6 +50,7 @@ module _ (C : Class) where
     pub gone : search_in u search ≡ None
     pub others : (other : ℕ) → other ≢ search → search_in u other ≡ search_in t other
     pub next : u.running.next ≡ t.running.next
+    pub fewer : is_some (search_in t search) ≡ true → length u.running.running + 1 ≡ length t.running.running
     pub contents : SameContents t u
     pub counts : SameCounts t u
 
@@ -62,7 +64,7 @@ module _ (C : Class) where
   pub record IsAlike (t u : PlainTree C.Key C.Query C.Item) : Type 0 where
     pub searches : (search : ℕ) → search_in u search ≡ search_in t search
     pub steps : (search : ℕ) → steps_in u search ≡ steps_in t search
-    pub next : u.running.next ≡ t.running.next
+    pub running : u.running ≡ t.running
     pub contents : SameContents t u
     pub counts : SameCounts t u
 
@@ -79,7 +81,7 @@ module _ (C : Class) where
     pub now : search_in u search ≡ Some (record { query = before.query; found = before.found ++ pairs; ready = ready })
     pub steps : steps_in u search ≡ steps_in t search + 1
     pub others : (other : ℕ) → other ≢ search → (search_in u other ≡ search_in t other) × (steps_in u other ≡ steps_in t other)
-    pub next : u.running.next ≡ t.running.next
+    pub running : u.running ≡ t.running
     pub contents : SameContents t u
     pub counts : SameCounts t u
 

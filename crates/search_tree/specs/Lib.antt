@@ -14,6 +14,7 @@ pub mod Dues
 pub mod Standings
 pub mod Splitting
 pub mod Penalties
+pub mod Cases
 pub mod Nexts
 pub mod Advances
 pub mod Halvings

@@ -153,7 +153,7 @@ module _ (C : Class) (t : PlainTree C.Key C.Query C.Item) where
     pub contents : SameContents C t u
     pub searches : (search : ℕ) → search_in u search ≡ search_in t search
     pub steps : (search : ℕ) → steps_in u search ≡ steps_in t search
-    pub next : u.running.next ≡ t.running.next
+    pub running : u.running ≡ t.running
     pub limit : u.limit ≡ t.limit
     pub counter : u.counter ≡ t.counter
     pub level : root_level u ≡ root_level t + levels

@@ -1,10 +1,25 @@
 -- How a node stands to a walk that comes to it.
-use Rattle.std.specs.Prelude.{◌≡◌, ◌⊎◌, Bool, Contains, Some}
+use Rattle.std.specs.Prelude.{◌≡◌, ◌≢◌, ◌⊎◌, ℕ, AllPairs, Bool, true, Contains, Some}
 use Rattle.node_arena.specs.Slots.{Slots, value_at}
 use Rattle.node_arena.specs.declared.handle.Handle.{Handle}
 use Rattle.tree_theory.specs.KeyClasses.{Class}
 use Rattle.tree_theory.specs.Nodes.{PlainNode, Node, entries_of}
-use Rattle.tree_theory.specs.declared.place.Place.TheVariants.{Root, Linked, Unlinked}
+use Rattle.tree_theory.specs.declared.place.Place.TheVariants.{Root, Linked, Unlinked, Retired}
+
+module _ {Key Item : Type 0} (nodes : Slots (PlainNode Key Item)) where
+  -- nothing stands there but what is retired
+  abbrev pub IsNowhere : Handle → Type 0
+  IsNowhere at = (node : PlainNode Key Item) → value_at nodes at ≡ Some node → (stamp : ℕ) × (node.place ≡ Retired stamp)
+
+  -- a marked node under this parent
+  pub record IsMarkedUnder (at parent : Handle) : Type 0 where
+    pub node : PlainNode Key Item
+    pub is : value_at nodes at ≡ Some node
+    pub linked : node.place ≡ Linked parent true
+
+  -- no two entries of a node name one child
+  abbrev pub ChildrenDiffer : Type 0
+  ChildrenDiffer = (at : Handle) (node : PlainNode Key Item) → value_at nodes at ≡ Some node → AllPairs (λ one other. one.1 ≢ other.1) (entries_of node.body)
 
 -- a node to the right of this one, with no entry of its own
 pub record IsUnlinked {Key Item : Type 0} (nodes : Slots (PlainNode Key Item)) (at left : Handle) : Type 0 where
@@ -26,3 +41,11 @@ module _ (C : Class) where
     pub node : Node C
     pub is : value_at nodes at ≡ Some node
     pub stands : (node.place ≡ Root) ⊎ ((parent : Handle) × (marked : Bool) × (node.place ≡ Linked parent marked) × IsCoveredBy nodes parent at key)
+
+  -- a node below this parent, whose entry does not cover the key
+  pub record IsAside (nodes : Slots (Node C)) (at parent : Handle) (key : C.Key) : Type 0 where
+    pub node : Node C
+    pub is : value_at nodes at ≡ Some node
+    pub marked : Bool
+    pub place : node.place ≡ Linked parent marked
+    pub uncovered : IsCoveredBy nodes parent at key → ⊥

@@ -37,7 +37,7 @@ module _ (C : Class) (t : PlainTree C.Key C.Query C.Item) where
   pub record HasTended (u : PlainTree C.Key C.Query C.Item) (tending : Tending) : Type 0 where
     pub searches : (search : ℕ) → search_in u search ≡ search_in t search
     pub steps : (search : ℕ) → steps_in u search ≡ steps_in t search
-    pub next : u.running.next ≡ t.running.next
+    pub running : u.running ≡ t.running
     pub limit : u.limit ≡ t.limit
     pub level : root_level u ≡ root_level t
     pub slots : slot_count u.nodes ≡ slot_count t.nodes
@@ -46,7 +46,7 @@ module _ (C : Class) (t : PlainTree C.Key C.Query C.Item) where
 
   -- the contents without some pairs, none of which is in Kept
   abbrev pub ContentsLess : PlainTree C.Key C.Query C.Item → (ℕ × C.Item → Type 0) → Type 0
-  ContentsLess u Kept = (xs ys : List (ℕ × C.Item)) → IsContents (tree_of C t) xs → IsContents (tree_of C u) ys → LosesPairs Kept xs ys
+  ContentsLess u Kept = (xs : List (ℕ × C.Item)) → IsContents (tree_of C t) xs → (ys : List (ℕ × C.Item)) × IsContents (tree_of C u) ys × LosesPairs Kept xs ys
 
   -- the contents lose pairs only where a leaf is cleaned
   abbrev pub ContentsTended : (ℕ × C.Item → Type 0) → PlainTree C.Key C.Query C.Item → Tending → Type 0

@@ -153,6 +153,7 @@ module _ (C : Class) where
   pub record IsFirst (counter next limit : ℕ) (t : PlainTree C.Key C.Query C.Item) : Type 0 where
     pub contents : IsContents (tree_of t) []
     pub searches : (s : ℕ) → search_in t s ≡ None
+    pub none_run : t.running.running ≡ []
     pub counter_is : t.counter ≡ counter
     pub next_is : t.running.next ≡ next
     pub limit_is : t.limit ≡ limit

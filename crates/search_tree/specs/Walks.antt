@@ -5,7 +5,7 @@ use Rattle.node_arena.specs.declared.handle.Handle.{Handle}
 use Rattle.predicate_locks.specs.Numbers.{with_numbers}
 use Rattle.predicate_locks.specs.Searches.{Searches, does_run, search_at}
 use Rattle.predicate_locks.specs.declared.running.RunningSearch.{RunningSearch}
-use Rattle.tree_theory.specs.Changes.{MayTake, MayJoin}
+use Rattle.tree_theory.specs.Changes.{IsEnlarged, MayTake, MayJoin}
 use Rattle.tree_theory.specs.Contents.{IsContents}
 use Rattle.tree_theory.specs.KeyClasses.{Class}
 use Rattle.tree_theory.specs.Nodes.{PlainNode, Node, entries_of, is_marked}
@@ -72,7 +72,7 @@ module _ (C : Class) (t : PlainTree C.Key C.Query C.Item) where
     pub contents : (xs : List (ℕ × C.Item)) → IsContents (tree_of C t) xs → IsContents (tree_of C u) (xs ++ pair ∷ [])
     pub searches : (search : ℕ) → search_in u search ≡ search_in t search
     pub steps : (search : ℕ) → steps_in u search ≡ steps_in t search
-    pub next : u.running.next ≡ t.running.next
+    pub running : u.running ≡ t.running
     pub counts : SameCounts C t u
 
   -- searches that have nothing to look for in a node may be attached to it
@@ -121,3 +121,20 @@ module _ (C : Class) (t : PlainTree C.Key C.Query C.Item) where
     pub more : MoreAttached C searches t.nodes u.nodes
     pub done : (s : ℕ) → Contains searches s → Done (tree_of C u) s child
     pub alike : IsAlike C t u
+
+  -- the entry of p that has this key and names the child has the union of the key with another one
+  pub record HasEnlarged (u : PlainTree C.Key C.Query C.Item) (p : Handle) (old key : C.Key) (child : Handle) : Type 0 where
+    pub step : IsEnlarged (tree_of C t) (tree_of C u) p key
+    pub old_is : step.old ≡ old
+    pub child_is : step.child ≡ child
+
+-- The searches that have seen the node and that the entry's wider key leads on, but not the old one, are attached to
+-- the child, and where it is marked to its right node. Then the entry has the union of its key with the item's.
+pub record HasDescended (C : Class) (t u : PlainTree C.Key C.Query C.Item) (at child : Handle) (old key : C.Key) : Type 0 where
+  pub node : Node C
+  pub is : value_at t.nodes at ≡ Some node
+  pub led : List ℕ
+  pub are_led : AreLed C t.running old (C.united old key) node.attached led
+  pub mid : PlainTree C.Key C.Query C.Item
+  pub joined : HasJoinedBelow C t mid child led
+  pub enlarged : HasEnlarged C mid u at old key child

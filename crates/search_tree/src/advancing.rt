@@ -1,9 +1,10 @@
 //! One step of a walk.
 
 ghost use Rattle.std.specs.Prelude.{◌≡◌, ℕ, IfOk, IfErr, OnErr};
-ghost use Rattle.search_tree.specs.Advances.{HasAdvanced, IsAdvance, MayRefuse};
+ghost use Rattle.search_tree.specs.Advances.{HasAdvanced, IsAdvance, MayRefuse, MayWalk};
 ghost use Rattle.search_tree.specs.Calls.{IsAlike};
-ghost use Rattle.search_tree.specs.Nexts.{MayMake};
+ghost use Rattle.search_tree.specs.Cases.{TakesStep};
+ghost use Rattle.search_tree.specs.Nexts.{IsChange, Makes, MayMake, answer_in, place_in};
 ghost use Rattle.tree_theory.specs.KeyClasses.{class_of};
 
 use crate::answers::Step;
@@ -28,7 +29,8 @@ impl<C: KeyClass, A: Allocator + Copy> Tree<C, A> {
     ///
     /// A walk whose pair is placed is answered Placed again, and makes no step. S7 where it has made all its steps. S3 where a search that has seen the leaf, and so would miss the pair, looks for it: the walk goes on once that search is closed. S4 where no slot is free for a node, S5 where the root would stand too high, S6 where the counter is at its end, S8 where there is no memory. A step that is refused is not counted, and changes nothing that callers see.
     pub fn advance(&mut self, walk: &mut Walk<C::Item>) -> Result<Step, TreeFault>
-        ensures { IsAdvance (class_of C.covered C.may_match C.is_match C.key_with C.united) self.old self.new walk.old walk.new result }
+        ensures step { IsAdvance (class_of C.covered C.may_match C.is_match C.key_with C.united) self.old self.new walk.old walk.new result }
+        ensures first { MayWalk self.old.limit walk.old → TakesStep (class_of C.covered C.may_match C.is_match C.key_with C.united) self.old self.new walk.old.at walk.new.at C.growth C.second_growth (walk.old.key, walk.old.item) result }
     {
         if walk.placed() {
             return Ok(Step::Placed);
@@ -50,6 +52,7 @@ impl<C: KeyClass, A: Allocator + Copy> Tree<C, A> {
         ensures ok { IfOk result (λ made. HasAdvanced (class_of C.covered C.may_match C.is_match C.key_with C.united) self.old self.new (key, item) made.step) }
         ensures err { IfErr result (MayRefuse (class_of C.covered C.may_match C.is_match C.key_with C.united) self.old item) }
         ensures alike { OnErr result (IsAlike (class_of C.covered C.may_match C.is_match C.key_with C.united) self.old self.new) }
+        ensures first { TakesStep (class_of C.covered C.may_match C.is_match C.key_with C.united) self.old self.new at (place_in at result) C.growth C.second_growth (key, item) (answer_in result) }
     {
         match self.next_for(at, item) {
             Next::Restart => Ok(self.restart()),
@@ -78,7 +81,8 @@ impl<C: KeyClass, A: Allocator + Copy> Tree<C, A> {
 
     // At the root, where a walk begins anew.
     fn restart(&self) -> Arrival
-        ensures { result.step ≡ Step.Restarted }
+        ensures step { result.step ≡ Step.Restarted }
+        ensures at { result.at ≡ self.now.root }
     {
         Arrival {
             step: Step::Restarted,
@@ -88,10 +92,12 @@ impl<C: KeyClass, A: Allocator + Copy> Tree<C, A> {
 
     // Makes room where a walk stands, or brings that nearer. After a split the walk stands at the new right node, since its left node would get all that comes.
     fn make_room(&mut self, room: &Room<C::Key>, at: Handle) -> Result<Arrival, TreeFault>
-        requires { MayMake (class_of C.covered C.may_match C.is_match C.key_with C.united) self.old room.now }
+        requires may { MayMake (class_of C.covered C.may_match C.is_match C.key_with C.united) self.old room.now }
+        requires change { IsChange room.now }
         ensures ok { IfOk result (λ made. (pair : ℕ × C.Item) → HasAdvanced (class_of C.covered C.may_match C.is_match C.key_with C.united) self.old self.new pair made.step) }
         ensures err { IfErr result (λ fault. (item : C.Item) → MayRefuse (class_of C.covered C.may_match C.is_match C.key_with C.united) self.old item fault) }
         ensures alike { OnErr result (IsAlike (class_of C.covered C.may_match C.is_match C.key_with C.united) self.old self.new) }
+        ensures made { Makes (class_of C.covered C.may_match C.is_match C.key_with C.united) self.old self.new at (place_in at result) room.now (answer_in result) }
     {
         match room {
             Room::Install(entry) => match self.next_count() {
@@ -118,8 +124,7 @@ impl<C: KeyClass, A: Allocator + Copy> Tree<C, A> {
                 }),
                 Err(fault) => Err(fault),
             },
-            Room::Behind(_) => Ok(self.restart()),
-            Room::Nothing => Ok(self.restart()),
+            Room::Behind(_) | Room::Nothing => unreachable!(),
         }
     }
 }

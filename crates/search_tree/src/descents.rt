@@ -4,7 +4,7 @@ ghost use Rattle.std.specs.Prelude.{◌≡◌, ◌≤◌, Some, OnOk, OnErr, len
 ghost use Rattle.node_arena.specs.Slots.{value_at};
 ghost use Rattle.predicate_locks.specs.declared.TheConstants.{MAX_ROOM, MAX_RUNNING};
 ghost use Rattle.search_tree.specs.Calls.{IsAlike};
-ghost use Rattle.search_tree.specs.Walks.{AreLed, MayDescend};
+ghost use Rattle.search_tree.specs.Walks.{AreLed, HasDescended, MayDescend};
 ghost use Rattle.tree_theory.specs.KeyClasses.{class_of};
 ghost use Rattle.tree_theory.specs.Nodes.{PlainNode};
 
@@ -31,6 +31,7 @@ impl<C: KeyClass, A: Allocator + Copy> Tree<C, A> {
     pub(crate) fn descend(&mut self, way: &WayDown<C::Key>, key: C::Key) -> Result<(), Refused>
         requires { MayDescend (class_of C.covered C.may_match C.is_match C.key_with C.united) self.old way.now key }
         ensures ok { OnOk result (IsAlike (class_of C.covered C.may_match C.is_match C.key_with C.united) self.old self.new) }
+        ensures step { OnOk result (HasDescended (class_of C.covered C.may_match C.is_match C.key_with C.united) self.old self.new way.now.parent way.now.child way.now.key key) }
         ensures err { OnErr result (IsAlike (class_of C.covered C.may_match C.is_match C.key_with C.united) self.old self.new) }
     {
         let led = self.led_by(way, C::union(way.key, key));

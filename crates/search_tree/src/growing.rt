@@ -41,6 +41,7 @@ impl<C: KeyClass, A: Allocator + Copy> Tree<C, A> {
     pub(crate) fn grow(&mut self) -> Result<(), TreeFault>
         requires { MayGrow (class_of C.covered C.may_match C.is_match C.key_with C.united) self.old }
         ensures ok { OnOk result (HasMoreNodes (class_of C.covered C.may_match C.is_match C.key_with C.united) self.old self.new 2 1) }
+        ensures grown { OnOk result (HasGrown (class_of C.covered C.may_match C.is_match C.key_with C.united) self.old.nodes self.new.nodes self.old.root self.old.counter) }
         ensures too_high { (result ≡ Err TreeFault.TooHigh) ↔ (root_level self.old ≡ TOP_LEVEL) }
         ensures full { (result ≡ Err TreeFault.Full) ↔ ((root_level self.old ≢ TOP_LEVEL) × (MAX_SLOTS < taken_count self.old.nodes + 2)) }
         ensures faults { IfErr result (λ fault. (fault ≡ TreeFault.TooHigh) ⊎ (fault ≡ TreeFault.Full) ⊎ (fault ≡ TreeFault.Memory refused)) }

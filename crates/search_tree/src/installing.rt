@@ -3,6 +3,8 @@
 ghost use Rattle.std.specs.Prelude.{◌≡◌, ◌+◌};
 ghost use Rattle.search_tree.specs.Calls.{SameContents};
 ghost use Rattle.search_tree.specs.Tends.{HasTended, MayInstall};
+ghost use Rattle.search_tree.specs.Trees.{tree_of};
+ghost use Rattle.tree_theory.specs.Changes.{IsInstalled};
 ghost use Rattle.tree_theory.specs.KeyClasses.{class_of};
 
 use crate::answers::Tending;
@@ -30,6 +32,7 @@ impl<C: KeyClass, A: Allocator> Tree<C, A> {
         requires seq { seq ≡ self.old.counter + 1 }
         ensures tended { HasTended (class_of C.covered C.may_match C.is_match C.key_with C.united) self.old self.new Tending.Installed }
         ensures contents { SameContents (class_of C.covered C.may_match C.is_match C.key_with C.united) self.old self.new }
+        ensures step { IsInstalled (tree_of (class_of C.covered C.may_match C.is_match C.key_with C.united) self.old) (tree_of (class_of C.covered C.may_match C.is_match C.key_with C.united) self.new) entry.now.parent entry.now.left entry.now.right }
     {
         let place = Place::Linked {
             parent: entry.parent,

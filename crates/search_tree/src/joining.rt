@@ -4,7 +4,7 @@ ghost use Rattle.std.specs.Prelude.{◌≡◌, ◌≤◌, Some, OnOk, OnErr, len
 ghost use Rattle.node_arena.specs.Slots.{value_at};
 ghost use Rattle.predicate_locks.specs.declared.TheConstants.{MAX_ROOM};
 ghost use Rattle.search_tree.specs.Calls.{IsAlike};
-ghost use Rattle.search_tree.specs.Walks.{MayJoinAll, HasJoined, MayJoinBelow, HasJoinedBelow, MayEnlarge, marked_right as right_of_marked};
+ghost use Rattle.search_tree.specs.Walks.{MayJoinAll, HasEnlarged, HasJoined, MayJoinBelow, HasJoinedBelow, MayEnlarge, marked_right as right_of_marked};
 ghost use Rattle.tree_theory.specs.KeyClasses.{class_of};
 
 use crate::descending::marked_right;
@@ -65,7 +65,8 @@ impl<C: KeyClass, A: Allocator> Tree<C, A> {
         child: Handle,
     )
         requires { MayEnlarge (class_of C.covered C.may_match C.is_match C.key_with C.united) self.old parent place old key child }
-        ensures { IsAlike (class_of C.covered C.may_match C.is_match C.key_with C.united) self.old self.new }
+        ensures alike { IsAlike (class_of C.covered C.may_match C.is_match C.key_with C.united) self.old self.new }
+        ensures step { HasEnlarged (class_of C.covered C.may_match C.is_match C.key_with C.united) self.old self.new parent old key child }
     {
         let union = C::union(old, key);
         set_key(&mut self.nodes, parent, place, union);

@@ -74,6 +74,7 @@ impl<C: KeyClass, A: Allocator> Tree<C, A> {
     pub(crate) fn lacking(&self, at: Handle) -> Option<NewEntry<C::Key>>
         ensures may { IfSome result (MayInstall (class_of C.covered C.may_match C.is_match C.key_with C.united) self.now) }
         ensures due { IfSome result (λ entry. LacksEntry (class_of C.covered C.may_match C.is_match C.key_with C.united) self.now at) }
+        ensures left { IfSome result (λ entry. entry.left ≡ at) }
         ensures none { IfNone result (LacksEntry (class_of C.covered C.may_match C.is_match C.key_with C.united) self.now at → ⊥) }
     {
         let left = self.nodes.get(at)?;
@@ -210,8 +211,8 @@ pub(crate) fn parent_of(place: Place, wanted: bool) -> Option<Handle>
     }
 }
 
-// Where a child stands among others.
-fn place_among(children: &[Handle], child: Handle) -> Option<usize>
+/// Where a child stands among others.
+pub(crate) fn place_among(children: &[Handle], child: Handle) -> Option<usize>
     ensures some { IfSome result (λ place. slice_get children.now place ≡ Some child) }
     ensures none { IfNone result ((place : ℕ) → slice_get children.now place ≡ Some child → ⊥) }
 {

@@ -1,11 +1,14 @@
 //! What is next for a walk. Nothing here changes anything.
 
-ghost use Rattle.std.specs.Prelude.{◌≡◌, ◌<◌, IfSome, Some};
+ghost use Rattle.std.specs.Prelude.{◌≡◌, Some};
 ghost use Rattle.node_arena.specs.Slots.{value_at};
-ghost use Rattle.search_tree.specs.Nexts.{MayGo};
+ghost use Rattle.search_tree.specs.Cases.{IsAtLeaf, IsFree, IsWayDown};
+ghost use Rattle.search_tree.specs.Nexts.{IsNext, MayGo};
 ghost use Rattle.search_tree.specs.Standings.{IsHere};
+ghost use Rattle.search_tree.specs.Trees.{IsInner};
 ghost use Rattle.search_tree.specs.Walks.{MayDescend};
 ghost use Rattle.tree_theory.specs.KeyClasses.{class_of};
+ghost use Rattle.tree_theory.specs.Nodes.{PlainNode};
 
 use crate::descents::WayDown;
 use crate::penalties::best_entry;
@@ -15,7 +18,7 @@ use crate::tree::Tree;
 use crate::walking::holder_of;
 use node_arena::Handle;
 use std::alloc::Allocator;
-use tree_theory::{KeyClass, NODE_SIZE};
+use tree_theory::KeyClass;
 
 /// What is next for a walk.
 pub(crate) enum Next<K> {
@@ -36,7 +39,8 @@ pub(crate) enum Next<K> {
 impl<C: KeyClass, A: Allocator> Tree<C, A> {
     // What is next for a walk of this item that stands here: the first of the cases that holds.
     pub(crate) fn next_for(&self, at: Handle, item: C::Item) -> Next<C::Key>
-        ensures { MayGo (class_of C.covered C.may_match C.is_match C.key_with C.united) self.now at item result }
+        ensures may { MayGo (class_of C.covered C.may_match C.is_match C.key_with C.united) self.now at item result }
+        ensures first { IsNext (class_of C.covered C.may_match C.is_match C.key_with C.united) self.now C.growth C.second_growth at item result }
     {
         match standing_at::<C, A>(&self.nodes, at, C::key_of(item)) {
             Standing::Nowhere => Next::Restart,
@@ -49,53 +53,66 @@ impl<C: KeyClass, A: Allocator> Tree<C, A> {
     // What is next at a node that may take the item.
     fn next_here(&self, at: Handle, item: C::Item) -> Next<C::Key>
         requires { IsHere (class_of C.covered C.may_match C.is_match C.key_with C.united) self.now.nodes at (C.key_with item) }
-        ensures { MayGo (class_of C.covered C.may_match C.is_match C.key_with C.united) self.now at item result }
+        ensures may { MayGo (class_of C.covered C.may_match C.is_match C.key_with C.united) self.now at item result }
+        ensures first { IsNext (class_of C.covered C.may_match C.is_match C.key_with C.united) self.now C.growth C.second_growth at item result }
     {
         let Some(node) = self.nodes.get(at) else {
-            return Next::Restart;
+            unreachable!();
         };
         if node.is_leaf() {
             return self.next_at_leaf(at, item);
         }
-        match self.best_way(at, C::key_of(item)) {
-            Some(way) => Next::Descend(way),
-            None => Next::Restart,
-        }
+        Next::Descend(self.best_way(at, C::key_of(item)))
     }
 
     // What is next at a leaf that may take the item.
     fn next_at_leaf(&self, at: Handle, item: C::Item) -> Next<C::Key>
-        requires { IsHere (class_of C.covered C.may_match C.is_match C.key_with C.united) self.now.nodes at (C.key_with item) }
-        ensures { MayGo (class_of C.covered C.may_match C.is_match C.key_with C.united) self.now at item result }
+        requires { (leaf : PlainNode C.Key C.Item) × IsAtLeaf (class_of C.covered C.may_match C.is_match C.key_with C.united) self.now at item leaf }
+        ensures may { MayGo (class_of C.covered C.may_match C.is_match C.key_with C.united) self.now at item result }
+        ensures first { IsNext (class_of C.covered C.may_match C.is_match C.key_with C.united) self.now C.growth C.second_growth at item result }
     {
         let Some(node) = self.nodes.get(at) else {
-            return Next::Restart;
+            unreachable!();
         };
-        if let Some(number) = holder_of::<C, A>(&self.running, node.attached(), item) {
-            return Next::Hold(number);
+        match holder_of::<C, A>(&self.running, node.attached(), item) {
+            Some(number) => Next::Hold(number),
+            None => self.next_when_free(at, item),
         }
-        if node.is_leaf() && node.size() < NODE_SIZE {
+    }
+
+    // What is next at a leaf where no search holds the item back.
+    fn next_when_free(&self, at: Handle, item: C::Item) -> Next<C::Key>
+        requires { (leaf : PlainNode C.Key C.Item) × IsFree (class_of C.covered C.may_match C.is_match C.key_with C.united) self.now at item leaf }
+        ensures may { MayGo (class_of C.covered C.may_match C.is_match C.key_with C.united) self.now at item result }
+        ensures first { IsNext (class_of C.covered C.may_match C.is_match C.key_with C.united) self.now C.growth C.second_growth at item result }
+    {
+        let Some(node) = self.nodes.get(at) else {
+            unreachable!();
+        };
+        if !node.is_full() {
             return Next::Place;
         }
         Next::Make(self.nearest(self.room_at(at)))
     }
 
-    // The entry to go down by: one that grows least by the key.
-    fn best_way(&self, at: Handle, key: C::Key) -> Option<WayDown<C::Key>>
-        requires { IsHere (class_of C.covered C.may_match C.is_match C.key_with C.united) self.now.nodes at key }
-        ensures { IfSome result (λ way. MayDescend (class_of C.covered C.may_match C.is_match C.key_with C.united) self.now way key) }
+    // The entry of an inner node to go down by: one that grows least by the key.
+    fn best_way(&self, at: Handle, key: C::Key) -> WayDown<C::Key>
+        requires here { IsHere (class_of C.covered C.may_match C.is_match C.key_with C.united) self.now.nodes at key }
+        requires inner { (node : PlainNode C.Key C.Item) × (value_at self.now.nodes at ≡ Some node) × IsInner node.body }
+        ensures may { MayDescend (class_of C.covered C.may_match C.is_match C.key_with C.united) self.now result key }
+        ensures from { result.parent ≡ at }
+        ensures best { IsWayDown (class_of C.covered C.may_match C.is_match C.key_with C.united) self.now C.growth C.second_growth at key result.child result.key }
     {
-        let node = self.nodes.get(at)?;
+        let Some(node) = self.nodes.get(at) else {
+            unreachable!();
+        };
         let keys = node.keys();
-        if node.is_leaf() || keys.is_empty() {
-            return None;
-        }
         let place = best_entry::<C>(keys, key);
-        Some(WayDown {
+        WayDown {
             parent: at,
             place,
             key: keys[place],
             child: node.children()[place],
-        })
+        }
     }
 }

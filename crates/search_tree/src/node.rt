@@ -19,7 +19,7 @@ use node_arena::Handle;
 use predicate_locks::{Attached, LockFault, Running};
 use std::alloc::Allocator;
 use std::marker::Model;
-use tree_theory::Place;
+use tree_theory::{NODE_SIZE, Place};
 
 /// What a node has.
 #[derive(Drop)]
@@ -131,6 +131,14 @@ impl<K: Copy, I: Copy, A: Allocator> TreeNode<K, I, A> {
             Body::Pairs(pairs) => pairs.len(),
             Body::Entries(entries) => entries.len(),
         }
+    }
+
+    /// Whether it has as many as go in.
+    pub fn is_full(&self) -> bool
+        ensures full { IsTrue result → size_of self.now.body ≡ NODE_SIZE }
+        ensures room { result ≡ false → size_of self.now.body < NODE_SIZE }
+    {
+        self.size() == NODE_SIZE
     }
 
     /// The pairs of a leaf, and none of an inner node.

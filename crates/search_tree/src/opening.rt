@@ -1,6 +1,6 @@
 //! Searches begin and end.
 
-ghost use Rattle.std.specs.Prelude.{◌≡◌, ◌≢◌, ◌↔◌, ◌<◌, ◌+◌, ◌==◌, ℕ, [], true, false, not, filter, length, None, Some, Err, is_some, IfOk, IfErr, IfSome, IfNone, OnErr};
+ghost use Rattle.std.specs.Prelude.{◌≡◌, ◌≢◌, ◌↔◌, ◌⊎◌, ◌<◌, ◌+◌, ◌==◌, ℕ, [], true, false, not, filter, length, None, Some, Err, is_some, IfOk, IfErr, IfSome, IfNone, OnErr};
 ghost use Rattle.memory.specs.Refused.{refused};
 ghost use Rattle.predicate_locks.specs.Searches.{last_number};
 ghost use Rattle.predicate_locks.specs.declared.TheConstants.{MAX_RUNNING};
@@ -25,6 +25,7 @@ impl<C: KeyClass, A: Allocator + Copy> Tree<C, A> {
         ensures too_many { (result ≡ Err TreeFault.TooMany) ↔ (length self.old.running.running ≡ MAX_RUNNING) }
         ensures spent { (result ≡ Err TreeFault.Spent) ↔ ((length self.old.running.running ≢ MAX_RUNNING) × (self.old.running.next ≡ last_number)) }
         ensures err { OnErr result (self.new ≡ self.old) }
+        ensures why { IfErr result (λ fault. (fault ≡ TreeFault.TooMany) ⊎ ((fault ≡ TreeFault.Spent) ⊎ (fault ≡ TreeFault.Memory refused))) }
     {
         if self.running.searches().len() == MAX_RUNNING {
             return Err(TreeFault::TooMany);

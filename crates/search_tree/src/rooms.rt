@@ -1,16 +1,21 @@
 //! What makes room where a node is full, or brings that nearer. Nothing here changes anything.
 
-ghost use Rattle.std.specs.Prelude.{Some};
+ghost use Rattle.std.specs.Prelude.{◌≡◌, ◌+◌, ℕ, Some};
 ghost use Rattle.node_arena.specs.Slots.{value_at};
-ghost use Rattle.search_tree.specs.Nexts.{MayMake};
+ghost use Rattle.node_arena.specs.declared.handle.Handle.{Handle};
+ghost use Rattle.search_tree.specs.Cases.{Change, BeginsWith, MakesRoom};
+ghost use Rattle.search_tree.specs.Dues.{LacksEntry};
+ghost use Rattle.search_tree.specs.Nexts.{ComesTo, IsChange, IsMarkedFrom, LooksFrom, MayMake, room_by_place};
 ghost use Rattle.tree_theory.specs.KeyClasses.{class_of};
+ghost use Rattle.tree_theory.specs.Nodes.{PlainNode, size_of};
+ghost use Rattle.tree_theory.specs.declared.TheConstants.{NODE_SIZE};
 
 use crate::installing::NewEntry;
 use crate::needs::parent_of;
 use crate::tree::Tree;
 use node_arena::Handle;
 use std::alloc::Allocator;
-use tree_theory::{KeyClass, NODE_SIZE, Place, TOP_LEVEL};
+use tree_theory::{KeyClass, Place, TOP_LEVEL};
 
 /// What makes room where a node is full, or brings that nearer.
 #[derive(Clone, Copy)]
@@ -31,10 +36,12 @@ impl<C: KeyClass, A: Allocator> Tree<C, A> {
     // The change to begin with, where others stand in the way of this one.
     pub(crate) fn nearest(&self, wanted: Room<C::Key>) -> Room<C::Key>
         requires { MayMake (class_of C.covered C.may_match C.is_match C.key_with C.united) self.now wanted }
-        ensures { MayMake (class_of C.covered C.may_match C.is_match C.key_with C.united) self.now result }
+        ensures may { MayMake (class_of C.covered C.may_match C.is_match C.key_with C.united) self.now result }
+        ensures first { (change : Change) → ComesTo (class_of C.covered C.may_match C.is_match C.key_with C.united) self.now result change → ComesTo (class_of C.covered C.may_match C.is_match C.key_with C.united) self.now wanted change }
+        ensures last { LooksFrom (class_of C.covered C.may_match C.is_match C.key_with C.united) self.now 0 wanted → IsChange result }
     {
         let mut room = wanted;
-        for _ in 0..=TOP_LEVEL {
+        for _turn in 0..=TOP_LEVEL {
             match room {
                 Room::Behind(left) => room = self.room_behind(left),
                 _ => return room,
@@ -45,39 +52,62 @@ impl<C: KeyClass, A: Allocator> Tree<C, A> {
 
     // What gives the right node of a marked node its entry: its install, or what makes room in their parent.
     fn room_behind(&self, left: Handle) -> Room<C::Key>
-        ensures { MayMake (class_of C.covered C.may_match C.is_match C.key_with C.united) self.now result }
+        ensures may { MayMake (class_of C.covered C.may_match C.is_match C.key_with C.united) self.now result }
+        ensures first { (change : Change) → ComesTo (class_of C.covered C.may_match C.is_match C.key_with C.united) self.now result change → BeginsWith (class_of C.covered C.may_match C.is_match C.key_with C.united) self.now change left }
+        ensures higher { (level : ℕ) → IsMarkedFrom (class_of C.covered C.may_match C.is_match C.key_with C.united) self.now level left → LooksFrom (class_of C.covered C.may_match C.is_match C.key_with C.united) self.now (level + 1) result }
     {
-        if let Some(entry) = self.lacking(left) {
-            return Room::Install(entry);
+        match self.lacking(left) {
+            Some(entry) => Room::Install(entry),
+            None => self.room_above(left),
         }
-        match self.parent_above(left) {
+    }
+
+    // What makes room in the full parent of a marked node.
+    fn room_above(&self, left: Handle) -> Room<C::Key>
+        requires { LacksEntry (class_of C.covered C.may_match C.is_match C.key_with C.united) self.now left → ⊥ }
+        ensures may { MayMake (class_of C.covered C.may_match C.is_match C.key_with C.united) self.now result }
+        ensures first { (change : Change) → ComesTo (class_of C.covered C.may_match C.is_match C.key_with C.united) self.now result change → BeginsWith (class_of C.covered C.may_match C.is_match C.key_with C.united) self.now change left }
+        ensures higher { (level : ℕ) → IsMarkedFrom (class_of C.covered C.may_match C.is_match C.key_with C.united) self.now level left → LooksFrom (class_of C.covered C.may_match C.is_match C.key_with C.united) self.now (level + 1) result }
+    {
+        let Some(node) = self.nodes.get(left) else {
+            return Room::Nothing;
+        };
+        match parent_of(node.place(), true) {
             Some(parent) => self.room_at(parent),
             None => Room::Nothing,
         }
     }
 
-    // The parent of a marked node.
-    fn parent_above(&self, left: Handle) -> Option<Handle> {
-        let node = self.nodes.get(left)?;
-        parent_of(node.place(), true)
-    }
-
     // What makes room in a full node.
     pub(crate) fn room_at(&self, at: Handle) -> Room<C::Key>
-        ensures { MayMake (class_of C.covered C.may_match C.is_match C.key_with C.united) self.now result }
+        ensures may { MayMake (class_of C.covered C.may_match C.is_match C.key_with C.united) self.now result }
+        ensures first { (change : Change) → ComesTo (class_of C.covered C.may_match C.is_match C.key_with C.united) self.now result change → (node : PlainNode C.Key C.Item) × (value_at self.now.nodes at ≡ Some node) × (size_of node.body ≡ NODE_SIZE) × MakesRoom (class_of C.covered C.may_match C.is_match C.key_with C.united) self.now at node.place change }
+        ensures looks { (node : PlainNode C.Key C.Item) → value_at self.now.nodes at ≡ Some node → size_of node.body ≡ NODE_SIZE → LooksFrom (class_of C.covered C.may_match C.is_match C.key_with C.united) self.now node.level result }
     {
         let Some(node) = self.nodes.get(at) else {
             return Room::Nothing;
         };
-        if node.size() < NODE_SIZE {
+        if !node.is_full() {
             return Room::Nothing;
         }
-        match node.place() {
-            Place::Root => Room::Grow,
-            Place::Linked { marked: false, .. } => Room::Split(at),
-            Place::Linked { marked: true, .. } => Room::Behind(at),
-            Place::Unlinked { left } => Room::Behind(left),
-            Place::Retired { .. } => Room::Nothing,
+        room_in(at, node.place())
+    }
+}
+
+// What makes room in a full node at this place.
+fn room_in<K>(at: Handle, place: Place) -> Room<K>
+    ensures { result ≡ room_by_place at place }
+{
+    match place {
+        Place::Root => Room::Grow,
+        Place::Linked { marked, .. } => {
+            if marked {
+                Room::Behind(at)
+            } else {
+                Room::Split(at)
+            }
         }
+        Place::Unlinked { left } => Room::Behind(left),
+        Place::Retired { .. } => Room::Nothing,
     }
 }

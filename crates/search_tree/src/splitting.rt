@@ -29,6 +29,7 @@ impl<C: KeyClass, A: Allocator + Copy> Tree<C, A> {
         requires { MaySplit (class_of C.covered C.may_match C.is_match C.key_with C.united) self.old at }
         ensures ok { OnOk result (HasMoreNodes (class_of C.covered C.may_match C.is_match C.key_with C.united) self.old self.new 1 0) }
         ensures right { IfOk result (λ right. right_of_marked (value_at self.new.nodes at) ≡ Some right) }
+        ensures parted { IfOk result (HasSplit self.old.nodes self.new.nodes at) }
         ensures full { (result ≡ Err TreeFault.Full) ↔ (MAX_SLOTS < taken_count self.old.nodes + 1) }
         ensures faults { IfErr result (λ fault. (fault ≡ TreeFault.Full) ⊎ (fault ≡ TreeFault.Memory refused)) }
         ensures err { OnErr result (IsAlike (class_of C.covered C.may_match C.is_match C.key_with C.united) self.old self.new) }

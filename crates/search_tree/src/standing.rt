@@ -1,10 +1,11 @@
 //! Where a walk stands, and what lies before it. Nothing here changes anything.
 
-ghost use Rattle.std.specs.Prelude.{◌≡◌, Some, IsTrue, IfSome, slice_get};
+ghost use Rattle.std.specs.Prelude.{◌≡◌, false, IsTrue};
 ghost use Rattle.node_arena.specs.declared.handle.Handle.{Handle};
-ghost use Rattle.search_tree.specs.Standings.{IsHere, IsUnlinked, IsCoveredBy};
+ghost use Rattle.search_tree.specs.Standings.{ChildrenDiffer, IsAside, IsCoveredBy, IsHere, IsNowhere, IsUnlinked};
 ghost use Rattle.tree_theory.specs.KeyClasses.{class_of};
 
+use crate::needs::place_among;
 use crate::setters::Nodes;
 use node_arena::Handle;
 use std::alloc::Allocator;
@@ -29,6 +30,8 @@ pub(crate) fn standing_at<C: KeyClass, A: Allocator>(
     at: Handle,
     key: C::Key,
 ) -> Standing
+    ensures nowhere { result ≡ Standing.Nowhere → IsNowhere nodes.now at }
+    ensures aside { ChildrenDiffer nodes.now → (parent : Handle) → result ≡ Standing.Aside parent → IsAside (class_of C.covered C.may_match C.is_match C.key_with C.united) nodes.now at parent key }
     ensures here { result ≡ Standing.Here → IsHere (class_of C.covered C.may_match C.is_match C.key_with C.united) nodes.now at key }
     ensures unlinked { (left : Handle) → result ≡ Standing.Unlinked left → IsUnlinked nodes.now at left }
 {
@@ -56,25 +59,14 @@ fn is_covered<C: KeyClass, A: Allocator>(
     child: Handle,
     key: C::Key,
 ) -> bool
-    ensures { IsTrue result → IsCoveredBy (class_of C.covered C.may_match C.is_match C.key_with C.united) nodes.now parent child key }
+    ensures covered { IsTrue result → IsCoveredBy (class_of C.covered C.may_match C.is_match C.key_with C.united) nodes.now parent child key }
+    ensures other { ChildrenDiffer nodes.now → result ≡ false → IsCoveredBy (class_of C.covered C.may_match C.is_match C.key_with C.united) nodes.now parent child key → ⊥ }
 {
     let Some(node) = nodes.get(parent) else {
         return false;
     };
-    match place_of_child(node.children(), child) {
+    match place_among(node.children(), child) {
         Some(place) => C::covers(node.keys()[place], key),
         None => false,
     }
-}
-
-/// Where a child stands among others.
-pub(crate) fn place_of_child(children: &[Handle], child: Handle) -> Option<usize>
-    ensures { IfSome result (λ place. slice_get children.now place ≡ Some child) }
-{
-    for (place, other) in children.iter().enumerate() {
-        if *other == child {
-            return Some(place);
-        }
-    }
-    None
 }

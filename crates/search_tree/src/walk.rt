@@ -87,7 +87,8 @@ impl<I: Copy> Walk<I> {
     /// Counts a step with this answer, after which it stands here.
     pub(crate) fn count(&mut self, step: Step, at: Handle)
         requires { self.old.steps < last_number }
-        ensures { HasStepped self.old self.new step }
+        ensures step { HasStepped self.old self.new step }
+        ensures at { self.new.at ≡ at }
     {
         self.at = at;
         self.steps += 1;

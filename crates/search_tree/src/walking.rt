@@ -2,7 +2,9 @@
 
 ghost use Rattle.std.specs.Prelude.{IfSome, IfNone};
 ghost use Rattle.search_tree.specs.Advances.{HasPlacedBehindNone};
+ghost use Rattle.search_tree.specs.Trees.{tree_of};
 ghost use Rattle.search_tree.specs.Walks.{IsHolder, NoneHolds, MayPlace};
+ghost use Rattle.tree_theory.specs.Changes.{IsPlaced};
 ghost use Rattle.tree_theory.specs.KeyClasses.{class_of};
 
 use crate::setters::push_pair;
@@ -32,7 +34,8 @@ impl<C: KeyClass, A: Allocator> Tree<C, A> {
     // Puts a pair into a leaf that may take it. No search that is ready looks for it.
     pub(crate) fn place(&mut self, at: Handle, key: u64, item: C::Item)
         requires { MayPlace (class_of C.covered C.may_match C.is_match C.key_with C.united) self.old at (key, item) }
-        ensures { HasPlacedBehindNone (class_of C.covered C.may_match C.is_match C.key_with C.united) self.old self.new (key, item) }
+        ensures placed { HasPlacedBehindNone (class_of C.covered C.may_match C.is_match C.key_with C.united) self.old self.new (key, item) }
+        ensures step { IsPlaced (tree_of (class_of C.covered C.may_match C.is_match C.key_with C.united) self.old) (tree_of (class_of C.covered C.may_match C.is_match C.key_with C.united) self.new) at (key, item) }
     {
         push_pair(&mut self.nodes, at, key, item);
     }

@@ -1,5 +1,5 @@
--- A commit from its beginning to its end, over a world in which nothing else is under way.
-use Rattle.std.proofs.Common.{◌≡◌, ◌≢◌, ◌⊎◌, ℕ, zero, suc, ◌+◌, ◌<◌, ◌≤◌, ◌==◌, ◌||◌, nat_le, nat_lt, not, Bool, true, false, List, [], ◌∷◌, ◌++◌, length, filter, take, length-take, get_or, slice_get, Option, None, Some, MatchOption, Result, Ok, Err, if◌then◌else◌, refl, sym, ap, subst, ◌∙◌, inl, inr, arith}
+-- A commit from its beginning to its end, over a world in which no other transaction is open.
+use Rattle.std.proofs.Common.{◌≡◌, ◌≢◌, ◌⊎◌, ℕ, zero, suc, ◌+◌, ◌<◌, ◌≤◌, ◌==◌, ◌||◌, nat_le, nat_lt, not, Bool, true, false, List, [], ◌∷◌, ◌++◌, length, take, length-take, get_or, slice_get, Option, None, Some, MatchOption, Result, Ok, Err, if◌then◌else◌, refl, sym, ap, subst, ◌∙◌, inl, inr, arith}
 use Rattle.std.specs.Bool.{MatchBool}
 use Rattle.std.proofs.lemmas.Bool.{ne_eqb}
 use Rattle.std.proofs.lemmas.Bool.Decides.{nat_tests}
@@ -12,23 +12,31 @@ use Rattle.audit_trail.specs.declared.causes.Judgement.{Judgement}
 use Rattle.audit_trail.specs.declared.causes.Judgement.TheVariants as judgements
 use Rattle.audit_trail.specs.Judging.{AreDistinct, Judged}
 use Rattle.audit_trail.specs.Records.{applied, turned_away}
-use Rattle.transactions.specs.declared.faults.Fault.{Fault}
-use Rattle.transactions.specs.declared.faults.Fault.TheVariants as faults
-use Rattle.transactions.specs.declared.faults.TreeFault.TheVariants as tree
-use Rattle.transactions.specs.declared.outcomes.Outcome.{Outcome}
-use Rattle.transactions.specs.declared.outcomes.Outcome.TheVariants as outcomes
-use Rattle.transactions.specs.declared.settings.TheConstants.{CHANGE_LIMIT}
-use Rattle.transactions.specs.declared.steps.Advance.TheVariants as advances
-use Rattle.transactions.specs.declared.steps.Step.TheVariants as steps
-use Rattle.transactions.specs.Admitting.{LAST, and_then, given, transaction_owned, subject_at, own_transaction, may_step, may_add, may_stage, all_placed, may_record, may_commit, may_begin, next_transaction}
-use Rattle.transactions.specs.Answers.{denial_of}
-use Rattle.transactions.specs.Events.{Begin, Stage, AdvanceWalk, Commit, Abort, Happens, Reply, Number, Done, Advanced, Ended, Refused, UnlessMemory, Walks, Advances, Applies, TurnsAway, CommitsAs, Commits as CommitsEvent, is_memory, is_want, recorded, reply_of, without_transaction}
-use Rattle.transactions.specs.Staging.{TransactionData, transaction_with, next_placement, placements, with_step, staged, one_placed, ended, names}
-use Rattle.transactions.specs.States.{WorldData}
-use Rattle.sessions.specs.Services.{Commits, EndsAs, is_full, is_unplaced, may_conclude}
-use Rattle.sessions.specs.States.{IsIdle, begun}
-use Rattle.sessions.specs.Steps.{Concludes, ConcludesAll, IsStuck, Places, PlacesAll, Stages, Stands, idle, under}
-use Rattle.sessions.proofs.SearchLemmas.{same_number, idle_same, is_idle, want_is, does, refuses, done, turned}
+use Rattle.plain_world.specs.declared.faults.Fault.{Fault}
+use Rattle.plain_world.specs.declared.faults.Fault.TheVariants as faults
+use Rattle.search_tree.specs.declared.fault.TreeFault.TheVariants as tree
+use Rattle.plain_world.specs.declared.outcomes.Outcome.{Outcome}
+use Rattle.plain_world.specs.declared.outcomes.Outcome.TheVariants as outcomes
+use Rattle.plain_world.specs.declared.settings.TheConstants.{CHANGE_LIMIT}
+use Rattle.plain_world.specs.declared.steps.Advance.TheVariants as advances
+use Rattle.search_tree.specs.declared.answers.Step.TheVariants as steps
+use Rattle.plain_world.specs.Admitting.{LAST, and_then, given, transaction_owned, subject_at, own_transaction, may_step, may_add, all_placed, may_record, may_commit, next_transaction}
+use Rattle.plain_world.specs.Answers.{denial_of}
+use Rattle.plain_world.specs.Events.{Begin, Stage, AdvanceWalk, Commit, Abort, Happens, Reply, Number, Done, Advanced, Ended, Refused, UnlessMemory, Walks, Advances, Applies, CommitsAs, Commits as CommitsEvent, is_memory, is_want, recorded, reply_of, without_transaction}
+use Rattle.plain_world.specs.Staging.{TransactionData, placements, with_step, staged, one_placed, ended, names}
+use Rattle.plain_world.specs.States.{WorldData}
+use Rattle.sessions.specs.Services.{Commits, EndsAs, HoldsList, holder, is_full, is_unplaced, may_conclude}
+use Rattle.sessions.specs.States.{IsAtRest, begun}
+use Rattle.sessions.specs.Steps.{Concludes, ConcludesAll, IsStuck, Stands, closed, under}
+use Rattle.sessions.proofs.SearchLemmas.{IsFree, same_number, want_is, does, refuses, done, turned, rests_same}
+
+-- ---- a world at rest
+
+closed_same : (w : WorldData) → w.transactions ≡ [] → w ≡ closed w
+closed_same w none = λ i. record w { transactions = none i }
+
+is_rest : (w new : WorldData) → IsFree w.next_search w.searches → new ≡ closed w → IsAtRest new
+is_rest w new free e = subst (λ (x : WorldData). IsAtRest x) (sym e) (record { searches = free; transactions = refl })
 
 -- ---- changes that name different features
 
@@ -96,7 +104,7 @@ module _ (number seat : ℕ) (w : WorldData) (subject : Subject) (seated : subje
       let there = under number seat changes placed w in
       let admitted = ap (λ (r : Result TransactionData Fault). and_then r (λ t. may_add change t.changes)) (stepped changes placed) ∙ may in
       let d = does _ tt there new (reply_of (λ _. Done) result) (λ _. (new ≡ record there { transactions = with_step (staged change) number there.transactions }) × (reply_of (λ _. Done) result ≡ Done)) admitted h in
-      (well result d.1, d.0 ∙ ap (λ (ts : List TransactionData). record w { searches = []; transactions = ts }) (next_step (staged change) (one changes placed) refl))
+      (well result d.1, d.0 ∙ ap (λ (ts : List TransactionData). record w { transactions = ts }) (next_step (staged change) (one changes placed) refl))
     where
       well : (r : Result (Unit {0}) Fault) → reply_of (λ _. Done) r ≡ Done → r ≡ Ok tt
       well (Ok tt) e = refl
@@ -106,25 +114,25 @@ module _ (number seat : ℕ) (w : WorldData) (subject : Subject) (seated : subje
   abbrev pub Advancing : List Change → ℕ → WorldData → Reply → Type 0
   Advancing changes placed new (Advanced advances.AllPlaced) = (new ≡ under number seat changes placed w) × (slice_get (placements changes) placed ≡ None)
   Advancing changes placed new (Advanced (advances.Walked step)) = (further : ℕ) × (new ≡ under number seat changes further w)
-  Advancing changes placed new (Refused fault) = IsStuck fault × Stands seat number changes w new
+  Advancing changes placed new (Refused fault) = IsStuck changes w fault × Stands seat number changes w new
   Advancing changes placed new _ = ⊥
 
-  walks : (changes : List Change) (placed : ℕ) (shape : List Point) (new : WorldData) (reply : Reply)
-      → UnlessMemory (under number seat changes placed w) new reply (Walks number shape (under number seat changes placed w) new reply) → Advancing changes placed new reply
-  walks changes placed shape new (Advanced (advances.Walked steps.Moved)) d = (placed, d)
-  walks changes placed shape new (Advanced (advances.Walked steps.Split)) d = (placed, d)
-  walks changes placed shape new (Advanced (advances.Walked steps.Installed)) d = (placed, d)
-  walks changes placed shape new (Advanced (advances.Walked steps.Restarted)) d = (placed, d)
-  walks changes placed shape new (Advanced (advances.Walked steps.Placed)) d =
-      (placed + 1, d ∙ ap (λ (ts : List TransactionData). record w { searches = []; transactions = ts }) (next_step one_placed (one changes placed) refl))
-  walks changes placed shape new (Refused (faults.Memory refusal)) d = (tt, inl (placed, d))
-  walks changes placed shape new (Refused (faults.Tree (tree.Held search))) d = (let none = d.0.1 in absurd cc)
-  walks changes placed shape new (Refused (faults.Tree tree.Full)) d = (tt, inl (placed, d))
-  walks changes placed shape new (Refused (faults.Tree tree.TooHigh)) d = (tt, inl (placed, d))
-  walks changes placed shape new (Refused (faults.Tree tree.Spent)) d = (tt, inl (placed, d))
-  walks changes placed shape new (Refused (faults.Tree tree.Overrun)) d =
-      (tt, inr (d ∙ ap (λ (ts : List TransactionData). record w { searches = []; transactions = ts }) (gone changes placed)))
-  walks changes placed shape new _ d = absurd d
+  walks : (changes : List Change) (placed : ℕ) (placement : ℕ × List Point) (is : slice_get (placements changes) placed ≡ Some placement) (new : WorldData) (reply : Reply)
+      → UnlessMemory (under number seat changes placed w) new reply (Walks number placement.1 (under number seat changes placed w) new reply) → Advancing changes placed new reply
+  walks changes placed placement is new (Advanced (advances.Walked steps.Moved)) d = (placed, d)
+  walks changes placed placement is new (Advanced (advances.Walked steps.Split)) d = (placed, d)
+  walks changes placed placement is new (Advanced (advances.Walked steps.Installed)) d = (placed, d)
+  walks changes placed placement is new (Advanced (advances.Walked steps.Restarted)) d = (placed, d)
+  walks changes placed placement is new (Advanced (advances.Walked steps.Placed)) d =
+      (placed + 1, d ∙ ap (λ (ts : List TransactionData). record w { transactions = ts }) (next_step one_placed (one changes placed) refl))
+  walks changes placed placement is new (Refused (faults.Memory refusal)) d = (tt, inl (placed, d))
+  walks changes placed placement is new (Refused (faults.Tree (tree.Held search))) d = ((placed, placement, is, d.0), inl (placed, d.1))
+  walks changes placed placement is new (Refused (faults.Tree tree.Full)) d = (tt, inl (placed, d))
+  walks changes placed placement is new (Refused (faults.Tree tree.TooHigh)) d = (tt, inl (placed, d))
+  walks changes placed placement is new (Refused (faults.Tree tree.Spent)) d = (tt, inl (placed, d))
+  walks changes placed placement is new (Refused (faults.Tree tree.Overrun)) d =
+      (tt, inr (d ∙ ap (λ (ts : List TransactionData). record w { transactions = ts }) (gone changes placed)))
+  walks changes placed placement is new _ d = absurd d
 
   pub advancing : (changes : List Change) (placed : ℕ) (new : WorldData) (reply : Reply) → Happens (AdvanceWalk seat number) (under number seat changes placed w) new reply → Advancing changes placed new reply
   advancing changes placed new reply h =
@@ -135,17 +143,17 @@ module _ (number seat : ℕ) (w : WorldData) (subject : Subject) (seated : subje
           (λ placement. UnlessMemory (under number seat changes placed w) new reply (Walks number placement.1 (under number seat changes placed w) new reply))
           → Advancing changes placed new reply
       go None e d = subst (λ (r : Reply). Advancing changes placed new r) (sym d.1) (d.0, e)
-      go (Some placement) e d = walks changes placed placement.1 new reply d
+      go (Some placement) e d = walks changes placed placement e new reply d
 
   -- whatever stands of the transaction is given up
-  pub aborted : (changes : List Change) (mid new : WorldData) (reply : Reply) → Stands seat number changes w mid → Happens (Abort seat number) mid new reply → new ≡ idle w
+  pub aborted : (changes : List Change) (mid new : WorldData) (reply : Reply) → Stands seat number changes w mid → Happens (Abort seat number) mid new reply → new ≡ closed w
   aborted changes mid new reply (inl (placed, e)) h =
       let there = under number seat changes placed w in
       let d = does _ (one changes placed) there new reply (λ _. (new ≡ without_transaction number there) × (reply ≡ Done)) (stepped changes placed) (subst (λ (x : WorldData). Happens (Abort seat number) x new reply) e h) in
-      d.0 ∙ ap (λ (ts : List TransactionData). record w { searches = []; transactions = ts }) (gone changes placed)
+      d.0 ∙ ap (λ (ts : List TransactionData). record w { transactions = ts }) (gone changes placed)
   aborted changes mid new reply (inr e) h =
-      let none = ap (λ (r : Result Subject Fault). and_then r (λ _. own_transaction seat number (idle w))) seated in
-      (refuses _ faults.NoSuch (idle w) new reply (λ _. (new ≡ without_transaction number (idle w)) × (reply ≡ Done)) none (subst (λ (x : WorldData). Happens (Abort seat number) x new reply) e h)).0
+      let none = ap (λ (r : Result Subject Fault). and_then r (λ _. own_transaction seat number (closed w))) seated in
+      (refuses _ faults.NoSuch (closed w) new reply (λ _. (new ≡ without_transaction number (closed w)) × (reply ≡ Done)) none (subst (λ (x : WorldData). Happens (Abort seat number) x new reply) e h)).0
 
   -- ---- the transaction is committed
 
@@ -157,10 +165,10 @@ module _ (number seat : ℕ) (w : WorldData) (subject : Subject) (seated : subje
   EndsSo changes placed judgements.Accepted new reply =
       MatchBool (w.state.version == LAST) ((reply ≡ Refused faults.Spent) × (new ≡ under number seat changes placed w))
       (MatchBool (nat_lt w.limits.features (length (after version subject.office changes w.state.features))) ((reply ≡ Refused faults.StoreFull) × (new ≡ under number seat changes placed w))
-      ((reply ≡ Ended (outcomes.Applied version)) × (new ≡ idle (recorded seat (applied subject version changes) w))))
+      ((reply ≡ Ended (outcomes.Applied version)) × (new ≡ closed (recorded seat (applied subject version changes) w))))
   EndsSo changes placed (judgements.Refused refusal question) new reply =
       (reply ≡ Ended (outcomes.Refused refusal (denial_of w.state.decider refusal.cause question)))
-      × (new ≡ idle (recorded seat (turned_away subject changes refusal) w))
+      × (new ≡ closed (recorded seat (turned_away subject changes refusal) w))
 
   abbrev pub Committed : List Change → ℕ → WorldData → Reply → Type 0
   Committed changes placed new reply =
@@ -172,8 +180,8 @@ module _ (number seat : ℕ) (w : WorldData) (subject : Subject) (seated : subje
     abbrev there : WorldData
     there = under number seat changes placed w
 
-    left_of : (deed : _) → without_transaction number (recorded seat deed there) ≡ idle (recorded seat deed w)
-    left_of deed = ap (λ (ts : List TransactionData). record (recorded seat deed w) { searches = []; transactions = ts }) (gone changes placed)
+    left_of : (deed : _) → without_transaction number (recorded seat deed there) ≡ closed (recorded seat deed w)
+    left_of deed = ap (λ (ts : List TransactionData). record (recorded seat deed w) { transactions = ts }) (gone changes placed)
 
     applies : (reply : Reply) → Applies seat number subject changes there new reply → EndsSo changes placed judgements.Accepted new reply
     applies reply d = go (w.state.version == LAST) (nat_lt w.limits.features (length (after version subject.office changes w.state.features))) d
@@ -181,7 +189,7 @@ module _ (number seat : ℕ) (w : WorldData) (subject : Subject) (seated : subje
         go : (last over : Bool) → MatchBool last ((new ≡ there) × (reply ≡ Refused faults.Spent)) (MatchBool over ((new ≡ there) × (reply ≡ Refused faults.StoreFull))
             ((reply ≡ Ended (outcomes.Applied version)) × (new ≡ without_transaction number (recorded seat (applied subject version changes) there))))
             → MatchBool last ((reply ≡ Refused faults.Spent) × (new ≡ there)) (MatchBool over ((reply ≡ Refused faults.StoreFull) × (new ≡ there))
-            ((reply ≡ Ended (outcomes.Applied version)) × (new ≡ idle (recorded seat (applied subject version changes) w))))
+            ((reply ≡ Ended (outcomes.Applied version)) × (new ≡ closed (recorded seat (applied subject version changes) w))))
         go true over d = (d.1, d.0)
         go false true d = (d.1, d.0)
         go false false d = (d.0, d.1 ∙ left_of (applied subject version changes))
@@ -230,40 +238,44 @@ module _ (number seat : ℕ) (w : WorldData) (subject : Subject) (seated : subje
 -- ---- commits from the beginning
 
 -- a transaction that is not opened
-pub begin_refused : (seat : ℕ) (changes : List Change) (old new : WorldData) (fault : Fault) → IsIdle old → Happens (Begin seat) old new (Refused fault)
-    → IsIdle new × Commits seat changes old new (Refused fault)
+pub begin_refused : (seat : ℕ) (changes : List Change) (old new : WorldData) (fault : Fault) → IsAtRest old → Happens (Begin seat) old new (Refused fault)
+    → IsAtRest new × Commits seat changes old new (Refused fault)
 begin_refused seat changes old new fault still h =
-    let ends = go (subject_at seat old) (old.next_transaction == LAST) refl refl (subst (λ (o : WorldData). Happens (Begin seat) o new (Refused fault)) (idle_same old still) h) in
-    (is_idle old new ends.0, subst (λ (o : WorldData). Commits seat changes o new (Refused fault)) (sym (idle_same old still)) ends.1)
+    let ends = go (subject_at seat old) (old.next_transaction == LAST) refl refl (subst (λ (o : WorldData). Happens (Begin seat) o new (Refused fault)) (closed_same old still.transactions) h) in
+    (rests_same old new still (ends.0 ∙ sym (closed_same old still.transactions)), subst (λ (o : WorldData). Commits seat changes o new (Refused fault)) (sym (closed_same old still.transactions)) ends.1)
   where
     Does : Subject → Type 0
     Does subject =
-        MatchBool (is_want fault) ((new ≡ idle old) ⊎ (new ≡ begun (idle old)))
-        (MatchBool (is_unplaced (Refused fault)) (new ≡ begun (idle old))
-        (MatchBool (is_full (idle old)) ((Refused fault ≡ Refused faults.TrailFull) × (new ≡ begun (idle old)))
-        ((judgement : Judgement) × Judged old.state subject changes judgement × EndsAs judgement seat subject changes (idle old) new (Refused fault))))
+        MatchBool (is_want fault) ((new ≡ closed old) ⊎ (new ≡ begun (closed old)))
+        (MatchBool (is_unplaced (Refused fault)) (new ≡ begun (closed old))
+        (MatchOption (holder (Refused fault))
+        (MatchBool (is_full (closed old)) ((Refused fault ≡ Refused faults.TrailFull) × (new ≡ begun (closed old)))
+        ((judgement : Judgement) × Judged old.state subject changes judgement × EndsAs judgement seat subject changes (closed old) new (Refused fault)))
+        (λ search. (new ≡ begun (closed old)) × HoldsList search changes (closed old))))
 
-    wants : (subject : Subject) (b : Bool) → is_want fault ≡ b → MatchBool b (new ≡ idle old) ((new ≡ under old.next_transaction seat [] 0 (begun old)) × (Refused fault ≡ Number old.next_transaction)) → (new ≡ idle old) × Does subject
+    wants : (subject : Subject) (b : Bool) → is_want fault ≡ b → MatchBool b (new ≡ closed old) ((new ≡ under old.next_transaction seat [] 0 (begun old)) × (Refused fault ≡ Number old.next_transaction)) → (new ≡ closed old) × Does subject
     wants subject true e d = (
       d,
-      subst (λ (b : Bool). MatchBool b ((new ≡ idle old) ⊎ (new ≡ begun (idle old)))
-          (MatchBool (is_unplaced (Refused fault)) (new ≡ begun (idle old))
-          (MatchBool (is_full (idle old)) ((Refused fault ≡ Refused faults.TrailFull) × (new ≡ begun (idle old)))
-          ((judgement : Judgement) × Judged old.state subject changes judgement × EndsAs judgement seat subject changes (idle old) new (Refused fault))))) (sym e) (inl d),
+      subst (λ (b : Bool). MatchBool b ((new ≡ closed old) ⊎ (new ≡ begun (closed old)))
+          (MatchBool (is_unplaced (Refused fault)) (new ≡ begun (closed old))
+          (MatchOption (holder (Refused fault))
+          (MatchBool (is_full (closed old)) ((Refused fault ≡ Refused faults.TrailFull) × (new ≡ begun (closed old)))
+          ((judgement : Judgement) × Judged old.state subject changes judgement × EndsAs judgement seat subject changes (closed old) new (Refused fault)))
+          (λ search. (new ≡ begun (closed old)) × HoldsList search changes (closed old))))) (sym e) (inl d),
     )
     wants subject false e d = (let wrong = d.1 in absurd cc)
 
-    go : (who : Result Subject Fault) (last : Bool) → subject_at seat old ≡ who → (old.next_transaction == LAST) ≡ last → Happens (Begin seat) (idle old) new (Refused fault) → (new ≡ idle old) × Commits seat changes (idle old) new (Refused fault)
+    go : (who : Result Subject Fault) (last : Bool) → subject_at seat old ≡ who → (old.next_transaction == LAST) ≡ last → Happens (Begin seat) (closed old) new (Refused fault) → (new ≡ closed old) × Commits seat changes (closed old) new (Refused fault)
     go (Err f) last e l h =
-        let left = refuses _ f (idle old) new (Refused fault) _ (ap (λ (r : Result Subject Fault). and_then r (λ _. next_transaction (idle old))) e) h in
-        (left.0, turned _ f (idle old) new (Refused fault) Does (ap (λ (r : Result Subject Fault). and_then r (λ subject. if old.next_transaction == LAST then Err faults.Spent else Ok subject)) e) left)
+        let left = refuses _ f (closed old) new (Refused fault) _ (ap (λ (r : Result Subject Fault). and_then r (λ _. next_transaction (closed old))) e) h in
+        (left.0, turned _ f (closed old) new (Refused fault) Does (ap (λ (r : Result Subject Fault). and_then r (λ subject. if old.next_transaction == LAST then Err faults.Spent else Ok subject)) e) left)
     go (Ok subject) true e l h =
-        let left = refuses _ faults.Spent (idle old) new (Refused fault) _ (ap (λ (r : Result Subject Fault). and_then r (λ _. next_transaction (idle old))) e ∙ ap (λ (b : Bool). if b then Err faults.Spent else Ok old.next_transaction) l) h in
-        (left.0, turned _ faults.Spent (idle old) new (Refused fault) Does (ap (λ (r : Result Subject Fault). and_then r (λ subject. if old.next_transaction == LAST then Err faults.Spent else Ok subject)) e ∙ ap (λ (b : Bool). if b then Err faults.Spent else Ok subject) l) left)
+        let left = refuses _ faults.Spent (closed old) new (Refused fault) _ (ap (λ (r : Result Subject Fault). and_then r (λ _. next_transaction (closed old))) e ∙ ap (λ (b : Bool). if b then Err faults.Spent else Ok old.next_transaction) l) h in
+        (left.0, turned _ faults.Spent (closed old) new (Refused fault) Does (ap (λ (r : Result Subject Fault). and_then r (λ subject. if old.next_transaction == LAST then Err faults.Spent else Ok subject)) e ∙ ap (λ (b : Bool). if b then Err faults.Spent else Ok subject) l) left)
     go (Ok subject) false e l h =
-        let d = does _ old.next_transaction (idle old) new (Refused fault) _ (ap (λ (r : Result Subject Fault). and_then r (λ _. next_transaction (idle old))) e ∙ ap (λ (b : Bool). if b then Err faults.Spent else Ok old.next_transaction) l) h in
+        let d = does _ old.next_transaction (closed old) new (Refused fault) _ (ap (λ (r : Result Subject Fault). and_then r (λ _. next_transaction (closed old))) e ∙ ap (λ (b : Bool). if b then Err faults.Spent else Ok old.next_transaction) l) h in
         let ends = wants subject (is_want fault) refl d in
-        (ends.0, done _ subject (idle old) new (Refused fault) Does (ap (λ (r : Result Subject Fault). and_then r (λ subject. if old.next_transaction == LAST then Err faults.Spent else Ok subject)) e ∙ ap (λ (b : Bool). if b then Err faults.Spent else Ok subject) l) ends.1)
+        (ends.0, done _ subject (closed old) new (Refused fault) Does (ap (λ (r : Result Subject Fault). and_then r (λ subject. if old.next_transaction == LAST then Err faults.Spent else Ok subject)) e ∙ ap (λ (b : Bool). if b then Err faults.Spent else Ok subject) l) ends.1)
 
 -- a transaction that is opened
 pub record Begun (seat : ℕ) (old new : WorldData) (number : ℕ) : Type 0 where
@@ -272,60 +284,63 @@ pub record Begun (seat : ℕ) (old new : WorldData) (number : ℕ) : Type 0 wher
   pub left : (old.next_transaction == LAST) ≡ false
   pub stands : new ≡ under number seat [] 0 (begun old)
 
-pub begins : (seat : ℕ) (old new : WorldData) (number : ℕ) → IsIdle old → Happens (Begin seat) old new (Number number) → Begun seat old new number
-begins seat old new number still h = go (subject_at seat old) (old.next_transaction == LAST) refl refl (subst (λ (o : WorldData). Happens (Begin seat) o new (Number number)) (idle_same old still) h)
+pub begins : (seat : ℕ) (old new : WorldData) (number : ℕ) → IsAtRest old → Happens (Begin seat) old new (Number number) → Begun seat old new number
+begins seat old new number still h = go (subject_at seat old) (old.next_transaction == LAST) refl refl (subst (λ (o : WorldData). Happens (Begin seat) o new (Number number)) (closed_same old still.transactions) h)
   where
-    go : (who : Result Subject Fault) (last : Bool) → subject_at seat old ≡ who → (old.next_transaction == LAST) ≡ last → Happens (Begin seat) (idle old) new (Number number) → Begun seat old new number
+    go : (who : Result Subject Fault) (last : Bool) → subject_at seat old ≡ who → (old.next_transaction == LAST) ≡ last → Happens (Begin seat) (closed old) new (Number number) → Begun seat old new number
     go (Err f) last e l h =
-        (let left = refuses _ f (idle old) new (Number number) _ (ap (λ (r : Result Subject Fault). and_then r (λ _. next_transaction (idle old))) e) h in let wrong = left.1 in absurd cc)
+        (let left = refuses _ f (closed old) new (Number number) _ (ap (λ (r : Result Subject Fault). and_then r (λ _. next_transaction (closed old))) e) h in let wrong = left.1 in absurd cc)
     go (Ok subject) true e l h =
-        (let left = refuses _ faults.Spent (idle old) new (Number number) _ (ap (λ (r : Result Subject Fault). and_then r (λ _. next_transaction (idle old))) e ∙ ap (λ (b : Bool). if b then Err faults.Spent else Ok old.next_transaction) l) h in let wrong = left.1 in absurd cc)
+        (let left = refuses _ faults.Spent (closed old) new (Number number) _ (ap (λ (r : Result Subject Fault). and_then r (λ _. next_transaction (closed old))) e ∙ ap (λ (b : Bool). if b then Err faults.Spent else Ok old.next_transaction) l) h in let wrong = left.1 in absurd cc)
     go (Ok subject) false e l h =
-        let d = does _ old.next_transaction (idle old) new (Number number) _ (ap (λ (r : Result Subject Fault). and_then r (λ _. next_transaction (idle old))) e ∙ ap (λ (b : Bool). if b then Err faults.Spent else Ok old.next_transaction) l) h in
+        let d = does _ old.next_transaction (closed old) new (Number number) _ (ap (λ (r : Result Subject Fault). and_then r (λ _. next_transaction (closed old))) e ∙ ap (λ (b : Bool). if b then Err faults.Spent else Ok old.next_transaction) l) h in
         let is : number ≡ old.next_transaction = cc (d.1) in
         record { subject = subject; seated = e; left = l; stands = d.0 ∙ ap (λ (n : ℕ). under n seat [] 0 (begun old)) (sym is) }
 
-module _ (seat : ℕ) (changes : List Change) (old mid : WorldData) (number : ℕ) (still : IsIdle old) (h : Happens (Begin seat) old mid (Number number)) where
+module _ (seat : ℕ) (changes : List Change) (old mid : WorldData) (number : ℕ) (still : IsAtRest old) (h : Happens (Begin seat) old mid (Number number)) where
   started : Begun seat old mid number
   started = begins seat old mid number still h
 
-  admits : may_conclude seat (idle old) ≡ Ok started.subject
+  admits : may_conclude seat (closed old) ≡ Ok started.subject
   admits =
       ap (λ (r : Result Subject Fault). and_then r (λ subject. if old.next_transaction == LAST then Err faults.Spent else Ok subject)) started.seated
       ∙ ap (λ (b : Bool). if b then Err faults.Spent else Ok started.subject) started.left
 
   abbrev Does : WorldData → Reply → Subject → Type 0
   Does new reply subject =
-      MatchBool (is_memory reply) ((new ≡ idle old) ⊎ (new ≡ begun (idle old)))
-      (MatchBool (is_unplaced reply) (new ≡ begun (idle old))
-      (MatchBool (is_full (idle old)) ((reply ≡ Refused faults.TrailFull) × (new ≡ begun (idle old)))
-      ((judgement : Judgement) × Judged old.state subject changes judgement × EndsAs judgement seat subject changes (idle old) new reply)))
+      MatchBool (is_memory reply) ((new ≡ closed old) ⊎ (new ≡ begun (closed old)))
+      (MatchBool (is_unplaced reply) (new ≡ begun (closed old))
+      (MatchOption (holder reply)
+      (MatchBool (is_full (closed old)) ((reply ≡ Refused faults.TrailFull) × (new ≡ begun (closed old)))
+      ((judgement : Judgement) × Judged old.state subject changes judgement × EndsAs judgement seat subject changes (closed old) new reply))
+      (λ search. (new ≡ begun (closed old)) × HoldsList search changes (closed old))))
 
   whole : (new : WorldData) (reply : Reply) → Does new reply started.subject → Commits seat changes old new reply
   whole new reply d =
-      subst (λ (o : WorldData). Commits seat changes o new reply) (sym (idle_same old still)) (done _ started.subject (idle old) new reply (Does new reply) admits d)
+      subst (λ (o : WorldData). Commits seat changes o new reply) (sym (closed_same old still.transactions)) (done _ started.subject (closed old) new reply (Does new reply) admits d)
 
   -- where the trail takes a record
   judged : (new : WorldData) (reply : Reply) → is_full old ≡ false
-      → ((judgement : Judgement) × Judged old.state started.subject changes judgement × EndsAs judgement seat started.subject changes (idle old) new reply)
-      → MatchBool (is_full (idle old)) ((reply ≡ Refused faults.TrailFull) × (new ≡ begun (idle old)))
-      ((judgement : Judgement) × Judged old.state started.subject changes judgement × EndsAs judgement seat started.subject changes (idle old) new reply)
+      → ((judgement : Judgement) × Judged old.state started.subject changes judgement × EndsAs judgement seat started.subject changes (closed old) new reply)
+      → MatchBool (is_full (closed old)) ((reply ≡ Refused faults.TrailFull) × (new ≡ begun (closed old)))
+      ((judgement : Judgement) × Judged old.state started.subject changes judgement × EndsAs judgement seat started.subject changes (closed old) new reply)
   judged new reply room d =
-      subst (λ (b : Bool). MatchBool b ((reply ≡ Refused faults.TrailFull) × (new ≡ begun (idle old)))
-      ((judgement : Judgement) × Judged old.state started.subject changes judgement × EndsAs judgement seat started.subject changes (idle old) new reply)) (sym room) d
+      subst (λ (b : Bool). MatchBool b ((reply ≡ Refused faults.TrailFull) × (new ≡ begun (closed old)))
+      ((judgement : Judgement) × Judged old.state started.subject changes judgement × EndsAs judgement seat started.subject changes (closed old) new reply)) (sym room) d
 
   concluded : (stopped : WorldData) (reply : Reply) → Concludes seat number changes mid stopped reply → ConcludesAll seat number changes (begun old) stopped reply
   concluded stopped reply all = all (begun old) started.subject started.seated started.stands
 
   -- a commit that comes to nothing, whose transaction is given up
-  pub commit_refused : (stopped new : WorldData) (fault : Fault) (reply : Reply) → Concludes seat number changes mid stopped (Refused fault) → Happens (Abort seat number) stopped new reply → IsIdle new × Commits seat changes old new (Refused fault)
+  pub commit_refused : (stopped new : WorldData) (fault : Fault) (reply : Reply) → Concludes seat number changes mid stopped (Refused fault) → Happens (Abort seat number) stopped new reply → IsAtRest new × Commits seat changes old new (Refused fault)
   commit_refused stopped new fault reply all drops = go (concluded stopped (Refused fault) all)
     where
-      leaves : Stands seat number changes (begun old) stopped → new ≡ begun (idle old)
+      leaves : Stands seat number changes (begun old) stopped → new ≡ begun (closed old)
       leaves stands = aborted number seat (begun old) started.subject started.seated changes stopped new reply stands drops
 
-      stuck : (fault : Fault) → IsStuck fault → new ≡ begun (idle old) → Does new (Refused fault) started.subject
+      stuck : (fault : Fault) → IsStuck changes (begun old) fault → new ≡ begun (closed old) → Does new (Refused fault) started.subject
       stuck (faults.Memory refusal) s e = inr e
+      stuck (faults.Tree (tree.Held search)) s e = (e, s)
       stuck (faults.Tree tree.Full) s e = e
       stuck (faults.Tree tree.TooHigh) s e = e
       stuck (faults.Tree tree.Spent) s e = e
@@ -334,31 +349,31 @@ module _ (seat : ℕ) (changes : List Change) (old mid : WorldData) (number : �
 
       AppliesSo : Bool → Bool → Reply → Type 0
       AppliesSo last over said =
-          MatchBool last ((said ≡ Refused faults.Spent) × (new ≡ begun (idle old)))
-          (MatchBool over ((said ≡ Refused faults.StoreFull) × (new ≡ begun (idle old)))
-          ((said ≡ Ended (outcomes.Applied (old.state.version + 1))) × (new ≡ begun (recorded seat (applied started.subject (old.state.version + 1) changes) (idle old)))))
+          MatchBool last ((said ≡ Refused faults.Spent) × (new ≡ begun (closed old)))
+          (MatchBool over ((said ≡ Refused faults.StoreFull) × (new ≡ begun (closed old)))
+          ((said ≡ Ended (outcomes.Applied (old.state.version + 1))) × (new ≡ begun (recorded seat (applied started.subject (old.state.version + 1) changes) (closed old)))))
 
       refused_so : (fault : Fault) (placed : ℕ) (judgement : Judgement) → is_full old ≡ false → Judged old.state started.subject changes judgement
           → EndsSo number seat (begun old) started.subject started.seated changes placed judgement stopped (Refused fault)
-          → (stopped ≡ under number seat changes placed (begun old) → new ≡ begun (idle old))
-          → IsIdle new × Does new (Refused fault) started.subject
+          → (stopped ≡ under number seat changes placed (begun old) → new ≡ begun (closed old))
+          → IsAtRest new × Does new (Refused fault) started.subject
       refused_so fault placed judgements.Accepted room accepted d last_of =
           decide (old.state.version == LAST) (nat_lt old.limits.features (length (after (old.state.version + 1) started.subject.office changes old.state.features))) refl refl d
         where
           decide : (last over : Bool) → (old.state.version == LAST) ≡ last → nat_lt old.limits.features (length (after (old.state.version + 1) started.subject.office changes old.state.features)) ≡ over
               → MatchBool last ((Refused fault ≡ Refused faults.Spent) × (stopped ≡ under number seat changes placed (begun old)))
               (MatchBool over ((Refused fault ≡ Refused faults.StoreFull) × (stopped ≡ under number seat changes placed (begun old)))
-              ((Refused fault ≡ Ended (outcomes.Applied (old.state.version + 1))) × (stopped ≡ idle (recorded seat (applied started.subject (old.state.version + 1) changes) (begun old)))))
-              → IsIdle new × Does new (Refused fault) started.subject
+              ((Refused fault ≡ Ended (outcomes.Applied (old.state.version + 1))) × (stopped ≡ closed (recorded seat (applied started.subject (old.state.version + 1) changes) (begun old)))))
+              → IsAtRest new × Does new (Refused fault) started.subject
           decide true over e f d =
               let left = last_of d.1 in (
-                is_idle (begun old) new left,
+                is_rest (begun old) new still.searches left,
                 subst (λ (r : Reply). Does new r started.subject) (sym d.0)
                     (judged new (Refused faults.Spent) room (judgements.Accepted, accepted, subst (λ (b : Bool). AppliesSo b (nat_lt old.limits.features (length (after (old.state.version + 1) started.subject.office changes old.state.features))) (Refused faults.Spent)) (sym e) (refl, left))),
               )
           decide false true e f d =
               let left = last_of d.1 in (
-                is_idle (begun old) new left,
+                is_rest (begun old) new still.searches left,
                 subst (λ (r : Reply). Does new r started.subject) (sym d.0)
                     (judged new (Refused faults.StoreFull) room (
                       judgements.Accepted,
@@ -369,57 +384,57 @@ module _ (seat : ℕ) (changes : List Change) (old mid : WorldData) (number : �
           decide false false e f d = (let wrong = d.0 in absurd cc)
       refused_so fault placed (judgements.Refused refusal question) room accepted d last_of = (let wrong = d.0 in absurd cc)
 
-      ended_so : (placed : ℕ) → Committed number seat (begun old) started.subject started.seated changes placed stopped (Refused fault) → IsIdle new × Does new (Refused fault) started.subject
+      ended_so : (placed : ℕ) → Committed number seat (begun old) started.subject started.seated changes placed stopped (Refused fault) → IsAtRest new × Does new (Refused fault) started.subject
       ended_so placed (inl (refusal, e, stands)) =
           let left = leaves (inl (placed, stands)) in
-          (is_idle (begun old) new left, subst (λ (r : Reply). Does new r started.subject) (sym e) (inr left))
+          (is_rest (begun old) new still.searches left, subst (λ (r : Reply). Does new r started.subject) (sym e) (inr left))
       ended_so placed (inr (inl (full, e, stands))) =
           let left = leaves (inl (placed, stands)) in (
-            is_idle (begun old) new left,
+            is_rest (begun old) new still.searches left,
             subst (λ (r : Reply). Does new r started.subject) (sym e)
-                (subst (λ (b : Bool). MatchBool b ((Refused faults.TrailFull ≡ Refused faults.TrailFull) × (new ≡ begun (idle old)))
-                ((judgement : Judgement) × Judged old.state started.subject changes judgement × EndsAs judgement seat started.subject changes (idle old) new (Refused faults.TrailFull))) (sym full) (refl, left)),
+                (subst (λ (b : Bool). MatchBool b ((Refused faults.TrailFull ≡ Refused faults.TrailFull) × (new ≡ begun (closed old)))
+                ((judgement : Judgement) × Judged old.state started.subject changes judgement × EndsAs judgement seat started.subject changes (closed old) new (Refused faults.TrailFull))) (sym full) (refl, left)),
           )
       ended_so placed (inr (inr (room, (judgement, is_judged, d)))) = refused_so fault placed judgement room is_judged d (λ stands. leaves (inl (placed, stands)))
 
-      go : ConcludesAll seat number changes (begun old) stopped (Refused fault) → IsIdle new × Commits seat changes old new (Refused fault)
+      go : ConcludesAll seat number changes (begun old) stopped (Refused fault) → IsAtRest new × Commits seat changes old new (Refused fault)
       go (inl (f, is_stuck, stands, e)) =
           let left = leaves stands in
-          (is_idle (begun old) new left, whole new (Refused fault) (subst (λ (r : Reply). Does new r started.subject) (sym e) (stuck f is_stuck left)))
+          (is_rest (begun old) new still.searches left, whole new (Refused fault) (subst (λ (r : Reply). Does new r started.subject) (sym e) (stuck f is_stuck left)))
       go (inr (placed, none, happens)) =
           let ends = ended_so placed (committed number seat (begun old) started.subject started.seated changes placed stopped (Refused fault) none happens) in
           (ends.0, whole new (Refused fault) ends.1)
 
   -- a list that is judged
-  pub commit_ended : (new : WorldData) (outcome : Outcome) → Concludes seat number changes mid new (Ended outcome) → IsIdle new × Commits seat changes old new (Ended outcome)
+  pub commit_ended : (new : WorldData) (outcome : Outcome) → Concludes seat number changes mid new (Ended outcome) → IsAtRest new × Commits seat changes old new (Ended outcome)
   commit_ended new outcome all = go (concluded new (Ended outcome) all)
     where
       ends : (placed : ℕ) (judgement : Judgement) → EndsSo number seat (begun old) started.subject started.seated changes placed judgement new (Ended outcome)
-          → IsIdle new × EndsAs judgement seat started.subject changes (idle old) new (Ended outcome)
+          → IsAtRest new × EndsAs judgement seat started.subject changes (closed old) new (Ended outcome)
       ends placed judgements.Accepted d =
           decide (old.state.version == LAST) (nat_lt old.limits.features (length (after (old.state.version + 1) started.subject.office changes old.state.features))) d
         where
           decide : (last over : Bool)
               → MatchBool last ((Ended outcome ≡ Refused faults.Spent) × (new ≡ under number seat changes placed (begun old)))
               (MatchBool over ((Ended outcome ≡ Refused faults.StoreFull) × (new ≡ under number seat changes placed (begun old)))
-              ((Ended outcome ≡ Ended (outcomes.Applied (old.state.version + 1))) × (new ≡ idle (recorded seat (applied started.subject (old.state.version + 1) changes) (begun old)))))
-              → IsIdle new
-              × MatchBool last ((Ended outcome ≡ Refused faults.Spent) × (new ≡ begun (idle old)))
-              (MatchBool over ((Ended outcome ≡ Refused faults.StoreFull) × (new ≡ begun (idle old)))
-              ((Ended outcome ≡ Ended (outcomes.Applied (old.state.version + 1))) × (new ≡ begun (recorded seat (applied started.subject (old.state.version + 1) changes) (idle old)))))
+              ((Ended outcome ≡ Ended (outcomes.Applied (old.state.version + 1))) × (new ≡ closed (recorded seat (applied started.subject (old.state.version + 1) changes) (begun old)))))
+              → IsAtRest new
+              × MatchBool last ((Ended outcome ≡ Refused faults.Spent) × (new ≡ begun (closed old)))
+              (MatchBool over ((Ended outcome ≡ Refused faults.StoreFull) × (new ≡ begun (closed old)))
+              ((Ended outcome ≡ Ended (outcomes.Applied (old.state.version + 1))) × (new ≡ begun (recorded seat (applied started.subject (old.state.version + 1) changes) (closed old)))))
           decide true over d = (let wrong = d.0 in absurd cc)
           decide false true d = (let wrong = d.0 in absurd cc)
-          decide false false d = (is_idle (recorded seat (applied started.subject (old.state.version + 1) changes) (begun old)) new d.1, d)
-      ends placed (judgements.Refused refusal question) d = (is_idle (recorded seat (turned_away started.subject changes refusal) (begun old)) new d.1, d)
+          decide false false d = (is_rest (recorded seat (applied started.subject (old.state.version + 1) changes) (begun old)) new still.searches d.1, d)
+      ends placed (judgements.Refused refusal question) d = (is_rest (recorded seat (turned_away started.subject changes refusal) (begun old)) new still.searches d.1, d)
 
-      ended_so : (placed : ℕ) → Committed number seat (begun old) started.subject started.seated changes placed new (Ended outcome) → IsIdle new × Does new (Ended outcome) started.subject
+      ended_so : (placed : ℕ) → Committed number seat (begun old) started.subject started.seated changes placed new (Ended outcome) → IsAtRest new × Does new (Ended outcome) started.subject
       ended_so placed (inl (refusal, e, stands)) = absurd cc
       ended_so placed (inr (inl (full, e, stands))) = absurd cc
       ended_so placed (inr (inr (room, (judgement, is_judged, d)))) =
           let end = ends placed judgement d in
           (end.0, judged new (Ended outcome) room (judgement, is_judged, end.1))
 
-      go : ConcludesAll seat number changes (begun old) new (Ended outcome) → IsIdle new × Commits seat changes old new (Ended outcome)
+      go : ConcludesAll seat number changes (begun old) new (Ended outcome) → IsAtRest new × Commits seat changes old new (Ended outcome)
       go (inl (f, is_stuck, stands, e)) = absurd cc
       go (inr (placed, none, happens)) =
           let end = ended_so placed (committed number seat (begun old) started.subject started.seated changes placed new (Ended outcome) none happens) in

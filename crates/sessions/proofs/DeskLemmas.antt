@@ -1,8 +1,7 @@
 -- What is said of a session's line, whoever serves the session.
-use Rattle.std.proofs.Common.{◌≡◌, ◌⊎◌, ℕ, ◌==◌, Bool, true, false, List, length, Option, None, Some, MatchOption, Result, Ok, Err, MatchResult, is_some, sym, ap, subst, inl, inr}
+use Rattle.std.proofs.Common.{◌≡◌, ℕ, ◌==◌, Bool, true, false, List, length, Option, None, Some, MatchOption, Result, Ok, Err, MatchResult, is_some, sym, ap, subst, inl, inr}
 use Rattle.std.specs.Bool.{MatchBool}
 use Rattle.features.specs.declared.actors.Subject.{Subject}
-use Rattle.features.specs.declared.rows.Change.{Change}
 use Rattle.policy_text.specs.Bytes.{document_of_bytes}
 use Rattle.policy_text.specs.Documents.{DocumentData}
 use Rattle.policy_text.specs.declared.faults.TextFault.{TextFault}
@@ -15,7 +14,7 @@ use Rattle.sessions.specs.declared.faults.Fault.TheVariants.{BeforeHello, Nothin
 use Rattle.sessions.specs.declared.replies.Reply.{Reply}
 use Rattle.sessions.specs.declared.replies.Reply.TheVariants.{Error, Memory}
 use Rattle.sessions.specs.Commands.{verb_for, arguments_at}
-use Rattle.sessions.specs.Desks.{OnlySays, FindsNoMemory, Closes, Asks, Governs, Obeys, Does, Answers, is_policy, left_of, question_of}
+use Rattle.sessions.specs.Desks.{OnlySays, Governs, Obeys, Does, Answers, is_policy, left_of, question_of}
 use Rattle.sessions.specs.Replies.{SaidData, policy_reply}
 use Rattle.sessions.specs.Services.{Call, Hello, Search, Commit, Govern, Explain, Roll, Leave}
 use Rattle.sessions.specs.States.{Desk, desk}

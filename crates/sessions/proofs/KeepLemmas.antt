@@ -1,24 +1,35 @@
--- What every line keeps, every run keeps, however it ends. So nothing is under way after a run where nothing was before it.
-use Rattle.std.proofs.Common.{◌≡◌, ℕ, ◌<◌, Bool, true, false, nat_lt, List, [], ◌∷◌, ◌++◌, length, slice_index_or, Option, None, Some, MatchOption, Result, Ok, Err, refl, sym, subst}
+-- What every line keeps, every run keeps, however it ends. What a call of a world keeps: one at rest is at rest afterwards.
+use Rattle.std.proofs.Common.{◌≡◌, ◌⊎◌, ℕ, ◌+◌, ◌==◌, Bool, true, false, nat_lt, List, [], ◌∷◌, ◌++◌, length, map, Option, None, Some, MatchOption, Result, Ok, Err, refl, sym, ap, subst, ◌∙◌, inl, inr, append-nil, append_assoc}
 use Rattle.std.specs.Bool.{MatchBool}
-use Rattle.features.specs.Names.{name_of}
+use Rattle.plane.specs.declared.point.Point.{Point}
 use Rattle.features.specs.declared.actors.Subject.{Subject}
-use Rattle.sessions.specs.declared.faults.Fault.TheVariants.{LineTooLong, NoLabel, BeforeHello}
+use Rattle.features.specs.declared.rows.Change.{Change}
+use Rattle.features.specs.Changes.{after}
+use Rattle.policy_text.specs.Documents.{DocumentData}
+use Rattle.audit_trail.specs.declared.causes.Judgement.{Judgement}
+use Rattle.audit_trail.specs.declared.causes.Judgement.TheVariants as judgements
+use Rattle.audit_trail.specs.Judging.{Judged}
+use Rattle.audit_trail.specs.Records.{applied}
+use Rattle.plain_world.specs.declared.faults.Fault.TheVariants as faults
+use Rattle.plain_world.specs.declared.outcomes.Outcome.TheVariants as outcomes
+use Rattle.plain_world.specs.declared.searches.Search.{Search}
+use Rattle.plain_world.specs.Admitting.{LAST, may_govern, may_roll, may_sit}
+use Rattle.plain_world.specs.Events.{TakeSeat, Govern as GovernEvent, Roll as RollEvent, Happens, Reply as EventReply, Number, Rows, Ended, TakenOut, Refused, is_memory, recorded, reply_of}
+use Rattle.plain_world.specs.Laws.{AreGiven}
+use Rattle.plain_world.specs.States.{WorldData}
+use Rattle.plain_world.proofs.AdmittedLemmas.{by_if, by_unless}
+use Rattle.sessions.specs.declared.faults.Fault.TheVariants.{LineTooLong, BeforeHello}
 use Rattle.sessions.specs.declared.replies.Reply.TheVariants.{Error}
-use Rattle.sessions.specs.declared.scripts.TheConstants.{LABEL_LIMIT}
 use Rattle.sessions.specs.declared.streams.ServeFault.{ServeFault}
 use Rattle.sessions.specs.declared.streams.ServeFault.TheVariants.{Read, Write, TooManyTurns, Memory}
-use Rattle.sessions.specs.Desks.{Answers}
 use Rattle.sessions.specs.Lines.{is_too_long}
-use Rattle.sessions.specs.Printed.{led, reply_text, said_text}
+use Rattle.sessions.specs.Printed.{led, reply_text}
 use Rattle.sessions.specs.Replies.{SaidData, line}
-use Rattle.sessions.specs.Scripts.{Script, IsRefused, LabelTells, LineTells, SessionTells, desk_of, fresh, is_skipped, parts_of, place, with_label}
-use Rattle.sessions.specs.Services.{Call, Hello, Search, Commit, Govern, Explain, Roll, Leave, Serves, WhereSeated, solo_subject}
+use Rattle.sessions.specs.Services.{Call, Hello, Search as SearchCall, Commit, Govern, Explain, Roll, Leave, Serves, Searches, Commits, EndsAs, HoldsList, ListsRows, holder, is_full, is_overrun, is_unplaced, may_conclude, may_search}
 use Rattle.sessions.specs.Serving as serving
 use Rattle.sessions.specs.Serving.{Calls}
-use Rattle.sessions.specs.States.{Desk, IsIdle, SessionState, SoloState, WhereIdle}
-use Rattle.sessions.specs.Streams.{Answered, LinesTell, Ran, RanSoFar}
-use Rattle.transactions.specs.States.{WorldData}
+use Rattle.sessions.specs.States.{Desk, IsAtRest, IsIdle, SoloState, WhereAtRest, begun, searched}
+use Rattle.sessions.specs.Streams.{LinesTell, Ran, RanSoFar}
 use Rattle.sessions.proofs.DeskLemmas.{line_keeps}
 
 -- ---- runs
@@ -81,73 +92,143 @@ module _ {S : Type 0} (subject_of : S → Option Subject) (serves : Call → S �
     calls_keep [] old new h = subst (λ (s : S). Kept old s) (sym h) (same old)
     calls_keep (call ∷ calls) old new h = then old h.0 new (each call.0 old h.0 call.1 h.1) (calls_keep calls h.0 new h.2)
 
--- ---- a world in which nothing is under way
+-- ---- a world at rest
+
+-- what a call leaves of what runs: the same searches, and the seats that were given
+pub record Leaves (old new : WorldData) : Type 0 where
+  pub searches : new.searches ≡ old.searches
+  pub more : List Subject
+  pub seats : new.seats ≡ old.seats ++ more
+
+leaves_as : (old new w : WorldData) → new ≡ w → w.searches ≡ old.searches → w.seats ≡ old.seats → Leaves old new
+leaves_as old new w e searches seats =
+    subst (λ (x : WorldData). Leaves old x) (sym e) (record { searches = searches; more = []; seats = seats ∙ sym (append-nil old.seats) })
+
+leaves_same : (old new : WorldData) → new ≡ old → Leaves old new
+leaves_same old new e = leaves_as old new old e refl refl
+
+sits : (name : List ℕ) (old new : WorldData) (reply : EventReply) → Happens (TakeSeat name) old new reply → Leaves old new
+sits name old new reply h =
+    by_if (may_sit name old) old new reply _ (λ _. Leaves old new) (λ fault may same. leaves_same old new same)
+    (λ subject may d. by_unless old new reply _ (λ _. Leaves old new) (λ fault want same. leaves_same old new same)
+    (λ d. subst (λ (x : WorldData). Leaves old x) (sym d.0) (record { searches = refl; more = subject ∷ []; seats = refl })) d) h
+
+governs : (seat : ℕ) (document : DocumentData) (old new : WorldData) (reply : EventReply) → Happens (GovernEvent seat document) old new reply → Leaves old new
+governs seat document old new reply h =
+    by_if (may_govern seat old) old new reply _ (λ _. Leaves old new) (λ fault may same. leaves_same old new same)
+    (λ u may d. by_unless old new reply _ (λ _. Leaves old new) (λ fault want same. leaves_same old new same) (λ d. leaves_as old new _ d.1 refl refl) d) h
+
+rolls : (seat : ℕ) (old new : WorldData) (reply : EventReply) → Happens (RollEvent seat) old new reply → Leaves old new
+rolls seat old new reply h =
+    by_if (may_roll seat old) old new reply _ (λ _. Leaves old new) (λ fault may same. leaves_same old new same)
+    (λ u may d. by_unless old new reply _ (λ _. Leaves old new) (λ fault want same. leaves_same old new same) (λ d. leaves_as old new _ d.1 refl refl) d) h
+
+searches_leave : (seat : ℕ) (window : List Point) (old new : WorldData) (reply : EventReply) → Searches seat window old new reply → Leaves old new
+searches_leave seat window old new reply h =
+    by_if (may_search seat old) old new reply _ (λ _. Leaves old new) (λ fault may same. leaves_same old new same) (λ subject may d. wants subject (is_memory reply) d) h
+  where
+    full : (subject : Subject) (b : Bool) → MatchBool b ((reply ≡ Refused faults.TrailFull) × (new ≡ searched old)) (ListsRows seat subject window old new reply) → Leaves old new
+    full subject true d = leaves_as old new (searched old) d.1 refl refl
+    full subject false d = leaves_as old new _ d.3 refl refl
+
+    overrun : (subject : Subject) (b : Bool) → MatchBool b (new ≡ searched old) (MatchBool (is_full old) ((reply ≡ Refused faults.TrailFull) × (new ≡ searched old)) (ListsRows seat subject window old new reply)) → Leaves old new
+    overrun subject true d = leaves_as old new (searched old) d refl refl
+    overrun subject false d = full subject (is_full old) d
+
+    wants : (subject : Subject) (b : Bool) → MatchBool b ((new ≡ old) ⊎ (new ≡ searched old))
+        (MatchBool (is_overrun reply) (new ≡ searched old) (MatchBool (is_full old) ((reply ≡ Refused faults.TrailFull) × (new ≡ searched old)) (ListsRows seat subject window old new reply))) → Leaves old new
+    wants subject true (inl d) = leaves_same old new d
+    wants subject true (inr d) = leaves_as old new (searched old) d refl refl
+    wants subject false d = overrun subject (is_overrun reply) d
+
+commits_leave : (seat : ℕ) (changes : List Change) (old new : WorldData) (reply : EventReply) → Commits seat changes old new reply → Leaves old new
+commits_leave seat changes old new reply h =
+    by_if (may_conclude seat old) old new reply _ (λ _. Leaves old new) (λ fault may same. leaves_same old new same) (λ subject may d. wants subject (is_memory reply) d) h
+  where
+    applies : (subject : Subject) (last over : Bool) → MatchBool last ((reply ≡ Refused faults.Spent) × (new ≡ begun old))
+        (MatchBool over ((reply ≡ Refused faults.StoreFull) × (new ≡ begun old))
+        ((reply ≡ Ended (outcomes.Applied (old.state.version + 1))) × (new ≡ begun (recorded seat (applied subject (old.state.version + 1) changes) old)))) → Leaves old new
+    applies subject true over d = leaves_as old new (begun old) d.1 refl refl
+    applies subject false true d = leaves_as old new (begun old) d.1 refl refl
+    applies subject false false d = leaves_as old new _ d.1 refl refl
+
+    ends : (subject : Subject) (judgement : Judgement) → EndsAs judgement seat subject changes old new reply → Leaves old new
+    ends subject judgements.Accepted d =
+        applies subject (old.state.version == LAST) (nat_lt old.limits.features (length (after (old.state.version + 1) subject.office changes old.state.features))) d
+    ends subject (judgements.Refused refusal question) d = leaves_as old new _ d.1 refl refl
+
+    Judges : Subject → Type 0
+    Judges subject = (judgement : Judgement) × Judged old.state subject changes judgement × EndsAs judgement seat subject changes old new reply
+
+    full : (subject : Subject) (b : Bool) → MatchBool b ((reply ≡ Refused faults.TrailFull) × (new ≡ begun old)) (Judges subject) → Leaves old new
+    full subject true d = leaves_as old new (begun old) d.1 refl refl
+    full subject false d = ends subject d.0 d.2
+
+    held : (subject : Subject) (o : Option ℕ) → MatchOption o (MatchBool (is_full old) ((reply ≡ Refused faults.TrailFull) × (new ≡ begun old)) (Judges subject)) (λ search. (new ≡ begun old) × HoldsList search changes old) → Leaves old new
+    held subject None d = full subject (is_full old) d
+    held subject (Some search) d = leaves_as old new (begun old) d.0 refl refl
+
+    unplaced : (subject : Subject) (b : Bool) → MatchBool b (new ≡ begun old)
+        (MatchOption (holder reply) (MatchBool (is_full old) ((reply ≡ Refused faults.TrailFull) × (new ≡ begun old)) (Judges subject)) (λ search. (new ≡ begun old) × HoldsList search changes old)) → Leaves old new
+    unplaced subject true d = leaves_as old new (begun old) d refl refl
+    unplaced subject false d = held subject (holder reply) d
+
+    wants : (subject : Subject) (b : Bool) → MatchBool b ((new ≡ old) ⊎ (new ≡ begun old))
+        (MatchBool (is_unplaced reply) (new ≡ begun old)
+        (MatchOption (holder reply) (MatchBool (is_full old) ((reply ≡ Refused faults.TrailFull) × (new ≡ begun old)) (Judges subject)) (λ search. (new ≡ begun old) × HoldsList search changes old))) → Leaves old new
+    wants subject true (inl d) = leaves_same old new d
+    wants subject true (inr d) = leaves_as old new (begun old) d refl refl
+    wants subject false d = unplaced subject (is_unplaced reply) d
+
+-- a world at rest is at rest afterwards, with the same searches
+abbrev pub Rests : WorldData → WorldData → Type 0
+Rests old new = IsAtRest old → IsAtRest new × Leaves old new
+
+pub rests_none : (w : WorldData) → Rests w w
+rests_none w still = (still, leaves_same w w refl)
+
+rests_as : (old new : WorldData) → new ≡ old → Rests old new
+rests_as old new e = subst (λ (x : WorldData). Rests old x) (sym e) (rests_none old)
+
+pub rests_then : (a b c : WorldData) → Rests a b → Rests b c → Rests a c
+rests_then a b c first later still =
+    let one = first still in
+    let two = later one.0 in (
+      two.0,
+      record {
+        searches = two.1.searches ∙ one.1.searches;
+        more = one.1.more ++ two.1.more;
+        seats = two.1.seats ∙ ap (λ (xs : List Subject). xs ++ two.1.more) one.1.seats ∙ append_assoc a.seats one.1.more two.1.more;
+      },
+    )
+
+seated_rests : (at : Option ℕ) (old new : SoloState) (said : SaidData) (Does : ℕ → Type 0)
+    → MatchOption at ((new ≡ old) × (said ≡ line (Error BeforeHello))) (λ seat. (new.seat ≡ old.seat) × WhereAtRest old.world new.world (Does seat))
+    → ((seat : ℕ) → Does seat → Leaves old.world new.world) → Rests old.world new.world
+seated_rests None old new said Does h each = rests_as old.world new.world (ap (λ (s : SoloState). s.world) h.0)
+seated_rests (Some seat) old new said Does h each = λ still. (let ends = h.1 still in (ends.0, each seat ends.1))
+
+pub call_rests : (call : Call) (old new : SoloState) (said : SaidData) → Serves call old new said → Rests old.world new.world
+call_rests (Hello name) old new said h = λ still. (let ends = h still in (ends.0, sits name old.world new.world (reply_of Number ends.1.0) ends.1.1))
+call_rests (SearchCall window) old new said h =
+    seated_rests old.seat old new said _ h (λ seat d. searches_leave seat window old.world new.world (reply_of Rows d.0) d.1)
+call_rests (Commit changes) old new said h =
+    seated_rests old.seat old new said _ h (λ seat d. commits_leave seat changes old.world new.world (reply_of Ended d.0) d.1)
+call_rests (Govern document) old new said h =
+    seated_rests old.seat old new said _ h (λ seat d. governs seat document old.world new.world (reply_of Number d.0) d.1)
+call_rests (Explain question) old new said h = rests_as old.world new.world (ap (λ (s : SoloState). s.world) h.0)
+call_rests Roll old new said h = seated_rests old.seat old new said _ h (λ seat d. rolls seat old.world new.world (reply_of TakenOut d.0) d.1)
+call_rests Leave old new said h = rests_as old.world new.world (ap (λ (s : SoloState). s.world) h.0)
+
+pub idle_rests : (w : WorldData) → IsIdle w → IsAtRest w
+idle_rests w idle =
+    record { searches = subst (λ (ss : List Search). AreGiven w.next_search (map (λ (s : Search). s.number) ss)) (sym idle.searches) tt; transactions = idle.transactions }
 
 -- nothing is under way afterwards, where nothing was before
 abbrev pub StaysIdle : SoloState → SoloState → Type 0
 StaysIdle old new = IsIdle old.world → IsIdle new.world
 
-stays : (s : SoloState) → StaysIdle s s
-stays s still = still
-
-seated_idle : (at : Option ℕ) (old new : SoloState) (said : SaidData) (Does : ℕ → Type 0)
-    → MatchOption at ((new ≡ old) × (said ≡ line (Error BeforeHello))) (λ seat. (new.seat ≡ old.seat) × WhereIdle old.world new.world (Does seat)) → StaysIdle old new
-seated_idle None old new said Does h still = subst (λ (s : SoloState). IsIdle s.world) (sym h.0) still
-seated_idle (Some seat) old new said Does h still = (h.1 still).0
-
 pub call_idle : (call : Call) (old new : SoloState) (said : SaidData) → Serves call old new said → StaysIdle old new
-call_idle (Hello name) old new said h still = (h still).0
-call_idle (Search window) old new said h still = seated_idle old.seat old new said _ h still
-call_idle (Commit changes) old new said h still = seated_idle old.seat old new said _ h still
-call_idle (Govern document) old new said h still = seated_idle old.seat old new said _ h still
-call_idle (Explain question) old new said h still = subst (λ (s : SoloState). IsIdle s.world) (sym h.0) still
-call_idle Roll old new said h still = seated_idle old.seat old new said _ h still
-call_idle Leave old new said h still = subst (λ (s : SoloState). IsIdle s.world) (sym h.0) still
-
--- ---- lines of a script
-
-abbrev pub ScriptIdle : Script → Script → Type 0
-ScriptIdle old new = IsIdle old.world → IsIdle new.world
-
-refused_idle : (text : List ℕ) (old new : Script) (said : List ℕ) → IsRefused text old new said → ScriptIdle old new
-refused_idle text old new said h still = subst (λ (s : Script). IsIdle s.world) (sym h.0) still
-
-session_idle : (label text : List ℕ) (old new : Script) (said : List ℕ) → SessionTells label text old new said → ScriptIdle old new
-session_idle label text old new said h =
-    let before = slice_index_or (with_label label old.sessions) (place label old.sessions) (fresh label) in
-    line_keeps solo_subject Serves StaysIdle stays call_idle text (desk_of old.world before) (desk_of new.world h.session) h.reply h.answers.1
-
-label_idle : (label text : List ℕ) (old new : Script) (said : List ℕ) → LabelTells label text old new said → ScriptIdle old new
-label_idle label text old new said h = go (nat_lt (place label old.sessions) LABEL_LIMIT) h
-  where
-    go : (b : Bool) → MatchBool b (SessionTells label text old new said) (IsRefused (reply_text (Error NoLabel)) old new said) → ScriptIdle old new
-    go true h = session_idle label text old new said h
-    go false h = refused_idle (reply_text (Error NoLabel)) old new said h
-
-line_idle : (text : List ℕ) (old new : Script) (said : List ℕ) → LineTells text old new said → ScriptIdle old new
-line_idle text old new said h = long (is_too_long text) h
-  where
-    named : (n : Option (List ℕ)) (rest : List ℕ) → MatchOption n (IsRefused (reply_text (Error NoLabel)) old new said) (λ label. LabelTells label rest old new said) → ScriptIdle old new
-    named None rest h = refused_idle (reply_text (Error NoLabel)) old new said h
-    named (Some label) rest h = label_idle label rest old new said h
-
-    parted : (p : Option (List ℕ × List ℕ)) → MatchOption p (IsRefused (reply_text (Error NoLabel)) old new said)
-        (λ parts. MatchOption (name_of parts.0) (IsRefused (reply_text (Error NoLabel)) old new said) (λ label. LabelTells label parts.1 old new said)) → ScriptIdle old new
-    parted None h = refused_idle (reply_text (Error NoLabel)) old new said h
-    parted (Some parts) h = named (name_of parts.0) parts.1 h
-
-    skipped : (b : Bool) → MatchBool b ((new ≡ old) × (said ≡ [])) (MatchOption (parts_of text) (IsRefused (reply_text (Error NoLabel)) old new said)
-        (λ parts. MatchOption (name_of parts.0) (IsRefused (reply_text (Error NoLabel)) old new said) (λ label. LabelTells label parts.1 old new said))) → ScriptIdle old new
-    skipped true h = λ still. subst (λ (s : Script). IsIdle s.world) (sym h.0) still
-    skipped false h = parted (parts_of text) h
-
-    long : (b : Bool) → MatchBool b (IsRefused (reply_text (Error LineTooLong)) old new said) (MatchBool (is_skipped text) ((new ≡ old) × (said ≡ []))
-        (MatchOption (parts_of text) (IsRefused (reply_text (Error NoLabel)) old new said)
-        (λ parts. MatchOption (name_of parts.0) (IsRefused (reply_text (Error NoLabel)) old new said) (λ label. LabelTells label parts.1 old new said)))) → ScriptIdle old new
-    long true h = refused_idle (reply_text (Error LineTooLong)) old new said h
-    long false h = skipped (is_skipped text) h
-
--- nothing is under way after a run, where nothing was before it
-pub run_idle : (r : Result (Unit {0}) ServeFault) (old new : Script) (input left a b : Option (List ℕ)) → Ran LineTells r old new input left a b → ScriptIdle old new
-run_idle r old new input left a b run =
-    run_keeps LineTells ScriptIdle (λ s still. still) (λ x y z first more still. more (first still)) line_idle r old new input left a b run
+call_idle call old new said h idle =
+    let ends = call_rests call old new said h (idle_rests old.world idle) in
+    record { searches = ends.1.searches ∙ idle.searches; transactions = ends.0.transactions }

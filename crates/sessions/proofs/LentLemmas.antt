@@ -11,12 +11,12 @@ use Rattle.sessions.specs.Desks.{Answers}
 use Rattle.sessions.specs.Lines.{is_too_long}
 use Rattle.sessions.specs.Printed.{led, reply_text}
 use Rattle.sessions.specs.Replies.{SaidData}
-use Rattle.sessions.specs.Scripts.{SessionAnswers, desk_of}
+use Rattle.sessions.specs.Scripts.{desk_of}
 use Rattle.sessions.specs.Services.{Call, Serves, solo_subject}
 use Rattle.sessions.specs.Serving.{Calls, LineTells, Replies}
 use Rattle.sessions.specs.States.{Desk, IsIdle, SessionState, SoloState, desk, solo}
 use Rattle.sessions.specs.Streams.{Ran}
-use Rattle.transactions.specs.States.{WorldData}
+use Rattle.plain_world.specs.States.{WorldData}
 use Rattle.sessions.proofs.DeskLemmas.{line_keeps, line_seen}
 use Rattle.sessions.proofs.KeepLemmas.{StaysIdle, call_idle, calls_keep}
 use Rattle.sessions.proofs.StreamLemmas.{ran_as}
@@ -39,16 +39,14 @@ module _ {S N : Type 0} (see : S → SoloState) (name : S → N) where
 
   pub session_told : (text : List ℕ) (old new : Desk S) (said : SaidData) (before after : SessionState) (world end : WorldData) → Answers asks_for lent text old new said
       → old.staged ≡ before.staged → see old.service ≡ solo world before.seat → new.staged ≡ after.staged → (name new.service ≡ name old.service → see new.service ≡ solo end after.seat)
-      → after.label ≡ before.label → SessionAnswers text before world after end said
-  session_told text old new said before after world end h staged stands left lent_ends label =
+      → Answers solo_subject Serves text (desk_of world before) (desk_of end after) said
+  session_told text old new said before after world end h staged stands left lent_ends =
       let ends = lent_ends (line_name text old new said h) in
       let old_is : desk old.staged (see old.service) ≡ desk_of world before = ap (λ (xs : List Change). desk xs (see old.service)) staged ∙ ap (λ (s : SoloState). desk before.staged s) stands in
       let new_is : desk new.staged (see new.service) ≡ desk_of end after = ap (λ (xs : List Change). desk xs (see new.service)) left ∙ ap (λ (s : SoloState). desk after.staged s) ends in
-      let told = line_seen see solo_subject lent Serves shows text old new said h in (
-        label,
-        subst (λ (d : Desk SoloState). Answers solo_subject Serves text (desk_of world before) d said) new_is
-            (subst (λ (d : Desk SoloState). Answers solo_subject Serves text d (desk new.staged (see new.service)) said) old_is told),
-      )
+      let told = line_seen see solo_subject lent Serves shows text old new said h in
+      subst (λ (d : Desk SoloState). Answers solo_subject Serves text (desk_of world before) d said) new_is
+      (subst (λ (d : Desk SoloState). Answers solo_subject Serves text d (desk new.staged (see new.service)) said) old_is told)
 
   -- ---- a run
 

@@ -4,7 +4,10 @@ pub mod CommitLemmas
 pub mod PolicyLemmas
 pub mod RollLemmas
 pub mod DeskLemmas
+pub mod StepLemmas
 pub mod KeepLemmas
+pub mod HeldLemmas
+pub mod LineLemmas
 pub mod WritingLemmas
 pub mod ScriptLemmas
 pub mod LentLemmas

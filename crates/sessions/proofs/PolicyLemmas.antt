@@ -1,5 +1,5 @@
 -- Seats, documents, rolls and tending: they begin and end nothing.
-use Rattle.std.proofs.Common.{◌≡◌, ◌⊎◌, ℕ, ◌+◌, Bool, true, false, List, [], ◌∷◌, ◌++◌, length, Result, Ok, Err, MatchResult, refl, sym, subst, inl, inr}
+use Rattle.std.proofs.Common.{◌≡◌, ℕ, ◌+◌, Bool, true, false, List, [], ◌∷◌, ◌++◌, length, Result, Ok, Err, MatchResult, refl, sym, subst, inl, inr}
 use Rattle.std.specs.Bool.{MatchBool}
 use Rattle.features.specs.declared.actors.Subject.{Subject}
 use Rattle.features.specs.declared.rows.Change.{Change}
@@ -8,51 +8,51 @@ use Rattle.policy_text.specs.Documents.{DocumentData}
 use Rattle.policy_text.specs.Reading.{Fails}
 use Rattle.policy_text.specs.declared.faults.TextFault.{TextFault}
 use Rattle.policy_text.specs.declared.faults.TextFault.TheVariants as unread
-use Rattle.transactions.specs.declared.faults.Fault.{Fault}
-use Rattle.transactions.specs.declared.faults.Fault.TheVariants as faults
-use Rattle.transactions.specs.declared.faults.TreeFault.TheVariants as tree
-use Rattle.transactions.specs.Admitting.{may_govern, may_roll, may_sit}
-use Rattle.transactions.specs.Events.{TakeSeat, Govern as GovernEvent, Roll, Tend, Tended, Happens, If, Reply as EventReply, Number, Refused, UnlessMemory, Governs as PutsInForce, Rolls, is_memory}
-use Rattle.transactions.specs.States.{WorldData}
+use Rattle.plain_world.specs.declared.faults.Fault.{Fault}
+use Rattle.plain_world.specs.declared.faults.Fault.TheVariants as faults
+use Rattle.search_tree.specs.declared.fault.TreeFault.TheVariants as tree
+use Rattle.plain_world.specs.Admitting.{may_govern, may_roll, may_sit}
+use Rattle.plain_world.specs.Events.{TakeSeat, Govern as GovernEvent, Roll, Tend, Tended, Happens, If, Reply as EventReply, Number, Refused, UnlessMemory, Governs as PutsInForce, Rolls, is_memory}
+use Rattle.plain_world.specs.States.{WorldData}
 use Rattle.sessions.specs.Desks.{Governs, OnlySays}
 use Rattle.sessions.specs.Replies.{SaidData, line, policy_reply}
 use Rattle.sessions.specs.Services.{Call, Govern}
-use Rattle.sessions.specs.States.{IsIdle, desk}
+use Rattle.sessions.specs.States.{IsAtRest, desk}
 
 -- a seat leaves what is under way as it was
-pub seat_idle : (name : List ℕ) (old new : WorldData) (reply : EventReply) → Happens (TakeSeat name) old new reply → IsIdle old → IsIdle new
-seat_idle name old new reply h still = go (may_sit name old) h
+pub seat_rests : (name : List ℕ) (old new : WorldData) (reply : EventReply) → Happens (TakeSeat name) old new reply → IsAtRest old → IsAtRest new
+seat_rests name old new reply h still = go (may_sit name old) h
   where
-    ends : (subject : Subject) (b : Bool) → MatchBool b (new ≡ old) ((new ≡ record old { seats = old.seats ++ subject ∷ [] }) × (reply ≡ Number (length old.seats + 1))) → IsIdle new
-    ends subject true d = subst (λ (x : WorldData). IsIdle x) (sym d) still
-    ends subject false d = subst (λ (x : WorldData). IsIdle x) (sym d.0) (record { searches = still.searches; transactions = still.transactions })
+    ends : (subject : Subject) (b : Bool) → MatchBool b (new ≡ old) ((new ≡ record old { seats = old.seats ++ subject ∷ [] }) × (reply ≡ Number (length old.seats + 1))) → IsAtRest new
+    ends subject true d = subst (λ (x : WorldData). IsAtRest x) (sym d) still
+    ends subject false d = subst (λ (x : WorldData). IsAtRest x) (sym d.0) (record { searches = still.searches; transactions = still.transactions })
 
-    go : (may : Result Subject Fault) → If may old new reply (λ subject. UnlessMemory old new reply ((new ≡ record old { seats = old.seats ++ subject ∷ [] }) × (reply ≡ Number (length old.seats + 1)))) → IsIdle new
-    go (Err fault) d = subst (λ (x : WorldData). IsIdle x) (sym d.0) still
+    go : (may : Result Subject Fault) → If may old new reply (λ subject. UnlessMemory old new reply ((new ≡ record old { seats = old.seats ++ subject ∷ [] }) × (reply ≡ Number (length old.seats + 1)))) → IsAtRest new
+    go (Err fault) d = subst (λ (x : WorldData). IsAtRest x) (sym d.0) still
     go (Ok subject) d = ends subject (is_memory reply) d
 
 -- a document leaves what is under way as it was
-pub govern_idle : (seat : ℕ) (document : DocumentData) (old new : WorldData) (reply : EventReply) → Happens (GovernEvent seat document) old new reply → IsIdle old → IsIdle new
-govern_idle seat document old new reply h still = go (may_govern seat old) h
+pub govern_rests : (seat : ℕ) (document : DocumentData) (old new : WorldData) (reply : EventReply) → Happens (GovernEvent seat document) old new reply → IsAtRest old → IsAtRest new
+govern_rests seat document old new reply h still = go (may_govern seat old) h
   where
-    ends : (b : Bool) → MatchBool b (new ≡ old) (PutsInForce seat document old new reply) → IsIdle new
-    ends true d = subst (λ (x : WorldData). IsIdle x) (sym d) still
-    ends false d = subst (λ (x : WorldData). IsIdle x) (sym d.1) (record { searches = still.searches; transactions = still.transactions })
+    ends : (b : Bool) → MatchBool b (new ≡ old) (PutsInForce seat document old new reply) → IsAtRest new
+    ends true d = subst (λ (x : WorldData). IsAtRest x) (sym d) still
+    ends false d = subst (λ (x : WorldData). IsAtRest x) (sym d.1) (record { searches = still.searches; transactions = still.transactions })
 
-    go : (may : Result Subject Fault) → If may old new reply (λ _. UnlessMemory old new reply (PutsInForce seat document old new reply)) → IsIdle new
-    go (Err fault) d = subst (λ (x : WorldData). IsIdle x) (sym d.0) still
+    go : (may : Result Subject Fault) → If may old new reply (λ _. UnlessMemory old new reply (PutsInForce seat document old new reply)) → IsAtRest new
+    go (Err fault) d = subst (λ (x : WorldData). IsAtRest x) (sym d.0) still
     go (Ok subject) d = ends (is_memory reply) d
 
 -- a roll leaves what is under way as it was
-pub roll_idle : (seat : ℕ) (old new : WorldData) (reply : EventReply) → Happens (Roll seat) old new reply → IsIdle old → IsIdle new
-roll_idle seat old new reply h still = go (may_roll seat old) h
+pub roll_rests : (seat : ℕ) (old new : WorldData) (reply : EventReply) → Happens (Roll seat) old new reply → IsAtRest old → IsAtRest new
+roll_rests seat old new reply h still = go (may_roll seat old) h
   where
-    ends : (b : Bool) → MatchBool b (new ≡ old) (Rolls old new reply) → IsIdle new
-    ends true d = subst (λ (x : WorldData). IsIdle x) (sym d) still
-    ends false d = subst (λ (x : WorldData). IsIdle x) (sym d.1) (record { searches = still.searches; transactions = still.transactions })
+    ends : (b : Bool) → MatchBool b (new ≡ old) (Rolls old new reply) → IsAtRest new
+    ends true d = subst (λ (x : WorldData). IsAtRest x) (sym d) still
+    ends false d = subst (λ (x : WorldData). IsAtRest x) (sym d.1) (record { searches = still.searches; transactions = still.transactions })
 
-    go : (may : Result (Unit {0}) Fault) → If may old new reply (λ _. UnlessMemory old new reply (Rolls old new reply)) → IsIdle new
-    go (Err fault) d = subst (λ (x : WorldData). IsIdle x) (sym d.0) still
+    go : (may : Result (Unit {0}) Fault) → If may old new reply (λ _. UnlessMemory old new reply (Rolls old new reply)) → IsAtRest new
+    go (Err fault) d = subst (λ (x : WorldData). IsAtRest x) (sym d.0) still
     go (Ok u) d = ends (is_memory reply) d
 
 -- a text that is no document

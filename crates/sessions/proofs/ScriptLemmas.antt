@@ -1,12 +1,12 @@
 -- Lines of a script, one at a time.
-use Rattle.std.proofs.Common.{◌≡◌, ℕ, ◌<◌, ◌++◌, List, [], Option, None, Some, Result, Ok, Err, OnOk, slice_set, slice_index_or, refl, ap, ◌∙◌, append-nil}
+use Rattle.std.proofs.Common.{◌≡◌, ℕ, zero, suc, ◌+◌, ◌<◌, ◌++◌, List, [], ◌∷◌, length, take, Option, None, Some, Result, Ok, Err, OnOk, IfErr, slice_set, slice_index_or, refl, ap, subst, ◌∙◌, append-nil, arith}
 use Rattle.std.specs.Io.KnownBytes.{Appends}
 use Rattle.std.specs.Option.{IfSome}
 use Rattle.std.proofs.lemmas.Bool.{lt-ltb}
 use Rattle.sessions.specs.declared.scripts.TheConstants.{LABEL_LIMIT}
 use Rattle.sessions.specs.Printed.{said_text}
 use Rattle.sessions.specs.Replies.{SaidData}
-use Rattle.transactions.specs.States.{WorldData}
+use Rattle.plain_world.specs.States.{WorldData}
 use Rattle.sessions.specs.Scripts.{Script, SessionAnswers, fresh, script, place, with_label, IsScriptText, LabelTells, LineTells}
 use Rattle.sessions.specs.Serving as serving
 use Rattle.sessions.specs.Serving.{IsServedText}
@@ -14,8 +14,10 @@ use Rattle.sessions.specs.Services.{Call}
 use Rattle.sessions.specs.States.{SessionState, desk}
 use Rattle.features.specs.declared.actors.Subject.{Subject}
 use Rattle.features.specs.declared.rows.Change.{Change}
-use Rattle.sessions.specs.Streams.{Ran, Took}
+use Rattle.sessions.specs.Stepping.{AllDrop, Drops}
+use Rattle.sessions.specs.Streams.{OnMemory, Ran, Took}
 use Rattle.sessions.specs.declared.streams.ServeFault.{ServeFault}
+use Rattle.sessions.specs.declared.streams.ServeFault.TheVariants.{Memory}
 
 -- what a session answered and wrote is what its label's line tells
 pub label_told : {E : Type 0} (r : Result (Unit {0}) E) (label text : List ℕ) (old : Script) (world : WorldData) (sessions : List SessionState) (reply : SaidData) (a b : Option (List ℕ))
@@ -28,14 +30,40 @@ label_told r label text old world sessions reply a b room answered written =
     (said_text label reply, written, rw (lt-ltb _ _ room) (record { session = answered.0; reply = reply; answers = answered.2 (fresh label); stays = answered.1; shows = refl }))
 
 -- a run that ended well has written the script text of all its known input
-pub script_text_of : (r : Result (Unit {0}) ServeFault) (world end : WorldData) (sessions : List SessionState) (input left a b : Option (List ℕ)) → Ran LineTells r (script world []) (script end sessions) input left a b
-    → OnOk r (IfSome input (λ text. (said : List ℕ) × Appends a b said × IsScriptText world text end said))
-script_text_of (Err e) world end sessions input left a b run = tt
-script_text_of (Ok u) world end sessions None left a b run = tt
-script_text_of (Ok u) world end sessions (Some text) None a b run = absurd run.read
-script_text_of (Ok u) world end sessions (Some text) (Some rest) a b run =
+pub script_text_of : (r : Result (Unit {0}) ServeFault) (world last end : WorldData) (sessions : List SessionState) (input left a b : Option (List ℕ)) → Ran LineTells r (script world []) (script last sessions) input left a b
+    → AllDrop sessions last end → OnOk r (IfSome input (λ text. (said : List ℕ) × Appends a b said × IsScriptText world text end said))
+script_text_of (Err e) world last end sessions input left a b run drops = tt
+script_text_of (Ok u) world last end sessions None left a b run drops = tt
+script_text_of (Ok u) world last end sessions (Some text) None a b run drops = absurd run.read
+script_text_of (Ok u) world last end sessions (Some text) (Some rest) a b run drops =
     let whole : text ≡ run.text = run.read ∙ ap (λ (xs : List ℕ). run.text ++ xs) run.at_end ∙ append-nil run.text in
-    (run.answered.said, run.answered.written, record { sessions = sessions; tells = rw whole run.answered.told })
+    (run.answered.said, run.answered.written, record { sessions = sessions; last = last; tells = rw whole run.answered.told; drops = drops })
+
+none_drop : (xs : List SessionState) (w : WorldData) → AllDrop (take zero xs) w w
+none_drop [] w = refl
+none_drop (x ∷ xs) w = refl
+
+drops_next : (xs : List SessionState) (i : ℕ) (x : SessionState) (w mid new : WorldData) → i < length xs → x ≡ slice_index_or xs i x → AllDrop (take i xs) w mid → Drops x.seat x.search mid new
+    → AllDrop (take (suc i) xs) w new
+drops_next [] i x w mid new lt e h d = absurd (omega (arith, lt))
+drops_next (y ∷ xs) zero x w mid new lt e h d =
+    (new, subst (λ (z : SessionState). Drops z.seat z.search w new) e (subst (λ (v : WorldData). Drops x.seat x.search v new) h d), none_drop xs new)
+drops_next (y ∷ xs) (suc i) x w mid new lt e h d = (h.0, h.1, drops_next xs i x h.0 mid new (omega (arith, lt)) e h.2 d)
+
+-- one more of the sessions gives up its search
+pub drops_more : (xs : List SessionState) (i : ℕ) (x : SessionState) (w mid new : WorldData) → i < length xs → x ≡ slice_index_or xs i x → AllDrop (take i xs) w mid → Drops x.seat x.search mid new
+    → AllDrop (take (i + 1) xs) w new
+drops_more xs i x w mid new lt e h d =
+    let next : suc i ≡ i + 1 = omega arith in
+    subst (λ (n : ℕ). AllDrop (take n xs) w new) next (drops_next xs i x w mid new lt e h d)
+
+-- a run that found no memory for its buffers has no sessions, and so gives up nothing
+pub untouched_so : {W D : Type 0} (sessions : D → List SessionState) (tells : List ℕ → W × D → W × D → List ℕ → Type 0) (r : Result (Unit {0}) ServeFault) (old new : W × D) (end : W) (input left a b : Option (List ℕ)) (P Q : Type 0)
+    → Ran tells r old new input left a b → sessions old.1 ≡ [] → (sessions new.1 ≡ [] → end ≡ new.0) → IfErr r (λ fault. OnMemory fault (P × Q)) → IfErr r (λ fault. OnMemory fault ((end ≡ old.0) × P × Q))
+untouched_so sessions tells (Err (Memory refused)) old new end input left a b P Q run none same rest =
+    let kept : sessions new.1 ≡ [] = ap (λ s. sessions s.1) run.0 ∙ none in
+    (same kept ∙ ap (λ s. s.0) run.0, rest.0, rest.1)
+untouched_so sessions tells _ old new end input left a b P Q run none same rest = tt
 
 -- the same of a session by itself
 module _ {S : Type 0} (subject_of : S → Option Subject) (serves : Call → S → S → SaidData → Type 0) where

@@ -1,34 +1,31 @@
--- A search from its beginning to its end, over a world in which nothing else is under way.
-use Rattle.std.proofs.Common.{◌≡◌, ◌⊎◌, ℕ, ◌+◌, ◌==◌, nat_le, not, Bool, true, false, List, [], ◌∷◌, length, map, filter, Option, None, Some, Result, Ok, Err, if◌then◌else◌, refl, sym, ap, subst, ◌∙◌, inl, inr, eq-eqb}
+-- A search from its beginning to its end, beside those that run.
+use Rattle.std.proofs.Common.{◌≡◌, ◌⊎◌, ℕ, ◌+◌, ◌<◌, ◌==◌, nat_le, not, Bool, true, false, List, [], ◌∷◌, ◌++◌, length, map, filter, Option, None, Some, Result, Ok, Err, if◌then◌else◌, refl, sym, ap, subst, ◌∙◌, inl, inr, eq-eqb, arith}
 use Rattle.std.specs.Bool.{MatchBool}
+use Rattle.std.proofs.lemmas.Bool.Decides.{nat_tests}
 use Rattle.plane.specs.declared.point.Point.{Point}
 use Rattle.memory.specs.declared.refused.Refused.{Refused as Refusal}
 use Rattle.features.specs.declared.actors.Subject.{Subject}
 use Rattle.features.specs.declared.rows.Feature.{Feature}
 use Rattle.audit_trail.specs.Listing.{Listed}
-use Rattle.audit_trail.specs.Records.{answered}
-use Rattle.transactions.specs.declared.faults.Fault.{Fault}
-use Rattle.transactions.specs.declared.faults.Fault.TheVariants as faults
-use Rattle.transactions.specs.declared.faults.TreeFault.TheVariants as tree
-use Rattle.transactions.specs.declared.searches.Search.{Search}
-use Rattle.transactions.specs.declared.steps.Visit.TheVariants as visits
-use Rattle.transactions.specs.Admitting.{LAST, and_then, given, owned, search_with, subject_at, own_search, has_answered_ready, may_record, may_go_on, may_finish, may_open, next_search}
-use Rattle.transactions.specs.Answers.{AnswerData}
-use Rattle.transactions.specs.Events.{Event, OpenSearch, VisitNext, Finish, DropSearch, Happens, If, Reply, Number, Visited, Rows, Refused, UnlessMemory, Sees, Visits, Finishes, is_memory, is_want, recorded, with_ready, without_search}
-use Rattle.transactions.specs.States.{WorldData}
+use Rattle.audit_trail.specs.Records.{PlainState, RecordData, answered}
+use Rattle.plain_world.specs.declared.faults.Fault.{Fault}
+use Rattle.plain_world.specs.declared.faults.Fault.TheVariants as faults
+use Rattle.search_tree.specs.declared.fault.TreeFault.TheVariants as tree
+use Rattle.plain_world.specs.declared.searches.Search.{Search}
+use Rattle.plain_world.specs.declared.settings.TheConstants.{SEARCH_LIMIT}
+use Rattle.search_tree.specs.declared.answers.Visit.TheVariants as visits
+use Rattle.plain_world.specs.Admitting.{LAST, and_then, given, map_ok, owned, search_with, subject_at, own_search, has_answered_ready, may_record, may_go_on, may_finish, may_open, next_search}
+use Rattle.plain_world.specs.Answers.{AnswerData}
+use Rattle.plain_world.specs.Events.{Event, OpenSearch, VisitNext, Finish, DropSearch, Happens, If, Reply, Number, Visited, Rows, Refused, UnlessMemory, Sees, Visits, Finishes, is_memory, is_want, recorded, with_ready, without_search}
+use Rattle.plain_world.specs.Laws.{AreGiven}
+use Rattle.plain_world.specs.States.{WorldData}
 use Rattle.sessions.specs.Services.{Searches, ListsRows, is_full, is_overrun, may_search}
-use Rattle.sessions.specs.States.{IsIdle, searched}
-use Rattle.sessions.specs.Steps.{Seeks, idle, searching}
+use Rattle.sessions.specs.States.{IsAtRest, searched}
+use Rattle.sessions.specs.Stepping.{Seeks}
+use Rattle.sessions.specs.Steps.{searching}
 
 pub same_number : (n : ℕ) → (n == n) ≡ true
 same_number n = eq-eqb n n refl
-
--- a world in which nothing is under way is itself without what is under way
-pub idle_same : (w : WorldData) → IsIdle w → w ≡ idle w
-idle_same w h = λ i. record w { searches = h.searches i; transactions = h.transactions i }
-
-pub is_idle : (w new : WorldData) → new ≡ idle w → IsIdle new
-is_idle w new e = record { searches = ap (λ (x : WorldData). x.searches) e; transactions = ap (λ (x : WorldData). x.transactions) e }
 
 -- a fault that tells want of memory carries a refusal
 pub want_is : (fault : Fault) → is_want fault ≡ true → (refusal : Refusal) × (fault ≡ faults.Memory refusal)
@@ -54,36 +51,71 @@ turned may fault old new reply Does e h = subst (λ (r : Result _ Fault). If r o
 pub from_same : (event : Event) (old other new : WorldData) (reply : Reply) → old ≡ other → Happens event old new reply → Happens event other new reply
 from_same event old other new reply e h = subst (λ (x : WorldData). Happens event x new reply) e h
 
--- ---- the one search that is under way
+-- ---- a number that no search has
 
-module _ (number seat : ℕ) (window : List Point) (w : WorldData) (subject : Subject) (seated : subject_at seat w ≡ Ok subject) where
+other_number : (n number : ℕ) → n < number → (n == number) ≡ false
+other_number n number lt = grind (arith, nat_tests, lt)
+
+abbrev pub IsFree : ℕ → List Search → Type 0
+IsFree number ss = AreGiven number (map (λ (s : Search). s.number) ss)
+
+module _ (number : ℕ) (one : Search) (is : one.number ≡ number) where
+  last_found : (ss : List Search) → IsFree number ss → search_with number (ss ++ one ∷ []) ≡ Some one
+  last_found [] free =
+      ap (λ (n : ℕ). if n == number then Some one else None) is ∙ ap (λ (b : Bool). if b then Some one else None) (same_number number)
+  last_found (s ∷ ss) free =
+      ap (λ (b : Bool). if b then Some s else search_with number (ss ++ one ∷ [])) (other_number s.number number free.0) ∙ last_found ss free.2
+
+  last_ready : (ss : List Search) → IsFree number ss → with_ready number (ss ++ one ∷ []) ≡ ss ++ record one { ready = true } ∷ []
+  last_ready [] free =
+      ap (λ (n : ℕ). if n == number then record one { ready = true } ∷ [] else one ∷ []) is
+      ∙ ap (λ (b : Bool). if b then record one { ready = true } ∷ [] else one ∷ []) (same_number number)
+  last_ready (s ∷ ss) free =
+      ap (λ (b : Bool). if b then record s { ready = true } ∷ (ss ++ one ∷ []) else s ∷ with_ready number (ss ++ one ∷ [])) (other_number s.number number free.0)
+      ∙ ap (λ (rest : List Search). s ∷ rest) (last_ready ss free.2)
+
+  last_gone : (ss : List Search) → IsFree number ss → filter (λ (s : Search). not (s.number == number)) (ss ++ one ∷ []) ≡ ss
+  last_gone [] free =
+      ap (λ (n : ℕ). if not (n == number) then one ∷ [] else []) is ∙ ap (λ (b : Bool). if not b then one ∷ [] else []) (same_number number)
+  last_gone (s ∷ ss) free =
+      ap (λ (b : Bool). if not b then s ∷ filter (λ (s : Search). not (s.number == number)) (ss ++ one ∷ []) else filter (λ (s : Search). not (s.number == number)) (ss ++ one ∷ []))
+      (other_number s.number number free.0)
+      ∙ ap (λ (rest : List Search). s ∷ rest) (last_gone ss free.2)
+
+none_found : (number : ℕ) (ss : List Search) → IsFree number ss → search_with number ss ≡ None
+none_found number [] free = refl
+none_found number (s ∷ ss) free = ap (λ (b : Bool). if b then Some s else search_with number ss) (other_number s.number number free.0) ∙ none_found number ss free.2
+
+-- ---- the search that is under way
+
+module _ (number seat : ℕ) (window : List Point) (w : WorldData) (subject : Subject) (seated : subject_at seat w ≡ Ok subject) (free : IsFree number w.searches) where
   abbrev one : Bool → Search
   one ready = record { number = number; seat = seat; window = window; ready = ready }
 
   own : (ready : Bool) → own_search seat number (searching number seat window ready w) ≡ Ok (one ready)
   own ready =
-      ap (λ (b : Bool). and_then (given (if b then Some (one ready) else None)) (owned seat)) (same_number number)
+      ap (λ (o : Option Search). and_then (given o) (owned seat)) (last_found number (one ready) refl w.searches free)
       ∙ ap (λ (b : Bool). if b then Ok (one ready) else Err faults.NotYours) (same_number seat)
 
   goes_on : (ready : Bool) → may_go_on seat number (searching number seat window ready w) ≡ Ok (one ready)
   goes_on ready = ap (λ (r : Result Subject Fault). and_then r (λ _. own_search seat number (searching number seat window ready w))) seated ∙ own ready
 
-  gone : (ready : Bool) → filter (λ (s : Search). not (s.number == number)) (one ready ∷ []) ≡ []
-  gone ready = ap (λ (b : Bool). if not b then one ready ∷ [] else []) (same_number number)
+  gone : (ready : Bool) → filter (λ (s : Search). not (s.number == number)) (w.searches ++ one ready ∷ []) ≡ w.searches
+  gone ready = last_gone number (one ready) refl w.searches free
 
   -- what a search that is visited leaves
   abbrev Visiting : WorldData → Reply → Type 0
   Visiting mid (Visited visits.Ready) = mid ≡ searching number seat window true w
   Visiting mid (Refused (faults.Memory refusal)) = mid ≡ searching number seat window false w
-  Visiting mid (Refused (faults.Tree tree.Overrun)) = mid ≡ idle w
+  Visiting mid (Refused (faults.Tree tree.Overrun)) = mid ≡ w
   Visiting mid (Refused fault) = ⊥
   Visiting mid _ = Unit {0}
 
   sees : (mid : WorldData) (reply : Reply) → UnlessMemory (searching number seat window false w) mid reply (Sees number (searching number seat window false w) mid reply) → Visiting mid reply
   sees mid (Visited visits.More) d = tt
-  sees mid (Visited visits.Ready) d = d ∙ ap (λ (b : Bool). record w { searches = (if b then one true ∷ [] else one false ∷ []); transactions = [] }) (same_number number)
+  sees mid (Visited visits.Ready) d = d ∙ ap (λ (ss : List Search). record w { searches = ss }) (last_ready number (one false) refl w.searches free)
   sees mid (Refused (faults.Memory refusal)) d = d
-  sees mid (Refused (faults.Tree tree.Overrun)) d = d ∙ ap (λ (ss : List Search). record w { searches = ss; transactions = [] }) (gone false)
+  sees mid (Refused (faults.Tree tree.Overrun)) d = d ∙ ap (λ (ss : List Search). record w { searches = ss }) (gone false)
   sees mid _ d = absurd d
 
   visiting : (mid : WorldData) (reply : Reply) → Happens (VisitNext seat number) (searching number seat window false w) mid reply → Visiting mid reply
@@ -96,13 +128,13 @@ module _ (number seat : ℕ) (window : List Point) (w : WorldData) (subject : Su
 
   -- how the search stands after it
   abbrev pub Stays : WorldData → Type 0
-  Stays mid = ((ready : Bool) × (mid ≡ searching number seat window ready w)) ⊎ (mid ≡ idle w)
+  Stays mid = ((ready : Bool) × (mid ≡ searching number seat window ready w)) ⊎ (mid ≡ w)
 
   abbrev pub Sought : WorldData → Reply → Type 0
   Sought mid (Rows answer) =
       (is_full w ≡ false) × ((rows : List Feature) × Listed w.state subject window rows
       × (Rows answer ≡ Rows (record { subject = subject; window = window; decider = w.state.decider; rows = rows }))
-      × (mid ≡ idle (recorded seat (answered subject window (map (λ row. row.id) rows) (map (λ row. row.version) rows)) w)))
+      × (mid ≡ recorded seat (answered subject window (map (λ row. row.id) rows) (map (λ row. row.version) rows)) w))
   Sought mid (Refused fault) = Fails fault × Stays mid
   Sought mid _ = ⊥
 
@@ -123,7 +155,7 @@ module _ (number seat : ℕ) (window : List Point) (w : WorldData) (subject : Su
           wants : (b : Bool) → is_want fault ≡ b → MatchBool b (new ≡ there) (Finishes seat (subject, one true) there new (Refused fault)) → Sought new (Refused fault)
           wants true e d = (inl (want_is fault e), inl (true, d))
           wants false e d = (let wrong = d.2 in absurd cc)
-      ends room (Rows answer) d = (room, (d.0, d.1, d.2, d.3 ∙ ap (λ (ss : List Search). record (recorded seat (answered subject window (map (λ row. row.id) d.0) (map (λ row. row.version) d.0)) w) { searches = ss; transactions = [] }) (gone true)))
+      ends room (Rows answer) d = (room, (d.0, d.1, d.2, d.3 ∙ ap (λ (ss : List Search). record (recorded seat (answered subject window (map (λ row. row.id) d.0) (map (λ row. row.version) d.0)) w) { searches = ss }) (gone true)))
       ends room _ d = (let wrong = d.2 in absurd cc)
 
       go : (full : Bool) → is_full w ≡ full → Happens (Finish seat number) there new reply → Sought new reply
@@ -145,118 +177,161 @@ module _ (number seat : ℕ) (window : List Point) (w : WorldData) (subject : Su
   sought new reply (inr (inr (e, r))) = subst (λ (r : Reply). Sought new r) (sym r) (inr (inl refl), inl (false, e))
 
   -- whatever stays is dropped
-  pub dropped : (mid new : WorldData) (reply : Reply) → Stays mid → Happens (DropSearch seat number) mid new reply → new ≡ idle w
+  pub dropped : (mid new : WorldData) (reply : Reply) → Stays mid → Happens (DropSearch seat number) mid new reply → new ≡ w
   dropped mid new reply (inl (ready, e)) h =
       let there = searching number seat window ready w in
       let d = does _ (one ready) there new reply (λ _. (new ≡ without_search number there) × (reply ≡ Reply.Done)) (goes_on ready) (subst (λ (x : WorldData). Happens (DropSearch seat number) x new reply) e h) in
-      d.0 ∙ ap (λ (ss : List Search). record w { searches = ss; transactions = [] }) (gone ready)
+      d.0 ∙ ap (λ (ss : List Search). record w { searches = ss }) (gone ready)
   dropped mid new reply (inr e) h =
-      let none = ap (λ (r : Result Subject Fault). and_then r (λ _. own_search seat number (idle w))) seated in
-      (refuses _ faults.NoSuch (idle w) new reply (λ _. (new ≡ without_search number (idle w)) × (reply ≡ Reply.Done)) none (subst (λ (x : WorldData). Happens (DropSearch seat number) x new reply) e h)).0
+      let none =
+      ap (λ (r : Result Subject Fault). and_then r (λ _. own_search seat number w)) seated
+      ∙ ap (λ (o : Option Search). and_then (given o) (owned seat)) (none_found number w.searches free) in
+      (refuses _ faults.NoSuch w new reply (λ _. (new ≡ without_search number w) × (reply ≡ Reply.Done)) none (subst (λ (x : WorldData). Happens (DropSearch seat number) x new reply) e h)).0
+
+-- ---- a world at rest
+
+given_more : (n : ℕ) (ns : List ℕ) → AreGiven n ns → AreGiven (n + 1) ns
+given_more n [] given = tt
+given_more n (m ∷ ms) given = (omega (arith, given.0), given.1, given_more n ms given.2)
+
+-- a world at rest in which a number more is used up, and a record more may stand
+pub rests_searched : (old new : WorldData) (state : PlainState) (trail : List RecordData) → IsAtRest old → new ≡ searched (record old { state = state; trail = trail }) → IsAtRest new
+rests_searched old new state trail still e =
+    subst (λ (x : WorldData). IsAtRest x) (sym e) (record { searches = given_more old.next_search (map (λ (s : Search). s.number) old.searches) still.searches; transactions = still.transactions })
+
+pub rests_same : (old new : WorldData) → IsAtRest old → new ≡ old → IsAtRest new
+rests_same old new still e = subst (λ (x : WorldData). IsAtRest x) (sym e) still
 
 -- ---- searches from the beginning
 
--- a search that is not opened
-pub open_refused : (seat : ℕ) (window : List Point) (old new : WorldData) (fault : Fault) → IsIdle old → Happens (OpenSearch seat window) old new (Refused fault)
-    → IsIdle new × Searches seat window old new (Refused fault)
-open_refused seat window old new fault still h =
-    let ends = go (subject_at seat old) (old.next_search == LAST) refl refl (subst (λ (o : WorldData). Happens (OpenSearch seat window) o new (Refused fault)) (idle_same old still) h) in
-    (is_idle old new ends.0, subst (λ (o : WorldData). Searches seat window o new (Refused fault)) (sym (idle_same old still)) ends.1)
+-- the number that is given next
+room_number : (w : WorldData) (number : ℕ) → next_search w ≡ Ok number → number ≡ w.next_search
+room_number w number e = go (nat_le SEARCH_LIMIT (length w.searches)) (w.next_search == LAST) e
   where
-    Does : Subject → Type 0
-    Does subject =
-        MatchBool (is_want fault) ((new ≡ idle old) ⊎ (new ≡ searched (idle old)))
-        (MatchBool (is_overrun (Refused fault)) (new ≡ searched (idle old))
-        (MatchBool (is_full (idle old)) ((Refused fault ≡ Refused faults.TrailFull) × (new ≡ searched (idle old)))
-        (ListsRows seat subject window (idle old) new (Refused fault))))
+    go : (full last : Bool) → (if full then Err (faults.Tree tree.TooMany) else if last then Err (faults.Tree tree.Spent) else Ok w.next_search) ≡ Ok number → number ≡ w.next_search
+    go true last h = absurd cc
+    go false true h = absurd cc
+    go false false h = cc
 
-    wants : (subject : Subject) (b : Bool) → is_want fault ≡ b → MatchBool b (new ≡ idle old) ((new ≡ searching old.next_search seat window false (searched old)) × (Refused fault ≡ Number old.next_search)) → (new ≡ idle old) × Does subject
-    wants subject true e d = (
-      d,
-      subst (λ (b : Bool). MatchBool b ((new ≡ idle old) ⊎ (new ≡ searched (idle old)))
-          (MatchBool (is_overrun (Refused fault)) (new ≡ searched (idle old)) (MatchBool (is_full (idle old)) ((Refused fault ≡ Refused faults.TrailFull) × (new ≡ searched (idle old))) (ListsRows seat subject window (idle old) new (Refused fault))))) (sym e) (inl d),
-    )
-    wants subject false e d = (let wrong = d.1 in absurd cc)
+module _ (seat : ℕ) (window : List Point) (old new : WorldData) where
+  -- a world with one search more, of this number
+  abbrev opening : ℕ → WorldData
+  opening number =
+      record old { searches = old.searches ++ record { number = number; seat = seat; window = window; ready = false } ∷ []; next_search = number + 1 }
 
-    go : (who : Result Subject Fault) (last : Bool) → subject_at seat old ≡ who → (old.next_search == LAST) ≡ last → Happens (OpenSearch seat window) (idle old) new (Refused fault) → (new ≡ idle old) × Searches seat window (idle old) new (Refused fault)
-    go (Err f) last e l h =
-        let left = refuses _ f (idle old) new (Refused fault) _ (ap (λ (r : Result Subject Fault). and_then r (λ _. next_search (idle old))) e) h in
-        (left.0, turned _ f (idle old) new (Refused fault) Does (ap (λ (r : Result Subject Fault). and_then r (λ subject. if old.next_search == LAST then Err (faults.Tree tree.Spent) else Ok subject)) e) left)
-    go (Ok subject) true e l h =
-        let left = refuses _ (faults.Tree tree.Spent) (idle old) new (Refused fault) _ (ap (λ (r : Result Subject Fault). and_then r (λ _. next_search (idle old))) e ∙ ap (λ (b : Bool). if b then Err (faults.Tree tree.Spent) else Ok old.next_search) l) h in
-        (left.0, turned _ (faults.Tree tree.Spent) (idle old) new (Refused fault) Does (ap (λ (r : Result Subject Fault). and_then r (λ subject. if old.next_search == LAST then Err (faults.Tree tree.Spent) else Ok subject)) e ∙ ap (λ (b : Bool). if b then Err (faults.Tree tree.Spent) else Ok subject) l) left)
-    go (Ok subject) false e l h =
-        let d = does _ old.next_search (idle old) new (Refused fault) _ (ap (λ (r : Result Subject Fault). and_then r (λ _. next_search (idle old))) e ∙ ap (λ (b : Bool). if b then Err (faults.Tree tree.Spent) else Ok old.next_search) l) h in
-        let ends = wants subject (is_want fault) refl d in
-        (ends.0, done _ subject (idle old) new (Refused fault) Does (ap (λ (r : Result Subject Fault). and_then r (λ subject. if old.next_search == LAST then Err (faults.Tree tree.Spent) else Ok subject)) e ∙ ap (λ (b : Bool). if b then Err (faults.Tree tree.Spent) else Ok subject) l) ends.1)
+  may_open_as : (subject : Subject) (room : Result ℕ Fault) → subject_at seat old ≡ Ok subject → next_search old ≡ room → may_open seat old ≡ room
+  may_open_as subject room e l = ap (λ (r : Result Subject Fault). and_then r (λ _. next_search old)) e ∙ l
+
+  may_search_as : (subject : Subject) (room : Result ℕ Fault) → subject_at seat old ≡ Ok subject → next_search old ≡ room → may_search seat old ≡ map_ok (λ _. subject) room
+  may_search_as subject room e l =
+      ap (λ (r : Result Subject Fault). and_then r (λ subject. map_ok (λ _. subject) (next_search old))) e ∙ ap (λ (r : Result ℕ Fault). map_ok (λ _. subject) r) l
+
+  -- a search that is not opened
+  pub open_refused : (fault : Fault) → IsAtRest old → Happens (OpenSearch seat window) old new (Refused fault) → IsAtRest new × Searches seat window old new (Refused fault)
+  open_refused fault still h = let ends = go (subject_at seat old) (next_search old) refl refl in (rests_same old new still ends.0, ends.1)
+    where
+      Does : Subject → Type 0
+      Does subject =
+          MatchBool (is_want fault) ((new ≡ old) ⊎ (new ≡ searched old))
+          (MatchBool (is_overrun (Refused fault)) (new ≡ searched old)
+          (MatchBool (is_full old) ((Refused fault ≡ Refused faults.TrailFull) × (new ≡ searched old))
+          (ListsRows seat subject window old new (Refused fault))))
+
+      wants : (subject : Subject) (number : ℕ) (b : Bool) → is_want fault ≡ b → MatchBool b (new ≡ old) ((new ≡ opening number) × (Refused fault ≡ Number number)) → (new ≡ old) × Does subject
+      wants subject number true e d = (
+        d,
+        subst (λ (b : Bool). MatchBool b ((new ≡ old) ⊎ (new ≡ searched old))
+            (MatchBool (is_overrun (Refused fault)) (new ≡ searched old)
+            (MatchBool (is_full old) ((Refused fault ≡ Refused faults.TrailFull) × (new ≡ searched old)) (ListsRows seat subject window old new (Refused fault))))) (sym e) (inl d),
+      )
+      wants subject number false e d = (let wrong = d.1 in absurd cc)
+
+      go : (who : Result Subject Fault) (room : Result ℕ Fault) → subject_at seat old ≡ who → next_search old ≡ room → (new ≡ old) × Searches seat window old new (Refused fault)
+      go (Err f) room e l =
+          let left = refuses _ f old new (Refused fault) _ (ap (λ (r : Result Subject Fault). and_then r (λ _. next_search old)) e) h in
+          (left.0, turned _ f old new (Refused fault) Does (ap (λ (r : Result Subject Fault). and_then r (λ subject. map_ok (λ _. subject) (next_search old))) e) left)
+      go (Ok subject) (Err f) e l =
+          let left = refuses _ f old new (Refused fault) _ (may_open_as subject (Err f) e l) h in
+          (left.0, turned _ f old new (Refused fault) Does (may_search_as subject (Err f) e l) left)
+      go (Ok subject) (Ok number) e l =
+          let d = does _ number old new (Refused fault) _ (may_open_as subject (Ok number) e l) h in
+          let ends = wants subject number (is_want fault) refl d in
+          (ends.0, done _ subject old new (Refused fault) Does (may_search_as subject (Ok number) e l) ends.1)
 
 -- a search that is opened
 pub record Opened (seat : ℕ) (window : List Point) (old new : WorldData) (number : ℕ) : Type 0 where
   pub subject : Subject
   pub seated : subject_at seat old ≡ Ok subject
-  pub left : (old.next_search == LAST) ≡ false
+  pub room : next_search old ≡ Ok number
   pub is : number ≡ old.next_search
   pub stands : new ≡ searching number seat window false (searched old)
 
-pub opened : (seat : ℕ) (window : List Point) (old new : WorldData) (number : ℕ) → IsIdle old → Happens (OpenSearch seat window) old new (Number number) → Opened seat window old new number
-opened seat window old new number still h = go (subject_at seat old) (old.next_search == LAST) refl refl (subst (λ (o : WorldData). Happens (OpenSearch seat window) o new (Number number)) (idle_same old still) h)
+pub opened : (seat : ℕ) (window : List Point) (old new : WorldData) (number : ℕ) → Happens (OpenSearch seat window) old new (Number number) → Opened seat window old new number
+opened seat window old new number h = go (subject_at seat old) (next_search old) refl refl
   where
-    go : (who : Result Subject Fault) (last : Bool) → subject_at seat old ≡ who → (old.next_search == LAST) ≡ last → Happens (OpenSearch seat window) (idle old) new (Number number) → Opened seat window old new number
-    go (Err f) last e l h =
-        (let left = refuses _ f (idle old) new (Number number) _ (ap (λ (r : Result Subject Fault). and_then r (λ _. next_search (idle old))) e) h in let wrong = left.1 in absurd cc)
-    go (Ok subject) true e l h =
-        (let left = refuses _ (faults.Tree tree.Spent) (idle old) new (Number number) _ (ap (λ (r : Result Subject Fault). and_then r (λ _. next_search (idle old))) e ∙ ap (λ (b : Bool). if b then Err (faults.Tree tree.Spent) else Ok old.next_search) l) h in let wrong = left.1 in absurd cc)
-    go (Ok subject) false e l h =
-        let d = does _ old.next_search (idle old) new (Number number) _ (ap (λ (r : Result Subject Fault). and_then r (λ _. next_search (idle old))) e ∙ ap (λ (b : Bool). if b then Err (faults.Tree tree.Spent) else Ok old.next_search) l) h in
-        let is : number ≡ old.next_search = cc (d.1) in
-        record { subject = subject; seated = e; left = l; is = is; stands = d.0 ∙ ap (λ (n : ℕ). searching n seat window false (searched old)) (sym is) }
+    go : (who : Result Subject Fault) (room : Result ℕ Fault) → subject_at seat old ≡ who → next_search old ≡ room → Opened seat window old new number
+    go (Err f) room e l =
+        (let left = refuses _ f old new (Number number) _ (ap (λ (r : Result Subject Fault). and_then r (λ _. next_search old)) e) h in let wrong = left.1 in absurd cc)
+    go (Ok subject) (Err f) e l = (let left = refuses _ f old new (Number number) _ (may_open_as seat window old new subject (Err f) e l) h in let wrong = left.1 in absurd cc)
+    go (Ok subject) (Ok n) e l =
+        let d = does _ n old new (Number number) _ (may_open_as seat window old new subject (Ok n) e l) h in
+        let same : n ≡ number = cc (d.1) in
+        let room : next_search old ≡ Ok number = l ∙ ap (λ (m : ℕ). Ok m) same in
+        let is : number ≡ old.next_search = room_number old number room in
+        record {
+          subject = subject;
+          seated = e;
+          room = room;
+          is = is;
+          stands = d.0 ∙ ap (opening seat window old new) same ∙ ap (λ (m : ℕ). record old { searches = old.searches ++ record { number = number; seat = seat; window = window; ready = false } ∷ []; next_search = m + 1 }) is;
+        }
 
-module _ (seat : ℕ) (window : List Point) (old mid : WorldData) (number : ℕ) (still : IsIdle old) (h : Happens (OpenSearch seat window) old mid (Number number)) where
+module _ (seat : ℕ) (window : List Point) (old mid : WorldData) (number : ℕ) (still : IsAtRest old) (h : Happens (OpenSearch seat window) old mid (Number number)) where
   started : Opened seat window old mid number
-  started = opened seat window old mid number still h
+  started = opened seat window old mid number h
 
-  admits : may_search seat (idle old) ≡ Ok started.subject
-  admits =
-      ap (λ (r : Result Subject Fault). and_then r (λ subject. if old.next_search == LAST then Err (faults.Tree tree.Spent) else Ok subject)) started.seated
-      ∙ ap (λ (b : Bool). if b then Err (faults.Tree tree.Spent) else Ok started.subject) started.left
+  admits : may_search seat old ≡ Ok started.subject
+  admits = may_search_as seat window old mid started.subject (Ok number) started.seated started.room
 
-  found : (stopped : WorldData) (reply : Reply) → Seeks seat number mid stopped reply → Sought number seat window (searched old) started.subject started.seated stopped reply
+  free : IsFree number old.searches
+  free = subst (λ (n : ℕ). IsFree n old.searches) (sym started.is) still.searches
+
+  found : (stopped : WorldData) (reply : Reply) → Seeks seat number mid stopped reply → Sought number seat window (searched old) started.subject started.seated free stopped reply
   found stopped reply seeks =
-      sought number seat window (searched old) started.subject started.seated stopped reply (subst (λ (x : WorldData). Seeks seat number x stopped reply) started.stands seeks)
+      sought number seat window (searched old) started.subject started.seated free stopped reply (subst (λ (x : WorldData). Seeks seat number x stopped reply) started.stands seeks)
 
   abbrev Does : WorldData → Reply → Subject → Type 0
   Does new reply subject =
-      MatchBool (is_memory reply) ((new ≡ idle old) ⊎ (new ≡ searched (idle old)))
-      (MatchBool (is_overrun reply) (new ≡ searched (idle old))
-      (MatchBool (is_full (idle old)) ((reply ≡ Refused faults.TrailFull) × (new ≡ searched (idle old)))
-      (ListsRows seat subject window (idle old) new reply)))
+      MatchBool (is_memory reply) ((new ≡ old) ⊎ (new ≡ searched old))
+      (MatchBool (is_overrun reply) (new ≡ searched old)
+      (MatchBool (is_full old) ((reply ≡ Refused faults.TrailFull) × (new ≡ searched old))
+      (ListsRows seat subject window old new reply)))
 
   whole : (new : WorldData) (reply : Reply) → Does new reply started.subject → Searches seat window old new reply
-  whole new reply d =
-      subst (λ (o : WorldData). Searches seat window o new reply) (sym (idle_same old still)) (done _ started.subject (idle old) new reply (Does new reply) admits d)
+  whole new reply d = done _ started.subject old new reply (Does new reply) admits d
 
   -- a search that comes to nothing, and is dropped
-  pub search_refused : (stopped new : WorldData) (fault : Fault) (reply : Reply) → Seeks seat number mid stopped (Refused fault) → Happens (DropSearch seat number) stopped new reply → IsIdle new × Searches seat window old new (Refused fault)
+  pub search_refused : (stopped new : WorldData) (fault : Fault) (reply : Reply) → Seeks seat number mid stopped (Refused fault) → Happens (DropSearch seat number) stopped new reply → IsAtRest new × Searches seat window old new (Refused fault)
   search_refused stopped new fault reply seeks drops =
       let end = found stopped (Refused fault) seeks in
-      let left = dropped number seat window (searched old) started.subject started.seated stopped new reply end.1 drops in
-      (is_idle (searched old) new left, whole new (Refused fault) (why fault left end.0))
+      let left = dropped number seat window (searched old) started.subject started.seated free stopped new reply end.1 drops in
+      (rests_searched old new old.state old.trail still left, whole new (Refused fault) (why fault left end.0))
     where
-      why : (fault : Fault) → new ≡ searched (idle old) → Fails number seat window (searched old) started.subject started.seated fault → Does new (Refused fault) started.subject
+      why : (fault : Fault) → new ≡ searched old → Fails number seat window (searched old) started.subject started.seated free fault → Does new (Refused fault) started.subject
       why fault left (inl (refusal, e)) = subst (λ (f : Fault). Does new (Refused f) started.subject) (sym e) (inr left)
       why fault left (inr (inl e)) = subst (λ (f : Fault). Does new (Refused f) started.subject) (sym e) left
       why fault left (inr (inr (full, e))) =
           subst (λ (f : Fault). Does new (Refused f) started.subject) (sym e)
-          (subst (λ (b : Bool). MatchBool b ((Refused faults.TrailFull ≡ Refused faults.TrailFull) × (new ≡ searched (idle old))) (ListsRows seat started.subject window (idle old) new (Refused faults.TrailFull))) (sym full) (refl, left))
+          (subst (λ (b : Bool). MatchBool b ((Refused faults.TrailFull ≡ Refused faults.TrailFull) × (new ≡ searched old)) (ListsRows seat started.subject window old new (Refused faults.TrailFull))) (sym full) (refl, left))
 
   -- a search that is answered
-  pub search_answered : (new : WorldData) (answer : AnswerData) → Seeks seat number mid new (Rows answer) → IsIdle new × Searches seat window old new (Rows answer)
+  pub search_answered : (new : WorldData) (answer : AnswerData) → Seeks seat number mid new (Rows answer) → IsAtRest new × Searches seat window old new (Rows answer)
   search_answered new answer seeks =
       let end = found new (Rows answer) seeks in
       let rows = end.1 in (
-        is_idle (recorded seat (answered started.subject window (map (λ row. row.id) rows.0) (map (λ row. row.version) rows.0)) (searched old)) new rows.3,
+        rests_searched old new _ _ still rows.3,
         whole new (Rows answer)
-            (subst (λ (b : Bool). MatchBool b ((Rows answer ≡ Refused faults.TrailFull) × (new ≡ searched (idle old))) (ListsRows seat started.subject window (idle old) new (Rows answer))) (sym end.0) rows),
+            (subst (λ (b : Bool). MatchBool b ((Rows answer ≡ Refused faults.TrailFull) × (new ≡ searched old)) (ListsRows seat started.subject window old new (Rows answer))) (sym end.0) rows),
       )
 
 -- ---- visits, one after another

@@ -9,15 +9,16 @@ use Rattle.plane.specs.declared.fault.ShapeFault.TheVariants.{OutOfRange as Rang
 use Rattle.wkt.specs.declared.fault.WktFault.{WktFault}
 use Rattle.wkt.specs.declared.fault.WktFault.TheVariants.{UnknownWord, LeftOut, Syntax, Number as NumberFault, OutOfRange, Bad}
 use Rattle.plane.specs.FaultCodes.{code_of as shape_code_of}
-use Rattle.wkt.specs.Faults.{code_of as wkt_code_of}
+use Rattle.wkt.specs.FaultCodes.{code_of as wkt_code_of}
 use Rattle.policy_text.specs.declared.faults.TextFault.{TextFault}
 use Rattle.policy_text.specs.declared.faults.TextFault.TheVariants as unread
 use Rattle.policy_text.specs.FaultCodes.{code_of as policy_code_of}
-use Rattle.transactions.specs.FaultCodes.{fault_code, tree_code}
-use Rattle.transactions.specs.declared.faults.Fault.{Fault as WorldFault}
-use Rattle.transactions.specs.declared.faults.Fault.TheVariants as faults
-use Rattle.transactions.specs.declared.faults.TreeFault.{TreeFault}
-use Rattle.transactions.specs.declared.faults.TreeFault.TheVariants as tree
+use Rattle.plain_world.specs.FaultCodes.{fault_code}
+use Rattle.search_tree.specs.Faults.{code_of as tree_code}
+use Rattle.plain_world.specs.declared.faults.Fault.{Fault as WorldFault}
+use Rattle.plain_world.specs.declared.faults.Fault.TheVariants as faults
+use Rattle.search_tree.specs.declared.fault.TreeFault.{TreeFault}
+use Rattle.search_tree.specs.declared.fault.TreeFault.TheVariants as tree
 use Rattle.sessions.specs.declared.faults.Fault.{Fault}
 use Rattle.sessions.specs.declared.faults.Fault.TheVariants.{Shape}
 use Rattle.sessions.specs.Faults.{code_of}

@@ -1,6 +1,6 @@
 -- What a session's line does. Whoever serves the session is known by two things: for whom it asks, and what each call makes
 -- of it (`serves call old new said`).
-use Rattle.std.specs.Prelude.{◌≡◌, ◌≢◌, ◌⊎◌, ◌==◌, ℕ, nat_le, Bool, true, false, is_some, List, [], ◌∷◌, ◌++◌, length, Option, Result, MatchOption, MatchResult, if◌then◌else◌}
+use Rattle.std.specs.Prelude.{◌≡◌, ◌≢◌, ◌⊎◌, ◌==◌, ℕ, nat_le, Bool, true, false, is_some, List, [], ◌∷◌, ◌++◌, length, Option, MatchOption, MatchResult, if◌then◌else◌}
 use Rattle.std.specs.Bool.{MatchBool}
 use Rattle.memory.specs.declared.refused.Refused.{Refused as Refusal}
 use Rattle.features.specs.declared.actors.Subject.{Subject}
@@ -8,9 +8,9 @@ use Rattle.features.specs.declared.rows.Change.{Change}
 use Rattle.features.specs.Changes.{change_id}
 use Rattle.policy_text.specs.Bytes.{document_of_bytes}
 use Rattle.combining.specs.declared.questions.Question.{Question}
-use Rattle.transactions.specs.declared.faults.Fault.TheVariants as refusals
-use Rattle.transactions.specs.declared.settings.TheConstants.{CHANGE_LIMIT}
-use Rattle.transactions.specs.Staging.{names}
+use Rattle.plain_world.specs.declared.faults.Fault.TheVariants as refusals
+use Rattle.plain_world.specs.declared.settings.TheConstants.{CHANGE_LIMIT}
+use Rattle.plain_world.specs.Staging.{names}
 use Rattle.sessions.specs.declared.commands.Asking.{Asking}
 use Rattle.sessions.specs.declared.commands.Command.{Command}
 use Rattle.sessions.specs.declared.commands.Command.TheVariants as commands

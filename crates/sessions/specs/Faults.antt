@@ -1,8 +1,8 @@
 -- The codes of the faults that a line can be answered.
 use Rattle.std.specs.Prelude.{ℕ, List, codes}
-use Rattle.wkt.specs.Faults.{code_of as wkt_code_of}
+use Rattle.wkt.specs.FaultCodes.{code_of as wkt_code_of}
 use Rattle.sessions.specs.declared.faults.Fault.{Fault}
-use Rattle.sessions.specs.declared.faults.Fault.TheVariants.{LineTooLong, Command, Number, Name, BeforeHello, HelloAgain, NothingStaged, NoLabel, NoSubject, NoPlace, Shape}
+use Rattle.sessions.specs.declared.faults.Fault.TheVariants.{LineTooLong, Command, Number, Name, BeforeHello, HelloAgain, NothingStaged, OutOfTurn, NoLabel, NoSubject, NoPlace, Shape}
 use Rattle.sessions.specs.declared.streams.ServeFault.{ServeFault}
 use Rattle.sessions.specs.declared.streams.ServeFault.TheVariants.{Read, Write, TooManyTurns, Memory}
 
@@ -14,6 +14,7 @@ code_of Name = codes "E4"
 code_of BeforeHello = codes "E5"
 code_of HelloAgain = codes "E6"
 code_of NothingStaged = codes "E7"
+code_of OutOfTurn = codes "E8"
 code_of NoLabel = codes "E9"
 code_of NoSubject = codes "H1"
 code_of NoPlace = codes "H2"

@@ -5,6 +5,7 @@ pub mod Replies
 pub mod States
 pub mod Services
 pub mod Steps
+pub mod Stepping
 pub mod Desks
 pub mod Printed
 pub mod Lines

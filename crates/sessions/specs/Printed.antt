@@ -5,9 +5,9 @@ use Rattle.wkt.specs.Printing.{printed}
 use Rattle.features.specs.declared.rows.Feature.{Feature}
 use Rattle.audit_trail.specs.JsonLines.{lines_from}
 use Rattle.sessions.specs.declared.replies.Reply.{Reply}
-use Rattle.sessions.specs.declared.replies.Reply.TheVariants.{Hello, Staged, Applied, Denied, Absent, Exists, Stale, Held, Aborted, Edition, Permitted, Forbidden, Bye, Memory, Error, Unread, Refused}
+use Rattle.sessions.specs.declared.replies.Reply.TheVariants.{Hello, Staged, Applied, Denied, Absent, Exists, Stale, Held, Opened, More, Ready, Aborted, Edition, Permitted, Forbidden, Bye, Memory, Error, Unread, Refused}
 use Rattle.policy_text.specs.FaultCodes.{code_of as policy_code_of}
-use Rattle.transactions.specs.FaultCodes.{fault_code}
+use Rattle.plain_world.specs.FaultCodes.{fault_code}
 use Rattle.sessions.specs.Faults.{code_of}
 use Rattle.sessions.specs.Replies.{SaidData, line, rows, rolled}
 
@@ -35,6 +35,9 @@ reply_text (Absent change) = codes "absent change " ++ decimal change
 reply_text (Exists change) = codes "exists change " ++ decimal change
 reply_text (Stale current change) = codes "stale " ++ decimal current ++ codes " change " ++ decimal change
 reply_text Held = codes "held"
+reply_text Opened = codes "opened"
+reply_text More = codes "more"
+reply_text Ready = codes "ready"
 reply_text Aborted = codes "aborted"
 reply_text (Edition edition) = codes "edition " ++ decimal edition
 reply_text (Permitted rule edition) = codes "permit" ++ rule_text rule ++ codes " edition " ++ decimal edition

@@ -9,16 +9,18 @@ use Rattle.decision.specs.declared.rulings.Ruling.TheVariants as rulings
 use Rattle.audit_trail.specs.declared.causes.Cause.{Cause}
 use Rattle.audit_trail.specs.declared.causes.Cause.TheVariants as causes
 use Rattle.std.specs.Arc.{arc_value}
-use Rattle.transactions.specs.Answers.{AnswerData, DenialData}
-use Rattle.transactions.specs.Rolls.{RolledData}
-use Rattle.transactions.specs.declared.faults.Fault.{Fault as WorldFault}
-use Rattle.transactions.specs.declared.faults.Fault.TheVariants as refusals
-use Rattle.transactions.specs.declared.faults.TreeFault.TheVariants as tree
-use Rattle.transactions.specs.declared.outcomes.Outcome.{Outcome}
-use Rattle.transactions.specs.declared.outcomes.Outcome.TheVariants as outcomes
+use Rattle.plain_world.specs.Answers.{AnswerData, DenialData}
+use Rattle.plain_world.specs.Rolls.{RolledData}
+use Rattle.plain_world.specs.declared.faults.Fault.{Fault as WorldFault}
+use Rattle.plain_world.specs.declared.faults.Fault.TheVariants as refusals
+use Rattle.search_tree.specs.declared.fault.TreeFault.TheVariants as tree
+use Rattle.plain_world.specs.declared.outcomes.Outcome.{Outcome}
+use Rattle.plain_world.specs.declared.outcomes.Outcome.TheVariants as outcomes
+use Rattle.search_tree.specs.declared.answers.Visit.{Visit}
+use Rattle.search_tree.specs.declared.answers.Visit.TheVariants as visits
 use Rattle.sessions.specs.declared.faults.Fault.TheVariants.{NoSubject, NoPlace}
 use Rattle.sessions.specs.declared.replies.Reply.{Reply}
-use Rattle.sessions.specs.declared.replies.Reply.TheVariants.{Applied, Denied, Absent, Exists, Stale, Held, Edition, Permitted, Forbidden, Memory, Error, Unread, Refused}
+use Rattle.sessions.specs.declared.replies.Reply.TheVariants.{Applied, Denied, Absent, Exists, Stale, Held, More, Ready, Permitted, Forbidden, Memory, Error, Unread, Refused}
 use Rattle.sessions.specs.declared.replies.Said.{Said}
 use Rattle.sessions.specs.declared.replies.Said.TheVariants as code
 
@@ -82,6 +84,11 @@ abbrev pub ruling_reply : DeciderData → Ruling → Reply
 ruling_reply decider (rulings.Permit rule) = Permitted (name_of_rule decider rule) decider.edition
 ruling_reply decider (rulings.DeniedBy rule) = Forbidden (name_of_rule decider (Some rule)) decider.edition
 ruling_reply decider rulings.NoneApplied = Forbidden None decider.edition
+
+-- what steps of a search are answered
+abbrev pub visit_reply : Visit → Reply
+visit_reply visits.More = More
+visit_reply visits.Ready = Ready
 
 -- what a call of the world is answered: its value shown so, or its refusal
 abbrev pub told : {T : Type 0} → (T → SaidData) → Result T WorldFault → SaidData

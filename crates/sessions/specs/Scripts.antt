@@ -1,18 +1,28 @@
 -- The script text: what a list of lines is answered, over one plain state.
-use Rattle.std.specs.Prelude.{◌≡◌, ℕ, ◌+◌, ◌==◌, Bool, true, not, take, drop, nat_eq, nat_lt, List, [], ◌∷◌, ◌++◌, codes, length, slice_index_or, slice_set, Option, None, Some, MatchOption, if◌then◌else◌}
+use Rattle.std.specs.Prelude.{◌≡◌, ℕ, ◌+◌, ◌==◌, Bool, true, false, not, take, drop, nat_eq, nat_lt, List, [], ◌∷◌, ◌++◌, codes, length, slice_index_or, slice_set, Option, None, Some, MatchOption, is_some, Result, MatchResult, if◌then◌else◌}
 use Rattle.std.specs.Bool.{MatchBool}
 use Rattle.std.specs.Cmp.Lexicographic.{pointwise}
 use Rattle.std.specs.List.{prefix_len}
+use Rattle.plane.specs.declared.point.Point.{Point}
 use Rattle.features.specs.Names.{name_of}
-use Rattle.sessions.specs.declared.faults.Fault.TheVariants.{LineTooLong, NoLabel}
-use Rattle.sessions.specs.declared.replies.Reply.TheVariants.{Error}
+use Rattle.plain_world.specs.declared.faults.Fault.{Fault as WorldFault}
+use Rattle.search_tree.specs.declared.answers.Visit.{Visit}
+use Rattle.plain_world.specs.Answers.{AnswerData}
+use Rattle.plain_world.specs.Events.{OpenSearch, Happens, Number, Rows, reply_of}
+use Rattle.sessions.specs.declared.faults.Fault.TheVariants.{BeforeHello, LineTooLong, NoLabel, OutOfTurn}
+use Rattle.sessions.specs.declared.replies.Reply.{Reply}
+use Rattle.sessions.specs.declared.replies.Reply.TheVariants.{Error, Opened}
+use Rattle.sessions.specs.declared.stepping.StepCommand.{StepCommand}
+use Rattle.sessions.specs.declared.stepping.StepCommand.TheVariants as commands
+use Rattle.sessions.specs.declared.stepping.StepVerb.{StepVerb}
 use Rattle.sessions.specs.Desks.{Answers}
 use Rattle.sessions.specs.Lines.{is_too_long, lines_of}
 use Rattle.sessions.specs.Printed.{led, reply_text, said_text}
-use Rattle.sessions.specs.Replies.{SaidData}
+use Rattle.sessions.specs.Replies.{SaidData, line, rows, told, visit_reply}
 use Rattle.sessions.specs.Services.{Serves, solo_subject}
+use Rattle.sessions.specs.Stepping.{AllDrop, Drops, Finishes, GoesOn, finished_as, opened_as, step_command_at, step_verb_at, stepped_as}
 use Rattle.sessions.specs.States.{Desk, SessionState, SoloState, desk, solo}
-use Rattle.transactions.specs.States.{WorldData}
+use Rattle.plain_world.specs.States.{WorldData}
 use Rattle.sessions.specs.Streams.{LinesTell}
 use Rattle.sessions.specs.declared.scripts.TheConstants.{LABEL_LIMIT}
 
@@ -26,7 +36,7 @@ script world sessions = record { world = world; sessions = sessions }
 
 -- a session before HELLO
 abbrev pub fresh : List ℕ → SessionState
-fresh label = record { label = label; seat = None; staged = [] }
+fresh label = record { label = label; seat = None; search = None; staged = [] }
 
 -- a session, served by a world
 abbrev pub desk_of : WorldData → SessionState → Desk SoloState
@@ -42,9 +52,9 @@ is_not_colon b = not (b == 58)
 
 -- what stands before the first colon of a line, and what stands behind it
 unfoldable pub parts_of : List ℕ → Option (List ℕ × List ℕ)
-parts_of line =
-    let len = prefix_len is_not_colon line in
-    if nat_lt len (length line) then Some (take len line, drop (len + 1) line) else None
+parts_of text =
+    let len = prefix_len is_not_colon text in
+    if nat_lt len (length text) then Some (take len text, drop (len + 1) text) else None
 
 -- how many sessions stand before that of a label; all, where it has none
 abbrev pub place : List ℕ → List SessionState → ℕ
@@ -59,10 +69,61 @@ with_label label sessions = if place label sessions == length sessions then sess
 abbrev pub IsRefused : List ℕ → Script → Script → List ℕ → Type 0
 IsRefused text old new said = (new ≡ old) × (said ≡ led (codes "?") text)
 
+-- a session had a seat, and has it still
+abbrev pub keeps_seat : Option ℕ → Option ℕ → Bool
+keeps_seat (Some before) (Some after) = before == after
+keeps_seat before after = false
+
+-- a line that a session by itself knows too; a search that is open ends with its session
+abbrev pub TakesPlain : List ℕ → SessionState → WorldData → SessionState → WorldData → SaidData → Type 0
+TakesPlain text old old_world new new_world said =
+    (mid : WorldData) × Answers solo_subject Serves text (desk_of old_world old) (desk new.staged (solo mid new.seat)) said
+    × MatchBool (keeps_seat old.seat new.seat) ((new.search ≡ old.search) × (new_world ≡ mid)) ((new.search ≡ None) × Drops old.seat old.search mid new_world)
+
+-- nothing changes, and this is said
+abbrev pub OnlyTells : Reply → SessionState → WorldData → SessionState → WorldData → SaidData → Type 0
+OnlyTells due old old_world new new_world said = (new ≡ old) × (new_world ≡ old_world) × (said ≡ line due)
+
+-- OPEN
+abbrev pub Opens : ℕ → List Point → SessionState → WorldData → SessionState → WorldData → SaidData → Type 0
+Opens seat window old old_world new new_world said =
+    (end : Result ℕ WorldFault) × Happens (OpenSearch seat window) old_world new_world (reply_of Number end)
+    × (new ≡ record old { search = opened_as end }) × (said ≡ told (λ number. line Opened) end)
+
+-- STEP, of the search that is open
+abbrev pub Steps : ℕ → ℕ → ℕ → SessionState → WorldData → SessionState → WorldData → SaidData → Type 0
+Steps seat count number old old_world new new_world said =
+    (end : Result Visit WorldFault) × GoesOn seat number count old_world new_world end
+    × (new ≡ record old { search = stepped_as end number }) × (said ≡ told (λ visit. line (visit_reply visit)) end)
+
+-- FINISH, of the search that is open
+abbrev pub Ends : ℕ → ℕ → SessionState → WorldData → SessionState → WorldData → SaidData → Type 0
+Ends seat number old old_world new new_world said =
+    (end : Result AnswerData WorldFault) × Finishes seat number old_world new_world (reply_of Rows end)
+    × (new ≡ record old { search = finished_as end number }) × (said ≡ told rows end)
+
+-- what a command of a search that goes step by step makes of a session with this seat, and what is said
+abbrev pub ObeysStep : ℕ → StepCommand → SessionState → WorldData → SessionState → WorldData → SaidData → Type 0
+ObeysStep seat (commands.Open window) old old_world new new_world said =
+    MatchOption old.search (Opens seat window old old_world new new_world said) (λ number. OnlyTells (Error OutOfTurn) old old_world new new_world said)
+ObeysStep seat (commands.Step count) old old_world new new_world said =
+    MatchOption old.search (OnlyTells (Error OutOfTurn) old old_world new new_world said) (λ number. Steps seat count number old old_world new new_world said)
+ObeysStep seat commands.Finish old old_world new new_world said =
+    MatchOption old.search (OnlyTells (Error OutOfTurn) old old_world new new_world said) (λ number. Ends seat number old old_world new new_world said)
+
+-- a line whose command is of a search that goes step by step
+abbrev pub TakesStep : StepVerb → List ℕ → SessionState → WorldData → SessionState → WorldData → SaidData → Type 0
+TakesStep verb text old old_world new new_world said =
+    MatchOption old.seat (OnlyTells (Error BeforeHello) old old_world new new_world said) (λ seat.
+    MatchResult (step_command_at (is_some old.search) verb text)
+    (λ command. ObeysStep seat command old old_world new new_world said)
+    (λ fault. OnlyTells (Error fault) old old_world new new_world said))
+
 -- what a session answers that a world serves; after BYE its label stands for a new one
 abbrev pub SessionAnswers : List ℕ → SessionState → WorldData → SessionState → WorldData → SaidData → Type 0
 SessionAnswers text old old_world new new_world said =
-    (new.label ≡ old.label) × Answers solo_subject Serves text (desk_of old_world old) (desk_of new_world new) said
+    (new.label ≡ old.label)
+    × MatchOption (step_verb_at text) (TakesPlain text old old_world new new_world said) (λ verb. TakesStep verb.0 verb.1 old old_world new new_world said)
 
 -- the session of a label answers what stands behind it
 pub record SessionTells (label text : List ℕ) (old new : Script) (said : List ℕ) : Type 0 where
@@ -79,10 +140,10 @@ LabelTells label text old new said =
 
 -- what a line is answered, and what it leaves
 abbrev pub LineTells : List ℕ → Script → Script → List ℕ → Type 0
-LineTells line old new said =
-    MatchBool (is_too_long line) (IsRefused (reply_text (Error LineTooLong)) old new said)
-    (MatchBool (is_skipped line) ((new ≡ old) × (said ≡ []))
-    (MatchOption (parts_of line) (IsRefused (reply_text (Error NoLabel)) old new said)
+LineTells text old new said =
+    MatchBool (is_too_long text) (IsRefused (reply_text (Error LineTooLong)) old new said)
+    (MatchBool (is_skipped text) ((new ≡ old) × (said ≡ []))
+    (MatchOption (parts_of text) (IsRefused (reply_text (Error NoLabel)) old new said)
     (λ parts. MatchOption (name_of parts.0) (IsRefused (reply_text (Error NoLabel)) old new said)
     (λ label. LabelTells label parts.1 old new said))))
 
@@ -90,8 +151,10 @@ LineTells line old new said =
 abbrev pub Tells : Script → List (List ℕ) → Script → List ℕ → Type 0
 Tells old lines new text = LinesTell LineTells old lines new text
 
--- The script text of an input, from one world to another. It says what each line is answered where nothing was under way at
--- the beginning, as in a world that has just been opened.
+-- The script text of an input, from one world to another. It says what each line is answered where the world was at rest at the
+-- beginning, as one that has just been opened is. The searches that are open behind the last line are given up.
 pub record IsScriptText (world : WorldData) (input : List ℕ) (end : WorldData) (text : List ℕ) : Type 0 where
   pub sessions : List SessionState
-  pub tells : Tells (script world []) (lines_of input) (script end sessions) text
+  pub last : WorldData
+  pub tells : Tells (script world []) (lines_of input) (script last sessions) text
+  pub drops : AllDrop sessions last end

@@ -1,5 +1,5 @@
 -- What the calls of a session make of a world, each from its beginning to its end.
-use Rattle.std.specs.Prelude.{◌≡◌, ◌⊎◌, ℕ, ◌+◌, ◌==◌, nat_le, nat_lt, Bool, true, false, List, length, map, Option, None, Some, MatchOption, Result, Ok, Err, if◌then◌else◌}
+use Rattle.std.specs.Prelude.{◌≡◌, ◌⊎◌, ℕ, ◌+◌, ◌==◌, nat_le, nat_lt, Bool, true, false, List, length, map, slice_get, Option, None, Some, MatchOption, Result, Ok, Err, if◌then◌else◌}
 use Rattle.std.specs.Bool.{MatchBool}
 use Rattle.plane.specs.declared.point.Point.{Point}
 use Rattle.features.specs.declared.actors.Subject.{Subject}
@@ -16,21 +16,21 @@ use Rattle.audit_trail.specs.Judging.{Judged}
 use Rattle.audit_trail.specs.Legal.{subject_of}
 use Rattle.audit_trail.specs.Listing.{Listed}
 use Rattle.audit_trail.specs.Records.{answered, applied, turned_away}
-use Rattle.transactions.specs.declared.faults.Fault.{Fault}
-use Rattle.transactions.specs.declared.faults.Fault.TheVariants as faults
-use Rattle.transactions.specs.declared.faults.TreeFault.TheVariants as tree
-use Rattle.transactions.specs.declared.outcomes.Outcome.{Outcome}
-use Rattle.transactions.specs.declared.outcomes.Outcome.TheVariants as outcomes
-use Rattle.transactions.specs.Admitting.{LAST, and_then, subject_at}
-use Rattle.transactions.specs.Answers.{AnswerData, denial_of}
-use Rattle.transactions.specs.Events.{Reply as EventReply, Number, Rows, Ended, TakenOut, Refused, TakeSeat, Govern as GovernEvent, Roll as RollEvent, Happens, If, is_memory, recorded, reply_of}
-use Rattle.transactions.specs.Rolls.{RolledData}
-use Rattle.transactions.specs.States.{WorldData}
+use Rattle.plain_world.specs.declared.faults.Fault.{Fault}
+use Rattle.plain_world.specs.declared.faults.Fault.TheVariants as faults
+use Rattle.search_tree.specs.declared.fault.TreeFault.TheVariants as tree
+use Rattle.plain_world.specs.declared.outcomes.Outcome.{Outcome}
+use Rattle.plain_world.specs.declared.outcomes.Outcome.TheVariants as outcomes
+use Rattle.plain_world.specs.Admitting.{LAST, and_then, map_ok, next_search, subject_at}
+use Rattle.plain_world.specs.Answers.{AnswerData, denial_of}
+use Rattle.plain_world.specs.Events.{Reply as EventReply, Number, Rows, Ended, TakenOut, Refused, TakeSeat, Govern as GovernEvent, Roll as RollEvent, Happens, HoldsBack, If, is_memory, recorded, reply_of}
+use Rattle.plain_world.specs.Rolls.{RolledData}
+use Rattle.plain_world.specs.Staging.{placements}
+use Rattle.plain_world.specs.States.{WorldData}
 use Rattle.sessions.specs.declared.faults.Fault.TheVariants.{BeforeHello}
-use Rattle.sessions.specs.declared.replies.Reply.{Reply}
 use Rattle.sessions.specs.declared.replies.Reply.TheVariants.{Hello as Greets, Edition, Bye, Error}
 use Rattle.sessions.specs.Replies.{SaidData, line, rows, rolled, told, outcome_reply, ruling_reply}
-use Rattle.sessions.specs.States.{SoloState, WhereIdle, begun, searched}
+use Rattle.sessions.specs.States.{SoloState, WhereAtRest, begun, searched}
 
 -- what a session asks of whoever serves it
 pub data Call : Type 0 where
@@ -44,9 +44,9 @@ pub data Call : Type 0 where
 
 -- Searches.
 
--- the subject that searches, while searches have numbers left
+-- the subject that searches, while a search more has a place and a number
 abbrev pub may_search : ℕ → WorldData → Result Subject Fault
-may_search seat w = and_then (subject_at seat w) (λ subject. if w.next_search == LAST then Err (faults.Tree tree.Spent) else Ok subject)
+may_search seat w = and_then (subject_at seat w) (λ subject. map_ok (λ _. subject) (next_search w))
 
 -- the index has given up a search
 abbrev pub is_overrun : EventReply → Bool
@@ -64,8 +64,8 @@ ListsRows seat subject window old new reply =
     × (reply ≡ Rows (record { subject = subject; window = window; decider = old.state.decider; rows = rows }))
     × (new ≡ searched (recorded seat (answered subject window (map (λ row. row.id) rows) (map (λ row. row.version) rows)) old))
 
--- A search from its beginning to its end. One that comes to nothing changes nothing, but uses a number up. Only the index
--- knows whether it gives a search up.
+-- A search from its beginning to its end. One that comes to nothing changes nothing, but uses a number up; the searches that
+-- run stay as they are. Only the index knows whether it gives a search up.
 abbrev pub Searches : ℕ → List Point → WorldData → WorldData → EventReply → Type 0
 Searches seat window old new reply =
     If (may_search seat old) old new reply (λ subject.
@@ -103,15 +103,27 @@ EndsAs (judgements.Refused refusal question) seat subject changes old new reply 
     (reply ≡ Ended (outcomes.Refused refusal (denial_of old.state.decider refusal.cause question)))
     × (new ≡ begun (recorded seat (turned_away subject changes refusal) old))
 
--- A list of changes is committed, all or none of it. A commit that comes to nothing changes nothing, but uses a number up.
--- Only the index knows whether it places a shape.
+-- the search for which a commit is held
+abbrev pub holder : EventReply → Option ℕ
+holder (Refused (faults.Tree (tree.Held search))) = Some search
+holder _ = None
+
+-- the search runs, and looks for a shape that the list brings
+abbrev pub HoldsList : ℕ → List Change → WorldData → Type 0
+HoldsList search changes w = (at : ℕ) × (placement : ℕ × List Point) × (slice_get (placements changes) at ≡ Some placement) × HoldsBack search placement.1 w
+
+-- A list of changes is committed, all or none of it. A commit that comes to nothing changes nothing, but uses a number up;
+-- the searches that run stay as they are. Only the index knows whether it places a shape, and whether it holds one back for a
+-- search that looks for it.
 abbrev pub Commits : ℕ → List Change → WorldData → WorldData → EventReply → Type 0
 Commits seat changes old new reply =
     If (may_conclude seat old) old new reply (λ subject.
     MatchBool (is_memory reply) ((new ≡ old) ⊎ (new ≡ begun old))
     (MatchBool (is_unplaced reply) (new ≡ begun old)
+    (MatchOption (holder reply)
     (MatchBool (is_full old) ((reply ≡ Refused faults.TrailFull) × (new ≡ begun old))
-    ((judgement : Judgement) × Judged old.state subject changes judgement × EndsAs judgement seat subject changes old new reply))))
+    ((judgement : Judgement) × Judged old.state subject changes judgement × EndsAs judgement seat subject changes old new reply))
+    (λ search. (new ≡ begun old) × HoldsList search changes old))))
 
 -- A world that serves one session.
 
@@ -127,7 +139,7 @@ solo_subject s = seated s.seat s.world
 abbrev pub WhereSeated : SoloState → SoloState → SaidData → (ℕ → Type 0) → Type 0
 WhereSeated old new said Does =
     MatchOption old.seat ((new ≡ old) × (said ≡ line (Error BeforeHello)))
-    (λ seat. (new.seat ≡ old.seat) × WhereIdle old.world new.world (Does seat))
+    (λ seat. (new.seat ≡ old.seat) × WhereAtRest old.world new.world (Does seat))
 
 -- a session begins where the subject of its name is given a seat
 abbrev pub seat_after : Result ℕ Fault → Option ℕ → Option ℕ
@@ -136,7 +148,7 @@ seat_after (Err fault) before = before
 
 abbrev pub Begins : List ℕ → SoloState → SoloState → SaidData → Type 0
 Begins name old new said =
-    WhereIdle old.world new.world ((end : Result ℕ Fault) × Happens (TakeSeat name) old.world new.world (reply_of Number end)
+    WhereAtRest old.world new.world ((end : Result ℕ Fault) × Happens (TakeSeat name) old.world new.world (reply_of Number end)
     × (new.seat ≡ seat_after end old.seat) × (said ≡ told (λ seat. line (Greets name)) end))
 
 -- how the document in force rules of a question

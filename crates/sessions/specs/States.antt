@@ -1,7 +1,8 @@
--- The plain state of a session, and worlds in which nothing is under way.
-use Rattle.std.specs.Prelude.{◌≡◌, ℕ, ◌+◌, List, [], Option}
+-- The plain state of a session, and worlds between two lines.
+use Rattle.std.specs.Prelude.{◌≡◌, ℕ, ◌+◌, List, [], map, Option}
 use Rattle.features.specs.declared.rows.Change.{Change}
-use Rattle.transactions.specs.States.{WorldData}
+use Rattle.plain_world.specs.Laws.{AreGiven}
+use Rattle.plain_world.specs.States.{WorldData}
 
 -- a session, and whoever serves it: the changes that it has staged, and how the service stands
 pub record Desk (S : Type 0) : Type 0 where
@@ -19,15 +20,23 @@ pub record SoloState : Type 0 where
 abbrev pub solo : WorldData → Option ℕ → SoloState
 solo world seat = record { world = world; seat = seat }
 
--- a session of a script: its label, the number of its seat from HELLO on, and the changes that it has staged
+-- a session of a script: its label, the number of its seat from HELLO on, the number of its open search, where it has
+-- opened one, and the changes that it has staged
 pub record SessionState : Type 0 where
   pub label : List ℕ
   pub seat : Option ℕ
+  pub search : Option ℕ
   pub staged : List Change
 
--- no search runs and no transaction is open, as in a world that has just been opened, and after every line
+-- no search runs and no transaction is open, as in a world that has just been opened
 pub record IsIdle (w : WorldData) : Type 0 where
   pub searches : w.searches ≡ []
+  pub transactions : w.transactions ≡ []
+
+-- No transaction is open, and the numbers of the searches that run rise, below the next one. So each world stands between two
+-- lines: the searches that run are those that sessions have opened.
+pub record IsAtRest (w : WorldData) : Type 0 where
+  pub searches : AreGiven w.next_search (map (λ s. s.number) w.searches)
   pub transactions : w.transactions ≡ []
 
 -- the number of one more search is used up
@@ -38,6 +47,6 @@ searched w = record w { next_search = w.next_search + 1 }
 abbrev pub begun : WorldData → WorldData
 begun w = record w { next_transaction = w.next_transaction + 1 }
 
--- what stands of a call where nothing was under way before it, and then nothing is afterwards
-abbrev pub WhereIdle : WorldData → WorldData → Type 0 → Type 0
-WhereIdle old new Stands = IsIdle old → IsIdle new × Stands
+-- what stands of a call of a world that is at rest, and is at rest afterwards
+abbrev pub WhereAtRest : WorldData → WorldData → Type 0 → Type 0
+WhereAtRest old new Stands = IsAtRest old → IsAtRest new × Stands

@@ -1,14 +1,15 @@
 //! What a session asks of a world, each call from its beginning to its end. A search or a commit that ends with a fault is
-//! dropped or aborted, and so nothing stays under way.
+//! dropped or aborted, and so nothing of it stays under way.
 
 ghost use Rattle.std.specs.Prelude.{◌≡◌, ◌≤◌, length};
 ghost use Rattle.std.specs.Arc.{arc_value};
 ghost use Rattle.audit_trail.specs.Judging.{AreDistinct};
-ghost use Rattle.transactions.specs.Events.{Ended, Govern, Happens, Number, Roll, Rows, TakenOut, reply_of};
-ghost use Rattle.transactions.specs.declared.settings.TheConstants.{CHANGE_LIMIT};
+ghost use Rattle.plain_world.specs.Events.{Ended, Govern, Happens, Number, Roll, Rows, TakenOut, reply_of};
+ghost use Rattle.plain_world.specs.declared.settings.TheConstants.{CHANGE_LIMIT};
 ghost use Rattle.sessions.specs.Services.{Searches, Commits};
-ghost use Rattle.sessions.specs.States.{WhereIdle};
-ghost use Rattle.sessions.specs.Steps.{Concludes, Places, Seeks, Stages};
+ghost use Rattle.sessions.specs.States.{WhereAtRest};
+ghost use Rattle.sessions.specs.Stepping.{Seeks};
+ghost use Rattle.sessions.specs.Steps.{Concludes, Places, Stages};
 
 use features::{Change, Meter};
 use plane::Shape;
@@ -23,14 +24,14 @@ const SEARCH_STEPS: u32 = STEP_LIMIT + 1;
 /// How many steps the walks of a list are waited for: 16 walks, each of which is overrun before.
 const WALK_STEPS: u32 = 16_000_017;
 
-/// Searches from the beginning to the end. X1 where the seat was not given; S6 where the numbers of searches are at their
-/// end, S7 where the index gives the search up; X10 where the trail is full; X12 where a growth is refused.
+/// Searches from the beginning to the end. X1 where the seat was not given; S2 where 16 searches run, S6 where the numbers of
+/// searches are at their end, S7 where the index gives the search up; X10 where the trail is full; X12 where a growth is refused.
 pub(crate) fn search<A: Allocator + Copy>(
     world: &mut World<A>,
     seat: u32,
     window: Shape,
 ) -> Result<Answer<A>, Fault>
-    ensures { WhereIdle world.old world.new (Searches seat window world.old world.new (reply_of Rows result)) }
+    ensures { WhereAtRest world.old.plain world.new.plain (Searches seat window world.old.plain world.new.plain (reply_of Rows result)) }
 {
     match world.open_search(seat, window) {
         Err(fault) => Err(fault),
@@ -45,12 +46,12 @@ pub(crate) fn search<A: Allocator + Copy>(
 }
 
 /// Lets a search go on until it is ready, and finishes it.
-fn seek<A: Allocator + Copy>(
+pub(crate) fn seek<A: Allocator + Copy>(
     world: &mut World<A>,
     seat: u32,
     number: u64,
 ) -> Result<Answer<A>, Fault>
-    ensures { Seeks seat number world.old world.new (reply_of Rows result) }
+    ensures { Seeks seat number world.old.plain world.new.plain (reply_of Rows result) }
 {
     for _ in 0..SEARCH_STEPS {
         match world.visit(seat, number) {
@@ -76,7 +77,7 @@ pub(crate) fn commit<A: Allocator + Copy>(
 ) -> Result<Outcome, Fault>
     requires distinct { AreDistinct changes.now }
     requires few { length changes.now ≤ CHANGE_LIMIT }
-    ensures { WhereIdle world.old world.new (Commits seat changes.now world.old world.new (reply_of Ended result)) }
+    ensures { WhereAtRest world.old.plain world.new.plain (Commits seat changes.now world.old.plain world.new.plain (reply_of Ended result)) }
 {
     match world.begin(seat) {
         Err(fault) => Err(fault),
@@ -99,7 +100,7 @@ fn conclude<A: Allocator + Copy>(
 ) -> Result<Outcome, Fault>
     requires distinct { AreDistinct changes.now }
     requires few { length changes.now ≤ CHANGE_LIMIT }
-    ensures { Concludes seat number changes.now world.old world.new (reply_of Ended result) }
+    ensures { Concludes seat number changes.now world.old.plain world.new.plain (reply_of Ended result) }
 {
     match stage_all(world, seat, number, changes) {
         Err(fault) => Err(fault),
@@ -119,7 +120,7 @@ fn stage_all<A: Allocator>(
 ) -> Result<(), Fault>
     requires distinct { AreDistinct changes.now }
     requires few { length changes.now ≤ CHANGE_LIMIT }
-    ensures { Stages seat number changes.now world.old world.new result }
+    ensures { Stages seat number changes.now world.old.plain world.new.plain result }
 {
     for change in changes {
         if let Err(fault) = world.stage(seat, number, *change) {
@@ -130,8 +131,8 @@ fn stage_all<A: Allocator>(
 }
 
 /// Places in the index what the changes of a transaction bring.
-fn place_all<A: Allocator>(world: &mut World<A>, seat: u32, number: u64) -> Result<(), Fault>
-    ensures { Places seat number world.old world.new result }
+fn place_all<A: Allocator + Copy>(world: &mut World<A>, seat: u32, number: u64) -> Result<(), Fault>
+    ensures { Places seat number world.old.plain world.new.plain result }
 {
     for _ in 0..WALK_STEPS {
         match world.advance(seat, number) {
@@ -151,7 +152,7 @@ pub(crate) fn govern<A: Allocator + Copy>(
     seat: u32,
     document: Document<Global>,
 ) -> Result<u64, Fault>
-    ensures { WhereIdle world.old world.new (Happens (Govern seat document) world.old world.new (reply_of Number result)) }
+    ensures { WhereAtRest world.old.plain world.new.plain (Happens (Govern seat document) world.old.plain world.new.plain (reply_of Number result)) }
 {
     match world.govern(heap, seat, document) {
         Ok(edition) => Ok(edition),
@@ -166,7 +167,7 @@ pub(crate) fn roll<A: Allocator + Copy>(
     heap: Global,
     seat: u32,
 ) -> Result<Arc<Rolled<A>, A>, Fault>
-    ensures { WhereIdle world.old world.new (Happens (Roll seat) world.old world.new (reply_of (λ piece. TakenOut (arc_value piece)) result)) }
+    ensures { WhereAtRest world.old.plain world.new.plain (Happens (Roll seat) world.old.plain world.new.plain (reply_of (λ piece. TakenOut (arc_value piece)) result)) }
 {
     world.roll(heap, seat)
 }

@@ -230,14 +230,14 @@ fn as_action(word: &[u8]) -> Result<Action, Fault>
 }
 
 /// The next word, which is due, and what is left behind it.
-fn due_word(text: &[u8]) -> Result<(&[u8], &[u8]), Fault>
+pub(crate) fn due_word(text: &[u8]) -> Result<(&[u8], &[u8]), Fault>
     ensures { Gives (λ r. (r.0.now, r.1.now)) result (word_at text.now) }
 {
     next_word(text).ok_or(Fault::Command)
 }
 
 /// The number that a word spells, or `Number`.
-fn as_number(word: &[u8]) -> Result<u64, Fault>
+pub(crate) fn as_number(word: &[u8]) -> Result<u64, Fault>
     ensures { result ≡ or_fault Fault.Number (number_of word.now) }
 {
     read_number(word).ok_or(Fault::Number)
@@ -252,7 +252,7 @@ fn as_name(word: &[u8]) -> Result<Name, Fault>
 
 /// The shape that all the rest of a line spells, or its fault.
 #[tactic(auto, unfolding(crate::specs::Commands::shape_at))]
-fn as_shape(text: &[u8]) -> Result<Shape, Fault>
+pub(crate) fn as_shape(text: &[u8]) -> Result<Shape, Fault>
     ensures { result ≡ shape_at text.now }
 {
     match read_shape(text) {
@@ -263,7 +263,7 @@ fn as_shape(text: &[u8]) -> Result<Shape, Fault>
 
 /// Nothing but spaces is left.
 #[tactic(auto, unfolding(crate::specs::Commands::end_at))]
-fn end(text: &[u8]) -> Result<(), Fault>
+pub(crate) fn end(text: &[u8]) -> Result<(), Fault>
     ensures { result ≡ end_at text.now }
 {
     match next_word(text) {

@@ -1,7 +1,7 @@
 //! How a session's line is answered, whoever serves the session.
 
 ghost use Rattle.std.specs.Prelude.{◌≡◌, []};
-ghost use Rattle.transactions.specs.Staging.{names};
+ghost use Rattle.plain_world.specs.Staging.{names};
 ghost use Rattle.sessions.specs.Desks.{Answers, Asks, Closes, Does, Governs, Obeys, is_policy, staged_with};
 ghost use Rattle.sessions.specs.Replies.{line, said_view};
 ghost use Rattle.sessions.specs.States.{desk};

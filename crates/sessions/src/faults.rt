@@ -22,6 +22,8 @@ pub enum Fault {
     HelloAgain,
     /// E7: nothing is staged.
     NothingStaged,
+    /// E8: OPEN where the session has a search open, STEP or FINISH where it has none.
+    OutOfTurn,
     /// E9: the line has no label, or one more than 64.
     NoLabel,
     /// H1: no subject has that name.
@@ -47,6 +49,7 @@ impl Fault {
             Fault::BeforeHello => "E5",
             Fault::HelloAgain => "E6",
             Fault::NothingStaged => "E7",
+            Fault::OutOfTurn => "E8",
             Fault::NoLabel => "E9",
             Fault::NoSubject => "H1",
             Fault::NoPlace => "H2",

@@ -1,9 +1,10 @@
 //! What follows from the definitions alone. The functions do nothing: each is its contract.
 
-ghost use Rattle.std.specs.Prelude.{List};
+ghost use Rattle.std.specs.Prelude.{List, ℕ};
 ghost use Rattle.decision.specs.Deciders.{DeciderData};
-ghost use Rattle.sessions.specs.States.{IsIdle};
-ghost use Rattle.transactions.specs.States.{opened};
+ghost use Rattle.sessions.specs.Scripts.{LineTells, Script};
+ghost use Rattle.sessions.specs.States.{IsAtRest, IsIdle};
+ghost use Rattle.plain_world.specs.States.{WorldData, opened};
 
 use features::Subject;
 use transactions::{Limits, Starts};
@@ -11,4 +12,11 @@ use transactions::{Limits, Starts};
 /// Nothing is under way in a world that has just been opened.
 pub fn opened_world_is_idle()
     ensures { (subjects : List Subject) (decider : DeciderData) (starts : Starts) (limits : Limits) → IsIdle (opened subjects decider starts limits) }
+{}
+
+/// A world in which nothing is under way is at rest, and each line of a script leaves one at rest that was so before it. So
+/// each line of a run over such a world is answered exactly.
+pub fn lines_leave_worlds_at_rest()
+    ensures idle { (world : WorldData) → IsIdle world → IsAtRest world }
+    ensures line { (text : List ℕ) (old new : Script) (said : List ℕ) → LineTells text old new said → IsAtRest old.world → IsAtRest new.world }
 {}

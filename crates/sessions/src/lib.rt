@@ -13,13 +13,14 @@ mod scripts;
 mod services;
 mod serving;
 mod solos;
+mod stepping;
 mod streams;
 mod words;
 mod writing;
 
 pub use built_in::built_in_subjects;
 pub use faults::Fault;
-pub use laws::opened_world_is_idle;
+pub use laws::{lines_leave_worlds_at_rest, opened_world_is_idle};
 pub use replies::{Reply, Said};
 pub use scripts::{LABEL_LIMIT, run_script};
 pub use services::Service;

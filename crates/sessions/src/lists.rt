@@ -1,6 +1,6 @@
 //! Lists of changes that stand in the value itself.
 ghost use Rattle.std.specs.Prelude.{◌≡◌, ◌≤◌, ◌<◌, ◌++◌, ◌∷◌, [], length};
-ghost use Rattle.transactions.specs.declared.settings.TheConstants.{CHANGE_LIMIT};
+ghost use Rattle.plain_world.specs.declared.settings.TheConstants.{CHANGE_LIMIT};
 
 use features::{Change, Name};
 use plane::{Point, Shape};
@@ -17,7 +17,7 @@ pub(crate) struct ChangeList {
 impl Model for ChangeList {
     ghost use Rattle.std.specs.Prelude.{◌≤◌, List, take};
     ghost use Rattle.features.specs.declared.rows.Change.{Change};
-    ghost use Rattle.transactions.specs.declared.settings.TheConstants.{CHANGE_LIMIT};
+    ghost use Rattle.plain_world.specs.declared.settings.TheConstants.{CHANGE_LIMIT};
 
     ghost Value = { List Change };
 

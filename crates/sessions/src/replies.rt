@@ -1,7 +1,7 @@
 //! What a line is answered, as values.
 
 ghost use Rattle.std.specs.Prelude.{◌≡◌};
-ghost use Rattle.sessions.specs.Replies.{denial_rule, ends_list as reply_ends_list, fault_reply, outcome_reply, policy_reply, refusal_reply};
+ghost use Rattle.sessions.specs.Replies.{denial_rule, ends_list as reply_ends_list, fault_reply, outcome_reply, policy_reply, refusal_reply, visit_reply};
 
 use crate::faults::Fault;
 use audit_trail::{Cause, Refusal};
@@ -10,7 +10,7 @@ use memory::Refused;
 use policy_text::TextFault;
 use std::alloc::Allocator;
 use std::sync::Arc;
-use transactions::{Answer, Denial, Fault as WorldFault, Outcome, Rolled, TreeFault};
+use transactions::{Answer, Denial, Fault as WorldFault, Outcome, Rolled, TreeFault, Visit};
 
 /// A reply of one line.
 #[derive(Debug, Drop)]
@@ -31,6 +31,12 @@ pub enum Reply {
     Stale(u64, u64),
     /// `held`: a search that is under way looks for what would be placed.
     Held,
+    /// `opened`
+    Opened,
+    /// `more`: the open search has more to see.
+    More,
+    /// `ready`: the open search has found all there is to find, and may be finished.
+    Ready,
     /// `aborted`
     Aborted,
     /// `edition N`
@@ -89,6 +95,16 @@ pub(crate) fn fault_reply(fault: WorldFault) -> Reply
         WorldFault::NoSubject => Reply::Error(Fault::NoSubject),
         WorldFault::NoPlace => Reply::Error(Fault::NoPlace),
         other => Reply::Refused(other),
+    }
+}
+
+/// What steps of a search are answered.
+pub(crate) fn visit_reply(visit: Visit) -> Reply
+    ensures { result ≡ visit_reply visit }
+{
+    match visit {
+        Visit::More => Reply::More,
+        Visit::Ready => Reply::Ready,
     }
 }
 

@@ -1,23 +1,32 @@
 //! Scripts: lines of many sessions, each led by the label of its session.
-ghost use Rattle.std.specs.Prelude.{◌≡◌, ◌≤◌, ◌<◌, ◌++◌, [], List, OnOk, IfOk, IfErr, IfSome, codes, length, option_map, slice_set, slice_index_or, vec_len, vec_capacity, ℕ};
+ghost use Rattle.std.specs.Bool.{MatchBool};
+ghost use Rattle.std.specs.Prelude.{◌≡◌, ◌≤◌, ◌<◌, ◌+◌, ◌++◌, [], List, None, OnOk, IfOk, IfErr, IfSome, codes, length, nat_lt, option_map, slice_set, slice_index_or, vec_len, vec_capacity, if◌then◌else◌, ℕ};
 ghost use Rattle.std.specs.Io.KnownBytes.{Appends};
 ghost use Rattle.std.specs.List.{prefix_len};
-ghost use Rattle.sessions.specs.Scripts.{IsScriptText, LabelTells, LineTells, SessionAnswers, fresh, is_not_colon, is_skipped, parts_of, place, script, with_label};
+ghost use Rattle.sessions.specs.Desks.{Answers};
+ghost use Rattle.sessions.specs.Scripts.{IsScriptText, LabelTells, LineTells, ObeysStep, SessionAnswers, TakesPlain, TakesStep, desk_of, fresh, is_not_colon, is_skipped, keeps_seat, parts_of, place, script, with_label};
 ghost use Rattle.sessions.specs.Printed.{led, reply_text, said_text};
-ghost use Rattle.sessions.specs.Replies.{said_view};
+ghost use Rattle.sessions.specs.Replies.{line as said_in_line, said_view};
+ghost use Rattle.sessions.specs.Services.{Serves, solo_subject};
+ghost use Rattle.sessions.specs.Stepping.{AllDrop, Drops};
 ghost use Rattle.sessions.specs.Streams.{OnMemory, Ran, Took};
 ghost use Rattle.sessions.specs.States.{IsIdle, SessionState};
+ghost use Rattle.plain_world.specs.States.{WorldData};
 ghost use Rattle.sessions.specs.declared.scripts.TheConstants.{LABEL_LIMIT};
 
 use crate::desks::{Staged, answer};
 use crate::faults::Fault;
-use crate::replies::{Reply, Said};
+use crate::replies::{Reply, Said, fault_reply, visit_reply};
 use crate::services::Service;
 use crate::solos::Solo;
+use crate::stepping::{
+    StepCommand, StepVerb, finish_open, go_on, left_open, read_step_command, read_step_verb,
+};
 use crate::streams::{LINE_LIMIT, LineDesk, ServeFault, run_lines};
 use crate::writing::{write_line, write_said};
 use features::Name;
 use memory::{Refused, vec_with_room};
+use plane::Shape;
 use std::alloc::{Allocator, Global};
 use std::io;
 use std::io::{Read, Write};
@@ -27,11 +36,12 @@ use transactions::World;
 /// How many labels a script has at most.
 pub const LABEL_LIMIT: usize = 64;
 
-/// A session of a script. A contract sees its label, its seat and the changes that it has staged.
+/// A session of a script. A contract sees its label, its seat, its open search and the changes that it has staged.
 #[derive(Debug, Drop)]
 struct Session {
     label: Name,
     seat: Option<u32>,
+    search: Option<u64>,
     staged: Staged,
 }
 
@@ -40,7 +50,7 @@ impl Model for Session {
 
     ghost Value = { SessionState };
 
-    ghost view = { λ s. record { label = s.label; seat = s.seat; staged = s.staged } };
+    ghost view = { λ s. record { label = s.label; seat = s.seat; search = s.search; staged = s.staged } };
 }
 
 impl Session {
@@ -51,6 +61,7 @@ impl Session {
         Session {
             label,
             seat: None,
+            search: None,
             staged: Staged::new(),
         }
     }
@@ -69,12 +80,176 @@ impl Session {
         heap: Global,
         text: &[u8],
     ) -> Said<A>
-        ensures { SessionAnswers text.now self.old world.old self.new world.new (said_view result) }
+        ensures { SessionAnswers text.now self.old world.old.plain self.new world.new.plain (said_view result) }
+    {
+        match read_step_verb(text) {
+            None => self.take_plain(world, heap, text),
+            Some((verb, rest)) => self.take_step(world, verb, rest),
+        }
+    }
+
+    /// Answers a line that a session by itself knows too. The open search ends with the session.
+    fn take_plain<A: Allocator + Copy>(
+        &mut self,
+        world: &mut World<A>,
+        heap: Global,
+        text: &[u8],
+    ) -> Said<A>
+        ensures label { self.new.label ≡ self.old.label }
+        ensures takes { TakesPlain text.now self.old world.old.plain self.new world.new.plain (said_view result) }
+    {
+        let seat = self.seat;
+        let said = self.be_served(world, heap, text);
+        self.settle(world, seat);
+        said
+    }
+
+    /// Gives the open search up, where the session has lost the seat that it had.
+    fn settle<A: Allocator + Copy>(&mut self, world: &mut World<A>, before: Option<u32>)
+        ensures kept { self.new ≡ record self.old { search = self.new.search } }
+        ensures settles { MatchBool (keeps_seat before self.old.seat) ((self.new.search ≡ self.old.search) × (world.new.plain ≡ world.old.plain))
+            ((self.new.search ≡ None) × Drops before self.old.search world.old.plain world.new.plain) }
+    {
+        if keeps_seat(before, self.seat) {
+            return;
+        }
+        drop_open(world, before, self.search);
+        self.search = None;
+    }
+
+    /// Lets the world serve the session for a line.
+    fn be_served<A: Allocator + Copy>(
+        &mut self,
+        world: &mut World<A>,
+        heap: Global,
+        text: &[u8],
+    ) -> Said<A>
+        ensures label { self.new.label ≡ self.old.label }
+        ensures search { self.new.search ≡ self.old.search }
+        ensures answers { Answers solo_subject Serves text.now (desk_of world.old.plain self.old) (desk_of world.new.plain self.new) (said_view result) }
     {
         let mut solo = Solo::at(world, heap, self.seat);
         let said = answer(&mut solo, heap, &mut self.staged, text);
         self.seat = solo.seat();
         said
+    }
+
+    /// Answers a line whose command is of a search that goes step by step.
+    fn take_step<A: Allocator + Copy>(
+        &mut self,
+        world: &mut World<A>,
+        verb: StepVerb,
+        rest: &[u8],
+    ) -> Said<A>
+        ensures label { self.new.label ≡ self.old.label }
+        ensures takes { TakesStep verb rest.now self.old world.old.plain self.new world.new.plain (said_view result) }
+    {
+        let Some(seat) = self.seat else {
+            return Said::Line(Reply::Error(Fault::BeforeHello));
+        };
+        match read_step_command(self.search.is_some(), verb, rest) {
+            Err(fault) => Said::Line(Reply::Error(fault)),
+            Ok(command) => self.obey_step(world, seat, command),
+        }
+    }
+
+    /// Does what a command asks of a search that goes step by step.
+    fn obey_step<A: Allocator + Copy>(
+        &mut self,
+        world: &mut World<A>,
+        seat: u32,
+        command: StepCommand,
+    ) -> Said<A>
+        ensures label { self.new.label ≡ self.old.label }
+        ensures obeys { ObeysStep seat command self.old world.old.plain self.new world.new.plain (said_view result) }
+    {
+        match command {
+            StepCommand::Open(window) => Said::Line(self.open(world, seat, window)),
+            StepCommand::Step(count) => Said::Line(self.step(world, seat, count)),
+            StepCommand::Finish => self.finish(world, seat),
+        }
+    }
+
+    /// Opens a search.
+    fn open<A: Allocator + Copy>(&mut self, world: &mut World<A>, seat: u32, window: Shape) -> Reply
+        ensures label { self.new.label ≡ self.old.label }
+        ensures obeys { ObeysStep seat (StepCommand.Open window) self.old world.old.plain self.new world.new.plain (said_in_line result) }
+    {
+        if self.search.is_some() {
+            return Reply::Error(Fault::OutOfTurn);
+        }
+        match world.open_search(seat, window) {
+            Ok(number) => {
+                self.search = Some(number);
+                Reply::Opened
+            }
+            Err(fault) => fault_reply(fault),
+        }
+    }
+
+    /// Lets the open search go on. One that the index gives up is open no more.
+    fn step<A: Allocator + Copy>(&mut self, world: &mut World<A>, seat: u32, count: u32) -> Reply
+        ensures label { self.new.label ≡ self.old.label }
+        ensures obeys { ObeysStep seat (StepCommand.Step count) self.old world.old.plain self.new world.new.plain (said_in_line result) }
+    {
+        let Some(number) = self.search else {
+            return Reply::Error(Fault::OutOfTurn);
+        };
+        match go_on(world, seat, number, count) {
+            Ok(visit) => visit_reply(visit),
+            Err(fault) => {
+                self.search = left_open(&fault, number);
+                fault_reply(fault)
+            }
+        }
+    }
+
+    /// Finishes the open search. After a fault it stays open, unless the index has given it up.
+    fn finish<A: Allocator + Copy>(&mut self, world: &mut World<A>, seat: u32) -> Said<A>
+        ensures label { self.new.label ≡ self.old.label }
+        ensures obeys { ObeysStep seat StepCommand.Finish self.old world.old.plain self.new world.new.plain (said_view result) }
+    {
+        let Some(number) = self.search else {
+            return Said::Line(Reply::Error(Fault::OutOfTurn));
+        };
+        match finish_open(world, seat, number) {
+            Ok(answer) => {
+                self.search = None;
+                Said::Rows(answer)
+            }
+            Err(fault) => {
+                self.search = left_open(&fault, number);
+                Said::Line(fault_reply(fault))
+            }
+        }
+    }
+
+    /// Gives up the open search, if there is one.
+    fn drop_search<A: Allocator + Copy>(&self, world: &mut World<A>)
+        ensures { Drops self.now.seat self.now.search world.old.plain world.new.plain }
+    {
+        drop_open(world, self.seat, self.search);
+    }
+}
+
+/// Whether a session had a seat, and has it still.
+fn keeps_seat(before: Option<u32>, after: Option<u32>) -> bool
+    ensures { result ≡ keeps_seat before after }
+{
+    match (before, after) {
+        (Some(before), Some(after)) => before == after,
+        _ => false,
+    }
+}
+
+/// Gives up the open search of a session with this seat, if it has both.
+fn drop_open<A: Allocator + Copy>(world: &mut World<A>, seat: Option<u32>, search: Option<u64>)
+    ensures { Drops seat search world.old.plain world.new.plain }
+{
+    if let Some(seat) = seat {
+        if let Some(number) = search {
+            let _ = world.drop_search(seat, number);
+        }
     }
 }
 
@@ -163,20 +338,20 @@ impl<A: Allocator + Copy> Table<A> {
     fn answer(&mut self, world: &mut World<A>, at: usize, text: &[u8]) -> Said<A>
         requires { at < length self.old.sessions.items }
         ensures { (session : SessionState) × (self.new.sessions.items ≡ slice_set self.old.sessions.items at session)
-            × ((d : SessionState) → SessionAnswers text.now (slice_index_or self.old.sessions.items at d) world.old session world.new (said_view result)) }
+            × ((d : SessionState) → SessionAnswers text.now (slice_index_or self.old.sessions.items at d) world.old.plain session world.new.plain (said_view result)) }
     {
         let heap = self.heap;
         let session = &mut self.sessions[at];
         session.answer(world, heap, text)
     }
 
-    /// Tends the next slot of the index.
+    /// Tends the slot of the index whose turn it is.
     fn tend(&mut self, world: &mut World<A>)
         ensures sessions { self.new.sessions.items ≡ self.old.sessions.items }
-        ensures world { world.new ≡ world.old }
+        ensures world { world.new.plain ≡ world.old.plain }
     {
         let _ = world.tend(self.next_slot);
-        self.next_slot = self.next_slot.wrapping_add(1);
+        self.next_slot = slot_behind(self.next_slot, world.slots());
     }
 
     /// Answers a line.
@@ -187,7 +362,7 @@ impl<A: Allocator + Copy> Table<A> {
         writer: &mut W,
     ) -> io::Result<()>
         ensures { (said : List ℕ) × Took result (W.contents writer.old) (W.contents writer.new) said
-            × LineTells line.now (script world.old self.old.sessions.items) (script world.new self.new.sessions.items) said }
+            × LineTells line.now (script world.old.plain self.old.sessions.items) (script world.new.plain self.new.sessions.items) said }
     {
         if line.len() > LINE_LIMIT {
             return refuse(Fault::LineTooLong, writer);
@@ -202,6 +377,17 @@ impl<A: Allocator + Copy> Table<A> {
             Some(label) => take_labelled(world, self, label, text, writer),
             None => refuse(Fault::NoLabel, writer),
         }
+    }
+}
+
+/// The slot that is tended after this one, of so many: from 0 on, and behind the last one 0 again.
+fn slot_behind(slot: u32, slots: u32) -> u32
+    ensures { result ≡ (if nat_lt (slot + 1) slots then slot + 1 else 0) }
+{
+    if slot < slots && slot + 1 < slots {
+        slot + 1
+    } else {
+        0
     }
 }
 
@@ -221,7 +407,7 @@ fn take_labelled<A: Allocator + Copy, W: Write>(
     writer: &mut W,
 ) -> io::Result<()>
     ensures { (said : List ℕ) × Took result (W.contents writer.old) (W.contents writer.new) said
-        × LabelTells label text.now (script world.old table.old.sessions.items) (script world.new table.new.sessions.items) said }
+        × LabelTells label text.now (script world.old.plain table.old.sessions.items) (script world.new.plain table.new.sessions.items) said }
 {
     let at = place_of(&table.sessions, &label);
     if at >= LABEL_LIMIT {
@@ -238,7 +424,7 @@ impl<A: Allocator + Copy> LineDesk for Table<A> {
 
     type World = World<A>;
 
-    ghost tells = { λ line old new said. LineTells line (script old.0 old.1.sessions.items) (script new.0 new.1.sessions.items) said };
+    ghost tells = { λ line old new said. LineTells line (script old.0.plain old.1.sessions.items) (script new.0.plain new.1.sessions.items) said };
 
     fn take_line<W: Write>(
         &mut self,
@@ -258,8 +444,8 @@ impl<A: Allocator + Copy> LineDesk for Table<A> {
 /// what each is answered, by one call of the writer for each line of a reply; after each line one slot of the index is
 /// tended. `alloc` serves what the world keeps and the buffers, `heap` documents and their texts. Faults: `Memory` where the
 /// buffers are refused, before anything is read; `Read` and `Write` where a read or a write fails;
-/// `TooManyTurns` after 16,777,216 reads. What was done before stands, and staged lists are dropped. However the run ends, it
-/// leaves no search and no transaction under way.
+/// `TooManyTurns` after 16,777,216 reads. What was done before stands, and staged lists and open searches are dropped. However
+/// the run ends, it leaves no search and no transaction under way, where none was before it.
 pub fn run_script<A: Allocator + Copy, R: Read, W: Write>(
     alloc: A,
     heap: Global,
@@ -268,12 +454,24 @@ pub fn run_script<A: Allocator + Copy, R: Read, W: Write>(
     writer: &mut W,
 ) -> Result<(), ServeFault>
     ensures script_text { OnOk result (IfSome (R.remaining reader.old) (λ input. (said : List ℕ) × Appends (W.contents writer.old) (W.contents writer.new) said
-        × IsScriptText world.old input world.new said)) }
-    ensures ran { (sessions : List SessionState) × Ran LineTells result (script world.old []) (script world.new sessions)
-        (R.remaining reader.old) (R.remaining reader.new) (W.contents writer.old) (W.contents writer.new) }
-    ensures idle { IsIdle world.old → IsIdle world.new }
+        × IsScriptText world.old.plain input world.new.plain said)) }
+    ensures ran { (sessions : List SessionState) × (last : WorldData) × Ran LineTells result (script world.old.plain []) (script last sessions)
+        (R.remaining reader.old) (R.remaining reader.new) (W.contents writer.old) (W.contents writer.new) × AllDrop sessions last world.new.plain }
+    ensures idle { IsIdle world.old.plain → IsIdle world.new.plain }
     ensures untouched { IfErr result (λ fault. OnMemory fault ((world.new ≡ world.old) × (reader.new ≡ reader.old) × (writer.new ≡ writer.old))) }
 {
     let mut table = Table::new(alloc, heap)?;
-    run_lines(alloc, &mut table, world, reader, writer)
+    let end = run_lines(alloc, &mut table, world, reader, writer);
+    drop_all(&table.sessions, world);
+    end
+}
+
+/// Gives up the open search of each session.
+fn drop_all<A: Allocator + Copy>(sessions: &[Session], world: &mut World<A>)
+    ensures drops { AllDrop sessions.now world.old.plain world.new.plain }
+    ensures none { sessions.now ≡ [] → world.new ≡ world.old }
+{
+    for session in sessions {
+        session.drop_search(world);
+    }
 }

@@ -2,7 +2,7 @@
 
 ghost use Rattle.std.specs.Prelude.{◌≡◌, ◌≤◌, length};
 ghost use Rattle.audit_trail.specs.Judging.{AreDistinct};
-ghost use Rattle.transactions.specs.declared.settings.TheConstants.{CHANGE_LIMIT};
+ghost use Rattle.plain_world.specs.declared.settings.TheConstants.{CHANGE_LIMIT};
 ghost use Rattle.sessions.specs.Replies.{line, said_view};
 
 use crate::replies::{Reply, Said};

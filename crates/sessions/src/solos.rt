@@ -59,9 +59,9 @@ impl<'a, A: Allocator + Copy> Service for Solo<'a, A> {
 
     type Memory = A;
 
-    ghost subject_of = { λ s. solo_subject (solo s.world.now s.seat) };
+    ghost subject_of = { λ s. solo_subject (solo s.world.now.plain s.seat) };
 
-    ghost serves = { λ call old new said. (new.world.ghost_name ≡ old.world.ghost_name) × Serves call (solo old.world.now old.seat) (solo new.world.now new.seat) said };
+    ghost serves = { λ call old new said. (new.world.ghost_name ≡ old.world.ghost_name) × Serves call (solo old.world.now.plain old.seat) (solo new.world.now.plain new.seat) said };
 
     fn subject(&self) -> Option<Subject> {
         subject_in(self.world, self.seat)
@@ -130,7 +130,7 @@ impl<'a, A: Allocator + Copy> Service for Solo<'a, A> {
 
 /// The subject of a session's seat, if it has one.
 fn subject_in<A: Allocator>(world: &World<A>, seat: Option<u32>) -> Option<Subject>
-    ensures { result ≡ seated seat world.now }
+    ensures { result ≡ seated seat world.now.plain }
 {
     match seat {
         None => None,

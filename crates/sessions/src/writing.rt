@@ -157,6 +157,9 @@ fn push_reply(line: &mut Line, reply: &Reply)
             push_two(line, b"stale ", *current, b" change ", *change)
         }
         Reply::Held => push_bytes(line, b"held"),
+        Reply::Opened => push_bytes(line, b"opened"),
+        Reply::More => push_bytes(line, b"more"),
+        Reply::Ready => push_bytes(line, b"ready"),
         Reply::Aborted => push_bytes(line, b"aborted"),
         Reply::Edition(edition) => push_numbered(line, b"edition ", *edition),
         Reply::Permitted(rule, edition) => {

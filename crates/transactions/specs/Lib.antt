@@ -1,10 +1,3 @@
-pub mod FaultCodes
-pub mod Staging
-pub mod Answers
-pub mod States
-pub mod Rolls
+pub mod Index
 pub mod Coding
-pub mod Admitting
-pub mod Events
-pub mod PlainList
-pub mod Laws
+pub mod Refusing

@@ -1,142 +1,35 @@
-//! Why a world refuses a call.
+//! How a world tells that the index refuses.
 
 ghost use Rattle.std.specs.Prelude.{◌≡◌};
+ghost use Rattle.transactions.specs.Refusing.{is_overrun, refusal_of, told};
 
 use memory::Refused;
-use std::fmt;
+use plain_world::Fault;
+use search_tree::TreeFault;
 
-/// Why the index refuses a step.
-#[derive(Debug, Drop, PartialEq, Eq)]
-pub enum TreeFault {
-    /// S1: no search runs under the number.
-    NoSearch,
-    /// S2: as many searches run as may run at once.
-    TooMany,
-    /// S3: the search of this number has seen the place already, and looks for what would be put there.
-    Held(u64),
-    /// S4: every slot is taken.
-    Full,
-    /// S5: the root would stand too high.
-    TooHigh,
-    /// S6: the counter, or the number of the next search, is at its end.
-    Spent,
-    /// S7: the search or the walk has made all its steps.
-    Overrun,
-    /// S8: a growth was refused.
-    Memory(Refused),
-}
-
-impl TreeFault {
-    ghost use Rattle.transactions.specs.FaultCodes.{tree_code};
-
-    /// The code by which users know the fault.
-    pub fn code(&self) -> &'static str
-        ensures { result.now ≡ tree_code self.now }
-    {
-        match self {
-            TreeFault::NoSearch => "S1",
-            TreeFault::TooMany => "S2",
-            TreeFault::Held(_) => "S3",
-            TreeFault::Full => "S4",
-            TreeFault::TooHigh => "S5",
-            TreeFault::Spent => "S6",
-            TreeFault::Overrun => "S7",
-            TreeFault::Memory(_) => "S8",
-        }
+/// What a world answers where the index refuses: want of memory by its own name.
+pub(crate) fn fault_of(fault: TreeFault) -> Fault
+    ensures { result ≡ told fault }
+{
+    match fault {
+        TreeFault::Memory(refusal) => Fault::Memory(refusal),
+        fault => Fault::Tree(fault),
     }
 }
 
-impl fmt::Display for TreeFault {
-    ghost use Rattle.std.specs.Prelude.{Some};
-    ghost use Rattle.transactions.specs.FaultCodes.{tree_code};
-
-    ghost output = { λ fault. Some (tree_code fault) };
-
-    fn fmt<W: fmt::Write>(&self, f: &mut fmt::Formatter<W>) -> fmt::Result {
-        f.write_str(self.code())
+/// The refusal of a growth, if it is that.
+pub(crate) fn refusal_of(fault: TreeFault) -> Option<Refused>
+    ensures { result ≡ refusal_of fault }
+{
+    match fault {
+        TreeFault::Memory(refusal) => Some(refusal),
+        _ => None,
     }
 }
 
-/// Why a world refuses a call. A refused call changes nothing, save that the overrun of a search or a walk ends it.
-#[derive(Debug, Drop, PartialEq, Eq)]
-pub enum Fault {
-    /// X1: the seat was not given, or no such search runs, or no such transaction is open.
-    NoSuch,
-    /// X2: the search or the transaction is another seat's.
-    NotYours,
-    /// X3: the search has not answered Ready.
-    NotReady,
-    /// X4: an added or reshaped feature of the list is not placed in the index.
-    NotPlaced,
-    /// X5: the list names the feature already.
-    NamedTwice,
-    /// X6: the list has as many changes as it may have.
-    TooManyChanges,
-    /// X7: the seat's subject is no steward.
-    NotSteward,
-    /// X8: a transaction's number, the version, the edition or the records' numbers are at their end.
-    Spent,
-    /// X9: the index refuses the step.
-    Tree(TreeFault),
-    /// X10: the trail has as many records as it may have.
-    TrailFull,
-    /// X11: more features would stand than may.
-    StoreFull,
-    /// X12: a growth was refused.
-    Memory(Refused),
-    /// X13: there is no subject of the name.
-    NoSubject,
-    /// X14: all seats are given.
-    NoPlace,
-    /// X15: as many transactions are open as may be open at once.
-    TooMany,
-}
-
-impl Fault {
-    ghost use Rattle.transactions.specs.FaultCodes.{fault_code};
-
-    /// The code by which users know the fault; of a refusal of the index, the index's own.
-    pub fn code(&self) -> &'static str
-        ensures { result.now ≡ fault_code self.now }
-    {
-        match self {
-            Fault::NoSuch => "X1",
-            Fault::NotYours => "X2",
-            Fault::NotReady => "X3",
-            Fault::NotPlaced => "X4",
-            Fault::NamedTwice => "X5",
-            Fault::TooManyChanges => "X6",
-            Fault::NotSteward => "X7",
-            Fault::Spent => "X8",
-            Fault::Tree(fault) => fault.code(),
-            Fault::TrailFull => "X10",
-            Fault::StoreFull => "X11",
-            Fault::Memory(_) => "X12",
-            Fault::NoSubject => "X13",
-            Fault::NoPlace => "X14",
-            Fault::TooMany => "X15",
-        }
-    }
-}
-
-impl fmt::Display for Fault {
-    ghost use Rattle.std.specs.Prelude.{Some};
-    ghost use Rattle.transactions.specs.FaultCodes.{fault_code};
-
-    ghost output = { λ fault. Some (fault_code fault) };
-
-    fn fmt<W: fmt::Write>(&self, f: &mut fmt::Formatter<W>) -> fmt::Result {
-        f.write_str(self.code())
-    }
-}
-
-impl From<Refused> for Fault {
-    ghost use Rattle.std.specs.Prelude.{◌≡◌};
-    ghost use Rattle.transactions.specs.declared.faults.Fault.TheVariants.{Memory};
-
-    ghost from_gives = { λ refused fault. fault ≡ Memory refused };
-
-    fn from(refused: Refused) -> Self {
-        Fault::Memory(refused)
-    }
+/// Whether all steps were made.
+pub(crate) fn is_overrun(fault: &TreeFault) -> bool
+    ensures { result ≡ is_overrun fault.now }
+{
+    matches!(fault, TreeFault::Overrun)
 }

@@ -1,15 +1,12 @@
-//! Policies are put in force.
+//! Policies are put in force, and the trail is rolled over.
 
 ghost use Rattle.std.specs.Prelude.{◌≡◌, ◌+◌, IfErr};
 ghost use Rattle.std.specs.Arc.{arc_value};
-ghost use Rattle.transactions.specs.Events.{Happens, Govern, Number, reply_of, reply_handing};
+ghost use Rattle.plain_world.specs.Events.{Happens, Govern, Roll, Number, TakenOut, reply_handing, reply_of};
 
-use crate::faults::Fault;
-use crate::searching::want_of;
-use crate::worlds::{World, made_decider};
-use audit_trail::{Deed, Record};
+use crate::worlds::World;
 use decision::Decider;
-use memory::another;
+use plain_world::{Fault, Rolled};
 use policy_text::Document;
 use std::alloc::{Allocator, Global};
 use std::sync::Arc;
@@ -19,42 +16,11 @@ impl<A: Allocator + Copy> World<A> {
     /// X7 where its subject is no steward, X8 where the edition is at its end, X10 where the trail is full, X12 where a
     /// growth is refused.
     pub fn govern_by(&mut self, seat: u32, decider: Arc<Decider>) -> Result<u64, Fault>
-        requires { (arc_value decider).edition ≡ self.old.state.decider.edition + 1 }
-        ensures { Happens (Govern seat (arc_value decider).document) self.old self.new (reply_of Number result) }
+        requires { (arc_value decider).edition ≡ self.old.plain.state.decider.edition + 1 }
+        ensures happens { Happens (Govern seat (arc_value decider).document) self.old.plain self.new.plain (reply_of Number result) }
+        ensures index { self.new.index ≡ self.old.index }
     {
-        self.may_govern(seat)?;
-        let kept = another(&decider)?;
-        let edition = decider.edition();
-        let entry = Record::new(
-            seat,
-            Deed::Governed {
-                edition,
-                decider: kept,
-            },
-        );
-        match self.trail.prepare(entry) {
-            Ok(shared) => {
-                self.trail.put(shared);
-                self.decider = decider;
-                Ok(edition)
-            }
-            Err(fault) => Err(Fault::Memory(want_of(fault))),
-        }
-    }
-
-    /// Puts a copy of a document in force.
-    fn govern_copy(
-        &mut self,
-        heap: Global,
-        seat: u32,
-        document: &Document<Global>,
-    ) -> Result<u64, Fault>
-        ensures { Happens (Govern seat document.now) self.old self.new (reply_of Number result) }
-    {
-        self.may_govern(seat)?;
-        let edition = self.decider.edition() + 1;
-        let decider = made_decider(heap, document, edition)?;
-        self.govern_by(seat, decider)
+        self.plain.govern_by(seat, decider)
     }
 
     /// Puts a document in force as the next edition, and answers that. X1 where the seat was not given, X7 where its
@@ -66,12 +32,20 @@ impl<A: Allocator + Copy> World<A> {
         seat: u32,
         document: Document<Global>,
     ) -> Result<u64, (Document<Global>, Fault)>
-        ensures happens { Happens (Govern seat document) self.old self.new (reply_handing Number result) }
+        ensures happens { Happens (Govern seat document) self.old.plain self.new.plain (reply_handing Number result) }
         ensures document_returned { IfErr result (λ e. e.0 ≡ document) }
+        ensures index { self.new.index ≡ self.old.index }
     {
-        match self.govern_copy(heap, seat, &document) {
-            Ok(edition) => Ok(edition),
-            Err(fault) => Err((document, fault)),
-        }
+        self.plain.govern(heap, seat, document)
+    }
+
+    /// Takes the trail out whole, with its lines; the new one begins from the present state, with the next number. X1
+    /// where the seat was not given, X7 where its subject is no steward, X8 where so many records were rolled out and are
+    /// there that the next trail's numbers would not fit, X12 where a growth is refused.
+    pub fn roll(&mut self, heap: Global, seat: u32) -> Result<Arc<Rolled<A>, A>, Fault>
+        ensures happens { Happens (Roll seat) self.old.plain self.new.plain (reply_of (λ piece. TakenOut (arc_value piece)) result) }
+        ensures index { self.new.index ≡ self.old.index }
+    {
+        self.plain.roll(heap, seat)
     }
 }

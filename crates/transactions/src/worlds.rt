@@ -1,140 +1,117 @@
 //! The world: what stands, and how it is opened and read.
 
 ghost use Rattle.std.specs.Prelude.{◌≡◌, ◌≤◌, length, IfOk, IfErr};
-ghost use Rattle.std.specs.Arc.{arc_value};
 ghost use Rattle.memory.specs.Refused.{refused};
-ghost use Rattle.audit_trail.specs.Legal.{IsLegal, replay};
-ghost use Rattle.transactions.specs.States.{opened};
+ghost use Rattle.audit_trail.specs.Legal.{IsLegal, replay, subject_of};
+ghost use Rattle.node_arena.specs.Slots.{slot_count, taken_count};
+ghost use Rattle.plain_world.specs.Admitting.{subject_at};
+ghost use Rattle.plain_world.specs.States.{opened};
+ghost use Rattle.search_tree.specs.Calls.{found_in};
+ghost use Rattle.search_tree.specs.Trees.{IsFirst};
+ghost use Rattle.transactions.specs.Index.{Serves, frames};
 
-use crate::faults::Fault;
-use crate::searches::Search;
-use crate::settings::{Limits, ROLLED_LIMIT, STEP_LIMIT, Starts};
-use crate::staging::Transaction;
 use audit_trail::{RECORD_LIMIT, Trail};
 use decision::Decider;
-use features::{FEATURE_LIMIT, Feature, Store, Subject, Subjects};
-use memory::{Refused, another, shared};
+use features::{FEATURE_LIMIT, Subject, Subjects};
+use frame_keys::Frames;
+use memory::Refused;
+use plain_world::{Fault, Limits, PlainWorld, ROLLED_LIMIT, STEP_LIMIT, Starts};
 use policy_text::Document;
+use search_tree::{Tree, TreeFault};
 use std::alloc::{Allocator, Global};
 use std::marker::Model;
-use std::sync::Arc;
 
-/// The state at which a trail begins.
-#[derive(Debug, Drop)]
-pub struct Base<A: Allocator> {
-    pub features: Vec<Feature, A>,
-    pub version: u64,
-    pub decider: Arc<Decider>,
-}
-
-impl<A: Allocator> Model for Base<A> {
-    ghost use Rattle.std.specs.Arc.{arc_value};
-    ghost use Rattle.std.specs.Coded.{code_by, codes};
-    ghost use Rattle.audit_trail.specs.Records.{PlainState};
-    ghost use Rattle.transactions.specs.Coding.{StoredState, stored_state, restored_state, restored_state-stored_state};
-
-    ghost Value = { PlainState };
-
-    ghost coded = { code_by StoredState (Prim.hlevel codes) stored_state restored_state restored_state-stored_state };
-
-    ghost view = { λ b. record { features = b.features.items; version = b.version; decider = arc_value b.decider } };
-}
-
-/// The world of many sessions: the features, the policy in force and the trail, the seats that were given, and the
-/// searches and transactions that are under way. A contract sees it as plain data.
-#[derive(Debug, Drop)]
+/// The world of many sessions: the features, the policy in force and the trail, the seats that were given, the searches and
+/// transactions that are under way, and the index over the features. A contract sees all but the index as plain data, and
+/// the index as its pairs, searches and counts.
+#[derive(Drop)]
 pub struct World<A: Allocator> {
-    pub(crate) alloc: A,
-    pub(crate) subjects: Subjects,
-    pub(crate) opening: Arc<Decider>,
-    pub(crate) starts: Starts,
-    pub(crate) limits: Limits,
-    pub(crate) seats: Vec<Subject, A>,
-    pub(crate) base: Base<A>,
-    pub(crate) trail: Trail<A>,
-    pub(crate) store: Store<A>,
-    pub(crate) version: u64,
-    pub(crate) decider: Arc<Decider>,
-    pub(crate) searches: Vec<Search, A>,
-    pub(crate) next_search: u64,
-    pub(crate) transactions: Vec<Transaction<A>, A>,
-    pub(crate) next_transaction: u64,
+    pub(crate) plain: PlainWorld<A>,
+    pub(crate) index: Tree<Frames, A>,
 }
 
 impl<A: Allocator> Model for World<A> {
-    ghost use Rattle.std.specs.Arc.{arc_value};
     ghost use Rattle.std.specs.Coded.{code_by, codes};
-    ghost use Rattle.transactions.specs.Coding.{StoredWorld, stored_world, restored_world, restored_world-stored_world};
-    ghost use Rattle.transactions.specs.States.{WorldData, Keeps};
+    ghost use Rattle.transactions.specs.Coding.{StoredIndexed, stored_indexed, restored_indexed, restored_indexed-stored_indexed};
+    ghost use Rattle.transactions.specs.Index.{IndexedWorld, IsWorld};
 
-    ghost Value = { WorldData };
+    ghost Value = { IndexedWorld };
 
-    ghost coded = { code_by StoredWorld (Prim.hlevel codes) stored_world restored_world restored_world-stored_world };
+    ghost coded = { code_by StoredIndexed (Prim.hlevel codes) stored_indexed restored_indexed restored_indexed-stored_indexed };
 
-    ghost view = { λ w. record {
-      subjects = w.subjects;
-      opening = arc_value w.opening;
-      starts = w.starts;
-      limits = w.limits;
-      seats = w.seats.items;
-      base = w.base;
-      first = w.trail.first;
-      trail = w.trail.records;
-      state = record { features = w.store; version = w.version; decider = arc_value w.decider };
-      searches = w.searches.items;
-      next_search = w.next_search;
-      transactions = w.transactions.items;
-      next_transaction = w.next_transaction;
-    } };
+    ghost view = { λ w. record { plain = w.plain; index = w.index } };
 
-    ghost invariant = { λ w. Keeps w.limits w.seats.items w.base w.trail.records (record { features = w.store; version = w.version; decider = arc_value w.decider }) };
+    ghost invariant = { λ w. IsWorld (record { plain = w.plain; index = w.index }) };
 }
 
 impl<A: Allocator> World<A> {
     /// The trail since the last roll. It is legal from its base, and the state is its replay.
     pub fn trail(&self) -> &Trail<A>
-        ensures records { result.now.records ≡ self.now.trail }
-        ensures first { result.now.first ≡ self.now.first }
-        ensures legal { IsLegal self.now.seats self.now.base self.now.trail }
-        ensures replayed { replay self.now.base self.now.trail ≡ self.now.state }
+        ensures records { result.now.records ≡ self.now.plain.trail }
+        ensures first { result.now.first ≡ self.now.plain.first }
+        ensures legal { IsLegal self.now.plain.seats self.now.plain.base self.now.plain.trail }
+        ensures replayed { replay self.now.plain.base self.now.plain.trail ≡ self.now.plain.state }
     {
-        &self.trail
+        self.plain.trail()
     }
 
     /// The document in force.
     pub fn document(&self) -> &Document<Global>
-        ensures { result.now ≡ self.now.state.decider.document }
+        ensures { result.now ≡ self.now.plain.state.decider.document }
     {
-        self.decider.document()
+        self.plain.document()
     }
 
     /// The decider in force.
     pub fn decider(&self) -> &Decider
-        ensures { result.now ≡ self.now.state.decider }
+        ensures { result.now ≡ self.now.plain.state.decider }
     {
-        &self.decider
+        self.plain.decider()
     }
 
     /// The edition of the document in force.
     pub fn edition(&self) -> u64
-        ensures { result ≡ self.now.state.decider.edition }
+        ensures { result ≡ self.now.plain.state.decider.edition }
     {
-        self.decider.edition()
+        self.plain.edition()
     }
 
-    /// How many pairs a search has found in the index, and so how many look-ups its `finish` makes at most. Until there is
-    /// an index, none.
+    /// How many pairs a search has found in the index, and so how many look-ups its `finish` makes at most; 0 where no such
+    /// search runs.
     pub fn found_count(&self, number: u64) -> usize
-        ensures { result ≡ 0 }
+        ensures { result ≡ length (found_in self.now.index number) }
     {
-        0
+        self.index.found(number).len()
     }
 
     /// How many features there are.
     pub fn len(&self) -> usize
-        ensures { result ≡ length self.now.state.features }
+        ensures { result ≡ length self.now.plain.state.features }
     {
-        self.store.len()
+        self.plain.len()
+    }
+
+    /// How many slots of the index there are to tend. It takes no memory.
+    pub fn slots(&self) -> u32
+        ensures value { result ≡ slot_count self.now.index.nodes }
+        ensures taken { taken_count self.now.index.nodes ≤ result }
+    {
+        self.index.slots()
+    }
+
+    /// What the index owes to the world: it has each feature's id and shape, and each shape that an open transaction has
+    /// placed; it runs the searches that run, as ready as they are. The function does nothing: it is its contract.
+    pub fn index_serves_the_world(&self)
+        ensures { Serves self.now.plain self.now.index }
+    {
+        let _index = &self.index;
+    }
+
+    /// The subject of a seat. X1 where the seat was not given.
+    pub fn subject_at(&self, seat: u32) -> Result<Subject, Fault>
+        ensures { result ≡ subject_at seat self.now.plain }
+    {
+        self.plain.subject_at(seat)
     }
 }
 
@@ -147,7 +124,7 @@ impl<A: Allocator + Copy> World<A> {
         subjects: Subjects,
         document: Document<Global>,
     ) -> Result<Self, (Document<Global>, Fault)>
-        ensures ok { IfOk result (λ w. w ≡ opened subjects (record { document = document; edition = 1 })
+        ensures ok { IfOk result (λ w. w.plain ≡ opened subjects (record { document = document; edition = 1 })
             (record { generation = 0; counter = 0; search = 1; version = 0; edition = 1; rolled = 0 })
             (record { steps = STEP_LIMIT; records = RECORD_LIMIT; features = FEATURE_LIMIT })) }
         ensures err { IfErr result (λ e. e ≡ (document, Fault.Memory refused)) }
@@ -181,70 +158,38 @@ impl<A: Allocator + Copy> World<A> {
         requires records { limits.records ≤ RECORD_LIMIT }
         requires features { limits.features ≤ FEATURE_LIMIT }
         requires steps { limits.steps ≤ STEP_LIMIT }
-        ensures ok { IfOk result (λ w. w ≡ opened subjects (record { document = document; edition = starts.edition }) starts limits) }
+        ensures ok { IfOk result (λ w. w.plain ≡ opened subjects (record { document = document; edition = starts.edition }) starts limits) }
+        ensures index { IfOk result (λ w. IsFirst frames starts.counter starts.search limits.steps w.index) }
         ensures err { IfErr result (λ e. e ≡ (document, Fault.Memory refused)) }
     {
-        let decider = match made_decider(heap, &document, starts.edition) {
-            Ok(decider) => decider,
+        let index = match first_index(alloc, starts, limits) {
+            Ok(index) => index,
             Err(refusal) => return Err((document, Fault::Memory(refusal))),
         };
-        match World::opened(alloc, subjects, decider, starts, limits) {
-            Ok(world) => Ok(world),
-            Err(refusal) => Err((document, Fault::Memory(refusal))),
-        }
-    }
-
-    /// A world that a decider opens.
-    fn opened(
-        alloc: A,
-        subjects: Subjects,
-        decider: Arc<Decider>,
-        starts: Starts,
-        limits: Limits,
-    ) -> Result<Self, Refused>
-        requires rolled { starts.rolled ≤ ROLLED_LIMIT }
-        requires records { limits.records ≤ RECORD_LIMIT }
-        requires features { limits.features ≤ FEATURE_LIMIT }
-        ensures { IfOk result (λ w. w ≡ opened subjects (arc_value decider) starts limits) }
-    {
-        let first = another(&decider)?;
-        let opening = another(&decider)?;
-        let base = Base {
-            features: Vec::new(alloc),
-            version: starts.version,
-            decider: first,
-        };
-        Ok(World {
-            alloc,
-            subjects,
-            opening,
-            starts,
-            limits,
-            seats: Vec::new(alloc),
-            base,
-            trail: Trail::starting_at(alloc, starts.rolled + 1),
-            store: Store::new(alloc),
-            version: starts.version,
-            decider,
-            searches: Vec::new(alloc),
-            next_search: starts.search,
-            transactions: Vec::new(alloc),
-            next_transaction: 1,
-        })
+        let plain = PlainWorld::open_at(alloc, heap, subjects, document, starts, limits)?;
+        Ok(World { plain, index })
     }
 }
 
-/// A decider of a copy of this document, under an edition.
-pub(crate) fn made_decider(
-    heap: Global,
-    document: &Document<Global>,
-    edition: u64,
-) -> Result<Arc<Decider>, Refused>
-    ensures { IfOk result (λ decider. arc_value decider ≡ record { document = document.now; edition = edition }) }
+/// The index of a world that is opened.
+fn first_index<A: Allocator + Copy>(
+    alloc: A,
+    starts: Starts,
+    limits: Limits,
+) -> Result<Tree<Frames, A>, Refused>
+    requires { limits.steps ≤ STEP_LIMIT }
+    ensures { IfOk result (IsFirst frames starts.counter starts.search limits.steps) }
 {
-    let copy = document.copy(heap)?;
-    match Decider::new(copy, edition) {
-        Ok(decider) => Ok(shared(heap, decider)?),
-        Err(failed) => Err(failed.refusal),
+    let steps = limits.steps as u64;
+    match Tree::starting_at(
+        alloc,
+        starts.generation,
+        starts.counter,
+        starts.search,
+        steps,
+    ) {
+        Ok(index) => Ok(index),
+        Err(TreeFault::Memory(refusal)) => Err(refusal),
+        Err(_) => unreachable!(),
     }
 }

@@ -244,3 +244,9 @@ module _ {C : Class} where
             omega arith;
         none_kept = change.kept.none_left;
       }
+
+  -- what a cleaned leaf leaves of the contents
+  pub contents_sifted : {t u : Tree C} {Kept : ℕ × C.Item → Type 0} {h : Handle} {before : List (ℕ × C.Item)} → Shape t → IsCleaned t u Kept h → IsContents t before → (after : List (ℕ × C.Item)) × IsContents u after × LosesPairs Kept before after
+  contents_sifted shape change c =
+      let a = around change.nodes c in
+      (change.left ++ a.others, a.after, contents_cleaned shape change c a.after)

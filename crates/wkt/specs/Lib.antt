@@ -1,4 +1,4 @@
-pub mod Faults
+pub mod FaultCodes
 pub mod Tokens
 pub mod Numbers
 pub mod Reading

@@ -25,7 +25,7 @@ pub enum WktFault {
 }
 
 impl WktFault {
-    ghost use Rattle.wkt.specs.Faults.{code_of};
+    ghost use Rattle.wkt.specs.FaultCodes.{code_of};
 
     /// The short code: `K1` to `K5`, and where the points make no shape the code of their fault, `P1` to `P9`.
     pub fn code(self) -> &'static str
@@ -44,7 +44,7 @@ impl WktFault {
 
 impl fmt::Display for WktFault {
     ghost use Rattle.std.specs.Prelude.{Some};
-    ghost use Rattle.wkt.specs.Faults.{code_of};
+    ghost use Rattle.wkt.specs.FaultCodes.{code_of};
 
     ghost output = { λ fault. Some (code_of fault) };
 

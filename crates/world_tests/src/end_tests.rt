@@ -1,14 +1,16 @@
 //! What comes at the ends of counters and limits, and the trail that is rolled over.
 use crate::worlds::{
     CLOSED, LIMITS, OPEN, STARTS, add, document, found, picture, placed, point, ready, seated,
-    square,
+    square, staged,
 };
 use features::Meter;
 use policy_text::print_document;
 use std::alloc::Global;
 use std::process::Abort;
 use std::test::Fail;
-use transactions::{Fault, Limits, Outcome, ROLLED_LIMIT, Starts, TreeFault, World};
+use transactions::{
+    Advance, Fault, Limits, Outcome, ROLLED_LIMIT, Starts, Step, TreeFault, Visit, World,
+};
 
 /// The line of the first record of the worked search below.
 const ADDED: &str =
@@ -89,7 +91,7 @@ fn check_base(
 fn each_piece_begins_where_the_last_ended(rt: HostRuntime) -> Result<(), Fail> {
     let heap = rt.alloc();
     let mut world = seated(&rt, heap, heap, OPEN, STARTS, LIMITS);
-    let search = ready(&rt, &mut world, 1, point(&rt, 4, 4));
+    let search = ready(&rt, &mut world, 1, point(&rt, 9, 9));
     let changes = [add(&rt, 2, "mast", 4)];
     let open = placed(&rt, &mut world, 1, &changes);
     add_mast(&rt, &mut world);
@@ -217,5 +219,109 @@ fn the_last_search(rt: HostRuntime) -> Result<(), Fail> {
     let spent = Err(Fault::Tree(TreeFault::Spent));
     assert!(rt; world.open_search(1, point(&rt, 1, 1)) == spent);
     assert_eq!(rt; picture(&rt, heap, &world).as_str(), before.as_str());
+    Ok(())
+}
+
+/// A world whose searches and walks make so many steps at most.
+fn stepping(rt: &impl Abort, heap: Global, steps: u32, counter: u64) -> World<Global> {
+    let limits = Limits { steps, ..LIMITS };
+    let starts = Starts { counter, ..STARTS };
+    seated(rt, heap, heap, OPEN, starts, limits)
+}
+
+/// North adds the masts of these numbers, each where its number is and by a list of its own.
+fn add_masts(rt: &impl Abort, world: &mut World<Global>, last: u64) {
+    let mut at = 0i32;
+    for id in 1..=last {
+        at = at.saturating_add(1);
+        let number = placed(rt, world, 1, &[add(rt, id, "mast", at)]);
+        assert!(rt; matches!(world.commit(1, number), Ok(Outcome::Applied(_))));
+    }
+}
+
+#[test]
+fn the_last_step_of_a_walk(rt: HostRuntime) -> Result<(), Fail> {
+    let heap = rt.alloc();
+    let mut world = stepping(&rt, heap, 1, 0);
+    for id in 1..=16 {
+        let number = staged(&rt, &mut world, 1, &[add(&rt, id, "mast", 4)]);
+        assert!(rt; world.advance(1, number) == Ok(Advance::Walked(Step::Placed)));
+        assert!(rt; matches!(world.commit(1, number), Ok(Outcome::Applied(_))));
+    }
+    let before = picture(&rt, heap, &world);
+    let number = staged(&rt, &mut world, 1, &[add(&rt, 17, "mast", 4)]);
+    assert!(rt; world.advance(1, number) == Ok(Advance::Walked(Step::Split)));
+    assert!(rt; world.advance(1, number) == Err(Fault::Tree(TreeFault::Overrun)));
+    assert!(rt; world.advance(1, number) == Err(Fault::NoSuch));
+    assert!(rt; matches!(world.commit(1, number), Err(Fault::NoSuch)));
+    assert_eq!(rt; picture(&rt, heap, &world).as_str(), before.as_str());
+    Ok(())
+}
+
+/// How many steps a search makes before the index gives it up.
+fn steps_of(rt: &impl Abort, world: &mut World<Global>, search: u64) -> u32 {
+    let mut steps = 0u32;
+    for _ in 0..100 {
+        match world.visit(1, search) {
+            Ok(visit) => assert!(rt; visit == Visit::More),
+            Err(fault) => {
+                assert!(rt; fault == Fault::Tree(TreeFault::Overrun));
+                return steps;
+            }
+        }
+        steps = steps.saturating_add(1);
+    }
+    panic!(rt; "a search makes more than 100 steps")
+}
+
+#[test]
+fn the_last_step_of_a_search(rt: HostRuntime) -> Result<(), Fail> {
+    let heap = rt.alloc();
+    let mut world = stepping(&rt, heap, 9, 0);
+    add_masts(&rt, &mut world, 100);
+    let before = picture(&rt, heap, &world);
+    let opened = world.open_search(1, square(&rt, 0, 200));
+    assert!(rt; opened.is_ok());
+    let search = opened.unwrap();
+    assert_eq!(rt; steps_of(&rt, &mut world, search), 9);
+    assert!(rt; world.visit(1, search) == Err(Fault::NoSuch));
+    assert!(rt; world.drop_search(1, search) == Err(Fault::NoSuch));
+    assert_eq!(rt; picture(&rt, heap, &world).as_str(), before.as_str());
+    Ok(())
+}
+
+/// The walk of a transaction is placed, or the index's counter is at its end, as often as the walk is advanced.
+fn is_spent(rt: &impl Abort, world: &mut World<Global>, number: u64) -> bool {
+    let spent = Err(Fault::Tree(TreeFault::Spent));
+    for _ in 0..100 {
+        let step = world.advance(1, number);
+        if step == spent {
+            assert!(rt; world.advance(1, number) == spent);
+            assert!(rt; matches!(world.commit(1, number), Err(Fault::NotPlaced)));
+            return true;
+        }
+        assert!(rt; step.is_ok());
+        if step == Ok(Advance::AllPlaced) {
+            return false;
+        }
+    }
+    panic!(rt; "a walk makes more than 100 steps")
+}
+
+#[test]
+fn the_last_count_of_the_index(rt: HostRuntime) -> Result<(), Fail> {
+    let mut world = stepping(&rt, rt.alloc(), 1_000, u64::MAX);
+    for id in 1..=64 {
+        let number = staged(&rt, &mut world, 1, &[add(&rt, id, "mast", 4)]);
+        if is_spent(&rt, &mut world, number) {
+            // What was placed is found.
+            let answer = found(&rt, &mut world, 1, square(&rt, 0, 9));
+            assert_eq!(rt; answer.rows().len() as u64, id.saturating_sub(1));
+            assert!(rt; world.abort(1, number) == Ok(()));
+            return Ok(());
+        }
+        assert!(rt; matches!(world.commit(1, number), Ok(Outcome::Applied(_))));
+    }
+    assert!(&rt; false, "no leaf below the root is parted");
     Ok(())
 }

@@ -78,8 +78,8 @@ fn ruled_by_the_policy_at_the_end(rt: HostRuntime) -> Result<(), Fail> {
     let both = [add(&rt, 1, "mast", 1), add(&rt, 2, "road", 2)];
     let number = placed(&rt, &mut world, 1, &both);
     assert!(rt; matches!(world.commit(1, number), Ok(Outcome::Applied(1))));
-    let search = ready(&rt, &mut world, 2, square(&rt, 0, 4));
     let open = placed(&rt, &mut world, 1, &[add(&rt, 3, "mast", 3)]);
+    let search = ready(&rt, &mut world, 2, square(&rt, 0, 4));
     assert!(rt; matches!(world.govern(heap, 3, document(&rt, heap, ROADS)), Ok(2)));
     assert!(rt; *world.document() == document(&rt, heap, ROADS));
     let mut meter = Meter::new();

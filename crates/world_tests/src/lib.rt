@@ -6,6 +6,8 @@ mod audit_trail_tests;
 #[cfg(test)]
 mod config_tests;
 #[cfg(test)]
+mod dice;
+#[cfg(test)]
 mod end_tests;
 #[cfg(test)]
 mod event_tests;
@@ -13,6 +15,10 @@ mod event_tests;
 mod fakes;
 #[cfg(test)]
 mod fault_tests;
+#[cfg(test)]
+mod happened;
+#[cfg(test)]
+mod index_tests;
 #[cfg(test)]
 mod line_end_tests;
 #[cfg(test)]
@@ -29,5 +35,7 @@ mod program_tests;
 mod refusal_tests;
 #[cfg(test)]
 mod script_tests;
+#[cfg(test)]
+mod step_tests;
 #[cfg(test)]
 mod worlds;

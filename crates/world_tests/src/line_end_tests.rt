@@ -94,6 +94,23 @@ fn ends_of_records(rt: HostRuntime) -> Result<(), Fail> {
         "n: DELETE 1 1\nn: COMMIT\nn: SEARCH POINT (0 0)\nn: ADD 1 a POINT (0 0)\nn: COMMIT\nc: ROLL x\nc: POLICY {}\nn: SEARCH POINT (0 0)\n",
         "n: staged\nn: absent change 1\nn: error X10\nn: staged\nn: error X10\nc: error E2\nc: error D2\nn: error X10\n",
     )?;
+    // A search that finds no place for its record stays open.
+    check_at(
+        &rt,
+        rt.alloc(),
+        STARTS,
+        one_record,
+        "n: SEARCH POINT (0 0)\nn: OPEN POINT (0 0)\nn: FINISH\nn: OPEN POINT (0 0)\nn: FINISH\nc: ROLL\nn: FINISH\n",
+        r#"n: rows 0
+n: opened
+n: error X10
+n: error E8
+n: error X10
+c: rolled 1
+c: {"ids":[],"kind":"answered","number":1,"seat":1,"subject":"north","window":"POINT (0 0)"}
+n: rows 0
+"#,
+    )?;
     let last_roll = Starts {
         rolled: ROLLED_LIMIT,
         ..STARTS

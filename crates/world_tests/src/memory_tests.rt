@@ -1,11 +1,11 @@
 //! Each event with each of its allocations refused in turn, and the calls that take no memory.
 use crate::worlds::{
-    CLOSED, LIMITS, OPEN, STARTS, add, document, found, name, picture, placed, point, ready,
-    seated, square, staged,
+    CLOSED, LIMITS, OPEN, STARTS, add, document, found, name, picture, place_all, placed, point,
+    ready, seated, square, staged,
 };
 use features::{Change, Meter};
 use refusing::Refusing;
-use std::alloc::Global;
+use std::alloc::{Allocator, Global};
 use std::process::Abort;
 use std::test::Fail;
 use transactions::{Advance, Fault, Outcome, Step, Tending, Visit, World};
@@ -63,8 +63,8 @@ fn before_event<'a>(
         ready(rt, &mut world, 2, point(rt, 0, 0));
         staged(rt, &mut world, 2, &[]);
     }
-    let search = ready(rt, &mut world, 1, square(rt, 0, 9));
     let transaction = placed(rt, &mut world, 1, &[change_for(rt, event)]);
+    let search = ready(rt, &mut world, 1, square(rt, 0, 9));
     if *event == Taking::Deny {
         assert!(rt; matches!(world.govern(heap, 3, document(rt, heap, CLOSED)), Ok(2)));
     }
@@ -173,6 +173,118 @@ fn each_allocation_of_a_policy_and_a_roll_refused(rt: HostRuntime) -> Result<(),
     for event in &[Taking::Govern, Taking::Roll] {
         assert!(rt; refusals(&rt, rt.alloc(), event) > 0, "{event:?}");
     }
+    Ok(())
+}
+
+/// A transaction of north's that has staged sixteen roads, of this number and those behind it.
+fn sixteen_staged<A: Allocator + Copy>(rt: &impl Abort, world: &mut World<A>, first: u64) -> u64 {
+    let number = staged(rt, world, 1, &[]);
+    let mut at = 0i32;
+    for id in first..first.saturating_add(16) {
+        at = at.saturating_add(3);
+        assert!(rt; world.stage(1, number, add(rt, id, "road", at)) == Ok(()));
+    }
+    number
+}
+
+/// The walks of a transaction of north's go on until all is placed. How many of their steps were refused: the walk stays
+/// where it was, and the same step is made again.
+fn place_refused<A: Allocator + Copy>(rt: &impl Abort, world: &mut World<A>, number: u64) -> u64 {
+    let mut refused = 0u64;
+    for _ in 0..1_000 {
+        match world.advance(1, number) {
+            Ok(Advance::AllPlaced) => return refused,
+            Ok(_) => {}
+            Err(Fault::Memory(_)) => refused = refused.saturating_add(1),
+            Err(fault) => assert!(rt; false, "{fault}"),
+        }
+    }
+    panic!(rt; "a list makes more than 1,000 steps")
+}
+
+/// Sixteen roads are placed beside sixteen others, with the allocation of this number refused. Whether that was
+/// reached.
+fn try_walks(rt: &impl Abort, heap: Global, at: u64) -> bool {
+    let memory = Refusing::new(heap, 0);
+    let mut world = seated(rt, &memory, heap, OPEN, STARTS, LIMITS);
+    let first = sixteen_staged(rt, &mut world, 1);
+    place_all(rt, &mut world, 1, first);
+    assert!(rt; matches!(world.commit(1, first), Ok(Outcome::Applied(1))));
+    let second = sixteen_staged(rt, &mut world, 17);
+    let before = picture(rt, heap, &world);
+    memory.refuse(at);
+    let refused = place_refused(rt, &mut world, second);
+    let reached = memory.has_refused();
+    memory.refuse(0);
+    assert_eq!(rt; refused, if reached { 1 } else { 0 });
+    assert_eq!(rt; picture(rt, heap, &world).as_str(), before.as_str());
+    assert!(rt; matches!(world.commit(1, second), Ok(Outcome::Applied(2))));
+    assert_eq!(rt;
+        found(rt, &mut world, 1, square(rt, 0, 99)).rows().len(),
+        32
+    );
+    reached
+}
+
+#[test]
+fn each_allocation_of_a_walk_refused(rt: HostRuntime) -> Result<(), Fail> {
+    for at in 1..200 {
+        if !try_walks(&rt, rt.alloc(), at) {
+            assert!(rt; at > 3, "nothing was refused");
+            return Ok(());
+        }
+    }
+    assert!(&rt; false, "each allocation was refused");
+    Ok(())
+}
+
+/// A search goes on until it is ready. How many of its steps were refused: it stays where it was.
+fn see_refused<A: Allocator + Copy>(rt: &impl Abort, world: &mut World<A>, search: u64) -> u64 {
+    let mut refused = 0u64;
+    for _ in 0..1_000 {
+        match world.visit(1, search) {
+            Ok(Visit::Ready) => return refused,
+            Ok(Visit::More) => {}
+            Err(Fault::Memory(_)) => refused = refused.saturating_add(1),
+            Err(fault) => assert!(rt; false, "{fault}"),
+        }
+    }
+    panic!(rt; "a search makes more than 1,000 steps")
+}
+
+/// A search for 32 roads goes on, with the allocation of this number refused. Whether that was reached.
+fn try_visits(rt: &impl Abort, heap: Global, at: u64) -> bool {
+    let memory = Refusing::new(heap, 0);
+    let mut world = seated(rt, &memory, heap, OPEN, STARTS, LIMITS);
+    for first in [1, 17] {
+        let number = sixteen_staged(rt, &mut world, first);
+        place_all(rt, &mut world, 1, number);
+        assert!(rt; matches!(world.commit(1, number), Ok(Outcome::Applied(_))));
+    }
+    assert!(rt; world.open_search(1, square(rt, 0, 99)) == Ok(1));
+    let before = picture(rt, heap, &world);
+    memory.refuse(at);
+    let refused = see_refused(rt, &mut world, 1);
+    let reached = memory.has_refused();
+    memory.refuse(0);
+    assert_eq!(rt; refused, if reached { 1 } else { 0 });
+    assert_eq!(rt; picture(rt, heap, &world).as_str(), before.as_str());
+    let mut meter = Meter::new();
+    let answered = world.finish(1, 1, &mut meter);
+    assert!(rt; answered.is_ok());
+    assert_eq!(rt; answered.unwrap().rows().len(), 32);
+    reached
+}
+
+#[test]
+fn each_allocation_of_the_visits_refused(rt: HostRuntime) -> Result<(), Fail> {
+    for at in 1..200 {
+        if !try_visits(&rt, rt.alloc(), at) {
+            assert!(rt; at > 1, "nothing was refused");
+            return Ok(());
+        }
+    }
+    assert!(&rt; false, "each allocation was refused");
     Ok(())
 }
 

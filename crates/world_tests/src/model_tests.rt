@@ -1,6 +1,8 @@
 //! Ten thousand events of sixteen seats, in an order that nobody chose, each compared to a plain world of lists.
+use crate::dice::Dice;
+use crate::happened::Happened;
 use crate::plain_world::{
-    Area, Draft, Edit, FEATURES, Look, Mark, PlainWorld, RECORDS, SEATS, check_seat, is_steward,
+    Area, Draft, Edit, FEATURES, Look, Mark, PlainWorld, RECORDS, Spot, check_seat, is_steward,
     office_of, shapes_of,
 };
 use crate::worlds::{STARTS, document, name, point, square};
@@ -10,40 +12,15 @@ use policy_text::Document;
 use std::alloc::Global;
 use std::process::Abort;
 use std::test::Fail;
-use transactions::{Advance, Answer, Fault, Limits, Outcome, Step, Tending, Visit, World};
+use transactions::{
+    Advance, Answer, Fault, Limits, Outcome, Step, Tending, TreeFault, Visit, World,
+};
 
 /// How many events are tried.
 const EVENTS: u32 = 10_000;
 
-/// Numbers that look like chance, from a linear congruence.
-#[derive(Drop)]
-struct Dice {
-    state: u64,
-}
-
-impl Dice {
-    /// A number below this one, or 0 where that is 0.
-    fn below(&mut self, sides: u32) -> u32 {
-        self.state = self
-            .state
-            .wrapping_mul(6_364_136_223_846_793_005)
-            .wrapping_add(1_442_695_040_888_963_407);
-        let number = (self.state >> 33)
-            .checked_rem(u64::from(sides))
-            .unwrap_or(0);
-        u32::try_from(number).unwrap_or(0)
-    }
-
-    /// A seat, or rarely one that was not given.
-    fn seat(&mut self) -> u32 {
-        self.below(SEATS + 1).saturating_add(1)
-    }
-
-    /// A coordinate.
-    fn place(&mut self) -> i32 {
-        i32::try_from(self.below(8)).unwrap_or(0)
-    }
-}
+/// How many ids there are, which is more than the features that may stand.
+const IDS: u32 = 450;
 
 /// The policies of the plain world, in its order.
 fn policy(rt: &impl Abort, heap: Global, number: u32) -> Document<Global> {
@@ -61,7 +38,7 @@ fn policy(rt: &impl Abort, heap: Global, number: u32) -> Document<Global> {
             r#"{"root":{"combine":"permit-overrides","policy":"p","rules":[{"effect":"permit","rule":"all-read","target":[[[{"action":"read"}]]]},{"effect":"permit","rule":"mine","when":[{"own":true}]}]}}"#
         }
         _ => {
-            r#"{"root":{"combine":"first-applicable","policy":"p","rules":[{"effect":"permit","rule":"west","target":[[[{"zone":"west"}]]]}]},"zones":[{"shape":"POLYGON ((0 0, 3 0, 3 9, 0 9, 0 0))","zone":"west"}]}"#
+            r#"{"root":{"combine":"first-applicable","policy":"p","rules":[{"effect":"permit","rule":"west","target":[[[{"zone":"west"}]]]}]},"zones":[{"shape":"POLYGON ((0 0, 31 0, 31 70, 0 70, 0 0))","zone":"west"}]}"#
         }
     };
     document(rt, heap, text)
@@ -105,7 +82,7 @@ fn opened(rt: &impl Abort, heap: Global) -> World<Global> {
     ]);
     assert!(rt; made.is_ok());
     let limits = Limits {
-        steps: 100,
+        steps: 1_000,
         records: RECORDS,
         features: FEATURES,
     };
@@ -183,7 +160,7 @@ fn try_open(rt: &impl Abort, dice: &mut Dice, plain: &mut PlainWorld, world: &mu
     let low = dice.place();
     let area = Area {
         low,
-        high: low.saturating_add(1).saturating_add(dice.place()),
+        high: low.saturating_add(1).saturating_add(dice.side()),
     };
     let told = coded(world.open_search(seat, square(rt, area.low, area.high)));
     if check_seat(seat).is_err() {
@@ -196,6 +173,7 @@ fn try_open(rt: &impl Abort, dice: &mut Dice, plain: &mut PlainWorld, world: &mu
             number: plain.next_look,
             seat,
             area,
+            visited: false,
             ready: false,
         };
         assert!(rt; plain.looks.push(look).is_ok());
@@ -213,19 +191,48 @@ fn a_look(dice: &mut Dice, plain: &PlainWorld) -> (u32, u64) {
     }
 }
 
-/// A search is visited.
-fn try_visit(rt: &impl Abort, dice: &mut Dice, plain: &mut PlainWorld, world: &mut World<Global>) {
+/// A search is visited a few times.
+fn try_visit(
+    rt: &impl Abort,
+    dice: &mut Dice,
+    plain: &mut PlainWorld,
+    world: &mut World<Global>,
+    happened: &mut Happened,
+) {
     let (seat, number) = a_look(dice, plain);
-    let told = coded(world.visit(seat, number));
-    match plain.look(seat, number) {
-        Err(code) => assert!(rt; told == Err(code)),
-        Ok(_) => {
-            assert!(rt; told == Ok(Visit::Ready));
-            for look in plain.looks.iter_mut() {
-                if look.number == number {
-                    look.ready = true;
-                }
+    for _ in 0..dice.a_few() {
+        visit_one(rt, plain, world, happened, seat, number);
+    }
+}
+
+/// A search is visited. Whether there is more to see is the world's to tell, but a search that was ready stays so.
+fn visit_one(
+    rt: &impl Abort,
+    plain: &mut PlainWorld,
+    world: &mut World<Global>,
+    happened: &mut Happened,
+    seat: u32,
+    number: u64,
+) {
+    match (plain.look(seat, number), coded(world.visit(seat, number))) {
+        (Err(expected), Err(code)) => assert_eq!(rt; code, expected),
+        (Ok(look), Ok(visit)) => {
+            assert!(rt; visit == Visit::Ready || !look.ready);
+            if visit == Visit::More {
+                happened.more = happened.more.saturating_add(1);
             }
+            mark_visited(plain, number, visit);
+        }
+        _ => assert!(rt; false, "visit {seat} {number}"),
+    }
+}
+
+/// Marks a search as visited, and as ready where it answered so.
+fn mark_visited(plain: &mut PlainWorld, number: u64, visit: Visit) {
+    for look in plain.looks.iter_mut() {
+        if look.number == number {
+            look.visited = true;
+            look.ready = visit == Visit::Ready;
         }
     }
 }
@@ -250,7 +257,9 @@ fn try_finish(
 ) {
     let (seat, number) = a_look(dice, plain);
     let mut meter = Meter::new();
+    let found = world.found_count(number);
     let told = coded(world.finish(seat, number, &mut meter));
+    assert!(rt; meter.ticks() <= found as u64);
     match (finished(plain, seat, number), told) {
         (Err(expected), Err(code)) => assert_eq!(rt; code, expected),
         (Ok(look), Ok(answer)) => {
@@ -345,27 +354,54 @@ fn a_draft(dice: &mut Dice, plain: &PlainWorld) -> (u32, u64) {
     }
 }
 
-/// An edit, mostly of a mark as it stands.
-fn an_edit(dice: &mut Dice, plain: &PlainWorld) -> Edit {
-    let id = dice.below(40) as u64;
-    let seen = match plain.marks.iter().find(|mark| mark.id == id) {
-        Some(mark) if dice.below(6) > 0 => mark.version,
-        _ => dice.below(30) as u64,
-    };
-    match dice.below(5) {
-        0 => Edit::Remove { id, version: seen },
-        1 => Edit::Move {
+/// The id and the version of a mark: mostly of one as it stands.
+fn a_mark(dice: &mut Dice, plain: &PlainWorld) -> (u64, u64) {
+    let count = u32::try_from(plain.marks.len()).unwrap_or(0);
+    let at = dice.below(count) as usize;
+    match plain.marks.get(at) {
+        Some(mark) if dice.below(16) > 0 => (mark.id, mark.version),
+        _ => (dice.below(IDS) as u64, dice.below(30) as u64),
+    }
+}
+
+/// The id of a mark that does not stand, or rarely of any.
+fn a_new_id(dice: &mut Dice, plain: &PlainWorld) -> u64 {
+    let drawn = dice.below(IDS) as u64;
+    if dice.below(16) == 0 {
+        return drawn;
+    }
+    for id in drawn..drawn.saturating_add(100) {
+        if !plain.stands(id) {
+            return id;
+        }
+    }
+    drawn
+}
+
+/// A feature is added.
+fn an_addition(dice: &mut Dice, plain: &PlainWorld) -> Edit {
+    Edit::Add {
+        id: a_new_id(dice, plain),
+        class: dice.below(3),
+        x: dice.place(),
+        y: dice.place(),
+    }
+}
+
+/// An edit: while the world grows mostly an addition, and else mostly a removal.
+fn an_edit(dice: &mut Dice, plain: &PlainWorld, grows: bool) -> Edit {
+    let (id, version) = a_mark(dice, plain);
+    match (dice.below(8), grows) {
+        (0, _) => Edit::Move {
             id,
-            version: seen,
+            version,
             x: dice.place(),
             y: dice.place(),
         },
-        _ => Edit::Add {
-            id,
-            class: dice.below(3),
-            x: dice.place(),
-            y: dice.place(),
-        },
+        (1, _) => Edit::Remove { id, version },
+        (2, _) => an_addition(dice, plain),
+        (_, true) => an_addition(dice, plain),
+        (_, false) => Edit::Remove { id, version },
     }
 }
 
@@ -381,10 +417,30 @@ fn stageable(plain: &PlainWorld, seat: u32, number: u64, edit: &Edit) -> Result<
     Ok(())
 }
 
-/// A change is staged.
-fn try_stage(rt: &impl Abort, dice: &mut Dice, plain: &mut PlainWorld, world: &mut World<Global>) {
+/// A few changes are staged.
+fn try_stage(
+    rt: &impl Abort,
+    dice: &mut Dice,
+    plain: &mut PlainWorld,
+    world: &mut World<Global>,
+    grows: bool,
+) {
     let (seat, number) = a_draft(dice, plain);
-    let edit = an_edit(dice, plain);
+    for _ in 0..dice.a_few() {
+        let edit = an_edit(dice, plain, grows);
+        stage_one(rt, plain, world, seat, number, edit);
+    }
+}
+
+/// A change is staged.
+fn stage_one(
+    rt: &impl Abort,
+    plain: &mut PlainWorld,
+    world: &mut World<Global>,
+    seat: u32,
+    number: u64,
+    edit: Edit,
+) {
     let expected = stageable(plain, seat, number, &edit);
     assert!(rt; coded(world.stage(seat, number, change(rt, &edit))) == expected);
     if expected.is_ok() {
@@ -396,30 +452,55 @@ fn try_stage(rt: &impl Abort, dice: &mut Dice, plain: &mut PlainWorld, world: &m
     }
 }
 
-/// What the plain world tells of a step.
-fn stepped(plain: &PlainWorld, seat: u32, number: u64) -> Result<Advance, &'static str> {
-    let draft = plain.draft(seat, number)?;
-    if draft.placed >= shapes_of(draft.edits.as_slice()) {
-        return Ok(Advance::AllPlaced);
-    }
-    Ok(Advance::Walked(Step::Placed))
-}
-
-/// The next shape of a transaction is placed.
+/// A few steps of the walks of a transaction.
 fn try_advance(
     rt: &impl Abort,
     dice: &mut Dice,
     plain: &mut PlainWorld,
     world: &mut World<Global>,
+    happened: &mut Happened,
 ) {
     let (seat, number) = a_draft(dice, plain);
-    let expected = stepped(plain, seat, number);
-    assert!(rt; coded(world.advance(seat, number)) == expected);
-    if expected == Ok(Advance::Walked(Step::Placed)) {
-        for draft in plain.drafts.iter_mut() {
-            if draft.number == number {
-                draft.placed = draft.placed.saturating_add(1);
-            }
+    for _ in 0..dice.a_few() {
+        advance_one(rt, plain, world, happened, seat, number);
+    }
+}
+
+/// A step of the walk of the next shape of a transaction. Where the walk stands is the world's to tell, but no shape is
+/// placed that a ready search looks for, and no other search holds it than one that has made a step and looks for it.
+fn advance_one(
+    rt: &impl Abort,
+    plain: &mut PlainWorld,
+    world: &mut World<Global>,
+    happened: &mut Happened,
+    seat: u32,
+    number: u64,
+) {
+    let told = world.advance(seat, number);
+    match (plain.next_spot(seat, number), told) {
+        (Err(expected), Err(fault)) => assert_eq!(rt; fault.code(), expected),
+        (Ok(None), Ok(Advance::AllPlaced)) => {}
+        (Ok(Some(spot)), Ok(Advance::Walked(step))) => {
+            check_step(rt, plain, number, &spot, step);
+            happened.count_step(step);
+        }
+        (Ok(Some(spot)), Err(Fault::Tree(TreeFault::Held(search)))) => {
+            assert!(rt; plain.may_hold(search, &spot));
+            happened.held = happened.held.saturating_add(1);
+        }
+        _ => assert!(rt; false, "advance {seat} {number}"),
+    }
+}
+
+/// A step changes nothing, but where it is the last one the shape is placed.
+fn check_step(rt: &impl Abort, plain: &mut PlainWorld, number: u64, spot: &Spot, step: Step) {
+    if step != Step::Placed {
+        return;
+    }
+    assert!(rt; !plain.is_held(spot));
+    for draft in plain.drafts.iter_mut() {
+        if draft.number == number {
+            draft.placed = draft.placed.saturating_add(1);
         }
     }
 }
@@ -553,7 +634,7 @@ fn try_govern(
     world: &mut World<Global>,
 ) {
     let seat = dice.seat();
-    let number = dice.below(5);
+    let number = dice.policy();
     let told = match world.govern(heap, seat, policy(rt, heap, number)) {
         Ok(edition) => Ok(edition),
         Err((_, fault)) => Err(fault.code()),
@@ -603,10 +684,29 @@ fn check_marks(rt: &impl Abort, features: &[Feature], marks: &[Mark]) {
     }
 }
 
-/// What takes no part in searches and lists: a seat for nobody, and tending.
-fn try_others(rt: &impl Abort, dice: &mut Dice, world: &mut World<Global>) {
+/// A seat for nobody, which is not given.
+fn try_nobody(rt: &impl Abort, world: &mut World<Global>) {
     assert!(rt; coded(world.seat(name(rt, "nobody"))) == Err("X13"));
-    assert!(rt; coded(world.tend(dice.below(100))) == Ok(Tending::Idle));
+}
+
+/// A slot of the index is tended, or one that is not there, or rarely all of them.
+fn try_tend(rt: &impl Abort, dice: &mut Dice, world: &mut World<Global>, happened: &mut Happened) {
+    let slots = world.slots();
+    if dice.below(16) > 0 {
+        tend_one(rt, world, dice.below(slots.saturating_add(3)), happened);
+        return;
+    }
+    for slot in 0..slots {
+        tend_one(rt, world, slot, happened);
+    }
+}
+
+/// A slot of the index is tended.
+fn tend_one(rt: &impl Abort, world: &mut World<Global>, slot: u32, happened: &mut Happened) {
+    match world.tend(slot) {
+        Ok(tending) => happened.count_tending(tending),
+        Err(fault) => assert!(rt; false, "tend {slot}: {fault}"),
+    }
 }
 
 /// One event.
@@ -616,20 +716,22 @@ fn try_one(
     dice: &mut Dice,
     plain: &mut PlainWorld,
     world: &mut World<Global>,
+    happened: &mut Happened,
 ) {
-    match dice.below(48) {
+    match dice.below(60) {
         0..=3 => try_open(rt, dice, plain, world),
-        4..=9 => try_visit(rt, dice, plain, world),
-        10..=13 => try_finish(rt, heap, dice, plain, world),
-        14 => try_drop(rt, dice, plain, world),
-        15..=18 => try_begin(rt, heap, dice, plain, world),
-        19..=26 => try_stage(rt, dice, plain, world),
-        27..=36 => try_advance(rt, dice, plain, world),
-        37..=42 => try_commit(rt, heap, dice, plain, world),
-        43 => try_abort(rt, dice, plain, world),
-        44 => try_govern(rt, heap, dice, plain, world),
-        45 | 46 => try_roll(rt, heap, dice, plain, world),
-        _ => try_others(rt, dice, world),
+        4..=9 => try_visit(rt, dice, plain, world, happened),
+        10..=14 => try_finish(rt, heap, dice, plain, world),
+        15 => try_drop(rt, dice, plain, world),
+        16..=19 => try_begin(rt, heap, dice, plain, world),
+        20..=27 => try_stage(rt, dice, plain, world, happened.grows()),
+        28..=41 => try_advance(rt, dice, plain, world, happened),
+        42..=50 => try_commit(rt, heap, dice, plain, world),
+        51 => try_abort(rt, dice, plain, world),
+        52 => try_govern(rt, heap, dice, plain, world),
+        53 | 54 => try_roll(rt, heap, dice, plain, world),
+        55 => try_nobody(rt, world),
+        _ => try_tend(rt, dice, world, happened),
     }
 }
 
@@ -646,12 +748,33 @@ fn ten_thousand_events(rt: HostRuntime) -> Result<(), Fail> {
     let heap = rt.alloc();
     let mut plain = PlainWorld::empty(heap);
     let mut world = opened(&rt, heap);
-    let mut dice = Dice { state: 2026 };
+    let mut dice = Dice::new(2026);
+    let mut happened = Happened::new();
     for _ in 0..EVENTS {
-        try_one(&rt, heap, &mut dice, &mut plain, &mut world);
+        try_one(&rt, heap, &mut dice, &mut plain, &mut world, &mut happened);
         check_told(&rt, &plain, &world);
+        happened.event = happened.event.saturating_add(1);
     }
-    // Enough has happened.
-    assert!(&rt; plain.version > 100 && plain.edition > 10 && plain.first > 500);
+    check_enough(&rt, &plain, &happened);
     Ok(())
+}
+
+/// Enough has happened.
+fn check_enough(rt: &impl Abort, plain: &PlainWorld, happened: &Happened) {
+    let told = plain.version > 100 && plain.edition > 10 && plain.first > 500;
+    assert!(rt;
+        told,
+        "{} {} {} {}",
+        plain.version,
+        plain.edition,
+        plain.first,
+        plain.marks.len()
+    );
+    let walked = happened.split > 10 && happened.installed > 10 && happened.held > 100;
+    let tended = happened.cleaned > 100 && happened.retired > 10 && happened.freed > 10;
+    assert!(rt;
+        happened.more > 100 && walked && tended,
+        "{} {happened:?}",
+        plain.version
+    );
 }

@@ -7,9 +7,19 @@ use std::process::Abort;
 /// Bounds of the plain world, which the world that stands beside it is opened with.
 pub const RECORDS: u32 = 40;
 
-pub const FEATURES: u32 = 24;
+pub const FEATURES: u32 = 300;
 
 pub const SEATS: u32 = 16;
+
+/// West of here, this place included, all is permitted by the last policy.
+pub const WEST: i32 = 31;
+
+/// A place.
+#[derive(Clone, Copy, Debug, PartialEq, Eq)]
+pub struct Spot {
+    pub x: i32,
+    pub y: i32,
+}
 
 /// A feature at a point.
 #[derive(Clone, Copy, Debug, PartialEq, Eq)]
@@ -52,8 +62,13 @@ impl Edit {
         }
     }
 
-    fn brings_a_shape(&self) -> bool {
-        !matches!(self, Edit::Remove { .. })
+    /// Where a shape comes to be.
+    fn spot(&self) -> Option<Spot> {
+        match self {
+            Edit::Add { x, y, .. } => Some(Spot { x: *x, y: *y }),
+            Edit::Move { x, y, .. } => Some(Spot { x: *x, y: *y }),
+            Edit::Remove { .. } => None,
+        }
     }
 }
 
@@ -65,18 +80,19 @@ pub struct Area {
 }
 
 impl Area {
-    fn holds(&self, mark: &Mark) -> bool {
-        let over = self.low <= mark.x && mark.x <= self.high;
-        over && self.low <= mark.y && mark.y <= self.high
+    fn holds(&self, x: i32, y: i32) -> bool {
+        let over = self.low <= x && x <= self.high;
+        over && self.low <= y && y <= self.high
     }
 }
 
-/// A search.
+/// A search: whether it has made a step, and whether it has answered Ready.
 #[derive(Clone, Copy, Debug, PartialEq, Eq)]
 pub struct Look {
     pub number: u64,
     pub seat: u32,
     pub area: Area,
+    pub visited: bool,
     pub ready: bool,
 }
 
@@ -124,14 +140,14 @@ pub fn is_steward(seat: u32) -> bool {
 
 /// Why a policy denies that an office does this with a mark; nothing where it permits. 0 permits all; 1 speaks of
 /// class 0 alone; 2 has a first rule against class 1; 3 lets all read, and each office change its own; 4 permits what
-/// is done west of 4.
+/// is done in the west.
 fn denial(policy: u32, office: u32, doing: Doing, mark: &Mark) -> Option<Cause> {
     let permitted = match policy {
         0 => true,
         1 => mark.class == 0,
         2 => mark.class != 1,
         3 => doing == Doing::Read || office == mark.office,
-        _ => mark.x <= 3,
+        _ => mark.x <= WEST,
     };
     if permitted {
         None
@@ -180,6 +196,35 @@ impl PlainWorld {
         }
     }
 
+    /// Where the next shape of a transaction comes to be; nothing where all are placed.
+    pub fn next_spot(&self, seat: u32, number: u64) -> Result<Option<Spot>, &'static str> {
+        let draft = self.draft(seat, number)?;
+        let mut left = draft.placed;
+        for edit in draft.edits.iter() {
+            if let Some(spot) = edit.spot() {
+                if left == 0 {
+                    return Ok(Some(spot));
+                }
+                left = left.saturating_sub(1);
+            }
+        }
+        Ok(None)
+    }
+
+    /// Whether the search of a number has made a step and looks for what is at this place, and so may hold a walk.
+    pub fn may_hold(&self, number: u64, spot: &Spot) -> bool {
+        self.looks.iter().any(|look| look.number == number
+            && look.visited
+            && look.area.holds(spot.x, spot.y))
+    }
+
+    /// Whether a search that is ready looks for what is at this place, and so holds a walk.
+    pub fn is_held(&self, spot: &Spot) -> bool {
+        self.looks
+            .iter()
+            .any(|look| look.ready && look.area.holds(spot.x, spot.y))
+    }
+
     /// X10 where the trail takes no record.
     pub fn check_trail(&self) -> Result<(), &'static str> {
         if self.records >= RECORDS {
@@ -194,6 +239,11 @@ impl PlainWorld {
         if is_steward(seat) { Ok(()) } else { Err("X7") }
     }
 
+    /// Whether there is a mark of an id.
+    pub fn stands(&self, id: u64) -> bool {
+        self.marks.iter().any(|mark| mark.id == id)
+    }
+
     /// The mark of an id.
     fn mark(&self, id: u64) -> Option<Mark> {
         self.marks.iter().find(|mark| mark.id == id).copied()
@@ -201,7 +251,7 @@ impl PlainWorld {
 
     /// Whether an office is shown a mark in an area.
     pub fn shows(&self, office: u32, area: &Area, mark: &Mark) -> bool {
-        area.holds(mark) && denial(self.policy, office, Doing::Read, mark).is_none()
+        area.holds(mark.x, mark.y) && denial(self.policy, office, Doing::Read, mark).is_none()
     }
 
     /// What stands against an edit by an office.
@@ -298,7 +348,7 @@ pub fn check_seat(seat: u32) -> Result<(), &'static str> {
 
 /// How many of the edits bring a shape.
 pub fn shapes_of(edits: &[Edit]) -> usize {
-    edits.iter().filter(|edit| edit.brings_a_shape()).count()
+    edits.iter().filter(|edit| edit.spot().is_some()).count()
 }
 
 fn new_mark(id: u64, office: u32, class: u32, x: i32, y: i32) -> Mark {

@@ -360,8 +360,8 @@ fn limited(rt: &impl Abort, heap: Global, records: u32, features: u32) -> World<
 fn full_trails(rt: HostRuntime) -> Result<(), Fail> {
     let heap = rt.alloc();
     let mut world = limited(&rt, heap, 1, 9);
-    let search = ready(&rt, &mut world, 1, point(&rt, 1, 1));
     assert!(rt; outcome(&rt, &mut world, add(&rt, 1, "road", 1)) == (1, "applied", false));
+    let search = ready(&rt, &mut world, 1, square(&rt, -1, 1));
     let before = picture(&rt, heap, &world);
     let mut meter = Meter::new();
     assert!(rt; matches!(world.finish(1, search, &mut meter), Err(Fault::TrailFull)));

@@ -105,7 +105,7 @@ fn lines_and_labels(rt: HostRuntime) -> Result<(), Fail> {
         ),
         (
             "n: HELLO chief\nn: ADD\nn: ADD x\nn: ADD 1\nn: ADD 1 A POINT (0 0)\nn: ADD 1 a POLYGON EMPTY\nn: COMMIT x\nn: OPEN POINT (0 0)\n",
-            "n: hello chief\nn: error E2\nn: error E3\nn: error E2\nn: error E4\nn: error K2\nn: error E2\nn: error E2\n",
+            "n: hello chief\nn: error E2\nn: error E3\nn: error E2\nn: error E4\nn: error K2\nn: error E2\nn: opened\n",
         ),
         (
             "n: HELLO north\nn: ADD 18446744073709551615 a POINT (0 0)\nn: ADD 18446744073709551616 a POINT (0 0)\nn: ADD 000000000000000000000 a POINT (0 0)\nn: ADD +1 a POINT (0 0)\nn: ADD 00000000000000000007 a POINT (0 0)\n",

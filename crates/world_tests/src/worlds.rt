@@ -5,7 +5,7 @@ use policy_text::{Document, print_document, read_document};
 use sessions::built_in_subjects;
 use std::alloc::{Allocator, Global};
 use std::process::Abort;
-use transactions::{Answer, Limits, ROLLED_LIMIT, STEP_LIMIT, Starts, Visit, World};
+use transactions::{Advance, Answer, Limits, ROLLED_LIMIT, STEP_LIMIT, Starts, Visit, World};
 
 /// Everything is permitted.
 pub const OPEN: &str =
@@ -156,10 +156,37 @@ pub fn placed<A: Allocator + Copy>(
     changes: &[Change],
 ) -> u64 {
     let number = staged(rt, world, seat, changes);
-    for change in changes {
-        assert!(rt; matches!(change, Change::Delete { .. }) || world.advance(seat, number).is_ok());
-    }
+    place_all(rt, world, seat, number);
     number
+}
+
+/// Lets the walks of a transaction go on until all is placed.
+pub fn place_all<A: Allocator + Copy>(
+    rt: &impl Abort,
+    world: &mut World<A>,
+    seat: u32,
+    number: u64,
+) {
+    for _ in 0..1_000 {
+        let step = world.advance(seat, number);
+        assert!(rt; step.is_ok());
+        if step == Ok(Advance::AllPlaced) {
+            return;
+        }
+    }
+    panic!(rt; "a list makes more than 1,000 steps");
+}
+
+/// Lets a search go on until it is ready.
+pub fn see_all<A: Allocator + Copy>(rt: &impl Abort, world: &mut World<A>, seat: u32, number: u64) {
+    for _ in 0..1_000 {
+        let visited = world.visit(seat, number);
+        assert!(rt; visited.is_ok());
+        if visited == Ok(Visit::Ready) {
+            return;
+        }
+    }
+    panic!(rt; "a search makes more than 1,000 steps");
 }
 
 /// A search of a seat that is ready.
@@ -172,7 +199,7 @@ pub fn ready<A: Allocator + Copy>(
     let opened = world.open_search(seat, window);
     assert!(rt; opened.is_ok());
     let number = opened.unwrap();
-    assert!(rt; world.visit(seat, number) == Ok(Visit::Ready));
+    see_all(rt, world, seat, number);
     number
 }
 

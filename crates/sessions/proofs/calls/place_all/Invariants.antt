@@ -1,12 +1,12 @@
 use Rattle.std.proofs.Common.{◌≡◌, ℕ, List, Ok}
 use Rattle.features.specs.declared.actors.Subject.{Subject}
 use Rattle.features.specs.declared.rows.Change.{Change}
-use Rattle.transactions.specs.Admitting.{subject_at}
-use Rattle.transactions.specs.States.{WorldData}
+use Rattle.plain_world.specs.Admitting.{subject_at}
+use Rattle.plain_world.specs.States.{WorldData}
 use Rattle.sessions.specs.Steps.{under}
 use Rattle.sessions.proofs.calls.place_all.Given as goal
 
 abbrev pub invariant-loop : goal.invariant-loop
 invariant-loop g l =
-    (w : WorldData) (subject : Subject) (changes : List Change) → subject_at l.seat w ≡ Ok subject → l.fn.world ≡ under l.number l.seat changes 0 w
-    → (placed : ℕ) × (l.world ≡ under l.number l.seat changes placed w)
+    (w : WorldData) (subject : Subject) (changes : List Change) → subject_at l.seat w ≡ Ok subject → l.fn.world.plain ≡ under l.number l.seat changes 0 w
+    → (placed : ℕ) × (l.world.plain ≡ under l.number l.seat changes placed w)

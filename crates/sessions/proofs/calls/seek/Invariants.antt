@@ -2,4 +2,4 @@ use Rattle.std.proofs.Common.{◌≡◌}
 use Rattle.sessions.proofs.calls.seek.Given as goal
 
 abbrev pub invariant-loop : goal.invariant-loop
-invariant-loop g l = l.world ≡ l.fn.world
+invariant-loop g l = l.world.plain ≡ l.fn.world.plain

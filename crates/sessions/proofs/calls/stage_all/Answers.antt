@@ -1,5 +1,5 @@
 use Rattle.std.proofs.Common.{take, Err}
-use Rattle.transactions.specs.Events.{Stage}
+use Rattle.plain_world.specs.Events.{Stage}
 use Rattle.sessions.proofs.SearchLemmas.{from_same}
 use Rattle.sessions.proofs.CommitLemmas.{may_stage_at, stage_one}
 use Rattle.sessions.proofs.calls.stage_all.Goals as goal
@@ -10,6 +10,6 @@ returns-in-Err g c w subject seated start =
     let changes = c.args.changes.now in
     let change = c.change-item.result in
     let may = may_stage_at changes i change c.requires.distinct c.requires.few c.loop-change-test.true c.change-item.is in
-    let told = from_same (Stage c.args.seat c.args.number change) _ _ _ _ (c.loop-change.invariant w subject seated start) c.in-Err.ensures in
-    let staged = stage_one c.args.number c.args.seat w subject seated (take i changes) 0 change c.stage.new.self (Err c.in-Err.fault) may told in
+    let told = from_same (Stage c.args.seat c.args.number change) _ _ _ _ (c.loop-change.invariant w subject seated start) c.in-Err.ensures.happens in
+    let staged = stage_one c.args.number c.args.seat w subject seated (take i changes) 0 change c.stage.new.self.plain (Err c.in-Err.fault) may told in
     (let wrong = staged.0 in absurd cc)

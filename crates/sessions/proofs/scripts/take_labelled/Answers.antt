@@ -11,4 +11,4 @@ returns g c =
     let room : place c.args.label c.args.table.now.sessions.items < LABEL_LIMIT = rw (← here) (omega arith) in
     let answered = rw (c.open.ensures, here) at c.answer-said.ensures in
     let written = rw c.as_bytes.ensures.value at c.write_said.ensures in
-    label_told c.write_said.result c.args.label c.args.text.now (script c.args.world.now c.args.table.now.sessions.items) c.answer-said.new.world _ (said_view c.answer-said.result) _ _ room answered written
+    label_told c.write_said.result c.args.label c.args.text.now (script c.args.world.now.plain c.args.table.now.sessions.items) c.answer-said.new.world.plain _ (said_view c.answer-said.result) _ _ room answered written

@@ -8,3 +8,15 @@ pub enlarge-requires : goal.enlarge-requires
 enlarge-requires g c =
     let below = rw c.as_slice.ensures.value at c.in_ok-join_below.ensures.ok in
     may_enlarge _ _ c.args.way.now c.args.key c.requires c.led_by-led.result.items (rw c.union.ensures at (c.led_by-led.ensures.led c.requires.node c.requires.is)) c.join_below.new.self below
+
+pub returns-clause-step : goal.returns-clause-step
+returns-clause-step g c =
+    record {
+      node = c.requires.node;
+      is = c.requires.is;
+      led = c.led_by-led.result.items;
+      are_led = rw c.union.ensures at (c.led_by-led.ensures.led c.requires.node c.requires.is);
+      mid = c.join_below.new.self;
+      joined = rw c.as_slice.ensures.value at c.in_ok-join_below.ensures.ok;
+      enlarged = c.enlarge.ensures.step;
+    }

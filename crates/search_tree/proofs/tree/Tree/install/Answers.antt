@@ -1,5 +1,5 @@
 use Rattle.tree_theory.specs.KeyClasses.{Laws, class_of}
-use Rattle.search_tree.proofs.InstallSteps.{parent_inner, entry_there, place_within, keyed_inner, keyed_room, installed_sound, installed_same, installed_call}
+use Rattle.search_tree.proofs.InstallSteps.{parent_inner, entry_there, place_within, keyed_inner, keyed_room, installed_sound, installed_same, installed_call, installed_step}
 use Rattle.search_tree.proofs.tree.Tree.install.Goals as goal
 
 pub set_key-requires-clause-inner : goal.set_key-requires-clause-inner
@@ -35,3 +35,8 @@ pub returns-clause-tended : goal.returns-clause-tended
 returns-clause-tended g c =
     let may = rw (← c.self.view_is) at c.requires.may in
     rw (← c.self.view_is) (installed_call _ _ _ may c.self.invariant _ _ _ _ _ _ (c.set_key.ensures may.old c.args.entry.now.left (entry_there _ _ _ may)) c.push_entry.ensures c.set_place.ensures c.set_seq.ensures c.set_place-2.ensures (rw (← c.self.view_is) at c.requires.seq))
+
+pub returns-clause-step : goal.returns-clause-step
+returns-clause-step g c =
+    let may = rw (← c.self.view_is) at c.requires.may in
+    rw (← c.self.view_is) (installed_step _ _ _ may c.self.invariant _ _ _ _ _ _ (c.set_key.ensures may.old c.args.entry.now.left (entry_there _ _ _ may)) c.push_entry.ensures c.set_place.ensures c.set_seq.ensures c.set_place-2.ensures (rw (← c.self.view_is) at c.requires.seq))

@@ -1,5 +1,29 @@
-use Rattle.search_tree.proofs.AdvanceLemmas.{if_ok}
+use Rattle.std.proofs.Common.{refl}
+use Rattle.tree_theory.specs.KeyClasses.{class_of}
+use Rattle.search_tree.specs.Cases.TakesStep.{begins_anew, climbs, descends, is_held, places, wants_memory}
+use Rattle.search_tree.proofs.AdvanceLemmas.{if_ok, makes_room}
 use Rattle.search_tree.proofs.tree.Tree.make_step.Goals as goal
 
 pub returns-in-Make-clause-ok : goal.returns-in-Make-clause-ok
 returns-in-Make-clause-ok g c = if_ok c.make_room.result (λ made given. given (c.args.key, c.args.item)) c.make_room.ensures.ok
+
+pub returns-in-Restart-clause-first : goal.returns-in-Restart-clause-first
+returns-in-Restart-clause-first g c = rw c.restart.ensures.step (begins_anew c.in-Restart.ensures.first refl c.restart.ensures.at)
+
+pub returns-in-Climb-clause-first : goal.returns-in-Climb-clause-first
+returns-in-Climb-clause-first g c = climbs c.in-Climb.ensures.first refl
+
+pub returns-in-Ok-clause-first : goal.returns-in-Ok-clause-first
+returns-in-Ok-clause-first g c = descends c.in-Descend.ensures.first.1 (rw (c.in-Descend.ensures.first.0, c.key_of.ensures) at c.in-Ok.ensures.step)
+
+pub returns-in-Err-clause-first : goal.returns-in-Err-clause-first
+returns-in-Err-clause-first g c = wants_memory c.in-Descend.ensures.first.1
+
+pub returns-in-Hold-clause-first : goal.returns-in-Hold-clause-first
+returns-in-Hold-clause-first g c = is_held c.in-Hold.ensures.first.1 c.in-Hold.ensures.first.2
+
+pub returns-in-Place-clause-first : goal.returns-in-Place-clause-first
+returns-in-Place-clause-first g c = places c.in-Place.ensures.first.1 c.in-Place.ensures.first.2 c.place.ensures.step refl
+
+pub returns-in-Make-clause-first : goal.returns-in-Make-clause-first
+returns-in-Make-clause-first g c = makes_room (class_of g.C.KeyClass.covered g.C.KeyClass.may_match g.C.KeyClass.is_match g.C.KeyClass.key_with g.C.KeyClass.united) c.args.self.now c.make_room.new.self c.args.at _ _ _ (c.args.key, c.args.item) c.in-Make.room _ c.in-Make.ensures.first c.make_room.ensures.made

@@ -1,4 +1,4 @@
-use Rattle.std.proofs.Common.{◌≡◌, ℕ, sym, subst, ◌∙◌}
+use Rattle.std.proofs.Common.{◌≡◌, ℕ, [], ◌∷◌, ◌++◌, sym, subst, ◌∙◌}
 use Rattle.predicate_locks.specs.Searches.{IsEntered}
 use Rattle.search_tree.proofs.Openings.{opened_sound, opened_call}
 use Rattle.search_tree.proofs.tree.Tree.open_search.Goals as goal
@@ -9,6 +9,7 @@ invariant_of-self-2 g c =
     rw (c.push_reserved.ensures.items, c.make_place.ensures.items) (
     opened_sound _ _ c.self.invariant (record {
       entered = subst (λ (n : ℕ). IsEntered c.self.inside.running c.enter.new.self (record { number = n; query = c.args.query; begun = c.self.inside.counter })) same c.in-Ok.ensures.ok;
+      listed = subst (λ (n : ℕ). c.enter.new.self.running ≡ c.self.inside.running.running ++ record { number = n; query = c.args.query; begun = c.self.inside.counter } ∷ []) same c.in-Ok.ensures.listed;
       stack = c.in_ok-progress.ensures.2;
       found = c.in_ok-progress.ensures.3;
     })
@@ -20,6 +21,7 @@ returns-clause-ok g c =
     rw (← c.self.view_is, c.push_reserved.ensures.items, c.make_place.ensures.items, same) (
     opened_call _ _ c.self.invariant (record {
       entered = subst (λ (n : ℕ). IsEntered c.self.inside.running c.enter.new.self (record { number = n; query = c.args.query; begun = c.self.inside.counter })) same c.in-Ok.ensures.ok;
+      listed = subst (λ (n : ℕ). c.enter.new.self.running ≡ c.self.inside.running.running ++ record { number = n; query = c.args.query; begun = c.self.inside.counter } ∷ []) same c.in-Ok.ensures.listed;
       stack = c.in_ok-progress.ensures.2;
       found = c.in_ok-progress.ensures.3;
     })

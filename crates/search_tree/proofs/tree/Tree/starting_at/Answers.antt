@@ -29,6 +29,7 @@ returns-clause-ok g c =
         searches = λ s. rw c.in_ok-running.ensures refl;
       });
       searches = λ s. rw c.in_ok-running.ensures refl;
+      none_run = rw c.in_ok-running.ensures refl;
       counter_is = refl;
       next_is = rw c.in_ok-running.ensures refl;
       limit_is = refl;

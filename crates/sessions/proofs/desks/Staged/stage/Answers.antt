@@ -1,8 +1,8 @@
 use Rattle.std.proofs.Common.{◌≡◌, false, sym, ◌∙◌}
 use Rattle.features.specs.Changes.{change_id}
 use Rattle.audit_trail.proofs.AcceptedLemmas.{distinct_push}
-use Rattle.transactions.specs.Staging.{names}
-use Rattle.transactions.proofs.TransactionLemmas.{unnamed}
+use Rattle.plain_world.specs.Staging.{names}
+use Rattle.plain_world.proofs.TransactionLemmas.{unnamed}
 use Rattle.sessions.proofs.desks.Staged.stage.Goals as goal
 
 pub invariant_of-self : goal.invariant_of-self

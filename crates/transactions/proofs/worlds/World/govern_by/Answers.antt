@@ -1,11 +1,7 @@
-use Rattle.std.proofs.Common.{refl}
-use Rattle.transactions.proofs.SoundLemmas.{keeps_added}
+use Rattle.std.specs.Arc.{arc_value}
+use Rattle.plain_world.specs.Events.{Number, reply_of}
+use Rattle.transactions.proofs.WorldLemmas.{world_govern}
 use Rattle.transactions.proofs.worlds.World.govern_by.Goals as goal
 
 pub invariant_of-self : goal.invariant_of-self
-invariant_of-self g c =
-    let seated = rw (← c.self.view_is) at c.in_ok-may_govern.ensures.seated in
-    let below = rw (← c.self.view_is) at c.in_ok-may_govern.ensures.below in
-    let next = rw (← c.self.view_is) at c.requires in
-    rw (c.put.ensures.records, c.in-Ok.ensures.records, c.in-Ok.ensures.entry, c.new-entry.ensures, c.edition-edition.ensures, c.deref.ensures, c.in_ok-kept.ensures)
-    (keeps_added _ _ _ _ _ _ c.self.invariant below ((c.in_ok-may_govern.field-0, seated.0, seated.1), next, refl))
+invariant_of-self g c = world_govern c.args.seat (arc_value c.args.decider).document c.self.inside.plain c.govern_by.new.self c.self.inside.index (reply_of Number c.govern_by.result) c.govern_by.ensures c.self.invariant

@@ -1,7 +1,6 @@
-use Rattle.transactions.proofs.TransactionLemmas.{may_stage_in}
+use Rattle.plain_world.specs.Events.{Done, reply_of}
+use Rattle.transactions.proofs.WorldLemmas.{world_stage}
 use Rattle.transactions.proofs.worlds.World.stage.Goals as goal
 
-pub stage_in-requires : goal.stage_in-requires
-stage_in-requires g c =
-    let may = rw (← c.self.view_is) at c.in_ok-may_stage.ensures.may in
-    rw (c.deref_mut.ensures.value) (may_stage_in c.args.number c.args.change c.self.inside.transactions.items may.0 may.1 may.2 may.3)
+pub invariant_of-self : goal.invariant_of-self
+invariant_of-self g c = world_stage c.args.seat c.args.number c.args.change c.self.inside.plain c.stage.new.self c.self.inside.index (reply_of (λ _. Done) c.stage.result) c.stage.ensures c.self.invariant

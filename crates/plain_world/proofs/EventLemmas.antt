@@ -1,0 +1,68 @@
+-- Events that are admitted, and do what they say.
+use Rattle.std.proofs.Common.{◌≡◌, ◌≢◌, ℕ, ◌+◌, ◌<◌, ◌==◌, nat_lt, Bool, true, false, List, [], length, Option, None, Some, MatchOption, Result, Ok, Err, refl, subst, sym, arith}
+use Rattle.std.specs.Bool.{MatchBool}
+use Rattle.std.proofs.lemmas.Bool.Decides.{nat_tests}
+use Rattle.std.proofs.lemmas.Option.{slice_get-get_or}
+use Rattle.plane.specs.declared.point.Point.{Point}
+use Rattle.features.specs.declared.actors.Subject.{Subject}
+use Rattle.features.specs.declared.rows.Change.{Change}
+use Rattle.features.specs.Changes.{after}
+use Rattle.audit_trail.specs.declared.causes.Judgement.TheVariants as judgements
+use Rattle.audit_trail.specs.Judging.{Judged}
+use Rattle.audit_trail.specs.Records.{applied}
+use Rattle.plain_world.specs.declared.faults.Fault.{Fault}
+use Rattle.plain_world.specs.declared.faults.Fault.TheVariants as faults
+use Rattle.plain_world.specs.declared.outcomes.Outcome.TheVariants as outcomes
+use Rattle.plain_world.specs.declared.steps.Advance.TheVariants as advances
+use Rattle.search_tree.specs.declared.answers.Step.TheVariants as steps
+use Rattle.plain_world.specs.Admitting.{LAST, map_ok}
+use Rattle.plain_world.specs.Events.{Reply, Advanced, Ended, Refused, If, UnlessMemory, is_memory, Advances, Applies, Commits, recorded, without_transaction}
+use Rattle.plain_world.specs.Staging.{TransactionData, placements, next_placement, staged_in, with_step, one_placed}
+use Rattle.plain_world.specs.States.{WorldData}
+
+pub admitted : {T : Type 0} (may : Result T Fault) (x : T) (old new : WorldData) (reply : Reply) (Does : T → Type 0) → may ≡ Ok x → Does x → If may old new reply Does
+admitted may x old new reply Does e h = subst (λ (r : Result _ Fault). If r old new reply Does) (sym e) h
+
+-- a list that is accepted, where more features would stand than may
+pub too_many : (seat number : ℕ) (subject : Subject) (changes : List Change) (old : WorldData) (count : ℕ) → old.state.version ≢ LAST → old.limits.features < count → count ≡ length (after (old.state.version + 1) subject.office changes old.state.features)
+    → Applies seat number subject changes old old (Refused faults.StoreFull)
+too_many seat number subject changes old count left more counted =
+    let not_last : (old.state.version == LAST) ≡ false = grind (arith, nat_tests, left) in
+    let full : nat_lt old.limits.features (length (after (old.state.version + 1) subject.office changes old.state.features)) ≡ true = rw (← counted) (grind (arith, nat_tests, more)) in
+    go _ _ not_last full
+  where
+    go : (last over : Bool) → last ≡ false → over ≡ true
+        → MatchBool last ((old ≡ old) × (Refused faults.StoreFull ≡ Refused faults.Spent)) (MatchBool over ((old ≡ old) × (Refused faults.StoreFull ≡ Refused faults.StoreFull))
+        ((Refused faults.StoreFull ≡ Ended (outcomes.Applied (old.state.version + 1))) × (old ≡ without_transaction number (recorded seat (applied subject (old.state.version + 1) changes) old))))
+    go true over e f = absurd cc
+    go false true e f = (refl, refl)
+    go false false e f = absurd cc
+
+-- an accepted list that is applied, or found no memory
+pub commits_accepted : (seat number : ℕ) (subject : Subject) (changes : List Change) (old new : WorldData) (reply : Reply) → changes ≡ staged_in number old.transactions → Judged old.state subject changes judgements.Accepted
+    → UnlessMemory old new reply (Applies seat number subject changes old new reply) → UnlessMemory old new reply (Commits seat number subject old new reply)
+commits_accepted seat number subject changes old new reply e judged h = go (is_memory reply) h
+  where
+    go : (b : Bool) → MatchBool b (new ≡ old) (Applies seat number subject changes old new reply) → MatchBool b (new ≡ old) (Commits seat number subject old new reply)
+    go true h = h
+    go false h = (
+      judgements.Accepted,
+      subst (λ (list : List Change). Judged old.state subject list judgements.Accepted) e judged,
+      subst (λ (list : List Change). Applies seat number subject list old new reply) e h,
+    )
+
+-- the next shape of a transaction is placed
+pub placed_next : (number : ℕ) (may : Result TransactionData Fault) (old new : WorldData) → map_ok (λ t. nat_lt t.placed (length (placements t.changes))) may ≡ Ok true
+    → new ≡ record old { transactions = with_step one_placed number old.transactions }
+    → If may old new (Advanced (advances.Walked steps.Placed)) (λ t. Advances number t old new (Advanced (advances.Walked steps.Placed)))
+placed_next number (Err fault) old new e same = absurd cc
+placed_next number (Ok t) old new e same =
+    let within : t.placed < length (placements t.changes) = grind (arith, nat_tests, same_ok _ _ e) in
+    go (next_placement t) (slice_get-get_or (placements t.changes) t.placed (0, []) within)
+  where
+    go : (o : Option (ℕ × List Point)) {placement : ℕ × List Point} → o ≡ Some placement → MatchOption o ((new ≡ old) × (Advanced (advances.Walked steps.Placed) ≡ Advanced advances.AllPlaced)) (λ p. new ≡ record old { transactions = with_step one_placed number old.transactions })
+    go None e = absurd cc
+    go (Some p) e = same
+
+    same_ok : (x y : Bool) → ◌≡◌ {A = Result Bool Fault} (Ok x) (Ok y) → x ≡ y
+    same_ok x y e = cc

@@ -1,0 +1,15 @@
+pub mod JudgedLemmas
+pub mod AdmittedLemmas
+pub mod AnswerLemmas
+pub mod OutcomeLemmas
+pub mod RecordLemmas
+pub mod RefusalLemmas
+pub mod OrderLemmas
+pub mod JoinLemmas
+pub mod ForceLemmas
+pub mod UnderWayLemmas
+pub mod TransactionLemmas
+pub mod SoundLemmas
+pub mod RunLemmas
+pub mod FindingLemmas
+pub mod EventLemmas

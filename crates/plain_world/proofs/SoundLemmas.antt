@@ -1,0 +1,39 @@
+-- A sound world stays sound when a seat is given, and when a record is added.
+use Rattle.std.proofs.Common.{◌≡◌, ℕ, ◌<◌, ◌≤◌, List, [], ◌∷◌, ◌++◌, length, arith, length-append, ap, sym, subst, ◌∙◌}
+use Rattle.features.specs.declared.actors.Subject.{Subject}
+use Rattle.audit_trail.proofs.LegalLemmas.{replay-append, legal-append, legal_seated}
+use Rattle.audit_trail.specs.Legal.{after_deed, replay, IsLegalDeed, IsLegal}
+use Rattle.audit_trail.specs.Records.{PlainState, RecordData}
+use Rattle.plain_world.specs.declared.settings.Limits.{Limits}
+use Rattle.plain_world.specs.declared.settings.TheConstants.{SEAT_LIMIT}
+use Rattle.plain_world.specs.States.{IsSound, Keeps}
+
+pub sound_seated : (seats : List Subject) (base : PlainState) (trail : List RecordData) (state : PlainState) (subject : Subject) → IsSound seats base trail state → length seats < SEAT_LIMIT → IsSound (seats ++ subject ∷ []) base trail state
+sound_seated seats base trail state subject h few = record {
+  legal = legal_seated seats (subject ∷ []) base trail h.legal;
+  replayed = h.replayed;
+  few_seats = omega (arith, few, length-append seats (subject ∷ []));
+}
+
+pub sound_added : (seats : List Subject) (base : PlainState) (trail : List RecordData) (state : PlainState) (r : RecordData) → IsSound seats base trail state → IsLegalDeed seats state r.seat r.deed
+    → IsSound seats base (trail ++ r ∷ []) (after_deed r.deed state)
+sound_added seats base trail state r h deed = record {
+  legal = legal-append seats base trail (r ∷ []) h.legal (subst (λ (s : PlainState). IsLegalDeed seats s r.seat r.deed) (sym h.replayed) deed, tt);
+  replayed = replay-append base trail (r ∷ []) ∙ ap (λ (s : PlainState). after_deed r.deed s) h.replayed;
+  few_seats = h.few_seats;
+}
+
+-- the same of what every world keeps
+
+pub keeps_seated : (limits : Limits) (seats : List Subject) (base : PlainState) (trail : List RecordData) (state : PlainState) (subject : Subject) → Keeps limits seats base trail state → length seats < SEAT_LIMIT
+    → Keeps limits (seats ++ subject ∷ []) base trail state
+keeps_seated limits seats base trail state subject h few = record { sound = sound_seated seats base trail state subject h.sound few; records = h.records; features = h.features; few = h.few }
+
+pub keeps_added : (limits : Limits) (seats : List Subject) (base : PlainState) (trail : List RecordData) (state : PlainState) (r : RecordData) → Keeps limits seats base trail state → length trail < limits.records
+    → IsLegalDeed seats state r.seat r.deed → Keeps limits seats base (trail ++ r ∷ []) (after_deed r.deed state)
+keeps_added limits seats base trail state r h below deed = record {
+  sound = sound_added seats base trail state r h.sound deed;
+  records = h.records;
+  features = h.features;
+  few = omega (arith, below, length-append trail (r ∷ []));
+}

@@ -1,0 +1,46 @@
+use Rattle.std.proofs.Common.{◌≡◌, ◌+◌, Some, None, drop, get_or, List, sym, arith, subst}
+use Rattle.std.proofs.lemmas.List.{drop_more, drop_all}
+use Rattle.features.specs.declared.rows.Feature.{Feature}
+use Rattle.audit_trail.proofs.ListingLemmas.{Lists, lists_yes, lists_no, lists_end}
+use Rattle.plain_world.proofs.FindingLemmas.{looked_up, looks_up, found_listed}
+use Rattle.plain_world.proofs.listing.listed.Goals as goal
+use Rattle.plain_world.proofs.listing.listed.Goals.{in-Some+then-shows+in_ok-try_push, in-Some+else-shows, in_default}
+
+pub loop-id-preserved : goal.loop-id-preserved
+loop-id-preserved g c =
+    let document = c.args.folded.now.decider.document in
+    let subject = c.args.folded.now.subject in
+    let window = c.args.window.now in
+    let features = c.args.store.now in
+    let ids = c.args.ids.now in
+    let i = c.loop-id.id-index in
+    let id = get_or ids i 0 in
+    let left = drop (i + 1) ids in
+    let front = c.loop-id.rows.items in
+    let all = looked_up features ids in
+    let told = rw (drop_more ids i 0 c.loop-id-test.true) at c.loop-id.invariant.told in
+    record {
+      told = elim c.match-get.branch [
+        | in-Some+then-shows+in_ok-try_push w ↦ (
+            let there = subst (λ (xs : List Feature). Lists document subject window all xs front) (looks_up features id left (Some w.in-Some.feature.now) (sym w.in-Some.ensures.value)) told in
+            rw (w.rows-is, w.in_ok-try_push.ensures.items) (lists_yes document subject window all (looked_up features left) front w.in-Some.feature.now there (w.shows.ensures.0 w.if-shows.true)))
+        | in-Some+else-shows w ↦ (
+            let there = subst (λ (xs : List Feature). Lists document subject window all xs front) (looks_up features id left (Some w.in-Some.feature.now) (sym w.in-Some.ensures.value)) told in
+            rw w.rows-is (lists_no document subject window all (looked_up features left) front w.in-Some.feature.now there (λ shown. (let met = w.shows.ensures.1 shown in cc (met, w.if-shows.false)))))
+        | in_default w ↦ (
+            let there = subst (λ (xs : List Feature). Lists document subject window all xs front) (looks_up features id left None (sym w.in_default.ensures.value)) told in
+            rw w.rows-is there)
+      ];
+      metered = omega (arith, c.get.ensures.cost, c.loop-id.invariant.metered);
+    }
+
+pub returns-clause-listed : goal.returns-clause-listed
+returns-clause-listed g c =
+    let document = c.args.folded.now.decider.document in
+    let subject = c.args.folded.now.subject in
+    let window = c.args.window.now in
+    let features = c.args.store.now in
+    let ids = c.args.ids.now in
+    let told = rw (drop_all c.loop-id.id-index ids c.loop-id-test.false) at c.loop-id.invariant.told in
+    found_listed window document subject features ids c.loop-id.rows.items c.stand_in_order.ensures c.requires.rise c.requires.all
+    (lists_end document subject window (looked_up features ids) c.loop-id.rows.items told)

@@ -1,0 +1,10 @@
+use Rattle.std.proofs.Common.{◌≤◌, ◌+◌, drop}
+use Rattle.audit_trail.proofs.ListingLemmas.{Lists}
+use Rattle.plain_world.proofs.FindingLemmas.{looked_up}
+use Rattle.plain_world.proofs.listing.listed.Given as goal
+
+abbrev pub invariant-loop-id : goal.invariant-loop-id
+invariant-loop-id g l = record {
+  told : Lists l.folded.decider.document l.folded.subject l.window (looked_up l.store l.ids) (looked_up l.store (drop l.id-index l.ids)) l.rows.items;
+  metered : l.meter ≤ l.fn.meter + l.id-index;
+}

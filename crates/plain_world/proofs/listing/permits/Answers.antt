@@ -1,0 +1,12 @@
+use Rattle.decision.proofs.RulingLemmas.{Rules-one}
+use Rattle.plain_world.proofs.listing.permits.Goals as goal
+
+pub returns-in-DeniedBy : goal.returns-in-DeniedBy
+returns-in-DeniedBy c =
+    let told = rw (c.requires) at c.decide.ensures in
+    (λ never. absurd (cc (never)), λ permitted. let same = Rules-one _ _ _ _ told permitted.1 in absurd (cc (same)))
+
+pub returns-in-NoneApplied : goal.returns-in-NoneApplied
+returns-in-NoneApplied c =
+    let told = rw (c.requires) at c.decide.ensures in
+    (λ never. absurd (cc (never)), λ permitted. let same = Rules-one _ _ _ _ told permitted.1 in absurd (cc (same)))

@@ -1,0 +1,29 @@
+use Rattle.std.proofs.Common.{◌+◌, refl}
+use Rattle.std.specs.Arc.{arc_value}
+use Rattle.audit_trail.proofs.AcceptedLemmas.{can_apply}
+use Rattle.plain_world.proofs.EventLemmas.{too_many}
+use Rattle.plain_world.proofs.SoundLemmas.{keeps_added}
+use Rattle.plain_world.proofs.worlds.PlainWorld.apply.Goals as goal
+
+pub len_after-requires : goal.len_after-requires
+len_after-requires g c =
+    let accepted = rw (← c.self.view_is) at c.requires.accepted in
+    rw (c.as_slice.ensures.value) (can_apply (arc_value c.self.inside.decider).document c.self.inside.store c.args.subject c.args.changes.items c.requires.distinct accepted)
+
+pub returns-then-len_after-self : goal.returns-then-len_after-self
+returns-then-len_after-self g c =
+    let counted = rw (c.as_slice.ensures.value) at (c.len_after.ensures (c.self.inside.version + 1) c.args.subject.office) in
+    rw (← c.self.view_is) (too_many c.args.seat c.args.number c.args.subject c.args.changes.items _ c.len_after.result c.if-self.false c.if-len_after-self.true counted)
+
+pub apply-requires : goal.apply-requires
+apply-requires g c =
+    let accepted = rw (← c.self.view_is) at c.requires.accepted in
+    rw (c.as_slice-in-Ok.ensures.value) (can_apply (arc_value c.self.inside.decider).document c.self.inside.store c.args.subject c.args.changes.items c.requires.distinct accepted)
+
+pub invariant_of-self-in-Ok-apply : goal.invariant_of-self-in-Ok-apply
+invariant_of-self-in-Ok-apply g c =
+    let seated = rw (← c.self.view_is) at c.requires.seated in
+    let accepted = rw (← c.self.view_is) at c.requires.accepted in
+    let below = rw (← c.self.view_is) at c.requires.below in
+    rw (c.put.ensures.records, c.in-Ok.ensures.records, c.in-Ok.ensures.entry, c.in_ok-entry.ensures, c.as_slice-2.ensures.value, c.in-Ok-apply.ensures.ok, c.as_slice-in-Ok.ensures.value)
+    (keeps_added _ _ _ _ _ _ c.self.invariant below (seated, accepted, refl))

@@ -1,0 +1,173 @@
+-- What the laws over runs say of an event.
+use Rattle.std.specs.Prelude.{◌≡◌, ℕ, ◌+◌, ◌<◌, ◌≤◌, IsTrue, List, [], ◌∷◌, ◌++◌, length, map, Option, None, Some}
+use Rattle.features.specs.declared.actors.Subject.{Subject}
+use Rattle.features.specs.declared.rows.Change.{Change}
+use Rattle.features.specs.Changes.{after}
+use Rattle.features.specs.Rows.{IsSortedById}
+use Rattle.policy_text.specs.Documents.{DocumentData}
+use Rattle.decision.specs.Deciders.{DeciderData}
+use Rattle.audit_trail.specs.declared.causes.Cause.{Cause}
+use Rattle.audit_trail.specs.declared.causes.Cause.TheVariants.{Denied, Exists, Absent, Stale}
+use Rattle.audit_trail.specs.declared.causes.Judgement.{Judgement}
+use Rattle.audit_trail.specs.declared.causes.Judgement.TheVariants as judgements
+use Rattle.audit_trail.specs.Judging.{Judged, AreDistinct}
+use Rattle.audit_trail.specs.Legal.{IsSeated, after_deed, IsLegal, replay}
+use Rattle.audit_trail.specs.Listing.{Listed}
+use Rattle.audit_trail.specs.Records.{PlainState, DeedData, answered, applied, turned_away, governed, RecordData}
+use Rattle.combining.specs.declared.questions.Question.{Question}
+use Rattle.plain_world.specs.declared.faults.Fault.{Fault}
+use Rattle.plain_world.specs.declared.faults.Fault.TheVariants as faults
+use Rattle.search_tree.specs.declared.fault.TreeFault.TheVariants as tree
+use Rattle.plain_world.specs.declared.outcomes.Outcome.{Outcome}
+use Rattle.plain_world.specs.declared.outcomes.Outcome.TheVariants as outcomes
+use Rattle.plain_world.specs.declared.searches.Search.{Search}
+use Rattle.plain_world.specs.declared.settings.TheConstants.{CHANGE_LIMIT}
+use Rattle.plain_world.specs.Admitting.{search_with}
+use Rattle.plain_world.specs.Answers.{AnswerData, DenialData, IsDenial, denial_of}
+use Rattle.plain_world.specs.Events.{Event, VisitNext, Finish, AdvanceWalk, Commit, Govern, Roll, Reply, Number, Rows, Ended, TakenOut, without_search, without_transaction}
+use Rattle.plain_world.specs.Rolls.{RolledData}
+use Rattle.plain_world.specs.Staging.{TransactionData, transaction_with, staged_in, placements}
+use Rattle.plain_world.specs.States.{WorldData}
+
+-- An answer to a seat's search: that search ran and was ready; its subject is the seat's, its window the search's, its
+-- decider the one in force, and its rows are those that are listed.
+pub record IsExact (seat number : ℕ) (w : WorldData) (answer : AnswerData) : Type 0 where
+  pub search : Search
+  pub running : search_with number w.searches ≡ Some search
+  pub own : search.seat ≡ seat
+  pub ready : IsTrue search.ready
+  pub seated : IsSeated seat w.seats answer.subject
+  pub window : answer.window ≡ search.window
+  pub decider : answer.decider ≡ w.state.decider
+  pub listed : Listed w.state answer.subject answer.window answer.rows
+
+-- the trail is legal from its base, and its replay is the state
+abbrev pub Accounts : WorldData → Type 0
+Accounts w = IsLegal w.seats w.base w.trail × (replay w.base w.trail ≡ w.state)
+
+-- what an applied list, under this version, makes of a state
+abbrev pub IsApplied : ℕ → Subject → TransactionData → PlainState → PlainState → Type 0
+IsApplied version subject t old new =
+    Judged old subject t.changes judgements.Accepted × (version ≡ old.version + 1)
+    × (new.features ≡ after version subject.office t.changes old.features) × (new.version ≡ version) × (new.decider ≡ old.decider)
+
+-- a denial is there exactly for a denied change: by this decider, which denies its question, by the rule of the cause
+abbrev pub GoesWith : DeciderData → Cause → Option DenialData → Type 0
+GoesWith decider (Denied rule) None = ⊥
+GoesWith decider (Denied rule) (Some denial) = (denial.decider ≡ decider) × (denial.rule ≡ rule) × IsDenial denial
+GoesWith decider Exists denial = denial ≡ None
+GoesWith decider Absent denial = denial ≡ None
+GoesWith decider (Stale current) denial = denial ≡ None
+
+-- the question of a denial is the one for which the list was turned away
+abbrev pub asked : Option DenialData → Option Question
+asked None = None
+asked (Some denial) = Some denial.question
+
+-- what becomes of a subject's transaction at a state is its judgement there
+abbrev pub IsJudgement : Subject → TransactionData → PlainState → PlainState → Outcome → Type 0
+IsJudgement subject t old new (outcomes.Applied version) = IsApplied version subject t old new
+IsJudgement subject t old new (outcomes.Refused refusal denial) =
+    Judged old subject t.changes (judgements.Refused refusal (asked denial)) × GoesWith old.decider refusal.cause denial × (new ≡ old)
+
+-- the seat's own transaction of this number ended so
+abbrev pub EndsAs : ℕ → ℕ → WorldData → WorldData → Outcome → Type 0
+EndsAs seat number old new outcome =
+    (subject : Subject) × (t : TransactionData) × IsSeated seat old.seats subject × (transaction_with number old.transactions ≡ Some t)
+    × (t.seat ≡ seat) × IsJudgement subject t old.state new.state outcome
+
+-- a steward of this seat put the document in force, under this edition, which is the next; the features stay
+abbrev pub IsStewards : ℕ → DocumentData → ℕ → WorldData → WorldData → Type 0
+IsStewards seat document edition old new =
+    ((subject : Subject) × IsSeated seat old.seats subject × IsTrue subject.steward)
+    × (edition ≡ old.state.decider.edition + 1) × (new.state.decider.document ≡ document) × (new.state.decider.edition ≡ edition)
+    × (new.state.features ≡ old.state.features) × (new.state.version ≡ old.state.version)
+
+-- a piece that is taken out is legal from its base, and leads on to the base and the first number of what follows
+abbrev pub LeadsOn : WorldData → WorldData → RolledData → Type 0
+LeadsOn old new piece =
+    IsLegal old.seats piece.base piece.records × (replay piece.base piece.records ≡ new.base) × (piece.first + length piece.records ≡ new.first)
+    × (piece.base ≡ old.base) × (piece.first ≡ old.first) × (piece.records ≡ old.trail) × (new.trail ≡ [])
+
+-- the trail has this record more, and the state is what the record makes of the old one
+abbrev pub HasOneMore : ℕ → DeedData → WorldData → WorldData → Type 0
+HasOneMore seat deed old new =
+    (new.trail ≡ old.trail ++ record { seat = seat; deed = deed } ∷ []) × (new.state ≡ after_deed deed old.state)
+    × (new.base ≡ old.base) × (new.first ≡ old.first)
+
+-- features, version, document and edition, and the trail, are as before
+abbrev pub StandsAs : WorldData → WorldData → Type 0
+StandsAs old new = (new.trail ≡ old.trail) × (new.state ≡ old.state) × (new.base ≡ old.base) × (new.first ≡ old.first)
+
+-- the deed of an outcome
+abbrev pub deed_of : Subject → List Change → Outcome → DeedData
+deed_of subject changes (outcomes.Applied version) = applied subject version changes
+deed_of subject changes (outcomes.Refused refusal denial) = turned_away subject changes refusal
+
+-- An answer, an outcome and a governed edition add their own record, and change the state as that record says. A roll takes
+-- the trail out, and the state stays. All else leaves trail and state as they were.
+abbrev pub AddsAlone : Event → WorldData → WorldData → Reply → Type 0
+AddsAlone (Finish seat search) old new (Rows answer) =
+    HasOneMore seat (answered answer.subject answer.window (map (λ row. row.id) answer.rows) (map (λ row. row.version) answer.rows)) old new
+AddsAlone (Commit seat number) old new (Ended outcome) =
+    (subject : Subject) × IsSeated seat old.seats subject × HasOneMore seat (deed_of subject (staged_in number old.transactions) outcome) old new
+AddsAlone (Govern seat document) old new (Number edition) = HasOneMore seat (governed edition (record { document = document; edition = edition })) old new
+AddsAlone (Roll seat) old new (TakenOut piece) =
+    (new.trail ≡ []) × (new.state ≡ old.state) × (new.base ≡ old.state) × (new.first ≡ old.first + length old.trail)
+AddsAlone event old new reply = StandsAs old new
+
+-- what a refusal leaves: the world as it was, save that an overrun ends the search or the transaction, and that alone
+abbrev pub Leaves : Event → WorldData → WorldData → Fault → Type 0
+Leaves (VisitNext seat number) old new (faults.Tree tree.Overrun) = new ≡ without_search number old
+Leaves (AdvanceWalk seat number) old new (faults.Tree tree.Overrun) = new ≡ without_transaction number old
+Leaves event old new fault = new ≡ old
+
+-- no list that is staged names a feature twice
+abbrev pub AreApart : List TransactionData → Type 0
+AreApart [] = Unit {0}
+AreApart (t ∷ ts) = AreDistinct t.changes × AreApart ts
+
+-- the features stand by rising id, and no list that is staged names a feature twice
+pub record IsOrdered (w : WorldData) : Type 0 where
+  pub sorted : IsSortedById w.state.features
+  pub apart : AreApart w.transactions
+
+-- the records that were rolled out of a world, piece after piece
+abbrev pub records_out : List (Event × Reply) → List RecordData
+records_out [] = []
+records_out ((event, TakenOut piece) ∷ steps) = piece.records ++ records_out steps
+records_out ((event, _) ∷ steps) = records_out steps
+
+-- the decider in force after these events, where this one was before them: the last one that was put in force
+abbrev pub in_force : DeciderData → List (Event × Reply) → DeciderData
+in_force decider [] = decider
+in_force decider ((Govern seat document, Number edition) ∷ steps) = in_force (record { document = document; edition = edition }) steps
+in_force decider (step ∷ steps) = in_force decider steps
+
+abbrev pub IsBelowEach : ℕ → List ℕ → Type 0
+IsBelowEach n [] = Unit {0}
+IsBelowEach n (m ∷ ms) = (n < m) × IsBelowEach n ms
+
+-- numbers that rise, and lie below the next one
+abbrev pub AreGiven : ℕ → List ℕ → Type 0
+AreGiven next [] = Unit {0}
+AreGiven next (n ∷ ns) = (n < next) × IsBelowEach n ns × AreGiven next ns
+
+-- a staged list is no longer than it may be, and no more is placed than the list brings
+abbrev pub IsWithin : TransactionData → Type 0
+IsWithin t = (length t.changes ≤ CHANGE_LIMIT) × (t.placed ≤ length (placements t.changes))
+
+abbrev pub AreWithin : List TransactionData → Type 0
+AreWithin [] = Unit {0}
+AreWithin (t ∷ ts) = IsWithin t × AreWithin ts
+
+-- what is under way is in order: numbers rise below the next ones, so each stands once, and lists are within their limits
+pub record IsUnderWay (w : WorldData) : Type 0 where
+  pub searches : AreGiven w.next_search (map (λ s. s.number) w.searches)
+  pub transactions : AreGiven w.next_transaction (map (λ t. t.number) w.transactions)
+  pub within : AreWithin w.transactions
+
+-- the outcome that a judgement asks for at a state
+abbrev pub outcome_of : PlainState → Judgement → Outcome
+outcome_of state judgements.Accepted = outcomes.Applied (state.version + 1)
+outcome_of state (judgements.Refused refusal question) = outcomes.Refused refusal (denial_of state.decider refusal.cause question)

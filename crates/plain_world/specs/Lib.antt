@@ -1,0 +1,12 @@
+pub mod FaultCodes
+pub mod Staging
+pub mod Walking
+pub mod Answers
+pub mod States
+pub mod Keeping
+pub mod Rolls
+pub mod Coding
+pub mod Admitting
+pub mod Finding
+pub mod Events
+pub mod Laws

@@ -1,0 +1,73 @@
+-- The plain state of a whole world.
+use Rattle.std.specs.Prelude.{◌≡◌, ◌≢◌, ℕ, ◌<◌, ◌≤◌, ◌+◌, List, [], length, All, AllPairs}
+use Rattle.features.specs.declared.actors.Subject.{Subject}
+use Rattle.decision.specs.Deciders.{DeciderData}
+use Rattle.audit_trail.specs.Judging.{AreDistinct}
+use Rattle.audit_trail.specs.Legal.{replay, IsLegal}
+use Rattle.audit_trail.specs.Records.{PlainState, RecordData}
+use Rattle.audit_trail.specs.declared.trails.TheConstants.{RECORD_LIMIT}
+use Rattle.features.specs.declared.tables.TheConstants.{FEATURE_LIMIT}
+use Rattle.plain_world.specs.declared.searches.Search.{Search}
+use Rattle.plain_world.specs.declared.settings.Limits.{Limits}
+use Rattle.plain_world.specs.declared.settings.Starts.{Starts}
+use Rattle.plain_world.specs.declared.settings.TheConstants.{SEAT_LIMIT, SEARCH_LIMIT, TRANSACTION_LIMIT, CHANGE_LIMIT}
+use Rattle.plain_world.specs.Staging.{TransactionData, placements}
+
+pub record WorldData : Type 0 where
+  -- what it was opened with
+  pub subjects : List Subject
+  pub opening : DeciderData
+  pub starts : Starts
+  pub limits : Limits
+  -- the subject of each seat that was given, from seat 1 on
+  pub seats : List Subject
+  -- the trail: the state at which it begins, the number of its first record, and its records
+  pub base : PlainState
+  pub first : ℕ
+  pub trail : List RecordData
+  -- the features, the version, and the document in force with its edition
+  pub state : PlainState
+  -- what is under way
+  pub searches : List Search
+  pub next_search : ℕ
+  pub transactions : List TransactionData
+  pub next_transaction : ℕ
+
+-- the trail is legal from its base, and the state is its replay
+pub record IsSound (seats : List Subject) (base : PlainState) (trail : List RecordData) (state : PlainState) : Type 0 where
+  pub legal : IsLegal seats base trail
+  pub replayed : replay base trail ≡ state
+  pub few_seats : length seats ≤ SEAT_LIMIT
+
+abbrev pub IsSoundWorld : WorldData → Type 0
+IsSoundWorld w = IsSound w.seats w.base w.trail w.state
+
+-- the state of a world that has just been opened by a decider
+abbrev pub opening_state : ℕ → DeciderData → PlainState
+opening_state version decider = record { features = []; version = version; decider = decider }
+
+-- a world that has just been opened
+abbrev pub opened : List Subject → DeciderData → Starts → Limits → WorldData
+opened subjects decider starts limits =
+    record {
+      subjects = subjects;
+      opening = decider;
+      starts = starts;
+      limits = limits;
+      seats = [];
+      base = opening_state starts.version decider;
+      first = starts.rolled + 1;
+      trail = [];
+      state = opening_state starts.version decider;
+      searches = [];
+      next_search = starts.search;
+      transactions = [];
+      next_transaction = 1;
+    }
+
+-- what every world keeps: it is sound, its limits are none above those of any world, and its trail has its limit's records at most
+pub record Keeps (limits : Limits) (seats : List Subject) (base : PlainState) (trail : List RecordData) (state : PlainState) : Type 0 where
+  pub sound : IsSound seats base trail state
+  pub records : limits.records ≤ RECORD_LIMIT
+  pub features : limits.features ≤ FEATURE_LIMIT
+  pub few : length trail ≤ limits.records

@@ -1,0 +1,273 @@
+//! Whether an event is admitted: its refusals, first things first.
+
+ghost use Rattle.std.specs.Prelude.{◌≡◌, ◌≤◌, ◌<◌, ◌+◌, length, OnOk, IfOk, IsTrue, Some};
+ghost use Rattle.features.specs.Changes.{change_id, IsUnnamed};
+ghost use Rattle.audit_trail.specs.Legal.{subject_of, IsSeated};
+ghost use Rattle.plain_world.specs.Admitting.{may_sit, subject_at, stewarded, own_search, next_search, may_open, may_go_on, has_answered_ready, may_record, may_finish, next_transaction, may_begin, own_transaction, may_step, may_add, may_stage, all_placed, may_commit, edition_left, may_govern, may_roll, map_ok};
+ghost use Rattle.plain_world.specs.Staging.{TransactionData, transaction_with};
+
+use crate::faults::Fault;
+use crate::searches::Search;
+use crate::settings::{CHANGE_LIMIT, ROLLED_LIMIT, SEARCH_LIMIT, SEAT_LIMIT, TRANSACTION_LIMIT};
+use crate::staging::{Transaction, names, placement_count, transaction_in};
+use crate::worlds::PlainWorld;
+use audit_trail::FIRST_LIMIT;
+use features::{Change, Name, Subject};
+use search_tree::TreeFault;
+use std::alloc::Allocator;
+
+impl<A: Allocator> PlainWorld<A> {
+    /// The subject of a name, if there is a place for it.
+    pub(crate) fn may_sit(&self, name: Name) -> Result<Subject, Fault>
+        ensures value { result ≡ may_sit name self.now }
+        ensures few { OnOk result (length self.now.seats < SEAT_LIMIT) }
+    {
+        let Some(subject) = self.subjects.get(name) else {
+            return Err(Fault::NoSubject);
+        };
+        if self.seats.len() >= SEAT_LIMIT {
+            return Err(Fault::NoPlace);
+        }
+        Ok(subject)
+    }
+
+    /// The subject of a seat. X1 where the seat was not given.
+    pub fn subject_at(&self, seat: u32) -> Result<Subject, Fault>
+        ensures { result ≡ subject_at seat self.now }
+    {
+        match subject_in(&self.seats, seat) {
+            Some(subject) => Ok(subject),
+            None => Err(Fault::NoSuch),
+        }
+    }
+
+    /// The seat's own search of a number.
+    pub(crate) fn own_search(&self, seat: u32, number: u64) -> Result<Search, Fault>
+        ensures { result ≡ own_search seat number self.now }
+    {
+        let Some(found) = self.searches.get(number) else {
+            return Err(Fault::NoSuch);
+        };
+        if found.seat == seat {
+            Ok(found)
+        } else {
+            Err(Fault::NotYours)
+        }
+    }
+
+    /// That the trail takes one more record.
+    pub(crate) fn may_record(&self) -> Result<(), Fault>
+        ensures value { result ≡ may_record self.now }
+        ensures below { OnOk result (length self.now.trail < self.now.limits.records) }
+    {
+        if self.trail.len() >= self.limits.records {
+            return Err(Fault::TrailFull);
+        }
+        Ok(())
+    }
+
+    /// The number of the search that is opened next.
+    pub(crate) fn next_search(&self) -> Result<u64, Fault>
+        ensures value { result ≡ next_search self.now }
+        ensures few { OnOk result (length self.now.searches < SEARCH_LIMIT) }
+        ensures left { IfOk result (λ number. number < u64.MAX) }
+    {
+        if self.searches.len() >= SEARCH_LIMIT {
+            return Err(Fault::Tree(TreeFault::TooMany));
+        }
+        if self.next_search == u64::MAX {
+            return Err(Fault::Tree(TreeFault::Spent));
+        }
+        Ok(self.next_search)
+    }
+
+    /// The number of the search that a seat opens next. X1 where the seat was not given, X9 where 16 searches run (S2) or
+    /// the number is at its end (S6).
+    pub fn may_open(&self, seat: u32) -> Result<u64, Fault>
+        ensures value { result ≡ may_open seat self.now }
+        ensures few { OnOk result (length self.now.searches < SEARCH_LIMIT) }
+        ensures left { IfOk result (λ number. number < u64.MAX) }
+    {
+        self.subject_at(seat)?;
+        self.next_search()
+    }
+
+    /// The seat's own search of a number. X1 where the seat was not given or no such search runs, X2 where it is another
+    /// seat's.
+    pub fn may_go_on(&self, seat: u32, number: u64) -> Result<Search, Fault>
+        ensures { result ≡ may_go_on seat number self.now }
+    {
+        self.subject_at(seat)?;
+        self.own_search(seat, number)
+    }
+
+    pub(crate) fn may_finish(&self, seat: u32, number: u64) -> Result<(Subject, Search), Fault>
+        ensures value { result ≡ may_finish seat number self.now }
+        ensures seated { IfOk result (λ who. IsSeated seat self.now.seats who.0) }
+        ensures below { OnOk result (length self.now.trail < self.now.limits.records) }
+    {
+        let subject = self.subject_at(seat)?;
+        let found = self.own_search(seat, number)?;
+        ready(&found)?;
+        self.may_record()?;
+        Ok((subject, found))
+    }
+
+    /// The number of the transaction that is opened next.
+    pub(crate) fn next_transaction(&self) -> Result<u64, Fault>
+        ensures value { result ≡ next_transaction self.now }
+        ensures left { IfOk result (λ number. number < u64.MAX) }
+    {
+        if self.transactions.len() >= TRANSACTION_LIMIT {
+            return Err(Fault::TooMany);
+        }
+        if self.next_transaction == u64::MAX {
+            return Err(Fault::Spent);
+        }
+        Ok(self.next_transaction)
+    }
+
+    pub(crate) fn may_begin(&self, seat: u32) -> Result<u64, Fault>
+        ensures value { result ≡ may_begin seat self.now }
+        ensures left { IfOk result (λ number. number < u64.MAX) }
+    {
+        self.subject_at(seat)?;
+        self.next_transaction()
+    }
+
+    /// The seat's own transaction of a number.
+    pub(crate) fn own_transaction(&self, seat: u32, number: u64) -> Result<&Transaction<A>, Fault>
+        ensures value { map_ok (λ t. t.now) result ≡ own_transaction seat number self.now }
+        ensures is { IfOk result (λ t. transaction_with number self.now.transactions ≡ Some t.now) }
+    {
+        let Some(transaction) = transaction_in(&self.transactions, number) else {
+            return Err(Fault::NoSuch);
+        };
+        if transaction.seat() == seat {
+            Ok(transaction)
+        } else {
+            Err(Fault::NotYours)
+        }
+    }
+
+    pub(crate) fn may_step(&self, seat: u32, number: u64) -> Result<&Transaction<A>, Fault>
+        ensures value { map_ok (λ t. t.now) result ≡ may_step seat number self.now }
+        ensures is { IfOk result (λ t. transaction_with number self.now.transactions ≡ Some t.now) }
+    {
+        self.subject_at(seat)?;
+        self.own_transaction(seat, number)
+    }
+
+    pub(crate) fn may_stage(&self, seat: u32, number: u64, change: &Change) -> Result<(), Fault>
+        ensures value { result ≡ may_stage seat number change.now self.now }
+        ensures may { OnOk result ((t : TransactionData) × (transaction_with number self.now.transactions ≡ Some t) × (length t.changes < CHANGE_LIMIT) × IsUnnamed (change_id change.now) t.changes) }
+    {
+        let transaction = self.may_step(seat, number)?;
+        may_add(transaction.changes(), change)
+    }
+
+    pub(crate) fn may_commit(&self, seat: u32, number: u64) -> Result<Subject, Fault>
+        ensures value { result ≡ may_commit seat number self.now }
+        ensures seated { IfOk result (λ subject. IsSeated seat self.now.seats subject) }
+        ensures below { OnOk result (length self.now.trail < self.now.limits.records) }
+    {
+        let subject = self.subject_at(seat)?;
+        all_placed(self.own_transaction(seat, number)?)?;
+        self.may_record()?;
+        Ok(subject)
+    }
+
+    /// That there is a next edition.
+    pub(crate) fn edition_left(&self) -> Result<(), Fault>
+        ensures value { result ≡ edition_left self.now }
+        ensures left { OnOk result (self.now.state.decider.edition < u64.MAX) }
+    {
+        if self.decider.edition() == u64::MAX {
+            return Err(Fault::Spent);
+        }
+        Ok(())
+    }
+
+    pub(crate) fn may_govern(&self, seat: u32) -> Result<Subject, Fault>
+        ensures value { result ≡ may_govern seat self.now }
+        ensures seated { IfOk result (λ subject. IsSeated seat self.now.seats subject × IsTrue subject.steward) }
+        ensures left { OnOk result (self.now.state.decider.edition < u64.MAX) }
+        ensures below { OnOk result (length self.now.trail < self.now.limits.records) }
+    {
+        let subject = self.subject_at(seat)?;
+        stewarded(&subject)?;
+        self.edition_left()?;
+        self.may_record()?;
+        Ok(subject)
+    }
+
+    pub(crate) fn may_roll(&self, seat: u32) -> Result<(), Fault>
+        ensures value { result ≡ may_roll seat self.now }
+        ensures left { OnOk result (self.now.first + length self.now.trail ≤ FIRST_LIMIT) }
+    {
+        let subject = self.subject_at(seat)?;
+        stewarded(&subject)?;
+        let rolled = self.trail.first().saturating_sub(1);
+        if rolled as u64 + self.trail.len() as u64 > ROLLED_LIMIT as u64 {
+            return Err(Fault::Spent);
+        }
+        Ok(())
+    }
+}
+
+/// Whether a search has answered Ready.
+fn ready(search: &Search) -> Result<(), Fault>
+    ensures { result ≡ has_answered_ready search.now }
+{
+    if !search.ready {
+        return Err(Fault::NotReady);
+    }
+    Ok(())
+}
+
+/// Whether a subject is a steward.
+fn stewarded(subject: &Subject) -> Result<(), Fault>
+    ensures value { result ≡ stewarded subject.now }
+    ensures steward { OnOk result (IsTrue subject.now.steward) }
+{
+    if !subject.steward {
+        return Err(Fault::NotSteward);
+    }
+    Ok(())
+}
+
+/// Whether each shape that a list brings is placed.
+fn all_placed<A: Allocator>(transaction: &Transaction<A>) -> Result<(), Fault>
+    ensures { result ≡ all_placed transaction.now }
+{
+    if transaction.placed() < placement_count(transaction.changes()) {
+        return Err(Fault::NotPlaced);
+    }
+    Ok(())
+}
+
+/// Whether a list takes one more change.
+#[tactic(auto, using(crate::proofs::TransactionLemmas::unnamed))]
+fn may_add(changes: &[Change], change: &Change) -> Result<(), Fault>
+    ensures value { result ≡ may_add change.now changes.now }
+    ensures few { OnOk result (length changes.now < CHANGE_LIMIT) }
+    ensures unnamed { OnOk result (IsUnnamed (change_id change.now) changes.now) }
+{
+    if changes.len() >= CHANGE_LIMIT {
+        return Err(Fault::TooManyChanges);
+    }
+    if names(changes, change.id()) {
+        return Err(Fault::NamedTwice);
+    }
+    Ok(())
+}
+
+/// The subject of a seat.
+fn subject_in(seats: &[Subject], seat: u32) -> Option<Subject>
+    ensures { result ≡ subject_of seat seats.now }
+{
+    if seat == 0 {
+        return None;
+    }
+    seats.get(seat as usize - 1).copied()
+}

@@ -1,0 +1,90 @@
+//! Answers of searches.
+
+ghost use Rattle.std.specs.Prelude.{◌≡◌};
+ghost use Rattle.std.specs.Arc.{arc_value};
+ghost use Rattle.features.specs.Rows.{IsSortedById};
+ghost use Rattle.audit_trail.specs.Listing.{AreShown};
+
+use decision::Decider;
+use features::{Feature, Subject};
+use plane::Shape;
+use std::alloc::Allocator;
+use std::marker::Model;
+use std::sync::Arc;
+
+/// What a search answers: rows by rising id, each of which meets the window and may be read by the subject, as the
+/// decider that the answer carries rules. Only a world makes one.
+#[derive(Debug, Drop)]
+pub struct Answer<A: Allocator> {
+    subject: Subject,
+    window: Shape,
+    decider: Arc<Decider>,
+    rows: Vec<Feature, A>,
+}
+
+impl<A: Allocator> Model for Answer<A> {
+    ghost use Rattle.std.specs.Arc.{arc_value};
+    ghost use Rattle.std.specs.Coded.{code_by, codes};
+    ghost use Rattle.plain_world.specs.Answers.{AnswerData, IsAnswer};
+    ghost use Rattle.plain_world.specs.Coding.{StoredAnswer, stored_answer, restored_answer, restored_answer-stored_answer};
+
+    ghost Value = { AnswerData };
+
+    ghost coded = { code_by StoredAnswer (Prim.hlevel codes) stored_answer restored_answer restored_answer-stored_answer };
+
+    ghost view = { λ a. record { subject = a.subject; window = a.window; decider = arc_value a.decider; rows = a.rows.items } };
+
+    ghost invariant = { λ a. IsAnswer (record { subject = a.subject; window = a.window; decider = arc_value a.decider; rows = a.rows.items }) };
+}
+
+impl<A: Allocator> Answer<A> {
+    ghost use Rattle.plain_world.specs.Answers.{AnswerData, IsAnswer};
+
+    /// The answer of these rows, each of which is shown.
+    pub(crate) fn new(
+        subject: Subject,
+        window: Shape,
+        decider: Arc<Decider>,
+        rows: Vec<Feature, A>,
+    ) -> Self
+        requires { IsAnswer (record { subject = subject; window = window; decider = arc_value decider; rows = rows.items }) }
+        ensures { result ≡ record { subject = subject; window = window; decider = arc_value decider; rows = rows.items } }
+    {
+        Answer {
+            subject,
+            window,
+            decider,
+            rows,
+        }
+    }
+
+    /// Who asked.
+    pub fn subject(&self) -> Subject
+        ensures { result ≡ self.now.subject }
+    {
+        self.subject
+    }
+
+    /// Where was searched.
+    pub fn window(&self) -> Shape
+        ensures { result ≡ self.now.window }
+    {
+        self.window
+    }
+
+    /// The decider by which each row is shown.
+    pub fn decider(&self) -> &Arc<Decider>
+        ensures { arc_value result.now ≡ self.now.decider }
+    {
+        &self.decider
+    }
+
+    /// The rows, by rising id. Each meets the window, and the decider permits the subject to read it.
+    pub fn rows(&self) -> &[Feature]
+        ensures value { result.now ≡ self.now.rows }
+        ensures sorted { IsSortedById self.now.rows }
+        ensures shown { AreShown self.now.decider.document self.now.subject self.now.window self.now.rows }
+    {
+        self.rows.as_slice()
+    }
+}

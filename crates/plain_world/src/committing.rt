@@ -1,0 +1,232 @@
+//! Transactions: staged, placed, and committed as a whole or not at all.
+
+ghost use Rattle.std.specs.Prelude.{◌≡◌, ◌<◌, length, OnOk, IfOk, IfSome, IsSome, Option};
+ghost use Rattle.std.specs.Arc.{arc_value};
+ghost use Rattle.features.specs.Changes.{after, CanApply};
+ghost use Rattle.combining.specs.declared.questions.Question.{Question};
+ghost use Rattle.audit_trail.specs.declared.causes.Judgement.TheVariants as judgements;
+ghost use Rattle.audit_trail.specs.Judging.{Judged, AreDistinct, IsFounded};
+ghost use Rattle.audit_trail.specs.Legal.{IsSeated};
+ghost use Rattle.audit_trail.specs.Records as deeds;
+ghost use Rattle.plain_world.specs.Answers.{denial_of};
+ghost use Rattle.plain_world.specs.Events.{Happens, Begin, Stage, Commit, Abort, Number, Done, Ended, reply_of, UnlessMemory, TurnsAway, Applies, without_transaction};
+ghost use Rattle.plain_world.specs.Admitting.{map_ok, may_step};
+ghost use Rattle.plain_world.specs.Staging.{next_placement, staged_in, with_step, one_placed, MayPlace};
+ghost use Rattle.plain_world.specs.Walking.{WalksFor};
+
+use crate::denials::denial_for;
+use crate::faults::Fault;
+use crate::outcomes::Outcome;
+use crate::searching::want_of;
+use crate::staging::{Transaction, end, keep_walk_in, place_in, stage_in, staged_in, take_walk_in};
+use crate::worlds::PlainWorld;
+use audit_trail::{Deed, Judgement, Record, Refusal, judge};
+use combining::Question;
+use features::{Change, StoreFault, Subject};
+use memory::{GrowVec, Refused, copied};
+use plane::Shape;
+use search_tree::Walk;
+use std::alloc::Allocator;
+
+impl<A: Allocator> PlainWorld<A> {
+    /// Stages a change. X1 where the seat was not given or no such transaction is open, X2 where it is another seat's, X6
+    /// where the list has 16 changes, X5 where it names the feature already. It takes no memory.
+    pub fn stage(&mut self, seat: u32, number: u64, change: Change) -> Result<(), Fault>
+        ensures { Happens (Stage seat number change) self.old self.new (reply_of (λ _. Done) result) }
+    {
+        self.may_stage(seat, number, &change)?;
+        stage_in(&mut self.transactions, number, change);
+        Ok(())
+    }
+
+    /// The shape of a transaction that is to be placed next, if one is left. X1 where the seat was not given or no such
+    /// transaction is open, X2 where it is another seat's.
+    pub fn next_to_place(&self, seat: u32, number: u64) -> Result<Option<(u64, Shape)>, Fault>
+        ensures value { map_ok next_placement (may_step seat number self.now) ≡ result }
+        ensures may { IfOk result (λ next. IsSome next → MayPlace number self.now.transactions) }
+    {
+        let transaction = self.may_step(seat, number)?;
+        Ok(transaction.next())
+    }
+
+    /// Hands the walk out that a transaction has under way.
+    pub fn take_walk(&mut self, number: u64) -> Option<Walk<Shape>>
+        ensures same { self.new ≡ self.old }
+        ensures walk { IfSome result (WalksFor number self.old.transactions) }
+    {
+        take_walk_in(&mut self.transactions, number)
+    }
+
+    /// Keeps a walk that a transaction has under way.
+    pub fn keep_walk(&mut self, number: u64, walk: Walk<Shape>)
+        requires { WalksFor number self.old.transactions walk }
+        ensures { self.new ≡ self.old }
+    {
+        keep_walk_in(&mut self.transactions, number, walk);
+    }
+
+    /// Ends a transaction whose walk was given up.
+    pub fn end_transaction(&mut self, number: u64)
+        ensures { self.new ≡ without_transaction number self.old }
+    {
+        end(&mut self.transactions, number);
+    }
+
+    /// Counts the next shape of a transaction as placed.
+    pub fn place_next(&mut self, number: u64)
+        requires { MayPlace number self.old.transactions }
+        ensures { self.new ≡ record self.old { transactions = with_step one_placed number self.old.transactions } }
+    {
+        place_in(&mut self.transactions, number);
+    }
+
+    /// Gives a transaction up. X1 where the seat was not given or no such transaction is open, X2 where it is another
+    /// seat's. It takes no memory.
+    pub fn abort(&mut self, seat: u32, number: u64) -> Result<(), Fault>
+        ensures { Happens (Abort seat number) self.old self.new (reply_of (λ _. Done) result) }
+    {
+        self.may_step(seat, number)?;
+        end(&mut self.transactions, number);
+        Ok(())
+    }
+}
+
+impl<A: Allocator + Copy> PlainWorld<A> {
+    /// Opens a transaction of a seat, and answers its number. X1 where the seat was not given, X15 where 64 are open, X8
+    /// where the number is at its end, X12 where a growth is refused.
+    pub fn begin(&mut self, seat: u32) -> Result<u64, Fault>
+        ensures { Happens (Begin seat) self.old self.new (reply_of Number result) }
+    {
+        let number = self.may_begin(seat)?;
+        let transaction = Transaction::new(self.alloc, number, seat)?;
+        self.transactions.make_place()?;
+        self.transactions.push_reserved(transaction);
+        self.next_transaction = number + 1;
+        Ok(number)
+    }
+
+    /// Commits a transaction's list, all or none of it, and ends it. X1 where the seat was not given or no such
+    /// transaction is open, X2 where it is another seat's, X4 where a shape is not placed, X10 where the trail is full,
+    /// X12 where a growth is refused; of a list that is accepted then X8 where the version is at its end, and X11 where
+    /// more features would stand than may. A list that fails is answered with its first failing change.
+    pub fn commit(&mut self, seat: u32, number: u64) -> Result<Outcome, Fault>
+        ensures { Happens (Commit seat number) self.old self.new (reply_of Ended result) }
+    {
+        let subject = self.may_commit(seat, number)?;
+        let changes = copied(self.alloc, staged_in(&self.transactions, number))?;
+        match judge(&self.decider, &self.store, &subject, changes.as_slice()) {
+            Judgement::Accepted => self.apply(seat, number, subject, changes),
+            Judgement::Refused(refusal, question) => {
+                self.turn_away(seat, number, subject, changes, &refusal, &question)
+            }
+        }
+    }
+
+    /// Ends a transaction whose list is turned away.
+    fn turn_away(
+        &mut self,
+        seat: u32,
+        number: u64,
+        subject: Subject,
+        changes: Vec<Change, A>,
+        refusal: &Refusal,
+        question: &Option<Question>,
+    ) -> Result<Outcome, Fault>
+        requires seated { IsSeated seat self.old.seats subject }
+        requires judged { Judged self.old.state subject changes.items (judgements.Refused refusal.now question.now) }
+        requires founded { IsFounded self.old.state.decider.document refusal.now.cause question.now }
+        requires below { length self.old.trail < self.old.limits.records }
+        ensures { UnlessMemory self.old self.new (reply_of Ended result) (TurnsAway seat number subject changes.items (judgements.Refused refusal.now question.now) self.old self.new (reply_of Ended result)) }
+    {
+        let entry = turned_away(seat, subject, changes, refusal);
+        match self.trail.prepare(entry) {
+            Err(fault) => Err(Fault::Memory(want_of(fault))),
+            Ok(shared) => match denial_for(&self.decider, &refusal.cause, question) {
+                Err(refusal) => Err(Fault::Memory(refusal)),
+                Ok(denial) => {
+                    self.trail.put(shared);
+                    end(&mut self.transactions, number);
+                    Ok(Outcome::Refused(*refusal, denial))
+                }
+            },
+        }
+    }
+
+    /// Applies a transaction's list as a whole, and ends it.
+    fn apply(
+        &mut self,
+        seat: u32,
+        number: u64,
+        subject: Subject,
+        changes: Vec<Change, A>,
+    ) -> Result<Outcome, Fault>
+        requires seated { IsSeated seat self.old.seats subject }
+        requires accepted { Judged self.old.state subject changes.items judgements.Accepted }
+        requires distinct { AreDistinct changes.items }
+        requires below { length self.old.trail < self.old.limits.records }
+        ensures { UnlessMemory self.old self.new (reply_of Ended result) (Applies seat number subject changes.items self.old self.new (reply_of Ended result)) }
+    {
+        if self.version == u64::MAX {
+            return Err(Fault::Spent);
+        }
+        if self.store.len_after(changes.as_slice()) > self.limits.features as usize {
+            return Err(Fault::StoreFull);
+        }
+        let version = self.version + 1;
+        let office = subject.office;
+        let entry = applied(self.alloc, seat, subject, version, changes.as_slice())?;
+        match self.trail.prepare(entry) {
+            Err(fault) => Err(Fault::Memory(want_of(fault))),
+            Ok(shared) => match self.store.apply(version, office, changes.as_slice()) {
+                Err(StoreFault::Full) => Err(Fault::StoreFull),
+                Err(StoreFault::Memory(refusal)) => Err(Fault::Memory(refusal)),
+                Ok(()) => {
+                    self.version = version;
+                    self.trail.put(shared);
+                    end(&mut self.transactions, number);
+                    Ok(Outcome::Applied(version))
+                }
+            },
+        }
+    }
+}
+
+/// The record of a list that is turned away.
+fn turned_away<A: Allocator>(
+    seat: u32,
+    subject: Subject,
+    changes: Vec<Change, A>,
+    refusal: &Refusal,
+) -> Record<A>
+    ensures { result ≡ record { seat = seat; deed = deeds.turned_away subject changes.items refusal.now } }
+{
+    Record::new(
+        seat,
+        Deed::Refused {
+            subject,
+            changes,
+            refusal: *refusal,
+        },
+    )
+}
+
+/// The record of a list that is applied.
+fn applied<A: Allocator>(
+    alloc: A,
+    seat: u32,
+    subject: Subject,
+    version: u64,
+    changes: &[Change],
+) -> Result<Record<A>, Refused>
+    ensures { IfOk result (λ entry. entry ≡ record { seat = seat; deed = deeds.applied subject version changes.now }) }
+{
+    let changes = copied(alloc, changes)?;
+    Ok(Record::new(
+        seat,
+        Deed::Applied {
+            subject,
+            version,
+            changes,
+        },
+    ))
+}

@@ -1,0 +1,106 @@
+//! Laws over runs. The functions do nothing: each is its contract.
+
+ghost use Rattle.std.specs.Prelude.{◌≡◌, ◌⊎◌, ℕ, ◌++◌, List, Some};
+ghost use Rattle.features.specs.Rows.{IsSortedById};
+ghost use Rattle.policy_text.specs.Documents.{DocumentData};
+ghost use Rattle.decision.specs.Deciders.{DeciderData};
+ghost use Rattle.audit_trail.specs.Judging.{Judged};
+ghost use Rattle.audit_trail.specs.declared.causes.Judgement.{Judgement};
+ghost use Rattle.audit_trail.specs.Legal.{IsSeated, IsLegal, replay};
+ghost use Rattle.plain_world.specs.Answers.{AnswerData};
+ghost use Rattle.plain_world.specs.Events.{Event, Finish, Commit, Govern, Roll, Reply, Number, Rows, Ended, TakenOut, Happens, Refused, Run};
+ghost use Rattle.plain_world.specs.Laws.{IsExact, Accounts, EndsAs, IsStewards, LeadsOn, AddsAlone, Leaves, IsOrdered, IsUnderWay, records_out, in_force, outcome_of};
+ghost use Rattle.plain_world.specs.Rolls.{RolledData};
+ghost use Rattle.plain_world.specs.Staging.{TransactionData, transaction_with};
+ghost use Rattle.plain_world.specs.States.{WorldData, IsSoundWorld, opened};
+ghost use Rattle.plain_world.specs.declared.faults.Fault.{Fault};
+ghost use Rattle.plain_world.specs.declared.outcomes.Outcome.{Outcome};
+
+use crate::settings::{Limits, Starts};
+use features::Subject;
+
+/// Over every run from a sound world, the trail is legal from its base and the state is its replay.
+pub fn every_run_is_sound()
+    ensures { (old new : WorldData) (steps : List (Event × Reply)) → IsSoundWorld old → Run old steps new → IsSoundWorld new }
+{}
+
+/// Whatever happened before, an answer is for its seat's subject and its search's window, lists exactly the rows that are
+/// listed there and then, and carries the decider then in force; and the trail up to there accounts for that state.
+pub fn every_answer_is_exact()
+    ensures { (old mid new : WorldData) (before : List (Event × Reply)) (seat number : ℕ) (answer : AnswerData)
+        → IsSoundWorld old → Run old before mid → Happens (Finish seat number) mid new (Rows answer)
+        → IsExact seat number mid answer × Accounts mid }
+{}
+
+/// Whatever happened before, the outcome of a commit is the judgement of the staged list there and then: it is applied as a
+/// whole under the next version, or nothing changes. A denial is there exactly where the policy denies a change, by the
+/// decider then in force.
+pub fn every_outcome_is_the_judgement()
+    ensures { (old mid new : WorldData) (before : List (Event × Reply)) (seat number : ℕ) (outcome : Outcome)
+        → IsSoundWorld old → Run old before mid → Happens (Commit seat number) mid new (Ended outcome)
+        → EndsAs seat number mid new outcome × Accounts mid }
+{}
+
+/// Whatever happened before, a document comes in force by a steward alone, under the next edition.
+pub fn every_policy_is_a_stewards()
+    ensures { (old mid new : WorldData) (before : List (Event × Reply)) (seat : ℕ) (document : DocumentData) (edition : ℕ)
+        → IsSoundWorld old → Run old before mid → Happens (Govern seat document) mid new (Number edition)
+        → IsStewards seat document edition mid new × Accounts mid }
+{}
+
+/// Whatever happened before, a piece that is rolled out is legal from its base, and its replay is the base of what follows.
+pub fn every_piece_leads_on()
+    ensures { (old mid new : WorldData) (before : List (Event × Reply)) (seat : ℕ) (piece : RolledData)
+        → IsSoundWorld old → Run old before mid → Happens (Roll seat) mid new (TakenOut piece) → LeadsOn mid new piece }
+{}
+
+/// An answer, an outcome and a governed edition add their own record to the trail and change the state as it says; a roll takes
+/// the trail out; every other event, and every refused one, leaves features, version, document, edition and trail as they were.
+pub fn records_are_added_alone()
+    ensures { (event : Event) (old new : WorldData) (reply : Reply) → Happens event old new reply → AddsAlone event old new reply }
+{}
+
+/// A refused event leaves the whole world as it was, save that an overrun ends its search or transaction.
+pub fn every_refusal_changes_nothing()
+    ensures { (event : Event) (old new : WorldData) (fault : Fault) → Happens event old new (Refused fault) → Leaves event old new fault }
+{}
+
+/// A world that has just been opened is sound, its features stand by rising id, and no list that is staged names a feature
+/// twice. Every run keeps that, and so the ids in an answer rise.
+pub fn every_run_is_ordered()
+    ensures opened { (subjects : List Subject) (decider : DeciderData) (starts : Starts) (limits : Limits)
+        → IsSoundWorld (opened subjects decider starts limits) × IsOrdered (opened subjects decider starts limits) }
+    ensures run { (old new : WorldData) (steps : List (Event × Reply)) → IsOrdered old → Run old steps new → IsOrdered new }
+    ensures rising { (old mid new : WorldData) (before : List (Event × Reply)) (seat number : ℕ) (answer : AnswerData)
+        → IsOrdered old → Run old before mid → Happens (Finish seat number) mid new (Rows answer) → IsSortedById answer.rows }
+{}
+
+/// Over every run from a sound world, the pieces that were rolled out and the present trail are one legal trail from the base
+/// at the run's begin, and its replay is the state.
+pub fn pieces_and_trail_join()
+    ensures { (old new : WorldData) (steps : List (Event × Reply)) → IsSoundWorld old → Run old steps new
+        → IsLegal new.seats old.base (records_out steps ++ new.trail) × (replay old.base (records_out steps ++ new.trail) ≡ new.state) }
+{}
+
+/// Over every run, the document and edition in force are those that the last `govern` that succeeded gave, or else those at the
+/// run's begin.
+pub fn policy_in_force_is_the_last()
+    ensures { (old new : WorldData) (steps : List (Event × Reply)) → Run old steps new
+        → new.state.decider ≡ in_force old.state.decider steps }
+{}
+
+/// In a world that has just been opened what is under way is in order, and every run keeps that: the numbers of searches and
+/// of transactions rise below the next ones, so that each stands once, and each staged list is within its limits.
+pub fn what_is_under_way_is_in_order()
+    ensures opened { (subjects : List Subject) (decider : DeciderData) (starts : Starts) (limits : Limits) → IsUnderWay (opened subjects decider starts limits) }
+    ensures run { (old new : WorldData) (steps : List (Event × Reply)) → IsUnderWay old → Run old steps new → IsUnderWay new }
+{}
+
+/// A commit ends as its judgement asks, where it is not refused: an accepted list is applied, and a list that fails is turned
+/// away for its first failing change.
+pub fn every_commit_ends_as_judged()
+    ensures { (old new : WorldData) (seat number : ℕ) (subject : Subject) (t : TransactionData) (judgement : Judgement) (reply : Reply)
+        → IsSeated seat old.seats subject → transaction_with number old.transactions ≡ Some t → Judged old.state subject t.changes judgement
+        → Happens (Commit seat number) old new reply
+        → ((fault : Fault) × (reply ≡ Refused fault)) ⊎ (reply ≡ Ended (outcome_of old.state judgement)) }
+{}

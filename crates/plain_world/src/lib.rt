@@ -1,0 +1,41 @@
+//! The world of many sessions without its index: what happens to features, policy and trail at each event, in whatever order
+//! they come.
+#![tactic(auto)]
+
+mod admitting;
+mod answers;
+mod committing;
+mod denials;
+mod faults;
+mod governing;
+mod keeping;
+mod laws;
+mod listing;
+mod outcomes;
+mod rolling;
+mod searches;
+mod searching;
+mod settings;
+mod staging;
+mod steps;
+mod worlds;
+
+pub use answers::Answer;
+pub use denials::Denial;
+pub use faults::Fault;
+pub use laws::{
+    every_answer_is_exact, every_commit_ends_as_judged, every_outcome_is_the_judgement,
+    every_piece_leads_on, every_policy_is_a_stewards, every_refusal_changes_nothing,
+    every_run_is_ordered, every_run_is_sound, pieces_and_trail_join, policy_in_force_is_the_last,
+    records_are_added_alone, what_is_under_way_is_in_order,
+};
+pub use outcomes::Outcome;
+pub use rolling::Rolled;
+pub use searches::Search;
+pub use settings::{
+    CHANGE_LIMIT, Limits, ROLLED_LIMIT, SEARCH_LIMIT, SEAT_LIMIT, STEP_LIMIT, Starts,
+    TRANSACTION_LIMIT,
+};
+pub use staging::Transaction;
+pub use steps::Advance;
+pub use worlds::{Base, PlainWorld};

@@ -1,0 +1,151 @@
+//! The rows of a search, and the record of them.
+
+ghost use Rattle.std.specs.Prelude.{◌≡◌, ◌↔◌, ◌≤◌, ◌+◌, ℕ, Contains, IsTrue, IfOk, length, map};
+ghost use Rattle.std.specs.List.Sorted.{IsStrictlyIncreasing};
+ghost use Rattle.features.specs.Rows.{IsSortedById};
+ghost use Rattle.audit_trail.specs.Listing.{IsListed, IsShown, question_on};
+ghost use Rattle.audit_trail.specs.Records.{answered};
+ghost use Rattle.decision.specs.Rulings.{Permits};
+ghost use Rattle.plain_world.specs.Finding.{NamesAll};
+
+use crate::answers::Answer;
+use audit_trail::{Deed, Record};
+use decision::{Folded, Ruling};
+use features::{Action, Feature, Meter, Store};
+use memory::{GrowVec, Refused};
+use plane::{Shape, meets};
+use std::alloc::Allocator;
+
+/// The ids that were found, by rising id and each once. The only error is want of memory.
+pub(crate) fn ids_found<A: Allocator>(
+    alloc: A,
+    found: &[(u64, Shape)],
+) -> Result<Vec<u64, A>, Refused>
+    ensures rises { IfOk result (λ ids. IsStrictlyIncreasing ids.items) }
+    ensures keeps { IfOk result (λ ids. (id : ℕ) → Contains (map (λ pair. pair.0) found.now) id → Contains ids.items id) }
+    ensures few { IfOk result (λ ids. length ids.items ≤ length found.now) }
+{
+    let mut ids = first_parts(alloc, found)?;
+    put_in_order(&mut ids);
+    Ok(ids)
+}
+
+/// The id of each pair.
+fn first_parts<A: Allocator>(alloc: A, found: &[(u64, Shape)]) -> Result<Vec<u64, A>, Refused>
+    ensures { IfOk result (λ ids. ids.items ≡ map (λ pair. pair.0) found.now) }
+{
+    let mut ids = Vec::new(alloc);
+    for pair in found {
+        ids.try_push(pair.0)?;
+    }
+    Ok(ids)
+}
+
+/// Puts ids in order, each once.
+fn put_in_order<A: Allocator>(ids: &mut Vec<u64, A>)
+    ensures rises { IsStrictlyIncreasing ids.new.items }
+    ensures keeps { (id : ℕ) → Contains ids.old.items id → Contains ids.new.items id }
+    ensures few { length ids.new.items ≤ length ids.old.items }
+{
+    ids.sort_unstable();
+    ids.dedup();
+}
+
+/// The features that a search lists, by rising id, by a look-up of each of these ids, which name all that meet the window.
+/// What a look-up finds is judged as it stands in the store.
+pub(crate) fn listed<A: Allocator>(
+    alloc: A,
+    folded: &Folded<'_>,
+    window: &Shape,
+    store: &Store<A>,
+    ids: &[u64],
+    meter: &mut Meter,
+) -> Result<Vec<Feature, A>, Refused>
+    requires reads { folded.now.action ≡ Action.Read }
+    requires rise { IsStrictlyIncreasing ids.now }
+    requires all { NamesAll store.now window.now ids.now }
+    ensures listed { IfOk result (λ rows. IsListed folded.now.decider.document folded.now.subject window.now store.now rows.items) }
+    ensures sorted { IsSortedById store.now }
+    ensures metered { meter.new ≤ meter.old + length ids.now }
+{
+    stand_in_order(store);
+    let mut rows = Vec::new(alloc);
+    for id in ids {
+        if let Some(feature) = store.get(*id, meter) {
+            if shows(folded, window, feature) {
+                rows.try_push(*feature)?;
+            }
+        }
+    }
+    Ok(rows)
+}
+
+/// The features of a store stand by rising id. The look-up of a row says so, and one of an id does not.
+fn stand_in_order<A: Allocator>(store: &Store<A>)
+    ensures { IsSortedById store.now }
+{
+    let _first = store.row_at(0);
+}
+
+/// Whether a feature is shown: its shape meets the window, and the subject may read it.
+fn shows(folded: &Folded<'_>, window: &Shape, feature: &Feature) -> bool
+    requires { folded.now.action ≡ Action.Read }
+    ensures { IsTrue result ↔ IsShown folded.now.decider.document folded.now.subject window.now feature.now }
+{
+    meets(&feature.shape, window) && permits(folded, feature)
+}
+
+/// May the subject read the feature?
+fn permits(folded: &Folded<'_>, feature: &Feature) -> bool
+    requires { folded.now.action ≡ Action.Read }
+    ensures { IsTrue result ↔ Permits folded.now.decider.document (question_on folded.now.subject Action.Read feature.now feature.now.shape) }
+{
+    match folded.decide(feature.office, feature.class, feature.shape) {
+        Ruling::Permit(_) => true,
+        Ruling::DeniedBy(_) => false,
+        Ruling::NoneApplied => false,
+    }
+}
+
+/// The record of what a seat was answered.
+pub(crate) fn answered<A: Allocator + Copy>(
+    alloc: A,
+    seat: u32,
+    answer: &Answer<A>,
+) -> Result<Record<A>, Refused>
+    ensures { IfOk result (λ entry. entry ≡ record { seat = seat; deed = answered answer.now.subject answer.now.window (map (λ row. row.id) answer.now.rows) (map (λ row. row.version) answer.now.rows) }) }
+{
+    let ids = ids_of(alloc, answer.rows())?;
+    let versions = versions_of(alloc, answer.rows())?;
+    Ok(Record::new(
+        seat,
+        Deed::Answered {
+            subject: answer.subject(),
+            window: answer.window(),
+            ids,
+            versions,
+        },
+    ))
+}
+
+/// The ids of rows.
+fn ids_of<A: Allocator>(alloc: A, rows: &[Feature]) -> Result<Vec<u64, A>, Refused>
+    ensures { IfOk result (λ ids. ids.items ≡ map (λ row. row.id) rows.now) }
+{
+    let mut ids = Vec::new(alloc);
+    for row in rows {
+        ids.try_push(row.id)?;
+    }
+    Ok(ids)
+}
+
+/// The versions of rows.
+fn versions_of<A: Allocator>(alloc: A, rows: &[Feature]) -> Result<Vec<u64, A>, Refused>
+    ensures { IfOk result (λ versions. versions.items ≡ map (λ row. row.version) rows.now) }
+{
+    let mut versions = Vec::new(alloc);
+    for row in rows {
+        versions.try_push(row.version)?;
+    }
+    Ok(versions)
+}

@@ -1,0 +1,109 @@
+//! Searches that run.
+
+ghost use Rattle.std.specs.Prelude.{◌≡◌, ◌<◌, ◌++◌, ◌∷◌, ◌==◌, [], not, filter, length, IfOk};
+ghost use Rattle.plain_world.specs.Admitting.{search_with};
+ghost use Rattle.plain_world.specs.Events.{with_ready};
+
+use crate::settings::SEARCH_LIMIT;
+use memory::{Refused, vec_with_room};
+use plane::Shape;
+use std::alloc::Allocator;
+use std::marker::Model;
+
+/// A search that runs: whose it is, its window, and whether it has answered Ready.
+#[derive(Clone, Copy, Debug, PartialEq, Eq)]
+pub struct Search {
+    pub number: u64,
+    pub seat: u32,
+    pub window: Shape,
+    pub ready: bool,
+}
+
+/// The searches that run, with room for as many as may run at once. A contract sees their list.
+#[derive(Debug, Drop)]
+pub(crate) struct Searches<A: Allocator> {
+    list: Vec<Search, A>,
+}
+
+impl<A: Allocator> Model for Searches<A> {
+    ghost use Rattle.std.specs.Prelude.{List, ◌≤◌, vec_capacity};
+    ghost use Rattle.plain_world.specs.declared.searches.Search.{Search};
+    ghost use Rattle.plain_world.specs.declared.settings.TheConstants.{SEARCH_LIMIT};
+
+    ghost Value = { List Search };
+
+    ghost view = { λ s. s.list.items };
+
+    ghost invariant = { λ s. SEARCH_LIMIT ≤ vec_capacity s.list };
+}
+
+impl<A: Allocator> Searches<A> {
+    /// No searches.
+    pub fn new(alloc: A) -> Result<Self, Refused>
+        ensures { IfOk result (λ searches. searches ≡ []) }
+    {
+        let list = vec_with_room(alloc, SEARCH_LIMIT)?;
+        Ok(Searches { list })
+    }
+
+    /// How many run.
+    pub fn len(&self) -> usize
+        ensures { result ≡ length self.now }
+    {
+        self.list.len()
+    }
+
+    /// The search of a number.
+    pub fn get(&self, number: u64) -> Option<Search>
+        ensures { result ≡ search_with number self.now }
+    {
+        search_in(&self.list, number)
+    }
+
+    /// Takes a search in. It takes no memory.
+    pub fn push(&mut self, search: Search)
+        requires { length self.old < SEARCH_LIMIT }
+        ensures { self.new ≡ self.old ++ search ∷ [] }
+    {
+        self.list.push_reserved(search);
+    }
+
+    /// Marks the search of a number as ready.
+    pub fn make_ready(&mut self, number: u64)
+        ensures { self.new ≡ with_ready number self.old }
+    {
+        make_ready(&mut self.list, number);
+    }
+
+    /// Takes the search of a number out.
+    pub fn forget(&mut self, number: u64)
+        ensures { self.new ≡ filter (λ s. not (s.number == number)) self.old }
+    {
+        self.list.retain(|search| search.number != number);
+    }
+}
+
+/// The search of a number.
+fn search_in(searches: &[Search], number: u64) -> Option<Search>
+    ensures { result ≡ search_with number searches.now }
+{
+    for search in searches {
+        if search.number == number {
+            return Some(*search);
+        }
+    }
+    None
+}
+
+/// Marks the search of a number as ready.
+fn make_ready(searches: &mut [Search], number: u64)
+    ensures { searches.new ≡ with_ready number searches.old }
+{
+    if let Some((first, rest)) = searches.split_first_mut() {
+        if first.number == number {
+            first.ready = true;
+        } else {
+            make_ready(rest, number);
+        }
+    }
+}

@@ -1,0 +1,142 @@
+//! Seats and searches.
+
+ghost use Rattle.std.specs.Prelude.{◌≡◌, ◌≤◌, ◌<◌, ◌+◌, ◌++◌, [], ◌∷◌, false, length, IfOk, IsTrue, Some};
+ghost use Rattle.memory.specs.Refused.{refused};
+ghost use Rattle.audit_trail.specs.Listing.{Listed};
+ghost use Rattle.plain_world.specs.declared.searches.Search.{Search};
+ghost use Rattle.plain_world.specs.Admitting.{search_with};
+ghost use Rattle.plain_world.specs.Finding.{FindsAll};
+ghost use Rattle.plain_world.specs.Events.{Happens, TakeSeat, Finish, DropSearch, Number, Done, Rows, reply_of, with_ready, without_search};
+
+use crate::answers::Answer;
+use crate::faults::Fault;
+use crate::listing::{answered, ids_found, listed};
+use crate::searches::Search;
+use crate::settings::SEARCH_LIMIT;
+use crate::worlds::PlainWorld;
+use audit_trail::{Record, TrailFault};
+use features::{Action, Meter, Name, Subject};
+use memory::{GrowVec, Refused, another};
+use plane::Shape;
+use std::alloc::Allocator;
+
+impl<A: Allocator> PlainWorld<A> {
+    /// Gives a seat to the subject of a name, and answers its number, from 1. X13 where there is no such subject, X14
+    /// where all seats are given, X12 where a growth is refused.
+    pub fn seat(&mut self, name: Name) -> Result<u32, Fault>
+        ensures { Happens (TakeSeat name) self.old self.new (reply_of Number result) }
+    {
+        let subject = self.may_sit(name)?;
+        self.seats.make_room(1)?;
+        self.seats.push_reserved(subject);
+        Ok(self.seats.len() as u32)
+    }
+
+    /// Takes in a search that the index has opened for a seat. It takes no memory.
+    pub fn enter_search(&mut self, seat: u32, number: u64, window: Shape)
+        requires few { length self.old.searches < SEARCH_LIMIT }
+        requires left { number < u64.MAX }
+        ensures { self.new ≡ record self.old { searches = self.old.searches ++ record { number = number; seat = seat; window = window; ready = false } ∷ []; next_search = number + 1 } }
+    {
+        self.searches.push(Search {
+            number,
+            seat,
+            window,
+            ready: false,
+        });
+        self.next_search = number + 1;
+    }
+
+    /// Marks a search as one that has answered Ready.
+    pub fn make_ready(&mut self, number: u64)
+        ensures { self.new ≡ record self.old { searches = with_ready number self.old.searches } }
+    {
+        self.searches.make_ready(number);
+    }
+
+    /// Takes a search out that the index has given up.
+    pub fn forget_search(&mut self, number: u64)
+        ensures { self.new ≡ without_search number self.old }
+    {
+        self.searches.forget(number);
+    }
+
+    /// Gives a search up. X1 where the seat was not given or no such search runs, X2 where it is another seat's. It takes
+    /// no memory.
+    pub fn drop_search(&mut self, seat: u32, number: u64) -> Result<(), Fault>
+        ensures { Happens (DropSearch seat number) self.old self.new (reply_of (λ _. Done) result) }
+    {
+        self.may_go_on(seat, number)?;
+        self.searches.forget(number);
+        Ok(())
+    }
+}
+
+impl<A: Allocator + Copy> PlainWorld<A> {
+    /// Finishes a search for which the index has found these pairs of an id and a shape, among them the id of every feature
+    /// that meets the window if the search has answered Ready. Its answer has the rows that are listed now, by the policy in
+    /// force and at the shapes that stand in the store, and is written to the trail. Each id that was found is looked up
+    /// once, which costs a tick. X1 where the seat was not given or no such search runs, X2 where it is another seat's, X3
+    /// where it has not answered Ready, X10 where the trail is full, X12 where a growth is refused.
+    pub fn finish(
+        &mut self,
+        seat: u32,
+        number: u64,
+        found: &[(u64, Shape)],
+        meter: &mut Meter,
+    ) -> Result<Answer<A>, Fault>
+        requires found { (s : Search) → search_with number self.old.searches ≡ Some s → IsTrue s.ready → FindsAll self.old.state.features s.window found.now }
+        ensures happens { Happens (Finish seat number) self.old self.new (reply_of Rows result) }
+        ensures metered { meter.new ≤ meter.old + length found.now }
+    {
+        let (subject, running) = self.may_finish(seat, number)?;
+        let answer = self.answer(subject, running.window, found, meter)?;
+        let entry = answered(self.alloc, seat, &answer)?;
+        match self.trail.prepare(entry) {
+            Ok(shared) => {
+                self.trail.put(shared);
+                self.searches.forget(running.number);
+                Ok(answer)
+            }
+            Err(fault) => Err(Fault::Memory(want_of(fault))),
+        }
+    }
+
+    /// What a subject is answered for a window, for which these pairs were found.
+    fn answer(
+        &self,
+        subject: Subject,
+        window: Shape,
+        found: &[(u64, Shape)],
+        meter: &mut Meter,
+    ) -> Result<Answer<A>, Refused>
+        requires { FindsAll self.now.state.features window found.now }
+        ensures told { IfOk result (λ a. Listed self.now.state subject window a.rows
+            × (a ≡ record { subject = subject; window = window; decider = self.now.state.decider; rows = a.rows })) }
+        ensures metered { meter.new ≤ meter.old + length found.now }
+    {
+        let ids = ids_found(self.alloc, found)?;
+        let folded = self.decider.fold(&subject, &Action::Read)?;
+        let rows = listed(
+            self.alloc,
+            &folded,
+            &window,
+            &self.store,
+            ids.as_slice(),
+            meter,
+        )?;
+        let decider = another(&self.decider)?;
+        Ok(Answer::new(subject, window, decider, rows))
+    }
+}
+
+/// The refusal for which a trail that is not full takes no record.
+pub(crate) fn want_of(fault: TrailFault) -> Refused
+    requires { fault ≡ TrailFault.Memory refused }
+{
+    match fault {
+        TrailFault::Memory(refusal) => refusal,
+        TrailFault::Full => unreachable!(),
+        TrailFault::NoRecord => unreachable!(),
+    }
+}

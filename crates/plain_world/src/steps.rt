@@ -1,0 +1,12 @@
+//! What `advance` answers.
+
+use search_tree::Step;
+
+/// What `advance` answers.
+#[derive(Clone, Copy, Debug, PartialEq, Eq)]
+pub enum Advance {
+    /// The walk of the next change made a step.
+    Walked(Step),
+    /// Nothing is left to be placed.
+    AllPlaced,
+}

@@ -1,0 +1,243 @@
+//! The world: what stands, and how it is opened and read.
+
+ghost use Rattle.std.specs.Prelude.{◌≡◌, ◌≤◌, length, IfOk, IfErr};
+ghost use Rattle.std.specs.Arc.{arc_value};
+ghost use Rattle.memory.specs.Refused.{refused};
+ghost use Rattle.audit_trail.specs.Legal.{IsLegal, replay};
+ghost use Rattle.plain_world.specs.States.{opened};
+
+use crate::faults::Fault;
+use crate::searches::Searches;
+use crate::settings::{Limits, ROLLED_LIMIT, STEP_LIMIT, Starts};
+use crate::staging::Transaction;
+use audit_trail::{RECORD_LIMIT, Trail};
+use decision::Decider;
+use features::{FEATURE_LIMIT, Feature, Store, Subject, Subjects};
+use memory::{Refused, another, shared};
+use policy_text::Document;
+use std::alloc::{Allocator, Global};
+use std::marker::Model;
+use std::sync::Arc;
+
+/// The state at which a trail begins.
+#[derive(Debug, Drop)]
+pub struct Base<A: Allocator> {
+    pub features: Vec<Feature, A>,
+    pub version: u64,
+    pub decider: Arc<Decider>,
+}
+
+impl<A: Allocator> Model for Base<A> {
+    ghost use Rattle.std.specs.Arc.{arc_value};
+    ghost use Rattle.std.specs.Coded.{code_by, codes};
+    ghost use Rattle.audit_trail.specs.Records.{PlainState};
+    ghost use Rattle.plain_world.specs.Coding.{StoredState, stored_state, restored_state, restored_state-stored_state};
+
+    ghost Value = { PlainState };
+
+    ghost coded = { code_by StoredState (Prim.hlevel codes) stored_state restored_state restored_state-stored_state };
+
+    ghost view = { λ b. record { features = b.features.items; version = b.version; decider = arc_value b.decider } };
+}
+
+/// The world of many sessions without its index: the features, the policy in force and the trail, the seats that were
+/// given, and the searches and transactions that are under way. A contract sees it as plain data.
+#[derive(Drop)]
+pub struct PlainWorld<A: Allocator> {
+    pub(crate) alloc: A,
+    pub(crate) subjects: Subjects,
+    pub(crate) opening: Arc<Decider>,
+    pub(crate) starts: Starts,
+    pub(crate) limits: Limits,
+    pub(crate) seats: Vec<Subject, A>,
+    pub(crate) base: Base<A>,
+    pub(crate) trail: Trail<A>,
+    pub(crate) store: Store<A>,
+    pub(crate) version: u64,
+    pub(crate) decider: Arc<Decider>,
+    pub(crate) searches: Searches<A>,
+    pub(crate) next_search: u64,
+    pub(crate) transactions: Vec<Transaction<A>, A>,
+    pub(crate) next_transaction: u64,
+}
+
+impl<A: Allocator> Model for PlainWorld<A> {
+    ghost use Rattle.std.specs.Arc.{arc_value};
+    ghost use Rattle.std.specs.Coded.{code_by, codes};
+    ghost use Rattle.plain_world.specs.Coding.{StoredWorld, stored_world, restored_world, restored_world-stored_world};
+    ghost use Rattle.plain_world.specs.States.{WorldData, Keeps};
+
+    ghost Value = { WorldData };
+
+    ghost coded = { code_by StoredWorld (Prim.hlevel codes) stored_world restored_world restored_world-stored_world };
+
+    ghost view = { λ w. record {
+      subjects = w.subjects;
+      opening = arc_value w.opening;
+      starts = w.starts;
+      limits = w.limits;
+      seats = w.seats.items;
+      base = w.base;
+      first = w.trail.first;
+      trail = w.trail.records;
+      state = record { features = w.store; version = w.version; decider = arc_value w.decider };
+      searches = w.searches;
+      next_search = w.next_search;
+      transactions = w.transactions.items;
+      next_transaction = w.next_transaction;
+    } };
+
+    ghost invariant = { λ w. Keeps w.limits w.seats.items w.base w.trail.records (record { features = w.store; version = w.version; decider = arc_value w.decider }) };
+}
+
+impl<A: Allocator> PlainWorld<A> {
+    /// The trail since the last roll. It is legal from its base, and the state is its replay.
+    pub fn trail(&self) -> &Trail<A>
+        ensures records { result.now.records ≡ self.now.trail }
+        ensures first { result.now.first ≡ self.now.first }
+        ensures legal { IsLegal self.now.seats self.now.base self.now.trail }
+        ensures replayed { replay self.now.base self.now.trail ≡ self.now.state }
+    {
+        &self.trail
+    }
+
+    /// The document in force.
+    pub fn document(&self) -> &Document<Global>
+        ensures { result.now ≡ self.now.state.decider.document }
+    {
+        self.decider.document()
+    }
+
+    /// The decider in force.
+    pub fn decider(&self) -> &Decider
+        ensures { result.now ≡ self.now.state.decider }
+    {
+        &self.decider
+    }
+
+    /// The edition of the document in force.
+    pub fn edition(&self) -> u64
+        ensures { result ≡ self.now.state.decider.edition }
+    {
+        self.decider.edition()
+    }
+
+    /// How many features there are.
+    pub fn len(&self) -> usize
+        ensures { result ≡ length self.now.state.features }
+    {
+        self.store.len()
+    }
+}
+
+impl<A: Allocator + Copy> PlainWorld<A> {
+    /// A world with no features and no seats, by a document of the first edition. Where a growth is refused, the document
+    /// is handed back.
+    pub fn open(
+        alloc: A,
+        heap: Global,
+        subjects: Subjects,
+        document: Document<Global>,
+    ) -> Result<Self, (Document<Global>, Fault)>
+        ensures ok { IfOk result (λ w. w ≡ opened subjects (record { document = document; edition = 1 })
+            (record { generation = 0; counter = 0; search = 1; version = 0; edition = 1; rolled = 0 })
+            (record { steps = STEP_LIMIT; records = RECORD_LIMIT; features = FEATURE_LIMIT })) }
+        ensures err { IfErr result (λ e. e ≡ (document, Fault.Memory refused)) }
+    {
+        let starts = Starts {
+            generation: 0,
+            counter: 0,
+            search: 1,
+            version: 0,
+            edition: 1,
+            rolled: 0,
+        };
+        let limits = Limits {
+            steps: STEP_LIMIT,
+            records: RECORD_LIMIT,
+            features: FEATURE_LIMIT as u32,
+        };
+        PlainWorld::open_at(alloc, heap, subjects, document, starts, limits)
+    }
+
+    /// The same, where the numbers start elsewhere and the limits are other ones, for tests of what comes at their ends.
+    pub fn open_at(
+        alloc: A,
+        heap: Global,
+        subjects: Subjects,
+        document: Document<Global>,
+        starts: Starts,
+        limits: Limits,
+    ) -> Result<Self, (Document<Global>, Fault)>
+        requires rolled { starts.rolled ≤ ROLLED_LIMIT }
+        requires records { limits.records ≤ RECORD_LIMIT }
+        requires features { limits.features ≤ FEATURE_LIMIT }
+        requires steps { limits.steps ≤ STEP_LIMIT }
+        ensures ok { IfOk result (λ w. w ≡ opened subjects (record { document = document; edition = starts.edition }) starts limits) }
+        ensures err { IfErr result (λ e. e ≡ (document, Fault.Memory refused)) }
+    {
+        let decider = match made_decider(heap, &document, starts.edition) {
+            Ok(decider) => decider,
+            Err(refusal) => return Err((document, Fault::Memory(refusal))),
+        };
+        match PlainWorld::opened(alloc, subjects, decider, starts, limits) {
+            Ok(world) => Ok(world),
+            Err(refusal) => Err((document, Fault::Memory(refusal))),
+        }
+    }
+
+    /// A world that a decider opens.
+    fn opened(
+        alloc: A,
+        subjects: Subjects,
+        decider: Arc<Decider>,
+        starts: Starts,
+        limits: Limits,
+    ) -> Result<Self, Refused>
+        requires rolled { starts.rolled ≤ ROLLED_LIMIT }
+        requires records { limits.records ≤ RECORD_LIMIT }
+        requires features { limits.features ≤ FEATURE_LIMIT }
+        ensures { IfOk result (λ w. w ≡ opened subjects (arc_value decider) starts limits) }
+    {
+        let first = another(&decider)?;
+        let opening = another(&decider)?;
+        let searches = Searches::new(alloc)?;
+        let base = Base {
+            features: Vec::new(alloc),
+            version: starts.version,
+            decider: first,
+        };
+        Ok(PlainWorld {
+            alloc,
+            subjects,
+            opening,
+            starts,
+            limits,
+            seats: Vec::new(alloc),
+            base,
+            trail: Trail::starting_at(alloc, starts.rolled + 1),
+            store: Store::new(alloc),
+            version: starts.version,
+            decider,
+            searches,
+            next_search: starts.search,
+            transactions: Vec::new(alloc),
+            next_transaction: 1,
+        })
+    }
+}
+
+/// A decider of a copy of this document, under an edition.
+pub(crate) fn made_decider(
+    heap: Global,
+    document: &Document<Global>,
+    edition: u64,
+) -> Result<Arc<Decider>, Refused>
+    ensures { IfOk result (λ decider. arc_value decider ≡ record { document = document.now; edition = edition }) }
+{
+    let copy = document.copy(heap)?;
+    match Decider::new(copy, edition) {
+        Ok(decider) => Ok(shared(heap, decider)?),
+        Err(failed) => Err(failed.refusal),
+    }
+}

@@ -1,0 +1,115 @@
+-- In which case a walk is, what its step answers then, and where it stands afterwards: the first case that holds.
+use Rattle.std.specs.Prelude.{◌≡◌, ◌≢◌, ◌⊎◌, ◌+◌, ◌<◌, ℕ, true, false, List, map, Some, Result, Ok, Err, slice_get}
+use Rattle.memory.specs.declared.refused.Refused.{Refused}
+use Rattle.node_arena.specs.Slots.{value_at, taken_count}
+use Rattle.node_arena.specs.declared.TheConstants.{MAX_SLOTS}
+use Rattle.node_arena.specs.declared.handle.Handle.{Handle}
+use Rattle.predicate_locks.specs.Searches.{last_number}
+use Rattle.search_tree.specs.Dues.{LacksEntry}
+use Rattle.search_tree.specs.Penalties.{IsBest}
+use Rattle.search_tree.specs.Splitting.{HasGrown, HasSplit}
+use Rattle.search_tree.specs.Standings.{IsAside, IsHere, IsNowhere, IsUnlinked}
+use Rattle.search_tree.specs.Trees.{PlainTree, IsLeaf, root_level, tree_of}
+use Rattle.search_tree.specs.Walks.{HasDescended, IsHolder, NoneHolds}
+use Rattle.search_tree.specs.declared.answers.Step.{Step}
+use Rattle.search_tree.specs.declared.answers.Step.TheVariants.{Moved, Split, Installed, Restarted, Placed}
+use Rattle.search_tree.specs.declared.fault.TreeFault.{TreeFault}
+use Rattle.search_tree.specs.declared.fault.TreeFault.TheVariants.{Held, Full, TooHigh, Spent, Memory}
+use Rattle.tree_theory.specs.Changes.{IsInstalled, IsPlaced}
+use Rattle.tree_theory.specs.KeyClasses.{Class}
+use Rattle.tree_theory.specs.Nodes.{Node, size_of}
+use Rattle.tree_theory.specs.Nodes.PlainBody.{Inner}
+use Rattle.tree_theory.specs.declared.TheConstants.{NODE_SIZE, TOP_LEVEL}
+use Rattle.tree_theory.specs.declared.place.Place.{Place}
+use Rattle.tree_theory.specs.declared.place.Place.TheVariants.{Root, Linked, Unlinked, Retired}
+
+-- A change that makes room for what a walk brings, or that has to come before: the right node of this marked node
+-- gets its entry; this full node is parted; the full root grows.
+pub data Change : Type 0 where
+  Linking : Handle → Change
+  Parting : Handle → Change
+  Growing : Change
+
+module _ (C : Class) (t : PlainTree C.Key C.Query C.Item) where
+  -- a marked node under this full parent, which stands at this place
+  pub record IsUnderFull (at parent : Handle) (place : Place) : Type 0 where
+    pub node : Node C
+    pub is : value_at t.nodes at ≡ Some node
+    pub linked : node.place ≡ Linked parent true
+    pub above : Node C
+    pub above_is : value_at t.nodes parent ≡ Some above
+    pub full : size_of above.body ≡ NODE_SIZE
+    pub stands : above.place ≡ place
+
+  -- The change to begin with where the right node of this marked node is to get its entry. It is that one where their
+  -- parent has room. A full parent is parted, or the root grows; but where the parent is marked or unlinked itself,
+  -- a right node has to get its entry there first.
+  pub data BeginsWith (change : Change) : Handle → Type 0 where
+    has_room : {at : Handle} → LacksEntry C t at → change ≡ Linking at → BeginsWith change at
+    under_linked : {at parent other : Handle} → IsUnderFull at parent (Linked other false) → change ≡ Parting parent → BeginsWith change at
+    under_root : {at parent : Handle} → IsUnderFull at parent Root → change ≡ Growing → BeginsWith change at
+    under_marked : {at parent other : Handle} → IsUnderFull at parent (Linked other true) → BeginsWith change parent → BeginsWith change at
+    under_unlinked : {at parent left : Handle} → IsUnderFull at parent (Unlinked left) → BeginsWith change left → BeginsWith change at
+
+  -- the change to begin with where there is to be room in a full node, by its place
+  abbrev pub MakesRoom : Handle → Place → Change → Type 0
+  MakesRoom at Root change = change ≡ Growing
+  MakesRoom at (Linked parent false) change = change ≡ Parting at
+  MakesRoom at (Linked parent true) change = BeginsWith change at
+  MakesRoom at (Unlinked left) change = BeginsWith change left
+  MakesRoom at (Retired stamp) change = ⊥
+
+  -- an inner node that may take the key, and the child of an entry of least penalties, with the entry's key
+  pub record IsWayDown (growth second_growth : C.Key → C.Key → ℕ) (at : Handle) (key : C.Key) (child : Handle) (old : C.Key) : Type 0 where
+    pub here : IsHere C t.nodes at key
+    pub node : Node C
+    pub is : value_at t.nodes at ≡ Some node
+    pub entries : List (C.Key × Handle)
+    pub body : node.body ≡ Inner entries
+    pub place : ℕ
+    pub entry : slice_get entries place ≡ Some (old, child)
+    pub best : IsBest growth second_growth (map (λ entry. entry.0) entries) key place
+
+  module _ (at : Handle) (item : C.Item) where
+    -- a leaf that may take the item, as far as its entry goes
+    pub record IsAtLeaf (leaf : Node C) : Type 0 where
+      pub here : IsHere C t.nodes at (C.key_of item)
+      pub is : value_at t.nodes at ≡ Some leaf
+      pub body : IsLeaf leaf.body
+
+    -- a leaf that may take the item, and no search that has seen it looks for the item
+    pub record IsFree (leaf : Node C) : Type 0 where
+      pub at_leaf : IsAtLeaf leaf
+      pub free : NoneHolds C t.running leaf.attached item
+
+    -- the change to begin with: for a right node that has no entry yet, or for a full leaf
+    abbrev pub Wants : Change → Type 0
+    Wants change =
+        ((left : Handle) × IsUnlinked t.nodes at left × BeginsWith change left)
+        ⊎ ((leaf : Node C) × IsFree leaf × (size_of leaf.body ≡ NODE_SIZE) × MakesRoom at leaf.place change)
+
+module _ (C : Class) (t u : PlainTree C.Key C.Query C.Item) (at now : Handle) where
+  -- What a change answers, what it leaves, and where the walk stands now. After a split that is the new right node. A
+  -- change is refused where the counter is at its end, where no slots are left, where the root stands at the highest
+  -- level, or where there is no memory.
+  pub data Answers : Change → Result Step TreeFault → Type 0 where
+    links : {parent left right : Handle} → IsInstalled (tree_of C t) (tree_of C u) parent left right → now ≡ at → Answers (Linking left) (Ok Installed)
+    counter_ends : {left : Handle} → t.counter ≡ last_number → Answers (Linking left) (Err Spent)
+    parts : {full : Handle} → HasSplit t.nodes u.nodes full now → Answers (Parting full) (Ok Split)
+    no_slot : {full : Handle} → MAX_SLOTS < taken_count t.nodes + 1 → Answers (Parting full) (Err Full)
+    no_memory : {full : Handle} {refusal : Refused} → Answers (Parting full) (Err (Memory refusal))
+    grows : HasGrown C t.nodes u.nodes t.root t.counter → now ≡ at → Answers Growing (Ok Split)
+    top_level : root_level t ≡ TOP_LEVEL → Answers Growing (Err TooHigh)
+    no_slots : root_level t ≢ TOP_LEVEL → MAX_SLOTS < taken_count t.nodes + 2 → Answers Growing (Err Full)
+    no_memory_to_grow : {refusal : Refused} → Answers Growing (Err (Memory refusal))
+
+  -- What a step of a walk of this pair answers that stands here, by the first case that holds, what it leaves, and
+  -- where the walk stands now. At most one of the cases can be said of a tree, a node and an item.
+  pub data TakesStep (growth second_growth : C.Key → C.Key → ℕ) (pair : ℕ × C.Item) : Result Step TreeFault → Type 0 where
+    begins_anew : IsNowhere t.nodes at → u ≡ t → now ≡ t.root → TakesStep growth second_growth pair (Ok Restarted)
+    climbs : IsAside C t.nodes at now (C.key_of pair.1) → u ≡ t → TakesStep growth second_growth pair (Ok Moved)
+    descends : {old : C.Key} → IsWayDown C t growth second_growth at (C.key_of pair.1) now old → HasDescended C t u at now old (C.key_of pair.1) → TakesStep growth second_growth pair (Ok Moved)
+    wants_memory : {child : Handle} {old : C.Key} {refusal : Refused} → IsWayDown C t growth second_growth at (C.key_of pair.1) child old → TakesStep growth second_growth pair (Err (Memory refusal))
+    is_held : {leaf : Node C} {search : ℕ} → IsAtLeaf C t at pair.1 leaf → IsHolder C t.running leaf.attached pair.1 search → TakesStep growth second_growth pair (Err (Held search))
+    places : {leaf : Node C} → IsFree C t at pair.1 leaf → size_of leaf.body < NODE_SIZE → IsPlaced (tree_of C t) (tree_of C u) at pair → now ≡ at → TakesStep growth second_growth pair (Ok Placed)
+    makes : {change : Change} {answer : Result Step TreeFault} → Wants C t at pair.1 change → Answers change answer → TakesStep growth second_growth pair answer

@@ -1,0 +1,40 @@
+-- A session's line that a session by itself knows too, and the visits of an open search, one after another.
+use Rattle.std.proofs.Common.{◌≡◌, ℕ, suc, ◌+◌, ◌<◌, List, Option, None, Ok, Err, sym, ap, subst, arith}
+use Rattle.std.specs.Bool.{MatchBool}
+use Rattle.features.specs.declared.rows.Change.{Change}
+use Rattle.plain_world.specs.declared.faults.Fault.{Fault}
+use Rattle.search_tree.specs.declared.answers.Visit.TheVariants as visits
+use Rattle.plain_world.specs.Events.{VisitNext, Happens, Visited, Refused}
+use Rattle.plain_world.specs.States.{WorldData}
+use Rattle.sessions.specs.Desks.{Answers}
+use Rattle.sessions.specs.Replies.{SaidData}
+use Rattle.sessions.specs.Scripts.{TakesPlain, desk_of, keeps_seat}
+use Rattle.sessions.specs.Services.{Serves, solo_subject}
+use Rattle.sessions.specs.States.{SessionState, desk, solo}
+use Rattle.sessions.specs.Stepping.{Drops, FindsMore, GoesOn}
+
+-- a session is served, and its open search stays or is given up
+pub plain_so : (text : List ℕ) (old mid new : SessionState) (before : Option ℕ) (old_world mid_world new_world : WorldData) (said : SaidData) → Answers solo_subject Serves text (desk_of old_world old) (desk_of mid_world mid) said
+    → mid.search ≡ old.search → new ≡ record mid { search = new.search } → before ≡ old.seat
+    → MatchBool (keeps_seat before mid.seat) ((new.search ≡ mid.search) × (new_world ≡ mid_world)) ((new.search ≡ None) × Drops before mid.search mid_world new_world)
+    → TakesPlain text old old_world new new_world said
+plain_so text old mid new before old_world mid_world new_world said answers search kept was settles =
+    let seat : new.seat ≡ mid.seat = ap (λ (x : SessionState). x.seat) kept in
+    let staged : new.staged ≡ mid.staged = ap (λ (x : SessionState). x.staged) kept in (
+      mid_world,
+      subst (λ (at : Option ℕ). Answers solo_subject Serves text (desk_of old_world old) (desk new.staged (solo mid_world at)) said) (sym seat)
+          (subst (λ (xs : List Change). Answers solo_subject Serves text (desk_of old_world old) (desk xs (solo mid_world mid.seat)) said) (sym staged) answers),
+      subst (λ (at : Option ℕ). MatchBool (keeps_seat old.seat at) ((new.search ≡ old.search) × (new_world ≡ mid_world)) ((new.search ≡ None) × Drops old.seat old.search mid_world new_world)) (sym seat)
+          (subst (λ (o : Option ℕ). MatchBool (keeps_seat old.seat mid.seat) ((new.search ≡ o) × (new_world ≡ mid_world)) ((new.search ≡ None) × Drops old.seat o mid_world new_world)) search
+          (subst (λ (at : Option ℕ). MatchBool (keeps_seat at mid.seat) ((new.search ≡ mid.search) × (new_world ≡ mid_world)) ((new.search ≡ None) × Drops at mid.search mid_world new_world)) was settles)),
+    )
+
+module _ (seat number count : ℕ) (start old new : WorldData) (more : FindsMore seat number count start old) where
+  pub finds_one_more : Happens (VisitNext seat number) old new (Visited visits.More) → FindsMore seat number (count + 1) start new
+  finds_one_more h = let next : suc count ≡ count + 1 = omega arith in subst (λ (n : ℕ). FindsMore seat number n start new) next (old, more, h)
+
+  pub goes_ready : (most : ℕ) → count < most → Happens (VisitNext seat number) old new (Visited visits.Ready) → GoesOn seat number most start new (Ok visits.Ready)
+  goes_ready most lt h = (count, old, lt, more, h)
+
+  pub goes_refused : (most : ℕ) (fault : Fault) → count < most → Happens (VisitNext seat number) old new (Refused fault) → GoesOn seat number most start new (Err fault)
+  goes_refused most fault lt h = (count, old, lt, more, h)

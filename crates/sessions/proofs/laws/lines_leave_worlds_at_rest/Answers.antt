@@ -1,0 +1,9 @@
+use Rattle.sessions.proofs.KeepLemmas.{idle_rests}
+use Rattle.sessions.proofs.LineLemmas.{line_rests}
+use Rattle.sessions.proofs.laws.lines_leave_worlds_at_rest.Goals as goal
+
+pub returns-clause-idle : goal.returns-clause-idle
+returns-clause-idle c = λ world idle. idle_rests world idle
+
+pub returns-clause-line : goal.returns-clause-line
+returns-clause-line c = λ text old new said told still. line_rests text old new said told still

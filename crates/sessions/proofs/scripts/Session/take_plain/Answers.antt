@@ -1,0 +1,8 @@
+use Rattle.std.proofs.Common.{rules}
+use Rattle.sessions.proofs.StepLemmas.{plain_so}
+use Rattle.sessions.proofs.scripts.Session.take_plain.Goals as goal
+
+pub returns-clause-takes : goal.returns-clause-takes
+returns-clause-takes g c =
+    plain_so c.args.text.now c.args.self.now c.be_served-said.new.self c.settle.new.self c.self.inside.seat c.args.world.now.plain c.be_served-said.new.world.plain c.settle.new.world.plain _
+    c.be_served-said.ensures.answers c.be_served-said.ensures.search c.settle.ensures.kept (search rules) c.settle.ensures.settles

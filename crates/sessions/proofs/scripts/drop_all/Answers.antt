@@ -1,0 +1,9 @@
+use Rattle.std.proofs.Common.{◌<◌, length, subst, arith}
+use Rattle.sessions.proofs.ScriptLemmas.{drops_more}
+use Rattle.sessions.proofs.scripts.drop_all.Goals as goal
+
+pub loop-session-preserved : goal.loop-session-preserved
+loop-session-preserved g c = record {
+  drops = drops_more c.args.sessions.now c.loop-session.session-index c.session-item.result _ _ _ c.loop-session-test.true c.session-item.is c.loop-session.invariant.drops c.drop_search.ensures;
+  none = λ none. (let within = subst (λ sessions. c.loop-session.session-index < length sessions) none c.loop-session-test.true in absurd (omega (arith, within)));
+}

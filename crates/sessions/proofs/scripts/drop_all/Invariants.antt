@@ -1,0 +1,9 @@
+use Rattle.std.proofs.Common.{◌≡◌, [], take}
+use Rattle.sessions.specs.Stepping.{AllDrop}
+use Rattle.sessions.proofs.scripts.drop_all.Given as goal
+
+abbrev pub invariant-loop-session : goal.invariant-loop-session
+invariant-loop-session g l = record {
+  drops : AllDrop (take l.session-index l.sessions) l.fn.world.plain l.world.plain;
+  none : l.sessions ≡ [] → l.world ≡ l.fn.world;
+}

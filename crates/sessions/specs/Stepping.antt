@@ -1,0 +1,131 @@
+-- Searches that go step by step, which lines of a script ask for: OPEN, STEP, FINISH.
+use Rattle.std.specs.Prelude.{◌≡◌, ◌⊎◌, ℕ, ◌<◌, ◌&&◌, zero, suc, Bool, nat_le, List, [], ◌∷◌, codes, Option, None, Some, MatchOption, Result, Ok, Err, if◌then◌else◌}
+use Rattle.std.specs.Bool.{MatchBool}
+use Rattle.std.specs.Str.{bytes_eq}
+use Rattle.plain_world.specs.declared.faults.Fault.{Fault as WorldFault}
+use Rattle.plain_world.specs.declared.faults.Fault.TheVariants as refusals
+use Rattle.search_tree.specs.declared.fault.TreeFault.TheVariants as tree
+use Rattle.plain_world.specs.declared.settings.TheConstants.{STEP_LIMIT}
+use Rattle.search_tree.specs.declared.answers.Visit.{Visit}
+use Rattle.search_tree.specs.declared.answers.Visit.TheVariants as visits
+use Rattle.plain_world.specs.Events.{VisitNext, Finish, DropSearch, Happens, Reply as EventReply, Visited, Refused, reply_of}
+use Rattle.plain_world.specs.States.{WorldData}
+use Rattle.sessions.specs.declared.faults.Fault.{Fault}
+use Rattle.sessions.specs.declared.faults.Fault.TheVariants.{Number, OutOfTurn}
+use Rattle.sessions.specs.declared.stepping.StepCommand.{StepCommand}
+use Rattle.sessions.specs.declared.stepping.StepCommand.TheVariants as commands
+use Rattle.sessions.specs.declared.stepping.StepVerb.{StepVerb}
+use Rattle.sessions.specs.declared.stepping.StepVerb.TheVariants as verbs
+use Rattle.sessions.specs.Commands.{◌>>=◌, end_at, or_fault, shape_at, word_at}
+use Rattle.sessions.specs.Services.{is_overrun}
+use Rattle.sessions.specs.States.{SessionState}
+use Rattle.sessions.specs.Words.{next_word, number_of}
+
+-- What a line asks.
+
+-- the command that a word names, of those that scripts alone know
+abbrev pub step_verb_of : List ℕ → Option StepVerb
+step_verb_of word =
+    if bytes_eq word (codes "OPEN") then Some verbs.Open
+    else if bytes_eq word (codes "STEP") then Some verbs.Step
+    else if bytes_eq word (codes "FINISH") then Some verbs.Finish
+    else None
+
+abbrev pub with_rest : List ℕ → Option StepVerb → Option (StepVerb × List ℕ)
+with_rest rest None = None
+with_rest rest (Some verb) = Some (verb, rest)
+
+abbrev pub of_word : Option (List ℕ × List ℕ) → Option (StepVerb × List ℕ)
+of_word None = None
+of_word (Some word) = with_rest word.1 (step_verb_of word.0)
+
+-- the command of a line that begins with one of these, and what is left behind it
+unfoldable pub step_verb_at : List ℕ → Option (StepVerb × List ℕ)
+step_verb_at text = of_word (next_word text)
+
+-- one search of a session is open at a time
+abbrev pub step_allowed : Bool → StepVerb → Result (Unit {0}) Fault
+step_allowed has_search verbs.Open = if has_search then Err OutOfTurn else Ok tt
+step_allowed has_search verbs.Step = if has_search then Ok tt else Err OutOfTurn
+step_allowed has_search verbs.Finish = if has_search then Ok tt else Err OutOfTurn
+
+-- how many steps are asked for: 1 to 1,000,000
+abbrev pub step_count : ℕ → Result ℕ Fault
+step_count number = if nat_le 1 number && nat_le number STEP_LIMIT then Ok number else Err Number
+
+unfoldable pub step_at : List ℕ → Result StepCommand Fault
+step_at text = do
+  word ← word_at text
+  number ← or_fault Number (number_of word.0)
+  count ← step_count number
+  _ ← end_at word.1
+  Ok (commands.Step count)
+
+-- the words of a command, from left to right
+unfoldable pub step_arguments_at : StepVerb → List ℕ → Result StepCommand Fault
+step_arguments_at verbs.Open text = shape_at text >>= λ shape. Ok (commands.Open shape)
+step_arguments_at verbs.Step text = step_at text
+step_arguments_at verbs.Finish text = end_at text >>= λ _. Ok commands.Finish
+
+-- what is asked of a session that has a search open or not
+unfoldable pub step_command_at : Bool → StepVerb → List ℕ → Result StepCommand Fault
+step_command_at has_search verb text = step_allowed has_search verb >>= λ _. step_arguments_at verb text
+
+-- What the events make of it.
+
+-- so many visits of a search, each of which finds more to see
+abbrev pub FindsMore : ℕ → ℕ → ℕ → WorldData → WorldData → Type 0
+FindsMore seat number zero old new = new ≡ old
+FindsMore seat number (suc count) old new =
+    (mid : WorldData) × FindsMore seat number count old mid × Happens (VisitNext seat number) mid new (Visited visits.More)
+
+-- So many visits of a search at most: all find more to see, or one before the last of them is the first that does not, and then
+-- the search is ready or the visit is refused.
+abbrev pub GoesOn : ℕ → ℕ → ℕ → WorldData → WorldData → Result Visit WorldFault → Type 0
+GoesOn seat number most old new (Ok visits.More) = FindsMore seat number most old new
+GoesOn seat number most old new end =
+    (before : ℕ) × (mid : WorldData) × (before < most) × FindsMore seat number before old mid × Happens (VisitNext seat number) mid new (reply_of Visited end)
+
+-- A search goes on until it is ready, and is finished, or a visit is refused before. (Visits that find more to see leave the
+-- world as it was.) The index may also never come to an end: then the search is given up.
+abbrev pub Seeks : ℕ → ℕ → WorldData → WorldData → EventReply → Type 0
+Seeks seat number old new reply =
+    ((fault : WorldFault) × Happens (VisitNext seat number) old new (Refused fault) × (reply ≡ Refused fault))
+    ⊎ (((mid : WorldData) × Happens (VisitNext seat number) old mid (Visited visits.Ready) × Happens (Finish seat number) mid new reply)
+    ⊎ ((new ≡ old) × (reply ≡ Refused (refusals.Tree tree.Overrun))))
+
+-- a search that is open is finished; one that the index gives up is gone, whatever else is refused leaves it open
+abbrev pub Finishes : ℕ → ℕ → WorldData → WorldData → EventReply → Type 0
+Finishes seat number old new reply =
+    (mid : WorldData) × Seeks seat number old mid reply
+    × MatchBool (is_overrun reply) ((end : EventReply) × Happens (DropSearch seat number) mid new end) (new ≡ mid)
+
+-- the open search of a session with this seat is given up, if it has both
+abbrev pub Drops : Option ℕ → Option ℕ → WorldData → WorldData → Type 0
+Drops at number_open old new =
+    MatchOption at (new ≡ old) (λ seat.
+    MatchOption number_open (new ≡ old) (λ number. (end : EventReply) × Happens (DropSearch seat number) old new end))
+
+-- those of all these sessions, one after another
+abbrev pub AllDrop : List SessionState → WorldData → WorldData → Type 0
+AllDrop [] old new = new ≡ old
+AllDrop (session ∷ sessions) old new = (mid : WorldData) × Drops session.seat session.search old mid × AllDrop sessions mid new
+
+-- What the session has open afterwards.
+
+abbrev pub opened_as : Result ℕ WorldFault → Option ℕ
+opened_as (Ok number) = Some number
+opened_as (Err fault) = None
+
+-- the index may have given the search up
+abbrev pub left_open : WorldFault → ℕ → Option ℕ
+left_open (refusals.Tree tree.Overrun) number = None
+left_open fault number = Some number
+
+abbrev pub stepped_as : {T : Type 0} → Result T WorldFault → ℕ → Option ℕ
+stepped_as (Ok visit) number = Some number
+stepped_as (Err fault) number = left_open fault number
+
+abbrev pub finished_as : {T : Type 0} → Result T WorldFault → ℕ → Option ℕ
+finished_as (Ok answer) number = None
+finished_as (Err fault) number = left_open fault number

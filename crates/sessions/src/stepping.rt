@@ -1,0 +1,184 @@
+//! Searches that go step by step: what a line of a script asks of one, and the calls of the world that it needs.
+
+ghost use Rattle.std.specs.Prelude.{◌≡◌, option_map};
+ghost use Rattle.plain_world.specs.Events.{Refused, Rows, reply_of};
+ghost use Rattle.sessions.specs.Services.{is_overrun};
+ghost use Rattle.sessions.specs.Stepping.{Finishes, GoesOn, left_open, step_allowed, step_arguments_at, step_at, step_command_at, step_count, step_verb_at, step_verb_of};
+
+use crate::calls::seek;
+use crate::commands::{as_number, as_shape, due_word, end};
+use crate::faults::Fault;
+use crate::words::next_word;
+use plane::Shape;
+use std::alloc::Allocator;
+use transactions::{Answer, Fault as WorldFault, STEP_LIMIT, TreeFault, Visit, World};
+
+/// What a line of a script asks of a search that goes step by step.
+#[derive(Clone, Copy, Debug, PartialEq, Eq)]
+pub enum StepCommand {
+    /// OPEN: to open a search of this window.
+    Open(Shape),
+    /// STEP: to make so many steps.
+    Step(u32),
+    /// FINISH: to go on until it is ready, and to list what was found.
+    Finish,
+}
+
+/// The first word of such a line. A session by itself does not know it.
+#[derive(Clone, Copy, Debug, PartialEq, Eq)]
+pub(crate) enum StepVerb {
+    Open,
+    Step,
+    Finish,
+}
+
+/// The command that a word names.
+fn step_verb_named(word: &[u8]) -> Option<StepVerb>
+    ensures { result ≡ step_verb_of word.now }
+{
+    if word == b"OPEN".as_slice() {
+        Some(StepVerb::Open)
+    } else if word == b"STEP".as_slice() {
+        Some(StepVerb::Step)
+    } else if word == b"FINISH".as_slice() {
+        Some(StepVerb::Finish)
+    } else {
+        None
+    }
+}
+
+/// The command of a line that begins with one of these, and what is left behind it.
+#[tactic(auto, unfolding(crate::specs::Stepping::step_verb_at))]
+pub(crate) fn read_step_verb(text: &[u8]) -> Option<(StepVerb, &[u8])>
+    ensures { option_map (λ r. (r.0, r.1.now)) result ≡ step_verb_at text.now }
+{
+    match next_word(text) {
+        None => None,
+        Some((word, rest)) => match step_verb_named(word) {
+            None => None,
+            Some(verb) => Some((verb, rest)),
+        },
+    }
+}
+
+/// What is asked of a session that has a search open or not. Faults in this order: `OutOfTurn`, then by the words from left to
+/// right, then `Command` for something left over.
+#[tactic(auto, unfolding(crate::specs::Stepping::step_command_at))]
+pub(crate) fn read_step_command(
+    has_search: bool,
+    verb: StepVerb,
+    rest: &[u8],
+) -> Result<StepCommand, Fault>
+    ensures { result ≡ step_command_at has_search verb rest.now }
+{
+    allow(has_search, verb)?;
+    step_arguments(verb, rest)
+}
+
+/// Whether the command may come now.
+fn allow(has_search: bool, verb: StepVerb) -> Result<(), Fault>
+    ensures { result ≡ step_allowed has_search verb }
+{
+    match verb {
+        StepVerb::Open if has_search => Err(Fault::OutOfTurn),
+        StepVerb::Open => Ok(()),
+        _ if has_search => Ok(()),
+        _ => Err(Fault::OutOfTurn),
+    }
+}
+
+/// Reads the words of a command.
+#[tactic(auto, unfolding(crate::specs::Stepping::step_arguments_at))]
+fn step_arguments(verb: StepVerb, rest: &[u8]) -> Result<StepCommand, Fault>
+    ensures { result ≡ step_arguments_at verb rest.now }
+{
+    match verb {
+        StepVerb::Open => Ok(StepCommand::Open(as_shape(rest)?)),
+        StepVerb::Step => step(rest),
+        StepVerb::Finish => {
+            end(rest)?;
+            Ok(StepCommand::Finish)
+        }
+    }
+}
+
+/// The words of STEP: how many steps.
+#[tactic(auto, unfolding(crate::specs::Stepping::step_at))]
+fn step(rest: &[u8]) -> Result<StepCommand, Fault>
+    ensures { result ≡ step_at rest.now }
+{
+    let (word, rest) = due_word(rest)?;
+    let number = as_number(word)?;
+    let count = as_count(number)?;
+    end(rest)?;
+    Ok(StepCommand::Step(count))
+}
+
+/// A number of steps, or `Number` where it is none from 1 to 1,000,000.
+fn as_count(number: u64) -> Result<u32, Fault>
+    ensures { result ≡ step_count number }
+{
+    if number < 1 || number > STEP_LIMIT as u64 {
+        return Err(Fault::Number);
+    }
+    Ok(number as u32)
+}
+
+/// Makes so many steps of a search at most: fewer where it is ready before, or a step is refused. S7 where the index gives the
+/// search up, which is gone then; X1 or X2 where no such search of the seat runs; X12 where a growth is refused.
+pub(crate) fn go_on<A: Allocator + Copy>(
+    world: &mut World<A>,
+    seat: u32,
+    number: u64,
+    steps: u32,
+) -> Result<Visit, WorldFault>
+    ensures { GoesOn seat number steps world.old.plain world.new.plain result }
+{
+    for _ in 0..steps {
+        match world.visit(seat, number) {
+            Ok(Visit::More) => {}
+            Ok(Visit::Ready) => return Ok(Visit::Ready),
+            Err(fault) => return Err(fault),
+        }
+    }
+    Ok(Visit::More)
+}
+
+/// Lets an open search go on until it is ready, and finishes it. S7 where the index gives it up, which is gone then; after every
+/// other fault it stays open: X10 where the trail is full, X12 where a growth is refused, X1 or X2 where no such search of
+/// the seat runs.
+pub(crate) fn finish_open<A: Allocator + Copy>(
+    world: &mut World<A>,
+    seat: u32,
+    number: u64,
+) -> Result<Answer<A>, WorldFault>
+    ensures { Finishes seat number world.old.plain world.new.plain (reply_of Rows result) }
+{
+    match seek(world, seat, number) {
+        Ok(answer) => Ok(answer),
+        Err(fault) => {
+            if is_overrun(&fault) {
+                let _ = world.drop_search(seat, number);
+            }
+            Err(fault)
+        }
+    }
+}
+
+/// Whether the index has given a search up.
+fn is_overrun(fault: &WorldFault) -> bool
+    ensures { result ≡ is_overrun (Refused fault.now) }
+{
+    matches!(fault, WorldFault::Tree(TreeFault::Overrun))
+}
+
+/// What a session has open after a fault: the index may have given the search up.
+pub(crate) fn left_open(fault: &WorldFault, number: u64) -> Option<u64>
+    ensures { result ≡ left_open fault.now number }
+{
+    if is_overrun(fault) {
+        None
+    } else {
+        Some(number)
+    }
+}

@@ -1,0 +1,204 @@
+-- What every world keeps is kept by its events.
+use Rattle.std.proofs.Common.{◌≡◌, ℕ, ◌<◌, ◌+◌, Bool, true, false, not, zero, suc, List, [], ◌∷◌, ◌++◌, map, length, Option, Some, None, Result, Ok, Err, refl, sym, ap, subst, ◌∙◌, IsTrue}
+use Rattle.std.specs.List.{All, Contains, slice_index_or}
+use Rattle.std.proofs.lemmas.List.{length-map}
+use Rattle.std.proofs.lemmas.List.Elements.{All-nil, All-cons}
+use Rattle.plane.specs.declared.point.Point.{Point}
+use Rattle.plane.specs.Rows.{Meet}
+use Rattle.features.specs.declared.actors.Subject.{Subject}
+use Rattle.features.specs.declared.rows.Change.{Change}
+use Rattle.features.specs.declared.rows.Feature.{Feature}
+use Rattle.policy_text.specs.Documents.{DocumentData}
+use Rattle.decision.specs.Deciders.{DeciderData}
+use Rattle.audit_trail.specs.Records.{answered}
+use Rattle.plain_world.specs.declared.faults.Fault.{Fault}
+use Rattle.plain_world.specs.declared.faults.Fault.TheVariants as faults
+use Rattle.plain_world.specs.declared.steps.Advance.TheVariants as advances
+use Rattle.plain_world.specs.declared.searches.Search.{Search}
+use Rattle.plain_world.specs.declared.settings.Limits.{Limits}
+use Rattle.plain_world.specs.declared.settings.Starts.{Starts}
+use Rattle.plain_world.specs.Admitting.{given, may_finish, may_go_on, may_open, may_step, own_search, owned, search_with, subject_at}
+use Rattle.plain_world.specs.Answers.{AnswerData}
+use Rattle.plain_world.specs.Events.{Event, TakeSeat, OpenSearch, Finish, DropSearch, AdvanceWalk, Begin, Stage, Commit, Abort, Govern, Roll, Reply, Done, Number, Advanced, Rows, Refused, Happens, recorded, without_search, without_transaction}
+use Rattle.plain_world.specs.Finding.{FindsAll}
+use Rattle.plain_world.specs.Laws.{IsUnderWay}
+use Rattle.plain_world.specs.Staging.{TransactionData, transaction_with, next_placement, with_step, one_placed}
+use Rattle.plain_world.specs.Walking.{IsWalkFor}
+use Rattle.plain_world.specs.States.{WorldData, opened}
+use Rattle.plain_world.proofs.AdmittedLemmas.{admitted, finisher, seat_same}
+use Rattle.plain_world.proofs.RefusalLemmas.{leaves}
+use Rattle.plain_world.proofs.RunLemmas.{and_then_ok, given_ok}
+use Rattle.plain_world.proofs.EventLemmas.{admitted as admits}
+use Rattle.plain_world.proofs.OrderLemmas.{opened_ordered, ordered_event}
+use Rattle.plain_world.proofs.UnderWayLemmas.{open_number, opened_way, way_event}
+use Rattle.search_tree.specs.Advances.{HasPlacedBehindNone}
+use Rattle.search_tree.specs.declared.answers.Step.TheVariants as steps
+use Rattle.search_tree.specs.declared.fault.TreeFault.TheVariants as tree
+use Rattle.search_tree.specs.Calls.{IsComplete, IsOpen, IsShut}
+use Rattle.search_tree.specs.Trees.{IsFirst, PlainWalk, SeenSearch, search_in}
+use Rattle.transactions.specs.Index.{HasFeatures, Index, IndexedWorld, IsWorld, Serves, frames}
+use Rattle.transactions.proofs.SearchLemmas.{has_number}
+use Rattle.transactions.proofs.ServeLemmas.{seen_of, serves_first, serves_opened, serves_placed, serves_shut}
+use Rattle.transactions.proofs.StepLemmas.{placed_happens, ended_happens}
+use Rattle.transactions.proofs.BesideLemmas.{Beside, beside_ended, serves_beside, beside_seat, beside_begin, beside_stage, beside_commit, beside_abort, beside_govern, beside_roll}
+
+abbrev pub indexed : WorldData → Index → IndexedWorld
+indexed w t = record { plain = w; index = t }
+
+-- an event, where the index then serves the new world
+pub world_by : (event : Event) (w v : WorldData) (t u : Index) (reply : Reply) → Happens event w v reply → IsWorld (indexed w t) → Serves v u → IsWorld (indexed v u)
+world_by event w v t u reply happens h serves = record {
+  ordered = ordered_event event w v reply happens h.ordered;
+  under_way = way_event event w v reply happens h.under_way;
+  serves = serves;
+}
+
+beside : (event : Event) (w v : WorldData) (t : Index) (reply : Reply) → Happens event w v reply → IsWorld (indexed w t) → Beside w v → IsWorld (indexed v t)
+beside event w v t reply happens h b = world_by event w v t t reply happens h (serves_beside w v t b h.serves)
+
+pub world_seat : (name : List ℕ) (w v : WorldData) (t : Index) (reply : Reply) → Happens (TakeSeat name) w v reply → IsWorld (indexed w t) → IsWorld (indexed v t)
+world_seat name w v t reply happens h = beside (TakeSeat name) w v t reply happens h (beside_seat name w v reply happens)
+
+pub world_begin : (seat : ℕ) (w v : WorldData) (t : Index) (reply : Reply) → Happens (Begin seat) w v reply → IsWorld (indexed w t) → IsWorld (indexed v t)
+world_begin seat w v t reply happens h = beside (Begin seat) w v t reply happens h (beside_begin seat w v reply happens)
+
+pub world_stage : (seat number : ℕ) (change : Change) (w v : WorldData) (t : Index) (reply : Reply) → Happens (Stage seat number change) w v reply → IsWorld (indexed w t) → IsWorld (indexed v t)
+world_stage seat number change w v t reply happens h = beside (Stage seat number change) w v t reply happens h (beside_stage seat number change w v reply h.under_way happens)
+
+pub world_abort : (seat number : ℕ) (w v : WorldData) (t : Index) (reply : Reply) → Happens (Abort seat number) w v reply → IsWorld (indexed w t) → IsWorld (indexed v t)
+world_abort seat number w v t reply happens h = beside (Abort seat number) w v t reply happens h (beside_abort seat number w v reply happens)
+
+pub world_commit : (seat number : ℕ) (w v : WorldData) (t : Index) (reply : Reply) → Happens (Commit seat number) w v reply → IsWorld (indexed w t) → IsWorld (indexed v t)
+world_commit seat number w v t reply happens h = beside (Commit seat number) w v t reply happens h (beside_commit seat number w v reply happens)
+
+pub world_govern : (seat : ℕ) (document : DocumentData) (w v : WorldData) (t : Index) (reply : Reply) → Happens (Govern seat document) w v reply → IsWorld (indexed w t) → IsWorld (indexed v t)
+world_govern seat document w v t reply happens h = beside (Govern seat document) w v t reply happens h (beside_govern seat document w v reply happens)
+
+pub world_roll : (seat : ℕ) (w v : WorldData) (t : Index) (reply : Reply) → Happens (Roll seat) w v reply → IsWorld (indexed w t) → IsWorld (indexed v t)
+world_roll seat w v t reply happens h = beside (Roll seat) w v t reply happens h (beside_roll seat w v reply happens)
+
+-- ---- searches
+
+-- a search that may go on is the one of its number
+pub goes_on_with : (seat number : ℕ) (w : WorldData) (s : Search) → may_go_on seat number w ≡ Ok s → search_with number w.searches ≡ Some s
+goes_on_with seat number w s e =
+    let a = and_then_ok (subject_at seat w) (λ _. own_search seat number w) s e in
+    let b = and_then_ok (given (search_with number w.searches)) (owned seat) s a.2 in
+    let same = seat_same seat b.0 s b.2 in
+    given_ok (search_with number w.searches) b.0 b.1 ∙ ap (λ (x : Search). Some x) same.0
+
+-- what is refused, and is no step, leaves the world as it was
+same_world : (w v : WorldData) (t : Index) → v ≡ w → IsWorld (indexed w t) → IsWorld (indexed v t)
+same_world w v t e h = subst (λ (x : WorldData). IsWorld (indexed x t)) (sym e) h
+
+pub world_drop_refused : (seat number : ℕ) (w v : WorldData) (t : Index) (fault : Fault) → Happens (DropSearch seat number) w v (Refused fault) → IsWorld (indexed w t) → IsWorld (indexed v t)
+world_drop_refused seat number w v t fault happens h = same_world w v t (leaves (DropSearch seat number) w v fault happens) h
+
+pub world_finish_refused : (seat number : ℕ) (w v : WorldData) (t : Index) (fault : Fault) → Happens (Finish seat number) w v (Refused fault) → IsWorld (indexed w t) → IsWorld (indexed v t)
+world_finish_refused seat number w v t fault happens h = same_world w v t (leaves (Finish seat number) w v fault happens) h
+
+pub world_dropped : (seat number : ℕ) (w v : WorldData) (t u : Index) → Happens (DropSearch seat number) w v Done → IsShut frames t u number → IsWorld (indexed w t) → IsWorld (indexed v u)
+world_dropped seat number w v t u happens shut h =
+    let d = admitted (may_go_on seat number w) w v Done _ refl happens in
+    world_by (DropSearch seat number) w v t u Done happens h
+    (subst (λ (x : WorldData). Serves x u) (sym d.2.0) (serves_shut w t u number d.0 h.serves h.under_way (goes_on_with seat number w d.0 d.1) shut))
+
+pub world_finished : (seat number : ℕ) (w v : WorldData) (t u : Index) (answer : AnswerData) → Happens (Finish seat number) w v (Rows answer) → IsShut frames t u number → IsWorld (indexed w t) → IsWorld (indexed v u)
+world_finished seat number w v t u answer happens shut h =
+    let d = admitted (may_finish seat number w) w v (Rows answer) _ refl happens in
+    let who = finisher seat number w d.0 d.1 in
+    let s : Search = d.0.1 in
+    let rows = d.2.0 in
+    let w1 : WorldData = recorded seat (answered d.0.0 s.window (map (λ row. row.id) rows) (map (λ row. row.version) rows)) w in
+    let serves1 : Serves w1 t = serves_beside w w1 t (record { searches = refl; next = refl; limits = refl; features = λ all f p. f; placements = λ all p. p }) h.serves in
+    let way1 : IsUnderWay w1 = record { searches = h.under_way.searches; transactions = h.under_way.transactions; within = h.under_way.within } in
+    let number_is : s.number ≡ number = has_number number w.searches s who.running in
+    world_by (Finish seat number) w v t u (Rows answer) happens h
+    (subst (λ (x : WorldData). Serves x u) (sym (d.2.3 ∙ ap (λ (n : ℕ). without_search n w1) number_is)) (serves_shut w1 t u number s serves1 way1 who.running shut))
+
+-- what is made of an element is made of the list's
+contains_map : {A B : Type 0} (f : A → B) (xs : List A) (x : A) → Contains xs x → Contains (map f xs) (f x)
+contains_map {A = A} f xs x has = (has.0, subst (λ (n : ℕ). has.0 < n) (sym (length-map xs f)) has.1, there xs has.0 ∙ ap f has.2)
+  where
+    there : (ys : List A) (k : ℕ) → slice_index_or (map f ys) k (f x) ≡ f (slice_index_or ys k x)
+    there [] k = refl
+    there (y ∷ ys) zero = refl
+    there (y ∷ ys) (suc k) = there ys k
+
+-- a search that has answered Ready has found all that `finish` looks up
+pub finds_all : (w : WorldData) (t : Index) (number : ℕ) (s : Search) (found : List (ℕ × List Point)) → Serves w t → search_with number w.searches ≡ Some s → IsTrue s.ready → IsComplete frames t number found → FindsAll w.state.features s.window found
+finds_all w t number s found h is ready complete =
+    let seen = seen_of w t number s h is in
+    go w.state.features h.features seen
+  where
+    Seen-it : Type 0
+    Seen-it = (seen : SeenSearch (List Point) (List Point)) × (search_in t number ≡ Some seen) × (seen.query ≡ s.window) × (seen.ready ≡ s.ready)
+
+    Named : Feature → Type 0
+    Named feature = Meet feature.shape s.window → Contains (map (λ (pair : ℕ × List Point). pair.0) found) feature.id
+
+    go : (features : List Feature) → HasFeatures h.contents features → Seen-it → FindsAll features s.window found
+    go [] has seen = All-nil Named
+    go (feature ∷ features) has seen =
+        All-cons Named feature features
+        (λ meet. contains_map (λ (pair : ℕ × List Point). pair.0) found (feature.id, feature.shape)
+        (complete seen.0 seen.1 (seen.3 ∙ ready) h.contents h.are_contents (feature.id, feature.shape) has.0 (subst (λ (query : List Point). Meet feature.shape query) (sym seen.2) meet)))
+        (go features has.1 seen)
+
+-- a search that is opened
+pub world_opened : (seat number search : ℕ) (window : List Point) (w v : WorldData) (t u : Index) → may_open seat w ≡ Ok number
+    → v ≡ record w { searches = w.searches ++ record { number = number; seat = seat; window = window; ready = false } ∷ []; next_search = number + 1 } → IsOpen frames t u window search → IsWorld (indexed w t) → IsWorld (indexed v u)
+world_opened seat number search window w v t u may is opens h =
+    world_by (OpenSearch seat window) w v t u (Number number) (admits (may_open seat w) number w v (Number number) _ may (is, refl)) h
+    (subst (λ (x : WorldData). Serves x u) (sym is) (serves_opened w t u seat number search window h.serves (open_number seat w number may) opens))
+
+-- a world whose index serves it on
+pub world_served : (w : WorldData) (t u : Index) → IsWorld (indexed w t) → Serves w u → IsWorld (indexed w u)
+world_served w t u h serves = record { ordered = h.ordered; under_way = h.under_way; serves = serves }
+
+-- a world that has just been opened
+pub world_first : (subjects : List Subject) (decider : DeciderData) (starts : Starts) (limits : Limits) (w : WorldData) (t : Index) → w ≡ opened subjects decider starts limits → IsFirst frames starts.counter starts.search limits.steps t → IsWorld (indexed w t)
+world_first subjects decider starts limits w t is first = subst (λ (x : WorldData). IsWorld (indexed x t)) (sym is) (record {
+  ordered = opened_ordered subjects decider starts limits;
+  under_way = opened_way subjects decider starts limits;
+  serves = serves_first subjects decider starts limits t first;
+})
+
+pub unready_of : (b : Bool) → not b ≡ true → b ≡ false
+unready_of true e = absurd cc
+unready_of false e = refl
+
+-- the same happens where worlds and reply are the same
+pub happens_as : (event : Event) (w x v y : WorldData) (one other : Reply) → w ≡ x → v ≡ y → one ≡ other → Happens event w v one → Happens event x y other
+happens_as event w x v y one other from to reply happens =
+    subst (λ (r : Reply). Happens event x y r) reply (subst (λ (z : WorldData). Happens event x z one) to (subst (λ (z : WorldData). Happens event z v one) from happens))
+
+pub plain_of : (one other : IndexedWorld) → one ≡ other → one.plain ≡ other.plain
+plain_of one other e = ap (λ (x : IndexedWorld). x.plain) e
+
+-- ---- walks
+
+-- the walk's pair is placed
+pub world_placed : (seat number : ℕ) (w v : WorldData) (t u : Index) (walk : PlainWalk (List Point)) (tr : TransactionData) → may_step seat number w ≡ Ok tr → transaction_with number w.transactions ≡ Some tr → IsWalkFor tr walk
+    → HasPlacedBehindNone frames t u (walk.key, walk.item) → v ≡ record w { transactions = with_step one_placed number w.transactions } → IsWorld (indexed w t) → IsWorld (indexed v u)
+world_placed seat number w v t u walk tr may found going placed is h =
+    world_by (AdvanceWalk seat number) w v t u (Advanced (advances.Walked steps.Placed)) (placed_happens seat number w tr (walk.key, walk.item) may going.next v is) h
+    (subst (λ (x : WorldData). Serves x u) (sym is) (serves_placed w t u number (walk.key, walk.item) h.serves placed
+    (λ x there. subst (λ (y : TransactionData). next_placement y ≡ Some (walk.key, walk.item)) (same_one tr x (sym found ∙ there)) going.next)))
+  where
+    same_one : (a b : TransactionData) → ◌≡◌ {A = Option TransactionData} (Some a) (Some b) → a ≡ b
+    same_one a b e = cc
+
+-- the walk is given up, and its transaction with it
+pub world_ended : (seat number : ℕ) (w v : WorldData) (t u : Index) (walk : PlainWalk (List Point)) (tr : TransactionData) → may_step seat number w ≡ Ok tr → IsWalkFor tr walk → Serves w u
+    → v ≡ without_transaction number w → IsWorld (indexed w t) → IsWorld (indexed v u)
+world_ended seat number w v t u walk tr may going serves is h =
+    world_by (AdvanceWalk seat number) w v t u (Refused (faults.Tree tree.Overrun)) (ended_happens seat number w tr (walk.key, walk.item) may going.next v is) h
+    (subst (λ (x : WorldData). Serves x u) (sym is) (serves_beside w (without_transaction number w) u (beside_ended number w w refl refl refl refl refl) serves))
+
+-- the walk is kept
+pub world_kept_walk : (w v : WorldData) (t u : Index) → v ≡ w → IsWorld (indexed w t) → Serves w u → IsWorld (indexed v u)
+world_kept_walk w v t u is h serves = subst (λ (x : WorldData). IsWorld (indexed x u)) (sym is) (world_served w t u h serves)
+
+pub index_of : (one other : IndexedWorld) → one ≡ other → one.index ≡ other.index
+index_of one other e = ap (λ (x : IndexedWorld). x.index) e

@@ -1,7 +1,0 @@
-use Rattle.transactions.proofs.AnswerLemmas.{piece_leads_on}
-use Rattle.transactions.proofs.RunLemmas.{sound_run}
-use Rattle.transactions.proofs.laws.every_piece_leads_on.Goals as goal
-
-pub returns : goal.returns
-returns c = λ old mid new before seat piece sound run happens.
-    piece_leads_on seat mid new piece (sound_run old before mid run sound) happens

@@ -1,5 +1,0 @@
-use Rattle.transactions.proofs.ForceLemmas.{forced}
-use Rattle.transactions.proofs.laws.policy_in_force_is_the_last.Goals as goal
-
-pub returns : goal.returns
-returns c = λ old new steps run. forced old steps new run

@@ -1,5 +1,0 @@
-use Rattle.transactions.proofs.RecordLemmas.{adds_alone}
-use Rattle.transactions.proofs.laws.records_are_added_alone.Goals as goal
-
-pub returns : goal.returns
-returns c = λ event old new reply happens. adds_alone event old new reply happens

@@ -1,0 +1,68 @@
+-- The index of a world, and what it owes to what is served.
+use Rattle.std.specs.Prelude.{◌≡◌, ℕ, Bool, List, [], ◌∷◌, Contains, length, take, Option}
+use Rattle.std.specs.Option.{option_map}
+use Rattle.plane.specs.declared.point.Point.{Point}
+use Rattle.plane.specs.Extents.{Extent, extent_of, joined}
+use Rattle.plane.specs.Rows.{Meet}
+use Rattle.features.specs.declared.rows.Feature.{Feature}
+use Rattle.frame_keys.specs.Keys.{Encloses, MayMeet}
+use Rattle.tree_theory.specs.Contents.{IsContents}
+use Rattle.tree_theory.specs.KeyClasses.{Class, class_of}
+use Rattle.search_tree.specs.Trees.{PlainTree, SeenSearch, search_in, tree_of}
+use Rattle.plain_world.specs.declared.searches.Search.{Search}
+use Rattle.plain_world.specs.Admitting.{search_with}
+use Rattle.plain_world.specs.Laws.{IsOrdered, IsUnderWay}
+use Rattle.plain_world.specs.Staging.{TransactionData, placements}
+use Rattle.plain_world.specs.States.{WorldData}
+
+-- the class of keys: a key is a frame, an item or a query a shape
+abbrev pub frames : Class
+frames = class_of Encloses MayMeet Meet extent_of joined
+
+abbrev pub Index : Type 0
+Index = PlainTree Extent (List Point) (List Point)
+
+-- a world: all that is served and under way, and its index
+pub record IndexedWorld : Type 0 where
+  pub plain : WorldData
+  pub index : Index
+
+-- what the index knows of a search, and the world: its window, and whether it has answered Ready
+abbrev pub seen_there : SeenSearch (List Point) (List Point) → List Point × Bool
+seen_there seen = (seen.query, seen.ready)
+
+abbrev pub told_here : Search → List Point × Bool
+told_here s = (s.window, s.ready)
+
+-- each of the pairs is among others
+abbrev pub AreAmong : List (ℕ × List Point) → List (ℕ × List Point) → Type 0
+AreAmong all [] = Unit {0}
+AreAmong all (pair ∷ pairs) = Contains all pair × AreAmong all pairs
+
+-- each feature's id and shape are
+abbrev pub HasFeatures : List (ℕ × List Point) → List Feature → Type 0
+HasFeatures all [] = Unit {0}
+HasFeatures all (feature ∷ features) = Contains all (feature.id, feature.shape) × HasFeatures all features
+
+-- each shape that an open transaction has placed is
+abbrev pub HasPlacements : List (ℕ × List Point) → List TransactionData → Type 0
+HasPlacements all [] = Unit {0}
+HasPlacements all (t ∷ ts) = AreAmong all (take t.placed (placements t.changes)) × HasPlacements all ts
+
+-- The index of a world has each feature's id and shape, and each shape that an open transaction has placed. It runs the
+-- searches that run, each with its window and as ready as it is.
+pub record Serves (w : WorldData) (index : Index) : Type 0 where
+  pub contents : List (ℕ × List Point)
+  pub are_contents : IsContents (tree_of frames index) contents
+  pub features : HasFeatures contents w.state.features
+  pub placements : HasPlacements contents w.transactions
+  pub searches : (number : ℕ) → option_map seen_there (search_in index number) ≡ option_map told_here (search_with number w.searches)
+  pub as_many : length index.running.running ≡ length w.searches
+  pub next : index.running.next ≡ w.next_search
+  pub limit : index.limit ≡ w.limits.steps
+
+-- what every world keeps: what is served and under way is in order, and the index serves it
+pub record IsWorld (w : IndexedWorld) : Type 0 where
+  pub ordered : IsOrdered w.plain
+  pub under_way : IsUnderWay w.plain
+  pub serves : Serves w.plain w.index

@@ -1,0 +1,102 @@
+//! Transactions: staged, placed in the index, and committed as a whole or not at all.
+
+ghost use Rattle.std.specs.Prelude.{◌≡◌, IfErr, Some};
+ghost use Rattle.plain_world.specs.Events.{Happens, Begin, Stage, AdvanceWalk, Commit, Abort, Number, Done, Advanced, Ended, reply_of};
+ghost use Rattle.plain_world.specs.Staging.{TransactionData, next_placement, transaction_with};
+ghost use Rattle.plain_world.specs.Walking.{WalksFor};
+ghost use Rattle.transactions.specs.Refusing.{RefusesGrowth};
+
+use crate::faults::{fault_of, is_overrun};
+use crate::worlds::World;
+use features::Change;
+use plain_world::{Advance, Fault, Outcome};
+use plane::Shape;
+use search_tree::Walk;
+use std::alloc::Allocator;
+
+impl<A: Allocator> World<A> {
+    /// The walk of what a transaction is to place next: the one that is under way, or else a new one.
+    fn next_walk(&mut self, number: u64, id: u64, shape: Shape) -> Walk<Shape>
+        requires { (t : TransactionData) → transaction_with number self.old.plain.transactions ≡ Some t → next_placement t ≡ Some (id, shape) }
+        ensures same { self.new ≡ self.old }
+        ensures walk { WalksFor number self.old.plain.transactions result }
+    {
+        match self.plain.take_walk(number) {
+            Some(walk) => walk,
+            None => self.index.start_walk(id, shape),
+        }
+    }
+
+    /// Stages a change. X1 where the seat was not given or no such transaction is open, X2 where it is another seat's, X6
+    /// where the list has 16 changes, X5 where it names the feature already. It takes no memory.
+    pub fn stage(&mut self, seat: u32, number: u64, change: Change) -> Result<(), Fault>
+        ensures happens { Happens (Stage seat number change) self.old.plain self.new.plain (reply_of (λ _. Done) result) }
+        ensures index { self.new.index ≡ self.old.index }
+    {
+        self.plain.stage(seat, number, change)
+    }
+
+    /// Gives a transaction up. X1 where the seat was not given or no such transaction is open, X2 where it is another
+    /// seat's. It takes no memory.
+    pub fn abort(&mut self, seat: u32, number: u64) -> Result<(), Fault>
+        ensures happens { Happens (Abort seat number) self.old.plain self.new.plain (reply_of (λ _. Done) result) }
+        ensures index { self.new.index ≡ self.old.index }
+    {
+        self.plain.abort(seat, number)
+    }
+}
+
+impl<A: Allocator + Copy> World<A> {
+    /// Opens a transaction of a seat, and answers its number. X1 where the seat was not given, X15 where 64 are open, X8
+    /// where the number is at its end, X12 where a growth is refused.
+    pub fn begin(&mut self, seat: u32) -> Result<u64, Fault>
+        ensures happens { Happens (Begin seat) self.old.plain self.new.plain (reply_of Number result) }
+        ensures index { self.new.index ≡ self.old.index }
+    {
+        self.plain.begin(seat)
+    }
+
+    /// Makes a step of the walk of the next shape that is not yet placed. X1 where the seat was not given or no such
+    /// transaction is open, X2 where it is another seat's, X9 as the index refuses the step: S3 while a search that looks
+    /// for the shape has seen its place already, S4 where no slot is free, S5 where the index would stand too high, S6
+    /// where its counter is at its end, S7 where the walk has made all its steps: then the transaction is ended; X12 where
+    /// a growth is refused.
+    pub fn advance(&mut self, seat: u32, number: u64) -> Result<Advance, Fault>
+        ensures happens { Happens (AdvanceWalk seat number) self.old.plain self.new.plain (reply_of Advanced result) }
+        ensures refused { IfErr result (RefusesGrowth self.old.index) }
+    {
+        let Some((id, shape)) = self.plain.next_to_place(seat, number)? else {
+            return Ok(Advance::AllPlaced);
+        };
+        let mut walk = self.next_walk(number, id, shape);
+        match self.index.advance(&mut walk) {
+            Ok(step) => {
+                if walk.placed() {
+                    self.plain.place_next(number);
+                } else {
+                    self.plain.keep_walk(number, walk);
+                }
+                Ok(Advance::Walked(step))
+            }
+            Err(fault) => {
+                if is_overrun(&fault) {
+                    self.plain.end_transaction(number);
+                } else {
+                    self.plain.keep_walk(number, walk);
+                }
+                Err(fault_of(fault))
+            }
+        }
+    }
+
+    /// Commits a transaction's list, all or none of it, and ends it. X1 where the seat was not given or no such
+    /// transaction is open, X2 where it is another seat's, X4 where a shape is not placed, X10 where the trail is full,
+    /// X12 where a growth is refused; of a list that is accepted then X8 where the version is at its end, and X11 where
+    /// more features would stand than may. A list that fails is answered with its first failing change.
+    pub fn commit(&mut self, seat: u32, number: u64) -> Result<Outcome, Fault>
+        ensures happens { Happens (Commit seat number) self.old.plain self.new.plain (reply_of Ended result) }
+        ensures index { self.new.index ≡ self.old.index }
+    {
+        self.plain.commit(seat, number)
+    }
+}

@@ -1,0 +1,456 @@
+//! The world over its index: searches that go on while shapes are placed and policies change, walks that are held, and
+//! what tending lets go.
+use crate::worlds::{
+    LIMITS, OPEN, ROADS, STARTS, add, document, found, place_all, placed, ready, seated, see_all,
+    square, staged,
+};
+use features::{Change, Meter};
+use std::alloc::Global;
+use std::process::Abort;
+use std::test::Fail;
+use transactions::{Advance, Answer, Fault, Outcome, Step, Tending, TreeFault, Visit, World};
+
+/// What rounds of tending did.
+#[derive(Clone, Copy, Debug, PartialEq, Eq)]
+struct Tended {
+    cleaned: u32,
+    retired: u32,
+    freed: u32,
+}
+
+/// Where a feature stands on the diagonal: neighbours in number are far apart, and no two of the numbers below 257 are
+/// at one place.
+fn place_of(id: u64) -> i32 {
+    let place = id.wrapping_mul(37) % 257;
+    i32::try_from(place).unwrap_or(0)
+}
+
+/// A feature is added at its place: roads have the odd numbers.
+fn addition(rt: &impl Abort, id: u64) -> Change {
+    let class = if id % 2 == 1 { "road" } else { "mast" };
+    add(rt, id, class, place_of(id))
+}
+
+/// North makes one change, as a list of its own.
+fn make(rt: &impl Abort, world: &mut World<Global>, change: Change) {
+    let number = placed(rt, world, 1, &[change]);
+    assert!(rt; matches!(world.commit(1, number), Ok(Outcome::Applied(_))));
+}
+
+/// North adds the features of these numbers, each by a list of its own.
+fn fill(rt: &impl Abort, world: &mut World<Global>, first: u64, last: u64) {
+    for id in first..=last {
+        make(rt, world, addition(rt, id));
+    }
+}
+
+/// A world of the features from 1 to this number.
+fn filled(rt: &impl Abort, heap: Global, last: u64) -> World<Global> {
+    let mut world = seated(rt, heap, heap, OPEN, STARTS, LIMITS);
+    fill(rt, &mut world, 1, last);
+    world
+}
+
+/// A search of south's for all below this place, which has made one step and has more to see.
+fn begun(rt: &impl Abort, world: &mut World<Global>, high: i32) -> u64 {
+    let opened = world.open_search(2, square(rt, 0, high));
+    assert!(rt; opened.is_ok());
+    let search = opened.unwrap();
+    assert!(rt; world.visit(2, search) == Ok(Visit::More));
+    search
+}
+
+/// What a ready search of south's is answered.
+fn finished(rt: &impl Abort, world: &mut World<Global>, search: u64) -> Answer<Global> {
+    let mut meter = Meter::new();
+    let found = world.found_count(search);
+    let answered = world.finish(2, search, &mut meter);
+    assert!(rt; answered.is_ok());
+    assert!(rt; meter.ticks() <= found as u64);
+    answered.unwrap()
+}
+
+/// The answer lists the features of the numbers from first to last that stand up to this place, each once.
+fn check_rows(rt: &impl Abort, answer: &Answer<Global>, first: u64, last: u64, high: i32) {
+    let mut at = 0usize;
+    for id in first..=last {
+        if place_of(id) <= high {
+            assert!(rt; answer.rows().get(at).map(|row| row.id) == Some(id), "{id}");
+            at = at.saturating_add(1);
+        }
+    }
+    assert_eq!(rt; answer.rows().len(), at);
+}
+
+/// South finds these, and no others.
+fn check_found(rt: &impl Abort, world: &mut World<Global>, first: u64, last: u64) {
+    let answer = found(rt, world, 2, square(rt, 0, 300));
+    check_rows(rt, &answer, first, last, 300);
+}
+
+#[test]
+fn policy_changed_under_search(rt: HostRuntime) -> Result<(), Fail> {
+    let heap = rt.alloc();
+    let mut world = filled(&rt, heap, 40);
+    let search = begun(&rt, &mut world, 300);
+    assert!(rt; matches!(world.govern(heap, 3, document(&rt, heap, ROADS)), Ok(2)));
+    see_all(&rt, &mut world, 2, search);
+    let answer = finished(&rt, &mut world, search);
+    assert_eq!(rt; answer.decider().edition(), 2);
+    assert_eq!(rt; answer.rows().len(), 20);
+    assert!(rt; answer.rows().iter().all(|row| row.id % 2 == 1));
+    Ok(())
+}
+
+/// Whether the walk of a transaction of north's parts a node before all is placed.
+fn splits(rt: &impl Abort, world: &mut World<Global>, number: u64) -> bool {
+    for _ in 0..100 {
+        let step = world.advance(1, number);
+        assert!(rt; step.is_ok());
+        if step == Ok(Advance::Walked(Step::Split)) {
+            return true;
+        }
+        if step == Ok(Advance::AllPlaced) {
+            return false;
+        }
+    }
+    panic!(rt; "a walk makes more than 100 steps")
+}
+
+/// North adds features from 41 on, until a walk parts a node: its transaction and its number.
+fn fill_until_split(rt: &impl Abort, world: &mut World<Global>) -> (u64, u64) {
+    for id in 41..=200 {
+        let number = staged(rt, world, 1, &[addition(rt, id)]);
+        if splits(rt, world, number) {
+            return (number, id);
+        }
+        assert!(rt; matches!(world.commit(1, number), Ok(Outcome::Applied(_))));
+    }
+    panic!(rt; "no node is parted")
+}
+
+#[test]
+fn split_under_search(rt: HostRuntime) -> Result<(), Fail> {
+    let mut world = filled(&rt, rt.alloc(), 40);
+    let search = begun(&rt, &mut world, 300);
+    let (number, id) = fill_until_split(&rt, &mut world);
+    see_all(&rt, &mut world, 2, search);
+    let answer = finished(&rt, &mut world, search);
+    check_rows(&rt, &answer, 1, id.saturating_sub(1), 300);
+    // The walk goes on from where it is.
+    place_all(&rt, &mut world, 1, number);
+    assert!(rt; matches!(world.commit(1, number), Ok(Outcome::Applied(_))));
+    check_found(&rt, &mut world, 1, id);
+    Ok(())
+}
+
+#[test]
+fn many_placed_under_search(rt: HostRuntime) -> Result<(), Fail> {
+    let mut world = filled(&rt, rt.alloc(), 40);
+    let search = begun(&rt, &mut world, 300);
+    fill(&rt, &mut world, 41, 120);
+    see_all(&rt, &mut world, 2, search);
+    let answer = finished(&rt, &mut world, search);
+    check_rows(&rt, &answer, 1, 120, 300);
+    Ok(())
+}
+
+/// The window of a search by its number: the greater, the wider.
+fn reach_of(number: u64) -> i32 {
+    i32::try_from(number.wrapping_mul(30)).unwrap_or(0)
+}
+
+/// A search of south's goes on to its end, and lists what stands in its window of the features up to this number.
+fn end_search(rt: &impl Abort, world: &mut World<Global>, number: u64, last: u64) {
+    see_all(rt, world, 2, number);
+    let answer = finished(rt, world, number);
+    check_rows(rt, &answer, 1, last, reach_of(number));
+}
+
+/// North adds a feature. Each search that holds it back is ended first. How many were.
+fn add_among(rt: &impl Abort, world: &mut World<Global>, id: u64) -> u32 {
+    let number = staged(rt, world, 1, &[addition(rt, id)]);
+    let mut ended = 0u32;
+    for _ in 0..100 {
+        match world.advance(1, number) {
+            Ok(Advance::AllPlaced) => {
+                assert!(rt; matches!(world.commit(1, number), Ok(Outcome::Applied(_))));
+                return ended;
+            }
+            Ok(_) => {}
+            Err(Fault::Tree(TreeFault::Held(search))) => {
+                end_search(rt, world, search, id.saturating_sub(1));
+                ended = ended.saturating_add(1);
+            }
+            Err(fault) => assert!(rt; false, "{fault}"),
+        }
+    }
+    panic!(rt; "a walk makes more than 100 steps")
+}
+
+/// The searches that still run end.
+fn end_the_others(rt: &impl Abort, world: &mut World<Global>, last: u64) {
+    for number in 1..=8 {
+        match world.visit(2, number) {
+            Ok(_) => end_search(rt, world, number, last),
+            Err(fault) => assert!(rt; fault == Fault::NoSuch),
+        }
+    }
+}
+
+#[test]
+fn stepped_between_placements(rt: HostRuntime) -> Result<(), Fail> {
+    let mut world = filled(&rt, rt.alloc(), 40);
+    for number in 1..=8 {
+        let opened = world.open_search(2, square(&rt, 0, reach_of(number)));
+        assert!(rt; opened == Ok(number));
+    }
+    let mut ended = 0u32;
+    for id in 41..=160 {
+        let turn: u64 = id % 8;
+        let stepped = world.visit(2, turn.saturating_add(1));
+        assert!(rt; stepped.is_ok() || stepped == Err(Fault::NoSuch));
+        ended = ended.saturating_add(add_among(&rt, &mut world, id));
+    }
+    assert!(rt; ended > 2);
+    end_the_others(&rt, &mut world, 160);
+    Ok(())
+}
+
+/// The walk of a transaction of north's is held by this search, however often it is advanced, and its list can't be
+/// committed.
+fn check_held(rt: &impl Abort, world: &mut World<Global>, number: u64, search: u64) {
+    let held = Err(Fault::Tree(TreeFault::Held(search)));
+    let mut step = world.advance(1, number);
+    for _ in 0..100 {
+        if step.is_err() {
+            break;
+        }
+        assert!(rt; step != Ok(Advance::Walked(Step::Placed)));
+        step = world.advance(1, number);
+    }
+    assert!(rt; step == held && world.advance(1, number) == held);
+    assert!(rt; matches!(world.commit(1, number), Err(Fault::NotPlaced)));
+}
+
+#[test]
+fn held_by_ready_search(rt: HostRuntime) -> Result<(), Fail> {
+    let mut world = filled(&rt, rt.alloc(), 40);
+    let search = ready(&rt, &mut world, 2, square(&rt, 0, 300));
+    let number = staged(&rt, &mut world, 1, &[addition(&rt, 41)]);
+    check_held(&rt, &mut world, number, search);
+    let answer = finished(&rt, &mut world, search);
+    check_rows(&rt, &answer, 1, 40, 300);
+    place_all(&rt, &mut world, 1, number);
+    assert!(rt; matches!(world.commit(1, number), Ok(Outcome::Applied(_))));
+    check_found(&rt, &mut world, 1, 41);
+    Ok(())
+}
+
+#[test]
+fn held_until_the_search_is_dropped(rt: HostRuntime) -> Result<(), Fail> {
+    let mut world = filled(&rt, rt.alloc(), 40);
+    let search = ready(&rt, &mut world, 2, square(&rt, 0, 300));
+    let number = staged(&rt, &mut world, 1, &[addition(&rt, 41)]);
+    check_held(&rt, &mut world, number, search);
+    assert!(rt; world.drop_search(2, search) == Ok(()));
+    place_all(&rt, &mut world, 1, number);
+    assert!(rt; matches!(world.commit(1, number), Ok(Outcome::Applied(_))));
+    Ok(())
+}
+
+#[test]
+fn held_by_nobody(rt: HostRuntime) -> Result<(), Fail> {
+    let mut world = filled(&rt, rt.alloc(), 40);
+    // A search that has made no step, and one that looks elsewhere.
+    let opened = world.open_search(2, square(&rt, 0, 300));
+    assert!(rt; opened.is_ok());
+    let search = opened.unwrap();
+    let other = ready(&rt, &mut world, 2, square(&rt, -9, -1));
+    fill(&rt, &mut world, 41, 60);
+    see_all(&rt, &mut world, 2, search);
+    let answer = finished(&rt, &mut world, search);
+    check_rows(&rt, &answer, 1, 60, 300);
+    let answer = finished(&rt, &mut world, other);
+    assert_eq!(rt; answer.rows().len(), 0);
+    Ok(())
+}
+
+#[test]
+fn reshaped_under_search(rt: HostRuntime) -> Result<(), Fail> {
+    let mut world = filled(&rt, rt.alloc(), 40);
+    let search = begun(&rt, &mut world, 300);
+    let shape = square(&rt, 3, 5);
+    let reshape = Change::Reshape {
+        id: 7,
+        version: 7,
+        shape,
+    };
+    make(&rt, &mut world, reshape);
+    make(
+        &rt,
+        &mut world,
+        Change::Delete {
+            id: 40,
+            version: 40,
+        },
+    );
+    see_all(&rt, &mut world, 2, search);
+    let answer = finished(&rt, &mut world, search);
+    check_rows(&rt, &answer, 1, 39, 300);
+    let row = answer.rows()[6];
+    assert!(rt; row.id == 7 && row.version == 41 && row.shape == shape);
+    Ok(())
+}
+
+/// Each slot is tended, round after round, until there is nothing to do.
+fn tend_all(rt: &impl Abort, world: &mut World<Global>) -> Tended {
+    let mut tended = Tended {
+        cleaned: 0,
+        retired: 0,
+        freed: 0,
+    };
+    for _ in 0..100 {
+        if !tend_round(rt, world, &mut tended) {
+            return tended;
+        }
+    }
+    panic!(rt; "there is always something to tend")
+}
+
+/// Each slot is tended once. Whether there was something to do.
+fn tend_round(rt: &impl Abort, world: &mut World<Global>, tended: &mut Tended) -> bool {
+    let mut busy = false;
+    for slot in 0..world.slots() {
+        let answer = world.tend(slot);
+        assert!(rt; answer.is_ok());
+        busy = busy || answer != Ok(Tending::Idle);
+        match answer {
+            Ok(Tending::Cleaned) => tended.cleaned = tended.cleaned.saturating_add(1),
+            Ok(Tending::Retired) => tended.retired = tended.retired.saturating_add(1),
+            Ok(Tending::Freed) => tended.freed = tended.freed.saturating_add(1),
+            _ => {}
+        }
+    }
+    busy
+}
+
+/// How many pairs of the index a search for all finds.
+fn pairs(rt: &impl Abort, world: &mut World<Global>) -> usize {
+    let search = ready(rt, world, 2, square(rt, 0, 300));
+    let count = world.found_count(search);
+    assert!(rt; world.drop_search(2, search) == Ok(()));
+    count
+}
+
+/// A transaction of north's that has placed sixteen features, from this number on.
+fn sixteen_placed(rt: &impl Abort, world: &mut World<Global>, first: u64) -> u64 {
+    let number = staged(rt, world, 1, &[]);
+    for id in first..first.saturating_add(16) {
+        assert!(rt; world.stage(1, number, addition(rt, id)) == Ok(()));
+    }
+    place_all(rt, world, 1, number);
+    number
+}
+
+#[test]
+fn aborted_shapes_are_let_go(rt: HostRuntime) -> Result<(), Fail> {
+    let mut world = filled(&rt, rt.alloc(), 40);
+    let number = sixteen_placed(&rt, &mut world, 101);
+    // What an open transaction has staged stays.
+    assert_eq!(rt; tend_all(&rt, &mut world).cleaned, 0);
+    assert_eq!(rt; pairs(&rt, &mut world), 56);
+    check_found(&rt, &mut world, 1, 40);
+    assert!(rt; world.abort(1, number) == Ok(()));
+    assert!(rt; tend_all(&rt, &mut world).cleaned > 0);
+    assert_eq!(rt; pairs(&rt, &mut world), 40);
+    check_found(&rt, &mut world, 1, 40);
+    Ok(())
+}
+
+#[test]
+fn committed_shapes_stay(rt: HostRuntime) -> Result<(), Fail> {
+    let mut world = filled(&rt, rt.alloc(), 40);
+    let number = sixteen_placed(&rt, &mut world, 41);
+    assert!(rt; matches!(world.commit(1, number), Ok(Outcome::Applied(_))));
+    assert_eq!(rt; tend_all(&rt, &mut world).cleaned, 0);
+    assert_eq!(rt; pairs(&rt, &mut world), 56);
+    check_found(&rt, &mut world, 1, 56);
+    Ok(())
+}
+
+/// North deletes the features of these numbers, which have their numbers as versions.
+fn delete(rt: &impl Abort, world: &mut World<Global>, first: u64, last: u64) {
+    for id in first..=last {
+        make(rt, world, Change::Delete { id, version: id });
+    }
+}
+
+#[test]
+fn deleted_features_are_let_go(rt: HostRuntime) -> Result<(), Fail> {
+    let mut world = filled(&rt, rt.alloc(), 120);
+    let slots = world.slots();
+    delete(&rt, &mut world, 1, 119);
+    check_found(&rt, &mut world, 120, 120);
+    let tended = tend_all(&rt, &mut world);
+    assert!(rt; tended.cleaned > 4 && tended.retired > 4);
+    assert_eq!(rt; tended.freed, tended.retired);
+    assert_eq!(rt; pairs(&rt, &mut world), 1);
+    check_found(&rt, &mut world, 120, 120);
+    // The slots that are free are used again.
+    fill(&rt, &mut world, 1, 40);
+    assert!(rt; world.slots() <= slots);
+    Ok(())
+}
+
+#[test]
+fn freed_once_the_search_has_ended(rt: HostRuntime) -> Result<(), Fail> {
+    let mut world = filled(&rt, rt.alloc(), 120);
+    let search = begun(&rt, &mut world, 300);
+    delete(&rt, &mut world, 1, 119);
+    let under = tend_all(&rt, &mut world);
+    assert!(rt; under.retired > 4);
+    assert_eq!(rt; under.freed, 0);
+    see_all(&rt, &mut world, 2, search);
+    let answer = finished(&rt, &mut world, search);
+    check_rows(&rt, &answer, 120, 120, 300);
+    assert_eq!(rt; tend_all(&rt, &mut world).freed, under.retired);
+    check_found(&rt, &mut world, 120, 120);
+    Ok(())
+}
+
+#[test]
+fn walks_begin_anew(rt: HostRuntime) -> Result<(), Fail> {
+    let mut world = filled(&rt, rt.alloc(), 40);
+    let number = staged(&rt, &mut world, 1, &[addition(&rt, 41)]);
+    assert!(rt; world.advance(1, number) == Ok(Advance::Walked(Step::Moved)));
+    delete(&rt, &mut world, 1, 40);
+    assert!(rt; tend_all(&rt, &mut world).freed > 0);
+    assert!(rt; world.advance(1, number) == Ok(Advance::Walked(Step::Restarted)));
+    place_all(&rt, &mut world, 1, number);
+    assert!(rt; matches!(world.commit(1, number), Ok(Outcome::Applied(81))));
+    check_found(&rt, &mut world, 41, 41);
+    Ok(())
+}
+
+#[test]
+fn found_count_bounds_the_meter(rt: HostRuntime) -> Result<(), Fail> {
+    let mut world = filled(&rt, rt.alloc(), 40);
+    let opened = world.open_search(2, square(&rt, 0, 128));
+    assert!(rt; opened.is_ok());
+    let search = opened.unwrap();
+    assert!(rt; world.found_count(search) == 0 && world.found_count(99) == 0);
+    see_all(&rt, &mut world, 2, search);
+    let count = world.found_count(search);
+    assert!(rt; 10 < count && count < 40);
+    // What is deleted before the search is finished was found, and is not listed.
+    delete(&rt, &mut world, 1, 2);
+    assert_eq!(rt; world.found_count(search), count);
+    let mut meter = Meter::new();
+    let answered = world.finish(2, search, &mut meter);
+    assert!(rt; answered.is_ok());
+    assert!(rt; 0 < meter.ticks() && meter.ticks() <= count as u64);
+    check_rows(&rt, &answered.unwrap(), 3, 40, 128);
+    assert_eq!(rt; world.found_count(search), 0);
+    Ok(())
+}

@@ -1,0 +1,159 @@
+//! Searches that go step by step: OPEN, STEP and FINISH of a script.
+use crate::worlds::opened;
+use sessions::{run_script, serve_world};
+use std::alloc::{AllocError, Global};
+use std::process::Abort;
+use std::test::Fail;
+use transactions::World;
+
+const SEATS: &str = "n: HELLO north\ns: HELLO south\nc: HELLO chief\n";
+
+const HELLOS: &str = "n: hello north\ns: hello south\nc: hello chief\n";
+
+const NO_PARCEL: &str =
+    r#"{"root":{"combine":"deny-overrides","policy":"p","rules":[{"effect":"deny","rule":"no-parcel","target":[[[{"class":"parcel"}]]]},{"effect":"permit","rule":"open"}]}}"#;
+
+/// What these lines are answered over a world.
+fn replies(
+    rt: &impl Abort,
+    alloc: Global,
+    world: &mut World<Global>,
+    script: &str,
+) -> Result<Vec<u8>, AllocError> {
+    let mut output = Vec::new(alloc);
+    let end = run_script(alloc, alloc, world, &mut script.as_bytes(), &mut output);
+    assert!(rt; end.is_ok());
+    Ok(output)
+}
+
+/// These lines, behind three seats, are answered so.
+fn check(rt: &impl Abort, alloc: Global, script: &str, expected: &str) -> Result<(), AllocError> {
+    let script = format!(in alloc; "{SEATS}{script}")?;
+    let expected = format!(in alloc; "{HELLOS}{expected}")?;
+    let mut world = opened(rt, alloc, alloc);
+    let output = replies(rt, alloc, &mut world, script.as_str())?;
+    assert_eq!(rt; output.as_slice(), expected.as_bytes());
+    Ok(())
+}
+
+#[test]
+fn finished_by_the_policy_in_force(rt: HostRuntime) -> Result<(), Fail> {
+    let script = format!(in rt.alloc();
+        "n: ADD 1 parcel POINT (1 1)\nn: ADD 2 road POINT (2 2)\nn: COMMIT\ns: OPEN POLYGON ((0 0, 4 0, 4 4, 0 4, 0 0))\ns: STEP 1000000\nc: POLICY {NO_PARCEL}\ns: FINISH\n"
+    )?;
+    check(
+        &rt,
+        rt.alloc(),
+        script.as_str(),
+        "n: staged\nn: staged\nn: applied 1\ns: opened\ns: ready\nc: edition 2\ns: rows 1\ns: 2 1 north road POINT (2 2)\n",
+    )?;
+    Ok(())
+}
+
+#[test]
+fn held_by_ready_search(rt: HostRuntime) -> Result<(), Fail> {
+    check(
+        &rt,
+        rt.alloc(),
+        "s: OPEN POLYGON ((0 0, 4 0, 4 4, 0 4, 0 0))\ns: STEP 1000000\nn: ADD 2 mast POINT (1 1)\nn: COMMIT\ns: FINISH\nn: COMMIT\n",
+        "s: opened\ns: ready\nn: staged\nn: held\ns: rows 0\nn: applied 1\n",
+    )?;
+    Ok(())
+}
+
+/// A session's own search holds its own list; one that has made no step, or looks elsewhere, holds none; nor is a list
+/// held that only deletes.
+#[test]
+fn who_holds(rt: HostRuntime) -> Result<(), Fail> {
+    check(
+        &rt,
+        rt.alloc(),
+        "s: OPEN POINT (1 1)\nc: OPEN POINT (5 5)\nc: STEP 1\nn: ADD 1 mast POINT (1 1)\nn: COMMIT\ns: STEP 1\ns: ADD 2 road POINT (1 1)\ns: COMMIT\nn: RESHAPE 1 1 POINT (1 1)\nn: COMMIT\nn: ABORT\nn: DELETE 1 1\nn: COMMIT\ns: FINISH\ns: COMMIT\n",
+        "s: opened\nc: opened\nc: ready\nn: staged\nn: applied 1\ns: ready\ns: staged\ns: held\nn: staged\nn: held\nn: aborted\nn: staged\nn: applied 2\ns: rows 0\ns: applied 3\n",
+    )?;
+    Ok(())
+}
+
+#[test]
+fn out_of_turn(rt: HostRuntime) -> Result<(), Fail> {
+    check(
+        &rt,
+        rt.alloc(),
+        "x: OPEN x\nx: STEP\nx: FINISH x\nn: STEP 0x\nn: STEP\nn: FINISH x\nn: OPEN POINT (0)\nn: OPEN POINT (0 0)\nn: OPEN POINT (0)\nn: FINISH\nn: FINISH\n",
+        "x: error E5\nx: error E5\nx: error E5\nn: error E8\nn: error E8\nn: error E8\nn: error K3\nn: opened\nn: error E8\nn: rows 0\nn: error E8\n",
+    )?;
+    Ok(())
+}
+
+#[test]
+fn numbers_of_steps(rt: HostRuntime) -> Result<(), Fail> {
+    check(
+        &rt,
+        rt.alloc(),
+        "n: OPEN POINT (0 0)\nn: STEP\nn: STEP 0x\nn: STEP 0\nn: STEP 0 x\nn: STEP 1000001\nn: STEP 1 x\nn: FINISH x\nn: STEP 1000000 \nn: STEP 1\nn: FINISH\n",
+        "n: opened\nn: error E2\nn: error E3\nn: error E3\nn: error E3\nn: error E3\nn: error E2\nn: error E2\nn: ready\nn: ready\nn: rows 0\n",
+    )?;
+    Ok(())
+}
+
+/// A line for each of so many sessions.
+fn each_says(alloc: Global, count: u64, line: &str) -> Result<String, AllocError> {
+    let mut script = String::new(alloc);
+    for number in 0..count {
+        write!(script, "s{number}: {line}\n")?;
+    }
+    Ok(script)
+}
+
+/// Sixteen sessions, each with a search open.
+fn sixteen_open(alloc: Global) -> Result<String, AllocError> {
+    let hellos = each_says(alloc, 17, "HELLO north")?;
+    let opens = each_says(alloc, 16, "OPEN POINT (0 0)")?;
+    format!(in alloc; "{hellos}{opens}")
+}
+
+#[test]
+fn sixteen_searches(rt: HostRuntime) -> Result<(), Fail> {
+    let open = sixteen_open(rt.alloc())?;
+    let script = format!(in rt.alloc();
+        "{open}s16: OPEN POINT (0 0)\ns16: SEARCH POINT (0 0)\ns15: BYE\ns16: SEARCH POINT (0 0)\ns16: OPEN POINT (0 0)\n"
+    )?;
+    let mut world = opened(&rt, rt.alloc(), rt.alloc());
+    let output = replies(&rt, rt.alloc(), &mut world, script.as_str())?;
+    assert!(rt;
+        output.ends_with(
+            b"s15: opened\ns16: error S2\ns16: error S2\ns15: bye\ns16: rows 0\ns16: opened\n"
+        )
+    );
+    Ok(())
+}
+
+#[test]
+fn dropped_at_the_end(rt: HostRuntime) -> Result<(), Fail> {
+    let open = sixteen_open(rt.alloc())?;
+    let mut world = opened(&rt, rt.alloc(), rt.alloc());
+    for _ in 0..2 {
+        let output = replies(&rt, rt.alloc(), &mut world, open.as_str())?;
+        assert!(rt; output.ends_with(b"s14: opened\ns15: opened\n"));
+    }
+    Ok(())
+}
+
+#[test]
+fn only_in_scripts(rt: HostRuntime) -> Result<(), Fail> {
+    let mut world = opened(&rt, rt.alloc(), rt.alloc());
+    let mut output = Vec::new(rt.alloc());
+    let end = serve_world(
+        rt.alloc(),
+        rt.alloc(),
+        &mut world,
+        &mut b"OPEN\nHELLO north\nOPEN POINT (0 0)\nSTEP 1\nFINISH\n".as_slice(),
+        &mut output,
+    );
+    assert!(rt; end.is_ok());
+    assert_eq!(rt;
+        output.as_slice(),
+        b"error E2\nhello north\nerror E2\nerror E2\nerror E2\n".as_slice()
+    );
+    Ok(())
+}
