@@ -1,5 +1,5 @@
 -- Staged lists.
-use Rattle.std.proofs.Common.{◌≡◌, ◌≢◌, ℕ, ◌<◌, ◌≤◌, ◌+◌, ◌==◌, Bool, true, false, ◌||◌, List, [], ◌∷◌, ◌++◌, ◌∙◌, ap, IfSome, length, Option, None, Some, slice_get, if◌then◌else◌, refl, sym, subst, arith, zero, suc}
+use Rattle.std.proofs.Common.{◌≡◌, ◌≢◌, ℕ, ◌<◌, ◌≤◌, ◌+◌, ◌==◌, Bool, true, false, ◌||◌, List, [], ◌∷◌, ◌++◌, ◌∙◌, ap, length, Option, None, Some, slice_get, if◌then◌else◌, refl, sym, subst, arith, zero, suc}
 use Rattle.std.specs.Bool.{MatchBool}
 use Rattle.std.proofs.lemmas.Bool.Decides.{nat_tests}
 use Rattle.plane.specs.declared.point.Point.{Point}
@@ -7,9 +7,7 @@ use Rattle.features.specs.declared.rows.Change.{Change}
 use Rattle.features.specs.declared.rows.Change.TheVariants.{Add, Reshape, Delete}
 use Rattle.features.specs.Changes.{change_id, IsUnnamed}
 use Rattle.plain_world.specs.declared.settings.TheConstants.{CHANGE_LIMIT}
-use Rattle.search_tree.specs.Trees.{PlainWalk as Walk}
 use Rattle.plain_world.specs.Staging.{TransactionData, transaction_with, names, placements, brought_by, MayStage, MayPlace}
-use Rattle.plain_world.specs.Walking.{IsWalkFor}
 
 not_named : (v w : Bool) → (v || w) ≡ false → (v ≡ false) × (w ≡ false)
 not_named true w e = absurd cc
@@ -48,17 +46,3 @@ brought_append [] change = refl
 brought_append (Add id class shape ∷ changes) change = ap (λ (ps : List (ℕ × List Point)). (id, shape) ∷ ps) (brought_append changes change)
 brought_append (Reshape id known shape ∷ changes) change = ap (λ (ps : List (ℕ × List Point)). (id, shape) ∷ ps) (brought_append changes change)
 brought_append (Delete id known ∷ changes) change = brought_append changes change
-
-still_there : (xs ys : List (ℕ × List Point)) (n : ℕ) (x : ℕ × List Point) → slice_get xs n ≡ Some x → slice_get (xs ++ ys) n ≡ Some x
-still_there [] ys n x e = absurd cc
-still_there (y ∷ xs) ys zero x e = e
-still_there (y ∷ xs) ys (suc n) x e = still_there xs ys n x e
-
--- a walk stays one of the next placement while more is staged
-pub still_walks : (number seat placed : ℕ) (changes longer : List Change) (change : Change) (walk : Option (Walk (List Point))) → longer ≡ changes ++ change ∷ []
-    → IfSome walk (IsWalkFor (record { number = number; seat = seat; changes = changes; placed = placed })) → IfSome walk (IsWalkFor (record { number = number; seat = seat; changes = longer; placed = placed }))
-still_walks number seat placed changes longer change None e h = h
-still_walks number seat placed changes longer change (Some walk) e h = record {
-  next = ap (λ (list : List Change). slice_get (placements list) placed) e ∙ (ap (λ (ps : List (ℕ × List Point)). slice_get ps placed) (brought_append changes change) ∙ still_there (placements changes) (placements (change ∷ [])) placed _ h.next);
-  waits = h.waits;
-}

@@ -1,6 +1,5 @@
 pub mod FaultCodes
 pub mod Staging
-pub mod Walking
 pub mod Answers
 pub mod States
 pub mod Keeping

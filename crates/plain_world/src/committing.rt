@@ -1,6 +1,6 @@
 //! Transactions: staged, placed, and committed as a whole or not at all.
 
-ghost use Rattle.std.specs.Prelude.{◌≡◌, ◌<◌, length, OnOk, IfOk, IfSome, IsSome, Option};
+ghost use Rattle.std.specs.Prelude.{◌≡◌, ◌<◌, length, OnOk, IfOk, IsSome, Option};
 ghost use Rattle.std.specs.Arc.{arc_value};
 ghost use Rattle.features.specs.Changes.{after, CanApply};
 ghost use Rattle.combining.specs.declared.questions.Question.{Question};
@@ -12,20 +12,18 @@ ghost use Rattle.plain_world.specs.Answers.{denial_of};
 ghost use Rattle.plain_world.specs.Events.{Happens, Begin, Stage, Commit, Abort, Number, Done, Ended, reply_of, UnlessMemory, TurnsAway, Applies, without_transaction};
 ghost use Rattle.plain_world.specs.Admitting.{map_ok, may_step};
 ghost use Rattle.plain_world.specs.Staging.{next_placement, staged_in, with_step, one_placed, MayPlace};
-ghost use Rattle.plain_world.specs.Walking.{WalksFor};
 
 use crate::denials::denial_for;
 use crate::faults::Fault;
 use crate::outcomes::Outcome;
 use crate::searching::want_of;
-use crate::staging::{Transaction, end, keep_walk_in, place_in, stage_in, staged_in, take_walk_in};
+use crate::staging::{Transaction, end, place_in, stage_in, staged_in};
 use crate::worlds::PlainWorld;
 use audit_trail::{Deed, Judgement, Record, Refusal, judge};
 use combining::Question;
 use features::{Change, StoreFault, Subject};
 use memory::{GrowVec, Refused, copied};
 use plane::Shape;
-use search_tree::Walk;
 use std::alloc::Allocator;
 
 impl<A: Allocator> PlainWorld<A> {
@@ -47,22 +45,6 @@ impl<A: Allocator> PlainWorld<A> {
     {
         let transaction = self.may_step(seat, number)?;
         Ok(transaction.next())
-    }
-
-    /// Hands the walk out that a transaction has under way.
-    pub fn take_walk(&mut self, number: u64) -> Option<Walk<Shape>>
-        ensures same { self.new ≡ self.old }
-        ensures walk { IfSome result (WalksFor number self.old.transactions) }
-    {
-        take_walk_in(&mut self.transactions, number)
-    }
-
-    /// Keeps a walk that a transaction has under way.
-    pub fn keep_walk(&mut self, number: u64, walk: Walk<Shape>)
-        requires { WalksFor number self.old.transactions walk }
-        ensures { self.new ≡ self.old }
-    {
-        keep_walk_in(&mut self.transactions, number, walk);
     }
 
     /// Ends a transaction whose walk was given up.

@@ -6,13 +6,11 @@ ghost use Rattle.std.specs.Option.{option_copied};
 ghost use Rattle.features.specs.Changes.{change_id, IsUnnamed};
 ghost use Rattle.audit_trail.specs.Judging.{AreDistinct};
 ghost use Rattle.plain_world.specs.Staging.{transaction_with, with_step, staged, one_placed, staged_in, placements, next_placement, brought_by, names, ended, MayStage, MayPlace};
-ghost use Rattle.plain_world.specs.Walking.{IsWalkFor, WalksFor};
 
 use crate::settings::CHANGE_LIMIT;
 use features::Change;
 use memory::{Refused, vec_with_room};
 use plane::Shape;
-use search_tree::Walk;
 use std::alloc::Allocator;
 use std::marker::Model;
 
@@ -24,23 +22,19 @@ pub struct Transaction<A: Allocator> {
     seat: u32,
     changes: Vec<Change, A>,
     placed: usize,
-    // Of what is placed next, once it is on its way.
-    walk: Option<Walk<Shape>>,
 }
 
 impl<A: Allocator> Model for Transaction<A> {
-    ghost use Rattle.std.specs.Prelude.{◌≤◌, length, vec_capacity, IfSome};
+    ghost use Rattle.std.specs.Prelude.{◌≤◌, length, vec_capacity};
     ghost use Rattle.audit_trail.specs.Judging.{AreDistinct};
     ghost use Rattle.plain_world.specs.Staging.{TransactionData};
-    ghost use Rattle.plain_world.specs.Walking.{IsWalkFor};
     ghost use Rattle.plain_world.specs.declared.settings.TheConstants.{CHANGE_LIMIT};
 
     ghost Value = { TransactionData };
 
     ghost view = { λ t. record { number = t.number; seat = t.seat; changes = t.changes.items; placed = t.placed } };
 
-    ghost invariant = { λ t. (CHANGE_LIMIT ≤ vec_capacity t.changes) × (length t.changes.items ≤ CHANGE_LIMIT) × AreDistinct t.changes.items
-        × IfSome t.walk (IsWalkFor (record { number = t.number; seat = t.seat; changes = t.changes.items; placed = t.placed })) };
+    ghost invariant = { λ t. (CHANGE_LIMIT ≤ vec_capacity t.changes) × (length t.changes.items ≤ CHANGE_LIMIT) × AreDistinct t.changes.items };
 }
 
 impl<A: Allocator> Transaction<A> {
@@ -54,7 +48,6 @@ impl<A: Allocator> Transaction<A> {
             seat,
             changes,
             placed: 0,
-            walk: None,
         })
     }
 
@@ -101,7 +94,6 @@ impl<A: Allocator> Transaction<A> {
         requires { self.old.placed < CHANGE_LIMIT }
         ensures { self.new ≡ one_placed self.old }
     {
-        self.walk = None;
         self.placed += 1;
     }
 
@@ -111,22 +103,6 @@ impl<A: Allocator> Transaction<A> {
         ensures few { IsSome result → self.now.placed < CHANGE_LIMIT }
     {
         placement_at(&self.changes, self.placed)
-    }
-
-    /// Hands the walk out that is under way.
-    fn take_walk(&mut self) -> Option<Walk<Shape>>
-        ensures same { self.new ≡ self.old }
-        ensures walk { IfSome result (IsWalkFor self.old) }
-    {
-        self.walk.take()
-    }
-
-    /// Keeps a walk of what is to be placed next.
-    fn keep_walk(&mut self, walk: Walk<Shape>)
-        requires { IsWalkFor self.old walk }
-        ensures { self.new ≡ self.old }
-    {
-        self.walk = Some(walk);
     }
 }
 
@@ -249,42 +225,6 @@ pub(crate) fn place_in<A: Allocator>(transactions: &mut [Transaction<A>], number
             first.place();
         } else {
             place_in(rest, number);
-        }
-    }
-}
-
-/// Hands the walk of the transaction of a number out.
-pub(crate) fn take_walk_in<A: Allocator>(
-    transactions: &mut [Transaction<A>],
-    number: u64,
-) -> Option<Walk<Shape>>
-    ensures same { transactions.new ≡ transactions.old }
-    ensures walk { IfSome result (WalksFor number transactions.old) }
-{
-    let Some((first, rest)) = transactions.split_first_mut() else {
-        return None;
-    };
-    if first.number() == number {
-        first.take_walk()
-    } else {
-        take_walk_in(rest, number)
-    }
-}
-
-/// Keeps a walk in the transaction of a number.
-pub(crate) fn keep_walk_in<A: Allocator>(
-    transactions: &mut [Transaction<A>],
-    number: u64,
-    walk: Walk<Shape>,
-)
-    requires { WalksFor number transactions.old walk }
-    ensures { transactions.new ≡ transactions.old }
-{
-    if let Some((first, rest)) = transactions.split_first_mut() {
-        if first.number() == number {
-            first.keep_walk(walk);
-        } else {
-            keep_walk_in(rest, number, walk);
         }
     }
 }

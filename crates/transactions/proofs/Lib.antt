@@ -2,6 +2,9 @@ pub mod SearchLemmas
 pub mod PairLemmas
 pub mod KeptLemmas
 pub mod ServeLemmas
+pub mod WalkLemmas
 pub mod BesideLemmas
 pub mod StepLemmas
+pub mod EventWalkLemmas
 pub mod WorldLemmas
+pub mod AdvanceLemmas

@@ -1,5 +1,5 @@
 -- What a step of a search or of a walk leaves of what the index owes to a world, by its answer.
-use Rattle.std.proofs.Common.{◌≡◌, ℕ, ◌==◌, Bool, true, false, List, [], ◌∷◌, Option, Some, None, MatchOption, Result, Ok, Err, if◌then◌else◌, refl, sym, ap, subst, ◌∙◌, inl, inr}
+use Rattle.std.proofs.Common.{◌≡◌, ℕ, Bool, true, false, List, Option, Some, None, MatchOption, Result, Ok, Err, refl, sym, ap, subst, ◌∙◌, inl, inr}
 use Rattle.std.specs.Bool.{MatchBool}
 use Rattle.std.specs.Option.{option_map}
 use Rattle.plane.specs.declared.point.Point.{Point}
@@ -9,12 +9,11 @@ use Rattle.plain_world.specs.declared.faults.Fault.{Fault}
 use Rattle.plain_world.specs.declared.faults.Fault.TheVariants as faults
 use Rattle.plain_world.specs.declared.searches.Search.{Search}
 use Rattle.plain_world.specs.declared.steps.Advance.TheVariants as advances
-use Rattle.plain_world.specs.Admitting.{map_ok, may_go_on, may_step, own_search, own_transaction, search_with, subject_at}
+use Rattle.plain_world.specs.Admitting.{map_ok, may_go_on, may_step, own_transaction, search_with, subject_at}
 use Rattle.plain_world.specs.Events.{Happens, HoldsBack, VisitNext, AdvanceWalk, Advances, Visits, UnlessMemory, Walks, Reply, Visited, Advanced, Refused, without_search, without_transaction, with_ready}
 use Rattle.plain_world.specs.Laws.{IsUnderWay}
 use Rattle.plain_world.specs.Staging.{TransactionData, transaction_with, next_placement, with_step, one_placed}
 use Rattle.plain_world.specs.States.{WorldData}
-use Rattle.plain_world.specs.Walking.{IsWalkFor, WalksFor}
 use Rattle.plain_world.proofs.AdmittedLemmas.{own_open}
 use Rattle.plain_world.proofs.EventLemmas.{admitted as admits}
 use Rattle.plain_world.proofs.RunLemmas.{and_then_ok}
@@ -29,9 +28,10 @@ use Rattle.search_tree.specs.declared.answers.Visit.{Visit}
 use Rattle.search_tree.specs.declared.answers.Visit.TheVariants as visits
 use Rattle.search_tree.specs.declared.fault.TreeFault.{TreeFault}
 use Rattle.search_tree.specs.declared.fault.TreeFault.TheVariants as tree
-use Rattle.transactions.specs.Index.{Index, Serves, frames, seen_there, told_here}
+use Rattle.transactions.specs.Index.{Index, Serves, frames}
 use Rattle.transactions.specs.Refusing.{RefusesGrowth, is_overrun, told}
-use Rattle.transactions.proofs.ServeLemmas.{seen_of, told_of, serves_alike, serves_more, serves_placed, serves_ready, serves_shut}
+use Rattle.transactions.specs.Walks.{IsWalkFor}
+use Rattle.transactions.proofs.ServeLemmas.{seen_of, told_of, serves_alike, serves_more, serves_ready, serves_shut}
 
 -- ---- visits
 
@@ -136,16 +136,6 @@ holds_back w t item search h held =
     let here = told_of w t search held.seen h held.runs in
     (here.0, here.1, subst (λ (window : List Point). Meet item window) (sym here.2) held.matches)
 
--- ---- the walk of a transaction
-
-pub walk_in : (number : ℕ) (ts : List TransactionData) (tr : TransactionData) (walk : PlainWalk (List Point)) → transaction_with number ts ≡ Some tr → WalksFor number ts walk → IsWalkFor tr walk
-walk_in number [] tr walk e h = absurd cc
-walk_in number (first ∷ ts) tr walk e h = go (first.number == number) (walk_in number ts tr walk) e h
-  where
-    go : (b : Bool) → (transaction_with number ts ≡ Some tr → WalksFor number ts walk → IsWalkFor tr walk) → (if b then Some first else transaction_with number ts) ≡ Some tr → MatchBool b (IsWalkFor first walk) (WalksFor number ts walk) → IsWalkFor tr walk
-    go true behind e h = let same : first ≡ tr = cc (e) in subst (λ (x : TransactionData). IsWalkFor x walk) same h
-    go false behind e h = behind e h
-
 -- a walk that goes on is one of the same placement
 pub goes_on_for : (tr : TransactionData) (old new : PlainWalk (List Point)) → IsWalkFor tr old → new.key ≡ old.key → new.item ≡ old.item → new.placed ≡ false → IsWalkFor tr new
 goes_on_for tr old new h key item waits = record {
@@ -170,15 +160,6 @@ next_of seat number w pair e = go (may_step seat number w) refl e
     go (Ok tr) is e =
         let a = and_then_ok (subject_at seat w) (λ _. own_transaction seat number w) tr is in
         (tr, is, (own_open seat number w tr a.2).0, cc (e))
-
--- a walk is one of the transaction of a number where it is one of each such
-pub walks_new : (number : ℕ) (ts : List TransactionData) (walk : PlainWalk (List Point)) → ((t : TransactionData) → transaction_with number ts ≡ Some t → IsWalkFor t walk) → WalksFor number ts walk
-walks_new number [] walk h = tt
-walks_new number (first ∷ ts) walk h = go (first.number == number) refl (walks_new number ts walk)
-  where
-    go : (b : Bool) → (first.number == number) ≡ b → (((t : TransactionData) → transaction_with number ts ≡ Some t → IsWalkFor t walk) → WalksFor number ts walk) → MatchBool b (IsWalkFor first walk) (WalksFor number ts walk)
-    go true is behind = h first (ap (λ (b : Bool). if b then Some first else transaction_with number ts) is)
-    go false is behind = behind (λ t e. h t (ap (λ (b : Bool). if b then Some first else transaction_with number ts) is ∙ e))
 
 -- what a visit leaves, of which the answer is known
 pub visited_as : (w : WorldData) (t u : Index) (number : ℕ) (s : Search) (result known : Result Visit TreeFault) → Serves w t → IsUnderWay w → search_with number w.searches ≡ Some s → result ≡ known → IsVisit frames t u number result → AfterVisit w t u number s known

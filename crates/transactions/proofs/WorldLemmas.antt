@@ -1,6 +1,7 @@
 -- What every world keeps is kept by its events.
-use Rattle.std.proofs.Common.{◌≡◌, ℕ, ◌<◌, ◌+◌, Bool, true, false, not, zero, suc, List, [], ◌∷◌, ◌++◌, map, length, Option, Some, None, Result, Ok, Err, refl, sym, ap, subst, ◌∙◌, IsTrue}
-use Rattle.std.specs.List.{All, Contains, slice_index_or}
+use Rattle.std.proofs.Common.{◌≡◌, ℕ, ◌<◌, ◌+◌, ◌==◌, nat_le, Bool, true, false, not, zero, suc, List, [], ◌∷◌, ◌++◌, map, length, if◌then◌else◌, arith, Option, Some, None, Result, Ok, Err, refl, sym, ap, subst, ◌∙◌, IsTrue}
+use Rattle.std.specs.List.{Contains, slice_index_or}
+use Rattle.std.proofs.lemmas.Bool.Decides.{nat_tests}
 use Rattle.std.proofs.lemmas.List.{length-map}
 use Rattle.std.proofs.lemmas.List.Elements.{All-nil, All-cons}
 use Rattle.plane.specs.declared.point.Point.{Point}
@@ -17,13 +18,14 @@ use Rattle.plain_world.specs.declared.steps.Advance.TheVariants as advances
 use Rattle.plain_world.specs.declared.searches.Search.{Search}
 use Rattle.plain_world.specs.declared.settings.Limits.{Limits}
 use Rattle.plain_world.specs.declared.settings.Starts.{Starts}
-use Rattle.plain_world.specs.Admitting.{given, may_finish, may_go_on, may_open, may_step, own_search, owned, search_with, subject_at}
+use Rattle.plain_world.specs.declared.settings.TheConstants.{TRANSACTION_LIMIT}
+use Rattle.plain_world.specs.Admitting.{LAST, given, may_begin, may_finish, may_go_on, may_open, may_step, next_transaction, own_search, owned, search_with, subject_at}
 use Rattle.plain_world.specs.Answers.{AnswerData}
-use Rattle.plain_world.specs.Events.{Event, TakeSeat, OpenSearch, Finish, DropSearch, AdvanceWalk, Begin, Stage, Commit, Abort, Govern, Roll, Reply, Done, Number, Advanced, Rows, Refused, Happens, recorded, without_search, without_transaction}
+use Rattle.plain_world.specs.Events.{Event, TakeSeat, OpenSearch, Finish, DropSearch, AdvanceWalk, Begin, Stage, Commit, Abort, Govern, Roll, Reply, Done, Number, Advanced, Ended, Rows, Refused, Happens, recorded, without_search, without_transaction}
 use Rattle.plain_world.specs.Finding.{FindsAll}
 use Rattle.plain_world.specs.Laws.{IsUnderWay}
 use Rattle.plain_world.specs.Staging.{TransactionData, transaction_with, next_placement, with_step, one_placed}
-use Rattle.plain_world.specs.Walking.{IsWalkFor}
+use Rattle.plain_world.specs.declared.outcomes.Outcome.{Outcome}
 use Rattle.plain_world.specs.States.{WorldData, opened}
 use Rattle.plain_world.proofs.AdmittedLemmas.{admitted, finisher, seat_same}
 use Rattle.plain_world.proofs.RefusalLemmas.{leaves}
@@ -37,45 +39,81 @@ use Rattle.search_tree.specs.declared.fault.TreeFault.TheVariants as tree
 use Rattle.search_tree.specs.Calls.{IsComplete, IsOpen, IsShut}
 use Rattle.search_tree.specs.Trees.{IsFirst, PlainWalk, SeenSearch, search_in}
 use Rattle.transactions.specs.Index.{HasFeatures, Index, IndexedWorld, IsWorld, Serves, frames}
+use Rattle.transactions.specs.Walks.{AreWalks, IsWalkFor, JourneyData, begun, ended, with_walk}
 use Rattle.transactions.proofs.SearchLemmas.{has_number}
 use Rattle.transactions.proofs.ServeLemmas.{seen_of, serves_first, serves_opened, serves_placed, serves_shut}
-use Rattle.transactions.proofs.StepLemmas.{placed_happens, ended_happens}
+use Rattle.transactions.proofs.StepLemmas.{GoesOn, goes_on_for, placed_happens, ended_happens}
+use Rattle.transactions.proofs.WalkLemmas.{as_many_walks, walks_ended, walks_kept, walks_placed}
+use Rattle.transactions.proofs.EventWalkLemmas.{transactions_govern, transactions_roll, transactions_seat, walks_abort, walks_begin, walks_commit, walks_stage}
 use Rattle.transactions.proofs.BesideLemmas.{Beside, beside_ended, serves_beside, beside_seat, beside_begin, beside_stage, beside_commit, beside_abort, beside_govern, beside_roll}
 
-abbrev pub indexed : WorldData → Index → IndexedWorld
-indexed w t = record { plain = w; index = t }
+abbrev pub indexed : WorldData → Index → List JourneyData → IndexedWorld
+indexed w t js = record { plain = w; index = t; walks = js }
 
--- an event, where the index then serves the new world
-pub world_by : (event : Event) (w v : WorldData) (t u : Index) (reply : Reply) → Happens event w v reply → IsWorld (indexed w t) → Serves v u → IsWorld (indexed v u)
-world_by event w v t u reply happens h serves = record {
+-- an event, where the index then serves the new world, and the walks are those of its transactions
+pub world_by : (event : Event) (w v : WorldData) (t u : Index) (js ks : List JourneyData) (reply : Reply) → Happens event w v reply → IsWorld (indexed w t js) → Serves v u → AreWalks v.transactions ks → IsWorld (indexed v u ks)
+world_by event w v t u js ks reply happens h serves walks = record {
   ordered = ordered_event event w v reply happens h.ordered;
   under_way = way_event event w v reply happens h.under_way;
   serves = serves;
+  walks = walks;
 }
 
-beside : (event : Event) (w v : WorldData) (t : Index) (reply : Reply) → Happens event w v reply → IsWorld (indexed w t) → Beside w v → IsWorld (indexed v t)
-beside event w v t reply happens h b = world_by event w v t t reply happens h (serves_beside w v t b h.serves)
+beside : (event : Event) (w v : WorldData) (t : Index) (js ks : List JourneyData) (reply : Reply) → Happens event w v reply → IsWorld (indexed w t js) → Beside w v → AreWalks v.transactions ks → IsWorld (indexed v t ks)
+beside event w v t js ks reply happens h b walks = world_by event w v t t js ks reply happens h (serves_beside w v t b h.serves) walks
 
-pub world_seat : (name : List ℕ) (w v : WorldData) (t : Index) (reply : Reply) → Happens (TakeSeat name) w v reply → IsWorld (indexed w t) → IsWorld (indexed v t)
-world_seat name w v t reply happens h = beside (TakeSeat name) w v t reply happens h (beside_seat name w v reply happens)
+-- the transactions stay, and so do their walks
+same_transactions : (w v : WorldData) (js : List JourneyData) → v.transactions ≡ w.transactions → AreWalks w.transactions js → AreWalks v.transactions js
+same_transactions w v js same h = subst (λ (ts : List TransactionData). AreWalks ts js) (sym same) h
 
-pub world_begin : (seat : ℕ) (w v : WorldData) (t : Index) (reply : Reply) → Happens (Begin seat) w v reply → IsWorld (indexed w t) → IsWorld (indexed v t)
-world_begin seat w v t reply happens h = beside (Begin seat) w v t reply happens h (beside_begin seat w v reply happens)
+-- what is refused leaves the world as it was
+same_world : (w v : WorldData) (t : Index) (js : List JourneyData) → v ≡ w → IsWorld (indexed w t js) → IsWorld (indexed v t js)
+same_world w v t js e h = subst (λ (x : WorldData). IsWorld (indexed x t js)) (sym e) h
 
-pub world_stage : (seat number : ℕ) (change : Change) (w v : WorldData) (t : Index) (reply : Reply) → Happens (Stage seat number change) w v reply → IsWorld (indexed w t) → IsWorld (indexed v t)
-world_stage seat number change w v t reply happens h = beside (Stage seat number change) w v t reply happens h (beside_stage seat number change w v reply h.under_way happens)
+pub world_seat : (name : List ℕ) (w v : WorldData) (t : Index) (js : List JourneyData) (reply : Reply) → Happens (TakeSeat name) w v reply → IsWorld (indexed w t js) → IsWorld (indexed v t js)
+world_seat name w v t js reply happens h = beside (TakeSeat name) w v t js js reply happens h (beside_seat name w v reply happens) (same_transactions w v js (transactions_seat name w v reply happens) h.walks)
 
-pub world_abort : (seat number : ℕ) (w v : WorldData) (t : Index) (reply : Reply) → Happens (Abort seat number) w v reply → IsWorld (indexed w t) → IsWorld (indexed v t)
-world_abort seat number w v t reply happens h = beside (Abort seat number) w v t reply happens h (beside_abort seat number w v reply happens)
+pub world_stage : (seat number : ℕ) (change : Change) (w v : WorldData) (t : Index) (js : List JourneyData) (reply : Reply) → Happens (Stage seat number change) w v reply → IsWorld (indexed w t js) → IsWorld (indexed v t js)
+world_stage seat number change w v t js reply happens h = beside (Stage seat number change) w v t js js reply happens h (beside_stage seat number change w v reply h.under_way happens) (walks_stage seat number change w v js reply happens h.walks)
 
-pub world_commit : (seat number : ℕ) (w v : WorldData) (t : Index) (reply : Reply) → Happens (Commit seat number) w v reply → IsWorld (indexed w t) → IsWorld (indexed v t)
-world_commit seat number w v t reply happens h = beside (Commit seat number) w v t reply happens h (beside_commit seat number w v reply happens)
+pub world_govern : (seat : ℕ) (document : DocumentData) (w v : WorldData) (t : Index) (js : List JourneyData) (reply : Reply) → Happens (Govern seat document) w v reply → IsWorld (indexed w t js) → IsWorld (indexed v t js)
+world_govern seat document w v t js reply happens h = beside (Govern seat document) w v t js js reply happens h (beside_govern seat document w v reply happens) (same_transactions w v js (transactions_govern seat document w v reply happens) h.walks)
 
-pub world_govern : (seat : ℕ) (document : DocumentData) (w v : WorldData) (t : Index) (reply : Reply) → Happens (Govern seat document) w v reply → IsWorld (indexed w t) → IsWorld (indexed v t)
-world_govern seat document w v t reply happens h = beside (Govern seat document) w v t reply happens h (beside_govern seat document w v reply happens)
+pub world_roll : (seat : ℕ) (w v : WorldData) (t : Index) (js : List JourneyData) (reply : Reply) → Happens (Roll seat) w v reply → IsWorld (indexed w t js) → IsWorld (indexed v t js)
+world_roll seat w v t js reply happens h = beside (Roll seat) w v t js js reply happens h (beside_roll seat w v reply happens) (same_transactions w v js (transactions_roll seat w v reply happens) h.walks)
 
-pub world_roll : (seat : ℕ) (w v : WorldData) (t : Index) (reply : Reply) → Happens (Roll seat) w v reply → IsWorld (indexed w t) → IsWorld (indexed v t)
-world_roll seat w v t reply happens h = beside (Roll seat) w v t reply happens h (beside_roll seat w v reply happens)
+-- ---- transactions begin and end
+
+pub world_begin_refused : (seat : ℕ) (w v : WorldData) (t : Index) (js : List JourneyData) (fault : Fault) → Happens (Begin seat) w v (Refused fault) → IsWorld (indexed w t js) → IsWorld (indexed v t js)
+world_begin_refused seat w v t js fault happens h = same_world w v t js (leaves (Begin seat) w v fault happens) h
+
+pub world_begun : (seat number : ℕ) (w v : WorldData) (t : Index) (js : List JourneyData) → Happens (Begin seat) w v (Number number) → IsWorld (indexed w t js) → IsWorld (indexed v t (begun number js))
+world_begun seat number w v t js happens h = beside (Begin seat) w v t js (begun number js) (Number number) happens h (beside_begin seat w v (Number number) happens) (walks_begin seat number w v js happens h.walks)
+
+-- there is room for one walk more
+pub few_walks : (seat number : ℕ) (w v : WorldData) (t : Index) (js : List JourneyData) → Happens (Begin seat) w v (Number number) → IsWorld (indexed w t js) → length js < TRANSACTION_LIMIT
+few_walks seat number w v t js happens h =
+    let d = admitted (may_begin seat w) w v (Number number) _ refl happens in
+    let a = and_then_ok (subject_at seat w) (λ _. next_transaction w) d.0 d.1 in
+    let many = as_many_walks w.transactions js h.walks in
+    let few = room d.0 w.next_transaction (length w.transactions) (nat_le TRANSACTION_LIMIT (length w.transactions)) (w.next_transaction == LAST) refl a.2 in
+    omega (arith, few, many)
+  where
+    room : (x n l : ℕ) (full last : Bool) → nat_le TRANSACTION_LIMIT l ≡ full → ◌≡◌ {A = Result ℕ Fault} (if full then Err faults.TooMany else if last then Err faults.Spent else Ok n) (Ok x) → l < TRANSACTION_LIMIT
+    room x n l true last is e = absurd cc
+    room x n l false last is e = grind (arith, nat_tests, is)
+
+pub world_abort_refused : (seat number : ℕ) (w v : WorldData) (t : Index) (js : List JourneyData) (fault : Fault) → Happens (Abort seat number) w v (Refused fault) → IsWorld (indexed w t js) → IsWorld (indexed v t js)
+world_abort_refused seat number w v t js fault happens h = same_world w v t js (leaves (Abort seat number) w v fault happens) h
+
+pub world_aborted : (seat number : ℕ) (w v : WorldData) (t : Index) (js : List JourneyData) → Happens (Abort seat number) w v Done → IsWorld (indexed w t js) → IsWorld (indexed v t (ended number js))
+world_aborted seat number w v t js happens h = beside (Abort seat number) w v t js (ended number js) Done happens h (beside_abort seat number w v Done happens) (walks_abort seat number w v js happens h.walks)
+
+pub world_commit_refused : (seat number : ℕ) (w v : WorldData) (t : Index) (js : List JourneyData) (fault : Fault) → Happens (Commit seat number) w v (Refused fault) → IsWorld (indexed w t js) → IsWorld (indexed v t js)
+world_commit_refused seat number w v t js fault happens h = same_world w v t js (leaves (Commit seat number) w v fault happens) h
+
+pub world_committed : (seat number : ℕ) (w v : WorldData) (t : Index) (js : List JourneyData) (outcome : Outcome) → Happens (Commit seat number) w v (Ended outcome) → IsWorld (indexed w t js) → IsWorld (indexed v t (ended number js))
+world_committed seat number w v t js outcome happens h = beside (Commit seat number) w v t js (ended number js) (Ended outcome) happens h (beside_commit seat number w v (Ended outcome) happens) (walks_commit seat number w v js outcome happens h.walks)
 
 -- ---- searches
 
@@ -87,24 +125,21 @@ goes_on_with seat number w s e =
     let same = seat_same seat b.0 s b.2 in
     given_ok (search_with number w.searches) b.0 b.1 ∙ ap (λ (x : Search). Some x) same.0
 
--- what is refused, and is no step, leaves the world as it was
-same_world : (w v : WorldData) (t : Index) → v ≡ w → IsWorld (indexed w t) → IsWorld (indexed v t)
-same_world w v t e h = subst (λ (x : WorldData). IsWorld (indexed x t)) (sym e) h
+pub world_drop_refused : (seat number : ℕ) (w v : WorldData) (t : Index) (js : List JourneyData) (fault : Fault) → Happens (DropSearch seat number) w v (Refused fault) → IsWorld (indexed w t js) → IsWorld (indexed v t js)
+world_drop_refused seat number w v t js fault happens h = same_world w v t js (leaves (DropSearch seat number) w v fault happens) h
 
-pub world_drop_refused : (seat number : ℕ) (w v : WorldData) (t : Index) (fault : Fault) → Happens (DropSearch seat number) w v (Refused fault) → IsWorld (indexed w t) → IsWorld (indexed v t)
-world_drop_refused seat number w v t fault happens h = same_world w v t (leaves (DropSearch seat number) w v fault happens) h
+pub world_finish_refused : (seat number : ℕ) (w v : WorldData) (t : Index) (js : List JourneyData) (fault : Fault) → Happens (Finish seat number) w v (Refused fault) → IsWorld (indexed w t js) → IsWorld (indexed v t js)
+world_finish_refused seat number w v t js fault happens h = same_world w v t js (leaves (Finish seat number) w v fault happens) h
 
-pub world_finish_refused : (seat number : ℕ) (w v : WorldData) (t : Index) (fault : Fault) → Happens (Finish seat number) w v (Refused fault) → IsWorld (indexed w t) → IsWorld (indexed v t)
-world_finish_refused seat number w v t fault happens h = same_world w v t (leaves (Finish seat number) w v fault happens) h
-
-pub world_dropped : (seat number : ℕ) (w v : WorldData) (t u : Index) → Happens (DropSearch seat number) w v Done → IsShut frames t u number → IsWorld (indexed w t) → IsWorld (indexed v u)
-world_dropped seat number w v t u happens shut h =
+pub world_dropped : (seat number : ℕ) (w v : WorldData) (t u : Index) (js : List JourneyData) → Happens (DropSearch seat number) w v Done → IsShut frames t u number → IsWorld (indexed w t js) → IsWorld (indexed v u js)
+world_dropped seat number w v t u js happens shut h =
     let d = admitted (may_go_on seat number w) w v Done _ refl happens in
-    world_by (DropSearch seat number) w v t u Done happens h
+    world_by (DropSearch seat number) w v t u js js Done happens h
     (subst (λ (x : WorldData). Serves x u) (sym d.2.0) (serves_shut w t u number d.0 h.serves h.under_way (goes_on_with seat number w d.0 d.1) shut))
+    (subst (λ (x : WorldData). AreWalks x.transactions js) (sym d.2.0) h.walks)
 
-pub world_finished : (seat number : ℕ) (w v : WorldData) (t u : Index) (answer : AnswerData) → Happens (Finish seat number) w v (Rows answer) → IsShut frames t u number → IsWorld (indexed w t) → IsWorld (indexed v u)
-world_finished seat number w v t u answer happens shut h =
+pub world_finished : (seat number : ℕ) (w v : WorldData) (t u : Index) (js : List JourneyData) (answer : AnswerData) → Happens (Finish seat number) w v (Rows answer) → IsShut frames t u number → IsWorld (indexed w t js) → IsWorld (indexed v u js)
+world_finished seat number w v t u js answer happens shut h =
     let d = admitted (may_finish seat number w) w v (Rows answer) _ refl happens in
     let who = finisher seat number w d.0 d.1 in
     let s : Search = d.0.1 in
@@ -113,8 +148,9 @@ world_finished seat number w v t u answer happens shut h =
     let serves1 : Serves w1 t = serves_beside w w1 t (record { searches = refl; next = refl; limits = refl; features = λ all f p. f; placements = λ all p. p }) h.serves in
     let way1 : IsUnderWay w1 = record { searches = h.under_way.searches; transactions = h.under_way.transactions; within = h.under_way.within } in
     let number_is : s.number ≡ number = has_number number w.searches s who.running in
-    world_by (Finish seat number) w v t u (Rows answer) happens h
+    world_by (Finish seat number) w v t u js js (Rows answer) happens h
     (subst (λ (x : WorldData). Serves x u) (sym (d.2.3 ∙ ap (λ (n : ℕ). without_search n w1) number_is)) (serves_shut w1 t u number s serves1 way1 who.running shut))
+    (subst (λ (x : WorldData). AreWalks x.transactions js) (sym d.2.3) h.walks)
 
 -- what is made of an element is made of the list's
 contains_map : {A B : Type 0} (f : A → B) (xs : List A) (x : A) → Contains xs x → Contains (map f xs) (f x)
@@ -146,22 +182,24 @@ finds_all w t number s found h is ready complete =
         (go features has.1 seen)
 
 -- a search that is opened
-pub world_opened : (seat number search : ℕ) (window : List Point) (w v : WorldData) (t u : Index) → may_open seat w ≡ Ok number
-    → v ≡ record w { searches = w.searches ++ record { number = number; seat = seat; window = window; ready = false } ∷ []; next_search = number + 1 } → IsOpen frames t u window search → IsWorld (indexed w t) → IsWorld (indexed v u)
-world_opened seat number search window w v t u may is opens h =
-    world_by (OpenSearch seat window) w v t u (Number number) (admits (may_open seat w) number w v (Number number) _ may (is, refl)) h
+pub world_opened : (seat number search : ℕ) (window : List Point) (w v : WorldData) (t u : Index) (js : List JourneyData) → may_open seat w ≡ Ok number
+    → v ≡ record w { searches = w.searches ++ record { number = number; seat = seat; window = window; ready = false } ∷ []; next_search = number + 1 } → IsOpen frames t u window search → IsWorld (indexed w t js) → IsWorld (indexed v u js)
+world_opened seat number search window w v t u js may is opens h =
+    world_by (OpenSearch seat window) w v t u js js (Number number) (admits (may_open seat w) number w v (Number number) _ may (is, refl)) h
     (subst (λ (x : WorldData). Serves x u) (sym is) (serves_opened w t u seat number search window h.serves (open_number seat w number may) opens))
+    (subst (λ (x : WorldData). AreWalks x.transactions js) (sym is) h.walks)
 
 -- a world whose index serves it on
-pub world_served : (w : WorldData) (t u : Index) → IsWorld (indexed w t) → Serves w u → IsWorld (indexed w u)
-world_served w t u h serves = record { ordered = h.ordered; under_way = h.under_way; serves = serves }
+pub world_served : (w : WorldData) (t u : Index) (js : List JourneyData) → IsWorld (indexed w t js) → Serves w u → IsWorld (indexed w u js)
+world_served w t u js h serves = record { ordered = h.ordered; under_way = h.under_way; serves = serves; walks = h.walks }
 
 -- a world that has just been opened
-pub world_first : (subjects : List Subject) (decider : DeciderData) (starts : Starts) (limits : Limits) (w : WorldData) (t : Index) → w ≡ opened subjects decider starts limits → IsFirst frames starts.counter starts.search limits.steps t → IsWorld (indexed w t)
-world_first subjects decider starts limits w t is first = subst (λ (x : WorldData). IsWorld (indexed x t)) (sym is) (record {
+pub world_first : (subjects : List Subject) (decider : DeciderData) (starts : Starts) (limits : Limits) (w : WorldData) (t : Index) → w ≡ opened subjects decider starts limits → IsFirst frames starts.counter starts.search limits.steps t → IsWorld (indexed w t [])
+world_first subjects decider starts limits w t is first = subst (λ (x : WorldData). IsWorld (indexed x t [])) (sym is) (record {
   ordered = opened_ordered subjects decider starts limits;
   under_way = opened_way subjects decider starts limits;
   serves = serves_first subjects decider starts limits t first;
+  walks = tt;
 })
 
 pub unready_of : (b : Bool) → not b ≡ true → b ≡ false
@@ -176,29 +214,36 @@ happens_as event w x v y one other from to reply happens =
 pub plain_of : (one other : IndexedWorld) → one ≡ other → one.plain ≡ other.plain
 plain_of one other e = ap (λ (x : IndexedWorld). x.plain) e
 
--- ---- walks
-
--- the walk's pair is placed
-pub world_placed : (seat number : ℕ) (w v : WorldData) (t u : Index) (walk : PlainWalk (List Point)) (tr : TransactionData) → may_step seat number w ≡ Ok tr → transaction_with number w.transactions ≡ Some tr → IsWalkFor tr walk
-    → HasPlacedBehindNone frames t u (walk.key, walk.item) → v ≡ record w { transactions = with_step one_placed number w.transactions } → IsWorld (indexed w t) → IsWorld (indexed v u)
-world_placed seat number w v t u walk tr may found going placed is h =
-    world_by (AdvanceWalk seat number) w v t u (Advanced (advances.Walked steps.Placed)) (placed_happens seat number w tr (walk.key, walk.item) may going.next v is) h
-    (subst (λ (x : WorldData). Serves x u) (sym is) (serves_placed w t u number (walk.key, walk.item) h.serves placed
-    (λ x there. subst (λ (y : TransactionData). next_placement y ≡ Some (walk.key, walk.item)) (same_one tr x (sym found ∙ there)) going.next)))
-  where
-    same_one : (a b : TransactionData) → ◌≡◌ {A = Option TransactionData} (Some a) (Some b) → a ≡ b
-    same_one a b e = cc
-
--- the walk is given up, and its transaction with it
-pub world_ended : (seat number : ℕ) (w v : WorldData) (t u : Index) (walk : PlainWalk (List Point)) (tr : TransactionData) → may_step seat number w ≡ Ok tr → IsWalkFor tr walk → Serves w u
-    → v ≡ without_transaction number w → IsWorld (indexed w t) → IsWorld (indexed v u)
-world_ended seat number w v t u walk tr may going serves is h =
-    world_by (AdvanceWalk seat number) w v t u (Refused (faults.Tree tree.Overrun)) (ended_happens seat number w tr (walk.key, walk.item) may going.next v is) h
-    (subst (λ (x : WorldData). Serves x u) (sym is) (serves_beside w (without_transaction number w) u (beside_ended number w w refl refl refl refl refl) serves))
-
--- the walk is kept
-pub world_kept_walk : (w v : WorldData) (t u : Index) → v ≡ w → IsWorld (indexed w t) → Serves w u → IsWorld (indexed v u)
-world_kept_walk w v t u is h serves = subst (λ (x : WorldData). IsWorld (indexed x u)) (sym is) (world_served w t u h serves)
-
 pub index_of : (one other : IndexedWorld) → one ≡ other → one.index ≡ other.index
 index_of one other e = ap (λ (x : IndexedWorld). x.index) e
+
+-- ---- walks
+
+module _ (seat number : ℕ) (w : WorldData) (t u : Index) (js : List JourneyData) (walk : PlainWalk (List Point)) (tr : TransactionData)
+    (may : may_step seat number w ≡ Ok tr) (found : transaction_with number w.transactions ≡ Some tr) (going : IsWalkFor tr walk) where
+  same_one : (a b : TransactionData) → ◌≡◌ {A = Option TransactionData} (Some a) (Some b) → a ≡ b
+  same_one a b e = cc
+
+  -- the walk's pair is placed
+  pub world_placed : (v : WorldData) (ks : List JourneyData) → HasPlacedBehindNone frames t u (walk.key, walk.item) → v ≡ record w { transactions = with_step one_placed number w.transactions } → ks ≡ with_walk number None js → IsWorld (indexed w t js) → IsWorld (indexed v u ks)
+  world_placed v ks placed is left h =
+      world_by (AdvanceWalk seat number) w v t u js ks (Advanced (advances.Walked steps.Placed)) (placed_happens seat number w tr (walk.key, walk.item) may going.next v is) h
+      (subst (λ (x : WorldData). Serves x u) (sym is) (serves_placed w t u number (walk.key, walk.item) h.serves placed
+      (λ x there. subst (λ (y : TransactionData). next_placement y ≡ Some (walk.key, walk.item)) (same_one tr x (sym found ∙ there)) going.next)))
+      (rw (is, left) (walks_placed number w.transactions js h.walks))
+
+  -- the walk is given up, and its transaction with it
+  pub world_ended : (v : WorldData) (ks : List JourneyData) → Serves w u → v ≡ without_transaction number w → ks ≡ ended number js → IsWorld (indexed w t js) → IsWorld (indexed v u ks)
+  world_ended v ks serves is left h =
+      world_by (AdvanceWalk seat number) w v t u js ks (Refused (faults.Tree tree.Overrun)) (ended_happens seat number w tr (walk.key, walk.item) may going.next v is) h
+      (subst (λ (x : WorldData). Serves x u) (sym is) (serves_beside w (without_transaction number w) u (beside_ended number w w refl refl refl refl refl) serves))
+      (rw (is, left) (walks_ended number w.transactions js h.walks))
+
+  -- the walk is kept
+  pub world_kept_walk : (after : PlainWalk (List Point)) (ks : List JourneyData) → Serves w u → GoesOn w t u walk after → ks ≡ with_walk number (Some after) js → IsWorld (indexed w t js) → IsWorld (indexed w u ks)
+  world_kept_walk after ks serves on left h = record {
+    ordered = h.ordered;
+    under_way = h.under_way;
+    serves = serves;
+    walks = rw left (walks_kept number after tr w.transactions js found (goes_on_for tr walk after going on.key on.item on.waits) h.walks);
+  }

@@ -1,5 +1,5 @@
 -- The index of a world, and what it owes to what is served.
-use Rattle.std.specs.Prelude.{◌≡◌, ℕ, Bool, List, [], ◌∷◌, Contains, length, take, Option}
+use Rattle.std.specs.Prelude.{◌≡◌, ℕ, Bool, List, [], ◌∷◌, Contains, length, take}
 use Rattle.std.specs.Option.{option_map}
 use Rattle.plane.specs.declared.point.Point.{Point}
 use Rattle.plane.specs.Extents.{Extent, extent_of, joined}
@@ -14,6 +14,7 @@ use Rattle.plain_world.specs.Admitting.{search_with}
 use Rattle.plain_world.specs.Laws.{IsOrdered, IsUnderWay}
 use Rattle.plain_world.specs.Staging.{TransactionData, placements}
 use Rattle.plain_world.specs.States.{WorldData}
+use Rattle.transactions.specs.Walks.{AreWalks, JourneyData}
 
 -- the class of keys: a key is a frame, an item or a query a shape
 abbrev pub frames : Class
@@ -22,10 +23,11 @@ frames = class_of Encloses MayMeet Meet extent_of joined
 abbrev pub Index : Type 0
 Index = PlainTree Extent (List Point) (List Point)
 
--- a world: all that is served and under way, and its index
+-- a world: all that is served and under way, its index, and the walks of the open transactions
 pub record IndexedWorld : Type 0 where
   pub plain : WorldData
   pub index : Index
+  pub walks : List JourneyData
 
 -- what the index knows of a search, and the world: its window, and whether it has answered Ready
 abbrev pub seen_there : SeenSearch (List Point) (List Point) → List Point × Bool
@@ -61,8 +63,10 @@ pub record Serves (w : WorldData) (index : Index) : Type 0 where
   pub next : index.running.next ≡ w.next_search
   pub limit : index.limit ≡ w.limits.steps
 
--- what every world keeps: what is served and under way is in order, and the index serves it
+-- what every world keeps: what is served and under way is in order, the index serves it, and the walks are those of the
+-- open transactions
 pub record IsWorld (w : IndexedWorld) : Type 0 where
   pub ordered : IsOrdered w.plain
   pub under_way : IsUnderWay w.plain
   pub serves : Serves w.plain w.index
+  pub walks : AreWalks w.plain.transactions w.walks

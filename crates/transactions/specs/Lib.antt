@@ -1,3 +1,5 @@
 pub mod Index
 pub mod Coding
 pub mod Refusing
+pub mod Walks
+pub mod Walking

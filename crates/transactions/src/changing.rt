@@ -1,37 +1,28 @@
 //! Transactions: staged, placed in the index, and committed as a whole or not at all.
 
-ghost use Rattle.std.specs.Prelude.{◌≡◌, IfErr, Some};
+ghost use Rattle.std.specs.Prelude.{◌≡◌, None, IfErr};
 ghost use Rattle.plain_world.specs.Events.{Happens, Begin, Stage, AdvanceWalk, Commit, Abort, Number, Done, Advanced, Ended, reply_of};
-ghost use Rattle.plain_world.specs.Staging.{TransactionData, next_placement, transaction_with};
-ghost use Rattle.plain_world.specs.Walking.{WalksFor};
 ghost use Rattle.transactions.specs.Refusing.{RefusesGrowth};
+ghost use Rattle.transactions.specs.Walking.{WalksOn, next_walk};
+ghost use Rattle.transactions.specs.Walks.{begun, ended, if_done, with_walk};
 
 use crate::faults::{fault_of, is_overrun};
+use crate::walks::Walks;
 use crate::worlds::World;
 use features::Change;
+use frame_keys::Frames;
 use plain_world::{Advance, Fault, Outcome};
 use plane::Shape;
-use search_tree::Walk;
+use search_tree::{Tree, Walk};
 use std::alloc::Allocator;
 
 impl<A: Allocator> World<A> {
-    /// The walk of what a transaction is to place next: the one that is under way, or else a new one.
-    fn next_walk(&mut self, number: u64, id: u64, shape: Shape) -> Walk<Shape>
-        requires { (t : TransactionData) → transaction_with number self.old.plain.transactions ≡ Some t → next_placement t ≡ Some (id, shape) }
-        ensures same { self.new ≡ self.old }
-        ensures walk { WalksFor number self.old.plain.transactions result }
-    {
-        match self.plain.take_walk(number) {
-            Some(walk) => walk,
-            None => self.index.start_walk(id, shape),
-        }
-    }
-
     /// Stages a change. X1 where the seat was not given or no such transaction is open, X2 where it is another seat's, X6
     /// where the list has 16 changes, X5 where it names the feature already. It takes no memory.
     pub fn stage(&mut self, seat: u32, number: u64, change: Change) -> Result<(), Fault>
         ensures happens { Happens (Stage seat number change) self.old.plain self.new.plain (reply_of (λ _. Done) result) }
         ensures index { self.new.index ≡ self.old.index }
+        ensures walks { self.new.walks ≡ self.old.walks }
     {
         self.plain.stage(seat, number, change)
     }
@@ -41,8 +32,11 @@ impl<A: Allocator> World<A> {
     pub fn abort(&mut self, seat: u32, number: u64) -> Result<(), Fault>
         ensures happens { Happens (Abort seat number) self.old.plain self.new.plain (reply_of (λ _. Done) result) }
         ensures index { self.new.index ≡ self.old.index }
+        ensures walks { self.new.walks ≡ if_done result self.old.walks (λ _. ended number self.old.walks) }
     {
-        self.plain.abort(seat, number)
+        self.plain.abort(seat, number)?;
+        self.walks.end(number);
+        Ok(())
     }
 }
 
@@ -52,8 +46,11 @@ impl<A: Allocator + Copy> World<A> {
     pub fn begin(&mut self, seat: u32) -> Result<u64, Fault>
         ensures happens { Happens (Begin seat) self.old.plain self.new.plain (reply_of Number result) }
         ensures index { self.new.index ≡ self.old.index }
+        ensures walks { self.new.walks ≡ if_done result self.old.walks (λ number. begun number self.old.walks) }
     {
-        self.plain.begin(seat)
+        let number = self.plain.begin(seat)?;
+        self.walks.begin(number);
+        Ok(number)
     }
 
     /// Makes a step of the walk of the next shape that is not yet placed. X1 where the seat was not given or no such
@@ -64,25 +61,27 @@ impl<A: Allocator + Copy> World<A> {
     pub fn advance(&mut self, seat: u32, number: u64) -> Result<Advance, Fault>
         ensures happens { Happens (AdvanceWalk seat number) self.old.plain self.new.plain (reply_of Advanced result) }
         ensures refused { IfErr result (RefusesGrowth self.old.index) }
+        ensures walked { WalksOn seat number self.old self.new result }
     {
-        let Some((id, shape)) = self.plain.next_to_place(seat, number)? else {
+        let Some(placement) = self.plain.next_to_place(seat, number)? else {
             return Ok(Advance::AllPlaced);
         };
-        let mut walk = self.next_walk(number, id, shape);
+        let mut walk = next_walk(&mut self.walks, &self.index, number, placement);
         match self.index.advance(&mut walk) {
             Ok(step) => {
                 if walk.placed() {
                     self.plain.place_next(number);
                 } else {
-                    self.plain.keep_walk(number, walk);
+                    self.walks.keep(number, walk);
                 }
                 Ok(Advance::Walked(step))
             }
             Err(fault) => {
                 if is_overrun(&fault) {
                     self.plain.end_transaction(number);
+                    self.walks.end(number);
                 } else {
-                    self.plain.keep_walk(number, walk);
+                    self.walks.keep(number, walk);
                 }
                 Err(fault_of(fault))
             }
@@ -96,7 +95,26 @@ impl<A: Allocator + Copy> World<A> {
     pub fn commit(&mut self, seat: u32, number: u64) -> Result<Outcome, Fault>
         ensures happens { Happens (Commit seat number) self.old.plain self.new.plain (reply_of Ended result) }
         ensures index { self.new.index ≡ self.old.index }
+        ensures walks { self.new.walks ≡ if_done result self.old.walks (λ _. ended number self.old.walks) }
     {
-        self.plain.commit(seat, number)
+        let outcome = self.plain.commit(seat, number)?;
+        self.walks.end(number);
+        Ok(outcome)
+    }
+}
+
+/// The walk of what a transaction is to place next: the one that is under way, which is handed out, or else a new one.
+fn next_walk<A: Allocator>(
+    walks: &mut Walks<A>,
+    index: &Tree<Frames, A>,
+    number: u64,
+    placement: (u64, Shape),
+) -> Walk<Shape>
+    ensures walk { result ≡ next_walk number placement index.now walks.old }
+    ensures left { walks.new ≡ with_walk number None walks.old }
+{
+    match walks.take(number) {
+        Some(walk) => walk,
+        None => index.start_walk(placement.0, placement.1),
     }
 }

@@ -19,6 +19,7 @@ impl<A: Allocator + Copy> World<A> {
         requires { (arc_value decider).edition ≡ self.old.plain.state.decider.edition + 1 }
         ensures happens { Happens (Govern seat (arc_value decider).document) self.old.plain self.new.plain (reply_of Number result) }
         ensures index { self.new.index ≡ self.old.index }
+        ensures walks { self.new.walks ≡ self.old.walks }
     {
         self.plain.govern_by(seat, decider)
     }
@@ -35,6 +36,7 @@ impl<A: Allocator + Copy> World<A> {
         ensures happens { Happens (Govern seat document) self.old.plain self.new.plain (reply_handing Number result) }
         ensures document_returned { IfErr result (λ e. e.0 ≡ document) }
         ensures index { self.new.index ≡ self.old.index }
+        ensures walks { self.new.walks ≡ self.old.walks }
     {
         self.plain.govern(heap, seat, document)
     }
@@ -45,6 +47,7 @@ impl<A: Allocator + Copy> World<A> {
     pub fn roll(&mut self, heap: Global, seat: u32) -> Result<Arc<Rolled<A>, A>, Fault>
         ensures happens { Happens (Roll seat) self.old.plain self.new.plain (reply_of (λ piece. TakenOut (arc_value piece)) result) }
         ensures index { self.new.index ≡ self.old.index }
+        ensures walks { self.new.walks ≡ self.old.walks }
     {
         self.plain.roll(heap, seat)
     }

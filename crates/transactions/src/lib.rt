@@ -7,6 +7,7 @@ mod faults;
 mod governing;
 mod searching;
 mod tending;
+mod walks;
 mod worlds;
 
 pub use plain_world::{

@@ -19,6 +19,7 @@ impl<A: Allocator> World<A> {
     pub fn seat(&mut self, name: Name) -> Result<u32, Fault>
         ensures happens { Happens (TakeSeat name) self.old.plain self.new.plain (reply_of Number result) }
         ensures index { self.new.index ≡ self.old.index }
+        ensures walks { self.new.walks ≡ self.old.walks }
     {
         self.plain.seat(name)
     }
@@ -27,6 +28,7 @@ impl<A: Allocator> World<A> {
     /// no memory.
     pub fn drop_search(&mut self, seat: u32, number: u64) -> Result<(), Fault>
         ensures happens { Happens (DropSearch seat number) self.old.plain self.new.plain (reply_of (λ _. Done) result) }
+        ensures walks { self.new.walks ≡ self.old.walks }
     {
         self.plain.drop_search(seat, number)?;
         self.index.close_search(number);
@@ -39,6 +41,7 @@ impl<A: Allocator + Copy> World<A> {
     /// or the number is at its end (S6), X12 where a growth is refused.
     pub fn open_search(&mut self, seat: u32, window: Shape) -> Result<u64, Fault>
         ensures happens { Happens (OpenSearch seat window) self.old.plain self.new.plain (reply_of Number result) }
+        ensures walks { self.new.walks ≡ self.old.walks }
     {
         let number = self.plain.may_open(seat)?;
         match self.index.open_search(window) {
@@ -58,6 +61,7 @@ impl<A: Allocator + Copy> World<A> {
     pub fn visit(&mut self, seat: u32, number: u64) -> Result<Visit, Fault>
         ensures happens { Happens (VisitNext seat number) self.old.plain self.new.plain (reply_of Visited result) }
         ensures refused { IfErr result (GivesUp self.old.index number) }
+        ensures walks { self.new.walks ≡ self.old.walks }
     {
         let search = self.plain.may_go_on(seat, number)?;
         match self.index.visit(number) {
@@ -84,6 +88,7 @@ impl<A: Allocator + Copy> World<A> {
     pub fn finish(&mut self, seat: u32, number: u64, meter: &mut Meter) -> Result<Answer<A>, Fault>
         ensures happens { Happens (Finish seat number) self.old.plain self.new.plain (reply_of Rows result) }
         ensures metered { meter.new ≤ meter.old + length (found_in self.old.index number) }
+        ensures walks { self.new.walks ≡ self.old.walks }
     {
         let answer = self
             .plain

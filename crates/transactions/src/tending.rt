@@ -1,6 +1,6 @@
 //! The index is tended.
 
-ghost use Rattle.std.specs.Prelude.{IfErr};
+ghost use Rattle.std.specs.Prelude.{◌≡◌, IfErr};
 ghost use Rattle.plain_world.specs.Events.{Happens, Tend, Tended, reply_of};
 ghost use Rattle.transactions.specs.Refusing.{RefusesGrowth};
 
@@ -16,6 +16,7 @@ impl<A: Allocator> World<A> {
     pub fn tend(&mut self, slot: u32) -> Result<Tending, Fault>
         ensures happens { Happens (Tend slot) self.old.plain self.new.plain (reply_of Tended result) }
         ensures refused { IfErr result (RefusesGrowth self.old.index) }
+        ensures walks { self.new.walks ≡ self.old.walks }
     {
         match self.index.tend(slot, &self.plain) {
             Ok(tending) => Ok(tending),

@@ -1,6 +1,6 @@
 //! The world: what stands, and how it is opened and read.
 
-ghost use Rattle.std.specs.Prelude.{◌≡◌, ◌≤◌, length, IfOk, IfErr};
+ghost use Rattle.std.specs.Prelude.{◌≡◌, ◌≤◌, [], length, IfOk, IfErr};
 ghost use Rattle.memory.specs.Refused.{refused};
 ghost use Rattle.audit_trail.specs.Legal.{IsLegal, replay, subject_of};
 ghost use Rattle.node_arena.specs.Slots.{slot_count, taken_count};
@@ -9,7 +9,9 @@ ghost use Rattle.plain_world.specs.States.{opened};
 ghost use Rattle.search_tree.specs.Calls.{found_in};
 ghost use Rattle.search_tree.specs.Trees.{IsFirst};
 ghost use Rattle.transactions.specs.Index.{Serves, frames};
+ghost use Rattle.transactions.specs.Walks.{AreWalks};
 
+use crate::walks::Walks;
 use audit_trail::{RECORD_LIMIT, Trail};
 use decision::Decider;
 use features::{FEATURE_LIMIT, Subject, Subjects};
@@ -22,12 +24,13 @@ use std::alloc::{Allocator, Global};
 use std::marker::Model;
 
 /// The world of many sessions: the features, the policy in force and the trail, the seats that were given, the searches and
-/// transactions that are under way, and the index over the features. A contract sees all but the index as plain data, and
-/// the index as its pairs, searches and counts.
+/// transactions that are under way, the index over the features, and the walks of the transactions. A contract sees all but
+/// the index as plain data, and the index as its pairs, searches and counts.
 #[derive(Drop)]
 pub struct World<A: Allocator> {
     pub(crate) plain: PlainWorld<A>,
     pub(crate) index: Tree<Frames, A>,
+    pub(crate) walks: Walks<A>,
 }
 
 impl<A: Allocator> Model for World<A> {
@@ -39,9 +42,9 @@ impl<A: Allocator> Model for World<A> {
 
     ghost coded = { code_by StoredIndexed (Prim.hlevel codes) stored_indexed restored_indexed restored_indexed-stored_indexed };
 
-    ghost view = { λ w. record { plain = w.plain; index = w.index } };
+    ghost view = { λ w. record { plain = w.plain; index = w.index; walks = w.walks } };
 
-    ghost invariant = { λ w. IsWorld (record { plain = w.plain; index = w.index }) };
+    ghost invariant = { λ w. IsWorld (record { plain = w.plain; index = w.index; walks = w.walks }) };
 }
 
 impl<A: Allocator> World<A> {
@@ -107,6 +110,14 @@ impl<A: Allocator> World<A> {
         let _index = &self.index;
     }
 
+    /// What the walks owe to the world: each open transaction has its place among them, in the same order, and a walk that
+    /// is under way is on its way with what its transaction is to place next. The function does nothing: it is its contract.
+    pub fn walks_serve_the_world(&self)
+        ensures { AreWalks self.now.plain.transactions self.now.walks }
+    {
+        let _walks = &self.walks;
+    }
+
     /// The subject of a seat. X1 where the seat was not given.
     pub fn subject_at(&self, seat: u32) -> Result<Subject, Fault>
         ensures { result ≡ subject_at seat self.now.plain }
@@ -160,14 +171,23 @@ impl<A: Allocator + Copy> World<A> {
         requires steps { limits.steps ≤ STEP_LIMIT }
         ensures ok { IfOk result (λ w. w.plain ≡ opened subjects (record { document = document; edition = starts.edition }) starts limits) }
         ensures index { IfOk result (λ w. IsFirst frames starts.counter starts.search limits.steps w.index) }
+        ensures walks { IfOk result (λ w. w.walks ≡ []) }
         ensures err { IfErr result (λ e. e ≡ (document, Fault.Memory refused)) }
     {
         let index = match first_index(alloc, starts, limits) {
             Ok(index) => index,
             Err(refusal) => return Err((document, Fault::Memory(refusal))),
         };
+        let walks = match Walks::new(alloc) {
+            Ok(walks) => walks,
+            Err(refusal) => return Err((document, Fault::Memory(refusal))),
+        };
         let plain = PlainWorld::open_at(alloc, heap, subjects, document, starts, limits)?;
-        Ok(World { plain, index })
+        Ok(World {
+            plain,
+            index,
+            walks,
+        })
     }
 }
 

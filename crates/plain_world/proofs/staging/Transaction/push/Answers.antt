@@ -1,6 +1,5 @@
 use Rattle.std.proofs.Common.{arith}
 use Rattle.audit_trail.proofs.AcceptedLemmas.{distinct_push}
-use Rattle.plain_world.proofs.TransactionLemmas.{still_walks}
 use Rattle.plain_world.proofs.staging.Transaction.push.Goals as goal
 
 pub invariant_of-self : goal.invariant_of-self
@@ -9,10 +8,8 @@ invariant_of-self g c =
     let unnamed = rw (← c.self.view_is) at c.requires.unnamed in
     let cap = c.push_reserved.ensures.capacity in
     let len = c.push_reserved.ensures.len in
-    let room = c.self.invariant.0 in
-    (
+    let room = c.self.invariant.0 in (
       omega (arith, room, cap),
       omega (arith, few, len),
       rw c.push_reserved.ensures.items (distinct_push _ _ c.self.invariant.2 unnamed),
-      still_walks _ _ _ _ _ c.args.change _ c.push_reserved.ensures.items c.self.invariant.3,
     )

@@ -1,6 +1,3 @@
-use Rattle.std.proofs.Common.{◌≡◌, sym, ap, ◌∙◌, arith}
-use Rattle.plane.specs.declared.point.Point.{Point}
-use Rattle.search_tree.specs.Calls.{found_in}
 use Rattle.transactions.proofs.WorldLemmas.{finds_all, world_finish_refused, world_finished}
 use Rattle.transactions.proofs.worlds.World.finish.Goals as goal
 
@@ -10,10 +7,10 @@ finish-requires g c = record {
 }
 
 pub invariant_of-self : goal.invariant_of-self
-invariant_of-self g c = world_finish_refused c.args.seat c.args.number c.self.inside.plain c.finish.new.self c.self.inside.index _ c.in_err-answer.ensures.happens c.self.invariant
+invariant_of-self g c = world_finish_refused c.args.seat c.args.number c.self.inside.plain c.finish.new.self c.self.inside.index c.self.inside.walks _ c.in_err-answer.ensures.happens c.self.invariant
 
 pub invariant_of-self-2 : goal.invariant_of-self-2
-invariant_of-self-2 g c = world_finished c.args.seat c.args.number c.self.inside.plain c.finish.new.self c.self.inside.index c.close_search.new.self c.in_ok-answer.answer c.in_ok-answer.ensures.happens c.close_search.ensures c.self.invariant
+invariant_of-self-2 g c = world_finished c.args.seat c.args.number c.self.inside.plain c.finish.new.self c.self.inside.index c.close_search.new.self c.self.inside.walks c.in_ok-answer.answer c.in_ok-answer.ensures.happens c.close_search.ensures c.self.invariant
 
 pub returns-clause-metered : goal.returns-clause-metered
 returns-clause-metered g c =

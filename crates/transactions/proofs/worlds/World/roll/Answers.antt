@@ -4,4 +4,4 @@ use Rattle.transactions.proofs.WorldLemmas.{world_roll}
 use Rattle.transactions.proofs.worlds.World.roll.Goals as goal
 
 pub invariant_of-self : goal.invariant_of-self
-invariant_of-self g c = world_roll c.args.seat c.self.inside.plain c.roll.new.self c.self.inside.index (reply_of (λ piece. TakenOut (arc_value piece)) c.roll.result) c.roll.ensures c.self.invariant
+invariant_of-self g c = world_roll c.args.seat c.self.inside.plain c.roll.new.self c.self.inside.index c.self.inside.walks (reply_of (λ piece. TakenOut (arc_value piece)) c.roll.result) c.roll.ensures c.self.invariant

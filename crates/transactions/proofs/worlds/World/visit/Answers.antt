@@ -1,7 +1,5 @@
-use Rattle.std.proofs.Common.{◌≡◌, ℕ, false, not, Bool, Ok, Err, refl, sym, ap, subst, ◌∙◌}
-use Rattle.plain_world.specs.Events.{Happens, VisitNext, Visited, Refused, Reply}
-use Rattle.plain_world.specs.States.{WorldData}
-use Rattle.plain_world.specs.declared.faults.Fault.{Fault}
+use Rattle.std.proofs.Common.{Ok, Err, refl, sym, ap, ◌∙◌}
+use Rattle.plain_world.specs.Events.{VisitNext, Visited, Refused}
 use Rattle.plain_world.specs.declared.faults.Fault.TheVariants as faults
 use Rattle.search_tree.specs.declared.answers.Visit.TheVariants as visits
 use Rattle.search_tree.specs.declared.fault.TreeFault.{TreeFault}
@@ -19,7 +17,7 @@ invariant_of-self g c =
     let may = sym c.may_go_on.ensures ∙ c.in_ok-search.was in
     let is = goes_on_with c.args.seat c.args.number c.self.inside.plain s may in
     let after = visited_as c.self.inside.plain c.self.inside.index c.visit.new.self c.args.number s _ (Ok visits.More) c.self.invariant.serves c.self.invariant.under_way is (c.in-Ok-More.is ∙ ap Ok c.in-Ok-More.field-0-is) c.visit.ensures in
-    world_served c.self.inside.plain c.self.inside.index c.visit.new.self c.self.invariant after.1
+    world_served c.self.inside.plain c.self.inside.index c.visit.new.self c.self.inside.walks c.self.invariant after.1
 
 pub invariant_of-self-then-not-search : goal.invariant_of-self-then-not-search
 invariant_of-self-then-not-search g c =
@@ -28,8 +26,8 @@ invariant_of-self-then-not-search g c =
     let is = goes_on_with c.args.seat c.args.number c.self.inside.plain s may in
     let unready = unready_of s.ready c.if-not-search.true in
     let after = visited_as c.self.inside.plain c.self.inside.index c.visit.new.self c.args.number s _ (Ok visits.Ready) c.self.invariant.serves c.self.invariant.under_way is (c.in-Ok-Ready.is ∙ ap Ok c.in-Ok-Ready.field-0-is) c.visit.ensures in
-    rw c.make_ready.ensures (world_by (VisitNext c.args.seat c.args.number) c.self.inside.plain _ c.self.inside.index c.visit.new.self (Visited visits.Ready)
-    (ready_happens c.args.seat c.args.number c.self.inside.plain _ s may (has_number c.args.number c.self.inside.plain.searches s is) unready refl) c.self.invariant (after.1 unready))
+    rw c.make_ready.ensures (world_by (VisitNext c.args.seat c.args.number) c.self.inside.plain _ c.self.inside.index c.visit.new.self c.self.inside.walks c.self.inside.walks (Visited visits.Ready)
+    (ready_happens c.args.seat c.args.number c.self.inside.plain _ s may (has_number c.args.number c.self.inside.plain.searches s is) unready refl) c.self.invariant (after.1 unready) c.self.invariant.walks)
 
 pub invariant_of-self-then-is_overrun : goal.invariant_of-self-then-is_overrun
 invariant_of-self-then-is_overrun g c =
@@ -38,8 +36,8 @@ invariant_of-self-then-is_overrun g c =
     let is = goes_on_with c.args.seat c.args.number c.self.inside.plain s may in
     let after = visited_as c.self.inside.plain c.self.inside.index c.visit.new.self c.args.number s _ (Err c.in-Err.fault) c.self.invariant.serves c.self.invariant.under_way is c.in-Err.is c.visit.ensures in
     let ends = visit_ends c.self.inside.plain c.self.inside.index c.visit.new.self c.args.number s c.in-Err.fault (sym c.is_overrun.ensures ∙ c.if-is_overrun.true) after in
-    rw c.forget_search.ensures (world_by (VisitNext c.args.seat c.args.number) c.self.inside.plain _ c.self.inside.index c.visit.new.self (Refused (faults.Tree tree.Overrun))
-    (overrun_happens c.args.seat c.args.number c.self.inside.plain _ s may (has_number c.args.number c.self.inside.plain.searches s is) ends.1 refl) c.self.invariant ends.2)
+    rw c.forget_search.ensures (world_by (VisitNext c.args.seat c.args.number) c.self.inside.plain _ c.self.inside.index c.visit.new.self c.self.inside.walks c.self.inside.walks (Refused (faults.Tree tree.Overrun))
+    (overrun_happens c.args.seat c.args.number c.self.inside.plain _ s may (has_number c.args.number c.self.inside.plain.searches s is) ends.1 refl) c.self.invariant ends.2 c.self.invariant.walks)
 
 pub invariant_of-self-else-is_overrun : goal.invariant_of-self-else-is_overrun
 invariant_of-self-else-is_overrun g c =
@@ -48,7 +46,7 @@ invariant_of-self-else-is_overrun g c =
     let is = goes_on_with c.args.seat c.args.number c.self.inside.plain s may in
     let after = visited_as c.self.inside.plain c.self.inside.index c.visit.new.self c.args.number s _ (Err c.in-Err.fault) c.self.invariant.serves c.self.invariant.under_way is c.in-Err.is c.visit.ensures in
     let wants = visit_wants c.self.inside.plain c.self.inside.index c.visit.new.self c.args.number s c.in-Err.fault (sym c.is_overrun.ensures ∙ c.if-is_overrun.false) after in
-    world_served c.self.inside.plain c.self.inside.index c.visit.new.self c.self.invariant wants.1
+    world_served c.self.inside.plain c.self.inside.index c.visit.new.self c.self.inside.walks c.self.invariant wants.1
 
 pub returns-then-not-search-clause-happens : goal.returns-then-not-search-clause-happens
 returns-then-not-search-clause-happens g c =

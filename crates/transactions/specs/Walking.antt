@@ -1,0 +1,67 @@
+-- A step of a transaction's walk.
+use Rattle.std.specs.Prelude.{◌≡◌, ◌-◌, ℕ, false, List, Option, None, Some, Result, Ok, Err, if◌then◌else◌}
+use Rattle.std.specs.Option.{unwrap_or}
+use Rattle.plane.specs.declared.point.Point.{Point}
+use Rattle.plane.specs.Extents.{Extent, joined}
+use Rattle.frame_keys.specs.Measures.{area, margin}
+use Rattle.plain_world.specs.declared.faults.Fault.{Fault}
+use Rattle.plain_world.specs.declared.steps.Advance.{Advance}
+use Rattle.plain_world.specs.declared.steps.Advance.TheVariants.{Walked}
+use Rattle.plain_world.specs.Admitting.{map_ok, may_step}
+use Rattle.plain_world.specs.Staging.{next_placement}
+use Rattle.search_tree.specs.Advances.{IsAdvance, MayWalk, is_placed}
+use Rattle.search_tree.specs.Cases.{TakesStep}
+use Rattle.search_tree.specs.Trees.{PlainWalk}
+use Rattle.search_tree.specs.declared.answers.Step.{Step}
+use Rattle.search_tree.specs.declared.fault.TreeFault.{TreeFault}
+use Rattle.transactions.specs.Index.{Index, IndexedWorld, frames}
+use Rattle.transactions.specs.Refusing.{is_overrun, told}
+use Rattle.transactions.specs.Walks.{JourneyData, ended, walk_of, with_walk}
+
+-- how much a frame's area grows, and its margin, where it takes another one in
+abbrev pub area_growth : Extent → Extent → ℕ
+area_growth key other = area (joined key other) - area key
+
+abbrev pub margin_growth : Extent → Extent → ℕ
+margin_growth key other = margin (joined key other) - margin key
+
+-- a walk of this placement that stands at the root of the index and has made no step
+abbrev pub walk_at_root : Index → ℕ × List Point → PlainWalk (List Point)
+walk_at_root index placement = record { key = placement.0; item = placement.1; at = index.root; steps = 0; placed = false }
+
+-- the walk that makes a step: the one that the transaction has under way, or else one that begins
+abbrev pub next_walk : ℕ → ℕ × List Point → Index → List JourneyData → PlainWalk (List Point)
+next_walk number placement index walks = unwrap_or (walk_of number walks) (walk_at_root index placement)
+
+-- how a world tells what the index answers to a step
+abbrev pub told_step : Result Step TreeFault → Result Advance Fault
+told_step (Ok step) = Ok (Walked step)
+told_step (Err fault) = Err (told fault)
+
+-- The walks after a step, by what the index answers. Once its pair is placed, the transaction has no walk under way;
+-- where all steps were made, it is ended; else the walk stands where the step has left it.
+abbrev pub after_step : ℕ → PlainWalk (List Point) → Result Step TreeFault → List JourneyData → List JourneyData
+after_step number walk (Ok step) walks = with_walk number (if is_placed step then None else Some walk) walks
+after_step number walk (Err fault) walks = if is_overrun fault then ended number walks else with_walk number (Some walk) walks
+
+-- The walk of a transaction that is to place this next makes a step: the one that the index makes of it, by the first
+-- case that holds where it stands. The answer is the index's.
+pub record MakesStep (number : ℕ) (placement : ℕ × List Point) (old new : IndexedWorld) (result : Result Advance Fault) : Type 0 where
+  pub walk : PlainWalk (List Point)
+  pub after : PlainWalk (List Point)
+  pub answer : Result Step TreeFault
+  pub walk_is : walk ≡ next_walk number placement old.index old.walks
+  pub step : IsAdvance frames old.index new.index walk after answer
+  pub first : MayWalk old.index.limit walk → TakesStep frames old.index new.index walk.at after.at area_growth margin_growth placement answer
+  pub is_told : result ≡ told_step answer
+  pub walks : new.walks ≡ after_step number after answer old.walks
+
+-- what an advance makes of index and walks, by what is to be placed next: where nothing is, or it is refused before, both stay
+abbrev pub IsWalked : ℕ → Result (Option (ℕ × List Point)) Fault → IndexedWorld → IndexedWorld → Result Advance Fault → Type 0
+IsWalked number (Ok (Some placement)) old new result = MakesStep number placement old new result
+IsWalked number (Ok None) old new result = new ≡ old
+IsWalked number (Err fault) old new result = new ≡ old
+
+-- the same of the seat's own transaction of a number
+abbrev pub WalksOn : ℕ → ℕ → IndexedWorld → IndexedWorld → Result Advance Fault → Type 0
+WalksOn seat number old new result = IsWalked number (map_ok next_placement (may_step seat number old.plain)) old new result
