@@ -54,8 +54,16 @@ fn brings(change: &Change, id: u64, shape: &Shape) -> bool
     ensures { result ≡ brings id shape.now change.now }
 {
     match change {
-        Change::Add { id: added, shape: new, .. } => *added == id && *new == *shape,
-        Change::Reshape { id: known, shape: new, .. } => *known == id && *new == *shape,
+        Change::Add {
+            id: added,
+            shape: new,
+            ..
+        } => *added == id && *new == *shape,
+        Change::Reshape {
+            id: known,
+            shape: new,
+            ..
+        } => *known == id && *new == *shape,
         Change::Delete { .. } => false,
     }
 }

@@ -9,8 +9,7 @@ invariant_of-self g c =
     let unnamed = rw (← c.self.view_is) at c.requires.unnamed in
     let cap = c.push_reserved.ensures.capacity in
     let len = c.push_reserved.ensures.len in
-    let room = c.self.invariant.0 in
-    (
+    let room = c.self.invariant.0 in (
       omega (arith, room, cap),
       omega (arith, few, len),
       rw c.push_reserved.ensures.items (distinct_push _ _ c.self.invariant.2 unnamed),
