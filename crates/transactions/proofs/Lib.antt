@@ -5,3 +5,4 @@ pub mod ServeLemmas
 pub mod BesideLemmas
 pub mod StepLemmas
 pub mod WorldLemmas
+pub mod TendLemmas

@@ -1,5 +1,5 @@
 -- The index of a world, and what it owes to what is served.
-use Rattle.std.specs.Prelude.{◌≡◌, ℕ, Bool, List, [], ◌∷◌, Contains, length, take, Option}
+use Rattle.std.specs.Prelude.{◌≡◌, ℕ, Bool, List, [], ◌∷◌, Contains, length, take}
 use Rattle.std.specs.Option.{option_map}
 use Rattle.plane.specs.declared.point.Point.{Point}
 use Rattle.plane.specs.Extents.{Extent, extent_of, joined}

@@ -1,3 +1,4 @@
 pub mod Index
 pub mod Coding
 pub mod Refusing
+pub mod Stepping

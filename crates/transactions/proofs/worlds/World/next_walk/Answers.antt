@@ -1,4 +1,4 @@
-use Rattle.std.proofs.Common.{◌≡◌, ℕ, List, Some, refl, subst, sym}
+use Rattle.std.proofs.Common.{refl}
 use Rattle.transactions.proofs.StepLemmas.{walks_new}
 use Rattle.transactions.proofs.worlds.World.next_walk.Goals as goal
 use Rattle.transactions.proofs.worlds.World.next_walk.Goals.{in-Some, in-None}

@@ -1,4 +1,4 @@
-use Rattle.std.proofs.Common.{◌≡◌, sym, ◌∙◌}
+use Rattle.std.proofs.Common.{sym, ◌∙◌}
 use Rattle.transactions.proofs.WorldLemmas.{world_opened}
 use Rattle.transactions.proofs.worlds.World.open_search.Goals as goal
 

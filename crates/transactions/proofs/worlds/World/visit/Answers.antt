@@ -1,7 +1,5 @@
-use Rattle.std.proofs.Common.{◌≡◌, ℕ, false, not, Bool, Ok, Err, refl, sym, ap, subst, ◌∙◌}
-use Rattle.plain_world.specs.Events.{Happens, VisitNext, Visited, Refused, Reply}
-use Rattle.plain_world.specs.States.{WorldData}
-use Rattle.plain_world.specs.declared.faults.Fault.{Fault}
+use Rattle.std.proofs.Common.{Ok, Err, refl, sym, ap, ◌∙◌}
+use Rattle.plain_world.specs.Events.{VisitNext, Visited, Refused}
 use Rattle.plain_world.specs.declared.faults.Fault.TheVariants as faults
 use Rattle.search_tree.specs.declared.answers.Visit.TheVariants as visits
 use Rattle.search_tree.specs.declared.fault.TreeFault.{TreeFault}
