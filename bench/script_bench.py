@@ -1,14 +1,17 @@
 #!/usr/bin/env python3
-"""Times `landmap script` on generated files.
+"""Times `landmap script` on generated files, over worlds of 1,000, 10,000 and 100,000 features and policies of 5, 50 and 500 rules.
 
-usage: bench/script_bench.py points [FEATURES [SEARCHES]]    point features by rising ids, searched at points
-       bench/script_bench.py mixed [FEATURES [SEARCHES]]     points, segments and polygons, searched by polygons
-       bench/script_bench.py pairs [FEATURES [SEARCHES]]     what one test of meeting costs, by pair of kinds
+usage: bench/script_bench.py [searches|commits|kinds] [FEATURES..]
 
-FEATURES is 100,000 if left out (5,000 for `pairs`), SEARCHES 10,000 for `points` (some minutes), 500 for `pairs`, else 20. Changes
-are committed by 16. Two runs are timed, one with the additions alone, so that a search has its own figure.
+searches   point features in random places; searches of about 10 rows, of 0.1 %, 1 % and 10 % of the features; microseconds a search
+commits    a commit of one addition by rising ids and at random ids, and one of sixteen, on top of so many features; microseconds a commit
+kinds      points, segments and polygons, searched by polygons of 4 and of 16 corners that take in about 10 rows
+
+All three are run if none is named. FEATURES is 1000 10000 100000 if left out (for commits, what is added on top counts among them).
+What a line costs is the difference of two runs, each the least of three, one of them with these lines left out.
 """
 
+import json
 import math
 import os
 import random
@@ -18,26 +21,29 @@ import tempfile
 import time
 
 TOP = os.path.dirname(os.path.dirname(os.path.abspath(__file__)))
-LIMIT = 10_000_000
+# The square from which places are drawn goes so far from its middle.
+SIZE = 10_000_000
+RULES = [5, 50, 500]
+REPEATS = 3
 
 # The greatest memory of the runs so far, in KiB.
 greatest = 0
 
 
-def point(chance, size):
-    return f"POINT ({chance.randint(-size, size)} {chance.randint(-size, size)})"
+def point(chance):
+    return f"POINT ({chance.randint(-SIZE, SIZE)} {chance.randint(-SIZE, SIZE)})"
 
 
-def segment(chance, size):
-    x, y = chance.randint(-size, size - 1000), chance.randint(-size, size - 1000)
+def segment(chance):
+    x, y = chance.randint(-SIZE, SIZE - 1000), chance.randint(-SIZE, SIZE - 1000)
     return f"LINESTRING ({x} {y}, {x + chance.randint(1, 1000)} {y + chance.randint(0, 1000)})"
 
 
 def polygon(corners, radius):
     """A function that makes convex polygons of so many corners."""
 
-    def made(chance, size):
-        x, y = chance.randint(-size + radius, size - radius), chance.randint(-size + radius, size - radius)
+    def made(chance):
+        x, y = chance.randint(-SIZE + radius, SIZE - radius), chance.randint(-SIZE + radius, SIZE - radius)
         turns = [2 * math.pi * (k + 0.5) / corners for k in range(corners)]
         ring = [(x + round(radius * math.cos(t)), y + round(radius * math.sin(t))) for t in turns]
         return "POLYGON ((" + ", ".join(f"{a} {b}" for a, b in ring + ring[:1]) + "))"
@@ -45,72 +51,123 @@ def polygon(corners, radius):
     return made
 
 
-def mixed(chance, size):
+def mixed(chance):
     draw = chance.random()
     if draw < 0.7:
-        return point(chance, size)
-    return segment(chance, size) if draw < 0.9 else polygon(4, 1000)(chance, size)
+        return point(chance)
+    return segment(chance) if draw < 0.9 else polygon(4, 1000)(chance)
 
 
-def additions(kind, count, size):
+def square(part):
+    """A function that makes squares which take in this part of the whole."""
+    side = round(2 * SIZE * math.sqrt(part))
+
+    def made(chance):
+        x, y = chance.randint(-SIZE, SIZE - side), chance.randint(-SIZE, SIZE - side)
+        return f"POLYGON (({x} {y}, {x + side} {y}, {x + side} {y + side}, {x} {y + side}, {x} {y}))"
+
+    return made
+
+
+def configuration(rules):
+    """A policy of so many rules, of which five may concern the subject: it changes what is its office's, and reads all but one class."""
+    others = [{"rule": f"clerk{number}", "effect": "permit", "when": [{"role": "clerk"}]} for number in range(rules - 5)]
+    own = [
+        {"rule": "secret", "effect": "deny", "target": [[[{"class": "secret"}]]]},
+        {"rule": "roads", "effect": "permit", "target": [[[{"class": "road"}]]]},
+        {"rule": "rivers", "effect": "permit", "target": [[[{"class": "river"}]]]},
+        {"rule": "own", "effect": "permit", "when": [{"own": True}]},
+        {"rule": "reading", "effect": "permit", "target": [[[{"action": "read"}]]]},
+    ]
+    root = {"policy": "bench", "combine": "first-applicable", "rules": others + own}
+    return {"subjects": [{"name": "north", "office": "roads", "role": "surveyor"}], "policies": {"root": root}}
+
+
+def additions(kind, ids):
+    """Additions by sixteen at a time."""
     chance = random.Random(1)
     yield "n: HELLO north\n"
-    for number in range(count):
-        yield f"n: ADD {number + 1} mast {kind(chance, size)}\n"
-        if number % 16 == 15 or number + 1 == count:
+    for place, number in enumerate(ids):
+        yield f"n: ADD {number} mast {kind(chance)}\n"
+        if place % 16 == 15 or place + 1 == len(ids):
             yield "n: COMMIT\n"
 
 
-def searches(kind, count, size):
+def commits(kind, ids, by):
+    """Additions by so many at a time."""
+    chance = random.Random(3)
+    for place, number in enumerate(ids):
+        yield f"n: ADD {number} mast {kind(chance)}\n"
+        if place % by == by - 1:
+            yield "n: COMMIT\n"
+
+
+def searches(window, count):
     chance = random.Random(2)
     for _ in range(count):
-        yield f"n: SEARCH {kind(chance, size)}\n"
+        yield f"n: SEARCH {window(chance)}\n"
 
 
-def timed(lines):
-    with tempfile.NamedTemporaryFile("w", suffix=".map", delete=False) as file:
-        file.writelines(lines)
-    start = time.monotonic()
-    child = subprocess.Popen([os.path.join(TOP, "landmap"), "script", file.name], stdout=subprocess.DEVNULL)
-    _, status, usage = os.wait4(child.pid, 0)
-    seconds = time.monotonic() - start
-    os.unlink(file.name)
-    if status != 0:
-        sys.exit(f"landmap ended with status {status}")
+def timed(lines, rules):
+    """Seconds of the script, the least of some runs."""
     global greatest
-    greatest = max(greatest, usage.ru_maxrss)
-    return seconds
+    with tempfile.TemporaryDirectory() as folder:
+        script, config = os.path.join(folder, "bench.map"), os.path.join(folder, "bench.json")
+        with open(script, "w") as file:
+            file.writelines(lines)
+        with open(config, "w") as file:
+            json.dump(configuration(rules), file)
+        seconds = []
+        for _ in range(REPEATS):
+            start = time.monotonic()
+            child = subprocess.Popen([os.path.join(TOP, "landmap"), "script", "--config", config, script], stdout=subprocess.DEVNULL)
+            _, status, usage = os.wait4(child.pid, 0)
+            seconds.append(time.monotonic() - start)
+            if status != 0:
+                sys.exit(f"landmap ended with status {status}")
+            greatest = max(greatest, usage.ru_maxrss)
+        return min(seconds)
 
 
-def run(label, kind, windows, features, count, size=LIMIT):
-    """Times the additions, and then the searches by each kind of window. Answers milliseconds a search."""
-    loading = list(additions(kind, features, size))
-    seconds = timed(loading)
-    print(f"{label}: {features} additions: {seconds:.2f} s, {len(loading) / seconds:.0f} lines a second")
-    answers = []
-    for name, window in windows:
-        more = timed(loading + list(searches(window, count, size))) - seconds
-        answers.append((name, 1000 * more / count))
-        print(f"  {count} searches by {name}: {more:.2f} s, {answers[-1][1]:.2f} ms a search")
-    return answers
+def microseconds(loading, more, count, rules):
+    return 1e6 * (timed(loading + more, rules) - timed(loading, rules)) / count
+
+
+def bench_searches(features):
+    loading = list(additions(point, range(1, features + 1)))
+    windows = [("about 10 rows", 10 / features, 2000), ("0.1 %", 0.001, 2000), ("1 %", 0.01, 500), ("10 %", 0.1, 100)]
+    for rules in RULES:
+        told = [f"{name} {microseconds(loading, list(searches(square(part), count)), count, rules):.1f}" for name, part, count in windows]
+        print(f"searches, {features} features, {rules} rules, microseconds: {'; '.join(told)}", flush=True)
+
+
+def bench_commits(features):
+    more = min(features // 10, 4000) // 16 * 16
+    rising = list(range(1, features + 1))
+    drawn = random.Random(4).sample(range(1, 10 * features), features)
+    for rules in RULES:
+        told = []
+        for name, ids, by in [("one, rising ids", rising, 1), ("one, random ids", drawn, 1), ("sixteen, rising ids", rising, 16)]:
+            loading = list(additions(point, ids[:-more]))
+            told.append(f"{name} {microseconds(loading, list(commits(point, ids[-more:], by)), more // by, rules):.1f}")
+        print(f"commits, up to {features} features, {rules} rules, microseconds: {'; '.join(told)}", flush=True)
+
+
+def bench_kinds(features):
+    loading = list(additions(mixed, range(1, features + 1)))
+    radius = round(SIZE * math.sqrt(4 * 10 / (features * math.pi)))
+    told = [f"{corners} corners {microseconds(loading, list(searches(polygon(corners, radius), 1000)), 1000, 5):.1f}" for corners in (4, 16)]
+    print(f"kinds, {features} features, 5 rules, microseconds: {'; '.join(told)}", flush=True)
 
 
 def main():
-    what = sys.argv[1] if len(sys.argv) > 1 else "points"
-    features = int(sys.argv[2]) if len(sys.argv) > 2 else (5_000 if what == "pairs" else 100_000)
-    count = int(sys.argv[3]) if len(sys.argv) > 3 else {"points": 10_000, "pairs": 500}.get(what, 20)
+    benches = {"searches": bench_searches, "commits": bench_commits, "kinds": bench_kinds}
+    named = [word for word in sys.argv[1:] if word in benches] or list(benches)
+    sizes = [int(word) for word in sys.argv[1:] if word.isdigit()] or [1000, 10_000, 100_000]
     subprocess.run([os.path.join(TOP, "landmap"), "--help"], check=True, stdout=subprocess.DEVNULL)
-    square, round_ = polygon(4, 100_000), polygon(16, 100_000)
-    if what == "points":
-        run("points", point, [("points", point)], features, count)
-    elif what == "mixed":
-        run("mixed", mixed, [("polygons of 4 corners", square), ("polygons of 16 corners", round_)], features, count)
-    else:
-        kinds = [("points", point), ("segments", segment), ("polygons of 4 corners", polygon(4, 1000)), ("polygons of 16 corners", polygon(16, 1000))]
-        for label, kind in kinds:
-            for name, milliseconds in run(label, kind, kinds, features, count, 100_000):
-                # A listing tests each feature twice: to count the rows, and to write them.
-                print(f"    one test, {label} and {name}: {1e6 * milliseconds / (2 * features):.0f} ns")
+    for name in named:
+        for features in sizes:
+            benches[name](features)
     print(f"greatest memory: {greatest} KiB")
 
 

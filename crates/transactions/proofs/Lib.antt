@@ -8,3 +8,4 @@ pub mod StepLemmas
 pub mod EventWalkLemmas
 pub mod WorldLemmas
 pub mod AdvanceLemmas
+pub mod TendLemmas

@@ -3,3 +3,4 @@ pub mod Coding
 pub mod Refusing
 pub mod Walks
 pub mod Walking
+pub mod Stepping

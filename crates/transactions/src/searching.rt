@@ -3,7 +3,9 @@
 ghost use Rattle.std.specs.Prelude.{◌≡◌, ◌+◌, ◌≤◌, length, IfErr};
 ghost use Rattle.plain_world.specs.Events.{Happens, TakeSeat, OpenSearch, VisitNext, Finish, DropSearch, Number, Done, Visited, Rows, reply_of};
 ghost use Rattle.search_tree.specs.Calls.{found_in};
+ghost use Rattle.plain_world.specs.Admitting.{may_go_on};
 ghost use Rattle.transactions.specs.Refusing.{GivesUp};
+ghost use Rattle.transactions.specs.Stepping.{VisitsIndex};
 
 use crate::faults::{fault_of, is_overrun, refusal_of};
 use crate::worlds::World;
@@ -62,6 +64,7 @@ impl<A: Allocator + Copy> World<A> {
         ensures happens { Happens (VisitNext seat number) self.old.plain self.new.plain (reply_of Visited result) }
         ensures refused { IfErr result (GivesUp self.old.index number) }
         ensures walks { self.new.walks ≡ self.old.walks }
+        ensures index { VisitsIndex (may_go_on seat number self.old.plain) number self.old.index self.new.index result }
     {
         let search = self.plain.may_go_on(seat, number)?;
         match self.index.visit(number) {

@@ -3,6 +3,7 @@
 ghost use Rattle.std.specs.Prelude.{◌≡◌, IfErr};
 ghost use Rattle.plain_world.specs.Events.{Happens, Tend, Tended, reply_of};
 ghost use Rattle.transactions.specs.Refusing.{RefusesGrowth};
+ghost use Rattle.transactions.specs.Stepping.{TendsIndex};
 
 use crate::worlds::World;
 use plain_world::Fault;
@@ -17,6 +18,7 @@ impl<A: Allocator> World<A> {
         ensures happens { Happens (Tend slot) self.old.plain self.new.plain (reply_of Tended result) }
         ensures refused { IfErr result (RefusesGrowth self.old.index) }
         ensures walks { self.new.walks ≡ self.old.walks }
+        ensures index { TendsIndex self.old.plain slot self.old.index self.new.index result }
     {
         match self.index.tend(slot, &self.plain) {
             Ok(tending) => Ok(tending),

@@ -1,5 +1,5 @@
 //! Numbers that look like chance, for events in an order that nobody chose.
-use crate::plain_world::SEATS;
+use crate::listed_world::SEATS;
 
 /// Numbers that look like chance, from a linear congruence.
 #[derive(Drop)]

@@ -24,11 +24,11 @@ mod line_end_tests;
 #[cfg(test)]
 mod line_tests;
 #[cfg(test)]
+mod listed_world;
+#[cfg(test)]
 mod memory_tests;
 #[cfg(test)]
 mod model_tests;
-#[cfg(test)]
-mod plain_world;
 #[cfg(test)]
 mod program_tests;
 #[cfg(test)]

@@ -1,7 +1,7 @@
 //! Ten thousand events of sixteen seats, in an order that nobody chose, each compared to a plain world of lists.
 use crate::dice::Dice;
 use crate::happened::Happened;
-use crate::plain_world::{
+use crate::listed_world::{
     Area, Draft, Edit, FEATURES, Look, Mark, PlainWorld, RECORDS, Spot, check_seat, is_steward,
     office_of, shapes_of,
 };

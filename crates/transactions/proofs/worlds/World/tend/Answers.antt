@@ -1,8 +1,31 @@
+use Rattle.std.proofs.Common.{◌≡◌, Result, sym, ap, ◌∙◌}
+use Rattle.predicate_locks.specs.Searches.{last_number}
+use Rattle.plain_world.specs.declared.faults.Fault.{Fault}
+use Rattle.search_tree.specs.declared.answers.Tending.{Tending}
+use Rattle.search_tree.specs.declared.fault.TreeFault.{TreeFault}
+use Rattle.transactions.specs.Stepping.{told_as}
 use Rattle.transactions.proofs.ServeLemmas.{serves_after_tending}
-use Rattle.transactions.proofs.WorldLemmas.{world_served}
+use Rattle.transactions.proofs.TendLemmas.{tends_as, told_spent}
+use Rattle.transactions.proofs.WorldLemmas.{index_of, plain_of, world_served}
 use Rattle.transactions.proofs.worlds.World.tend.Goals as goal
+use Rattle.transactions.proofs.worlds.World.tend.Goals.{in-Ok, in-Err}
 
 pub invariant_of-self : goal.invariant_of-self
 invariant_of-self g c =
     world_served c.self.inside.plain c.self.inside.index c.tend.new.self c.self.inside.walks c.self.invariant
     (serves_after_tending c.self.inside.plain c.self.inside.index c.tend.new.self c.tend.result c.self.invariant.ordered c.self.invariant.serves c.tend.ensures.tended c.tend.ensures.contents c.tend.ensures.err)
+
+pub returns-clause-index : goal.returns-clause-index
+returns-clause-index g c =
+    let told : ◌≡◌ {A = Result Tending Fault} c.match-tend.result (told_as c.tend.result) = elim c.match-tend.branch [
+      | in-Ok x ↦ x.result-is ∙ sym (ap (λ (r : Result Tending TreeFault). told_as r) x.in-Ok.is)
+      | in-Err x ↦ x.result-is ∙ told_spent (λ f. c.self.inside.index.counter ≡ last_number) c.tend.result x.in-Err.fault x.in-Err.is c.tend.ensures.spent
+    ] in
+    tends_as c.self.inside.plain _ c.args.slot c.self.inside.index _ c.tend.new.self _ (plain_of _ _ c.self.view_is) (index_of _ _ c.self.view_is) (record {
+      answer = c.tend.result;
+      is = told;
+      tended = c.tend.ensures.tended;
+      contents = c.tend.ensures.contents;
+      first = c.tend.ensures.first;
+      nobody = c.tend.ensures.nobody;
+    })
