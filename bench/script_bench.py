@@ -8,7 +8,7 @@ commits    a commit of one addition by rising ids and at random ids, and one of 
 kinds      points, segments and polygons, searched by polygons of 4 and of 16 corners that take in about 10 rows
 
 All three are run if none is named. FEATURES is 1000 10000 100000 if left out (for commits, what is added on top counts among them).
-What a line costs is the difference of two runs, each the least of three, one of them with these lines left out.
+What a line costs is the difference of two runs, each the least of five, one of them with these lines left out.
 """
 
 import json
@@ -24,7 +24,7 @@ TOP = os.path.dirname(os.path.dirname(os.path.abspath(__file__)))
 # The square from which places are drawn goes so far from its middle.
 SIZE = 10_000_000
 RULES = [5, 50, 500]
-REPEATS = 3
+REPEATS = 5
 
 # The greatest memory of the runs so far, in KiB.
 greatest = 0
@@ -135,14 +135,17 @@ def microseconds(loading, more, count, rules):
 
 def bench_searches(features):
     loading = list(additions(point, range(1, features + 1)))
-    windows = [("about 10 rows", 10 / features, 2000), ("0.1 %", 0.001, 2000), ("1 %", 0.01, 500), ("10 %", 0.1, 100)]
+    windows = [("about 10 rows", 10 / features), ("0.1 %", 0.001), ("1 %", 0.01), ("10 %", 0.1)]
     for rules in RULES:
-        told = [f"{name} {microseconds(loading, list(searches(square(part), count)), count, rules):.1f}" for name, part, count in windows]
+        told = []
+        for name, part in windows:
+            count = max(100, min(5000, round(200_000 / (part * features + 1))))
+            told.append(f"{name} {microseconds(loading, list(searches(square(part), count)), count, rules):.1f}")
         print(f"searches, {features} features, {rules} rules, microseconds: {'; '.join(told)}", flush=True)
 
 
 def bench_commits(features):
-    more = min(features // 10, 4000) // 16 * 16
+    more = min(features // 2, 4000) // 16 * 16
     rising = list(range(1, features + 1))
     drawn = random.Random(4).sample(range(1, 10 * features), features)
     for rules in RULES:
