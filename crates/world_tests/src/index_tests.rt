@@ -298,7 +298,9 @@ fn reshaped_under_search(rt: HostRuntime) -> Result<(), Fail> {
     see_all(&rt, &mut world, 2, search);
     let answer = finished(&rt, &mut world, search);
     check_rows(&rt, &answer, 1, 39, 300);
-    let row = answer.rows()[6];
+    let Some(row) = answer.rows().get(6) else {
+        panic!(rt; "the row of the reshaped feature is missing")
+    };
     assert!(rt; row.id == 7 && row.version == 41 && row.shape == shape);
     Ok(())
 }
