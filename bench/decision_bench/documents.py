@@ -5,9 +5,11 @@ usage: bench/decision_bench/documents.py FOLDER
 """
 
 import json
-import math
 import os
 import sys
+
+sys.path.insert(0, os.path.dirname(os.path.dirname(os.path.abspath(__file__))))
+from zones import zone
 
 SIZES = [5, 50, 500]
 
@@ -53,14 +55,6 @@ def roles(count):
 
 def renamed(children):
     return [rule | {"rule": "own-" + rule["rule"]} for rule in children]
-
-
-def zone(number):
-    x, y = 10_000 * (number % 8) + 20_000, 10_000 * (number // 8) + 20_000
-    turns = [2 * math.pi * (k + 0.5) / 8 for k in range(8)]
-    ring = [(x + round(3000 * math.cos(t)), y + round(3000 * math.sin(t))) for t in turns]
-    corners = ", ".join(f"{a} {b}" for a, b in ring + ring[:1])
-    return {"zone": f"z{number}", "shape": f"POLYGON (({corners}))"}
 
 
 def zones(count):
