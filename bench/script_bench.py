@@ -8,7 +8,8 @@ commits    a commit of one addition by rising ids and at random ids, and one of 
 kinds      points, segments and polygons, searched by polygons of 4 and of 16 corners that take in about 10 rows
 
 All three are run if none is named. FEATURES is 1000 10000 100000 if left out (for commits, what is added on top counts among them).
-What a line costs is the difference of two runs, each the least of five, one of them with these lines left out.
+What a line costs is the difference of two runs, each the least of five, one of them with these lines left out. The program itself is
+run: `./landmap` is asked once, so that it is built.
 """
 
 import json
@@ -25,6 +26,7 @@ TOP = os.path.dirname(os.path.dirname(os.path.abspath(__file__)))
 SIZE = 10_000_000
 RULES = [5, 50, 500]
 REPEATS = 5
+PROGRAM = os.path.join(TOP, "crates", "landmap", "out", "landmap")
 
 # The greatest memory of the runs so far, in KiB.
 greatest = 0
@@ -120,7 +122,7 @@ def timed(lines, rules):
         seconds = []
         for _ in range(REPEATS):
             start = time.monotonic()
-            child = subprocess.Popen([os.path.join(TOP, "landmap"), "script", "--config", config, script], stdout=subprocess.DEVNULL)
+            child = subprocess.Popen([PROGRAM, "script", "--config", config, script], stdout=subprocess.DEVNULL)
             _, status, usage = os.wait4(child.pid, 0)
             seconds.append(time.monotonic() - start)
             if status != 0:
@@ -139,7 +141,7 @@ def bench_searches(features):
     for rules in RULES:
         told = []
         for name, part in windows:
-            count = max(100, min(5000, round(200_000 / (part * features + 1))))
+            count = max(200, min(30_000, round(400_000 / (part * features + 1))))
             told.append(f"{name} {microseconds(loading, list(searches(square(part), count)), count, rules):.1f}")
         print(f"searches, {features} features, {rules} rules, microseconds: {'; '.join(told)}", flush=True)
 
@@ -159,7 +161,7 @@ def bench_commits(features):
 def bench_kinds(features):
     loading = list(additions(mixed, range(1, features + 1)))
     radius = round(SIZE * math.sqrt(4 * 10 / (features * math.pi)))
-    told = [f"{corners} corners {microseconds(loading, list(searches(polygon(corners, radius), 1000)), 1000, 5):.1f}" for corners in (4, 16)]
+    told = [f"{corners} corners {microseconds(loading, list(searches(polygon(corners, radius), 10_000)), 10_000, 5):.1f}" for corners in (4, 16)]
     print(f"kinds, {features} features, 5 rules, microseconds: {'; '.join(told)}", flush=True)
 
 
