@@ -3,11 +3,11 @@ use Rattle.std.specs.Prelude.{◌≡◌, ℕ, ◌==◌, Bool, true, false, ◌&&
 use Rattle.std.specs.Bool.{Decides}
 use Rattle.std.specs.Cmp.{first_so, second_so}
 use Rattle.std.specs.Cmp.Lexicographic.{pointwise, bytes_decides}
-use Rattle.std.proofs.Common.{ap, refl, subst}
+use Rattle.std.proofs.Common.{ap, refl}
 use Rattle.std.proofs.lemmas.Bool.{false≢true}
 use Rattle.std.proofs.lemmas.Bool.Decides.{Decides-eqb}
 use Rattle.plane.specs.declared.point.Point.{Point}
-use Rattle.plane.specs.Equality.{same_shape, same_shape_decides}
+use Rattle.plane.specs.Equality.{both_so, decides_by, same_shape, same_shape_decides}
 use Rattle.features.specs.declared.actors.Subject.{Subject}
 use Rattle.features.specs.declared.rows.Change.{Change}
 use Rattle.features.specs.Equality.{same_subject, same_subject_decides, same_changes, same_changes_decides}
@@ -16,13 +16,6 @@ use Rattle.audit_trail.specs.declared.causes.Cause.{Cause}
 use Rattle.audit_trail.specs.declared.causes.Cause.TheVariants.{Denied, Exists, Absent, Stale}
 use Rattle.audit_trail.specs.declared.causes.Refusal.{Refusal}
 use Rattle.audit_trail.specs.Records.{DeedData, answered, applied, turned_away, governed, RecordData}
-
--- a test that answers true of each value and itself, and of no two that are not one, decides `≡`
-decides_by : {X : Type 0} (test : X → X → Bool) → ((a : X) → test a a ≡ true) → ((a b : X) → test a b ≡ true → a ≡ b) → (a b : X) → Decides (test a b) (a ≡ b)
-decides_by test itself told a b = (told a b, λ e. subst (λ c. test a c ≡ true) e (itself a))
-
-both_so : (p q : Bool) → p ≡ true → q ≡ true → (p && q) ≡ true
-both_so p q h k = λ i. h i && k i
 
 same_number-itself : (n : ℕ) → (n == n) ≡ true
 same_number-itself n = (Decides-eqb n n).1 refl
@@ -98,9 +91,6 @@ same_refusal-told : (a b : Refusal) → same_refusal a b ≡ true → a ≡ b
 same_refusal-told a b e =
     refusal_by a b ((Decides-eqb a.change b.change).0 (first_so (a.change == b.change) (same_cause a.cause b.cause) e))
     (same_cause-told a.cause b.cause (second_so (a.change == b.change) (same_cause a.cause b.cause) e))
-
-pub same_refusal_decides : (a b : Refusal) → Decides (same_refusal a b) (a ≡ b)
-same_refusal_decides = decides_by same_refusal same_refusal-itself same_refusal-told
 
 abbrev pub same_numbers : List ℕ → List ℕ → Bool
 same_numbers = pointwise nat_eq

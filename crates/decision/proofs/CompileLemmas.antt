@@ -11,8 +11,8 @@ use Rattle.policy_text.specs.declared.matches.Atom.{Atom}
 use Rattle.combining.specs.declared.questions.Question.{Question}
 use Rattle.combining.specs.declared.decisions.Decision.{Decision}
 use Rattle.combining.specs.declared.decisions.Decision.TheVariants.{Permit, Deny, NotApplicable}
-use Rattle.combining.specs.declared.decisions.Verdict.{Verdict}
 use Rattle.combining.specs.declared.gathering.Gathered.{Gathered}
+use Rattle.decision.proofs.FinishLemmas.{gathered, verdict}
 use Rattle.decision.specs.declared.known.Known.{Known}
 use Rattle.decision.specs.declared.steps.Step.{Step}
 use Rattle.decision.specs.declared.steps.Step.TheVariants as steps
@@ -57,9 +57,6 @@ and_false false = refl
 and_true : (b : Bool) → (b && true) ≡ b
 and_true true = refl
 and_true false = refl
-
-gathered : Bool → Bool → Decision → Bool → Option ℕ → Option ℕ → Gathered
-gathered p d f c permitting denying = record { tally = record { permits = p; denies = d; first = f }; counts = c; permitting = permitting; denying = denying }
 
 same_gathered : (p p' d d' : Bool) (f f' : Decision) (c c' : Bool) (x x' y y' : Option ℕ) → p ≡ p' → d ≡ d' → f ≡ f' → c ≡ c' → x ≡ x' → y ≡ y' → gathered p d f c x y ≡ gathered p' d' f' c' x' y'
 same_gathered p p' d d' f f' c c' x x' y y' e1 e2 e3 e4 e5 e6 = cc
@@ -219,9 +216,6 @@ module _ (A : Type 0) (known : Known) where
   policy-kept n head rules left old mid new same inner is =
       node-kept n (policy head rules) head.combine head.target left (λ q met. map (rule_part q met) rules) old mid new
       (λ q met holds. settled-policy q met n head rules holds) (λ q met other. left-policy q met n head rules other) same inner is
-
-verdict : Decision → Option ℕ → Verdict
-verdict d r = record { decision = d; rule = r }
 
 -- one branch by itself
 sole : (d : Decision) (rule : Option ℕ) → (d ≡ NotApplicable → rule ≡ None) → settled_verdict FirstApplicable (with_verdict FirstApplicable nothing_gathered (verdict d rule)) ≡ verdict d rule

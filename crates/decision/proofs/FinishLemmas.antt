@@ -13,7 +13,7 @@ use Rattle.combining.specs.Gathering.{with_verdict, settled_verdict, nothing_gat
 use Rattle.combining.specs.Finishing.{is_finished}
 use Rattle.decision.specs.Plans.{Branches, no_branches, leaf, fork, gathered_from, leaf_verdict, not_applicable}
 
-abbrev gathered : Bool → Bool → Decision → Bool → Option ℕ → Option ℕ → Gathered
+abbrev pub gathered : Bool → Bool → Decision → Bool → Option ℕ → Option ℕ → Gathered
 gathered p d f c permitting denying = record { tally = record { permits = p; denies = d; first = f }; counts = c; permitting = permitting; denying = denying }
 
 -- one child more leaves what is finished
@@ -24,7 +24,7 @@ same_choice : {X : Type 0} (b : Bool) (x : X) → cond b x x ≡ x
 same_choice true x = refl
 same_choice false x = refl
 
-verdict : Decision → Option ℕ → Verdict
+pub verdict : Decision → Option ℕ → Verdict
 verdict d r = record { decision = d; rule = r }
 
 module _ (p d : Bool) (f : Decision) (c : Bool) (permitting denying : Option ℕ) (v : Verdict) where

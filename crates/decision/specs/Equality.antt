@@ -2,17 +2,15 @@
 use Rattle.std.specs.Prelude.{◌≡◌, ◌==◌, Bool, true, ◌&&◌}
 use Rattle.std.specs.Bool.{Decides}
 use Rattle.std.specs.Cmp.{first_so, second_so}
-use Rattle.std.proofs.Common.{refl, subst}
+use Rattle.std.proofs.Common.{refl}
 use Rattle.std.proofs.lemmas.Bool.Decides.{Decides-eqb}
+use Rattle.plane.specs.Equality.{both_so, decides_by}
 use Rattle.policy_text.specs.Equality.{same_document, same_document_decides}
 use Rattle.decision.specs.Deciders.{DeciderData}
 
 -- the same document, under the same edition
 abbrev pub same_decider : DeciderData → DeciderData → Bool
 same_decider a b = same_document a.document b.document && a.edition == b.edition
-
-both_so : (p q : Bool) → p ≡ true → q ≡ true → (p && q) ≡ true
-both_so p q h k = λ i. h i && k i
 
 same_decider-itself : (a : DeciderData) → same_decider a a ≡ true
 same_decider-itself a = both_so _ _ ((same_document_decides a.document a.document).1 refl) ((Decides-eqb a.edition a.edition).1 refl)
@@ -26,4 +24,4 @@ same_decider-told a b e =
     ((Decides-eqb a.edition b.edition).0 (second_so (same_document a.document b.document) (a.edition == b.edition) e))
 
 pub same_decider_decides : (a b : DeciderData) → Decides (same_decider a b) (a ≡ b)
-same_decider_decides a b = (same_decider-told a b, λ e. subst (λ c. same_decider a c ≡ true) e (same_decider-itself a))
+same_decider_decides = decides_by same_decider same_decider-itself same_decider-told

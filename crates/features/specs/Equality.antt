@@ -3,21 +3,13 @@ use Rattle.std.specs.Prelude.{◌≡◌, ℕ, Bool, true, false, ◌&&◌, List,
 use Rattle.std.specs.Bool.{Decides}
 use Rattle.std.specs.Cmp.{first_so, second_so, unsigned_Decides}
 use Rattle.std.specs.Cmp.Lexicographic.{pointwise, pointwise_decides, bytes_decides}
-use Rattle.std.proofs.Common.{refl, subst}
+use Rattle.std.proofs.Common.{refl}
 use Rattle.std.proofs.lemmas.Bool.{false≢true}
-use Rattle.plane.specs.declared.point.Point.{Point}
-use Rattle.plane.specs.Equality.{same_shape, same_shape_decides}
+use Rattle.plane.specs.Equality.{both_so, decides_by, same_shape, same_shape-itself, same_shape_decides}
 use Rattle.features.specs.declared.actors.Subject.{Subject}
 use Rattle.features.specs.declared.rows.Feature.{Feature}
 use Rattle.features.specs.declared.rows.Change.{Change}
 use Rattle.features.specs.declared.rows.Change.TheVariants.{Add, Reshape, Delete}
-
--- a test that answers true of each value and itself, and of no two that are not one, decides `≡`
-decides_by : {X : Type 0} (test : X → X → Bool) → ((a : X) → test a a ≡ true) → ((a b : X) → test a b ≡ true → a ≡ b) → (a b : X) → Decides (test a b) (a ≡ b)
-decides_by test itself told a b = (told a b, λ e. subst (λ c. test a c ≡ true) e (itself a))
-
-both_so : (p q : Bool) → p ≡ true → q ≡ true → (p && q) ≡ true
-both_so p q h k = λ i. h i && k i
 
 abbrev pub same_name : List ℕ → List ℕ → Bool
 same_name = pointwise nat_eq
@@ -25,11 +17,8 @@ same_name = pointwise nat_eq
 same_number-itself : (n : ℕ) → nat_eq n n ≡ true
 same_number-itself n = (unsigned_Decides n n).1 refl
 
-same_name-itself : (a : List ℕ) → same_name a a ≡ true
+pub same_name-itself : (a : List ℕ) → same_name a a ≡ true
 same_name-itself a = (bytes_decides a a).1 refl
-
-same_shape-itself : (a : List Point) → same_shape a a ≡ true
-same_shape-itself a = (same_shape_decides a a).1 refl
 
 abbrev pub same_flag : Bool → Bool → Bool
 same_flag true b = b
@@ -70,12 +59,6 @@ same_feature-told a b e =
 
 pub same_feature_decides : (a b : Feature) → Decides (same_feature a b) (a ≡ b)
 same_feature_decides = decides_by same_feature same_feature-itself same_feature-told
-
-abbrev pub same_features : List Feature → List Feature → Bool
-same_features = pointwise same_feature
-
-pub same_features_decides : (a b : List Feature) → Decides (same_features a b) (a ≡ b)
-same_features_decides = pointwise_decides same_feature_decides
 
 abbrev pub same_change : Change → Change → Bool
 same_change (Add a c s) (Add b d t) = nat_eq a b && same_name c d && same_shape s t

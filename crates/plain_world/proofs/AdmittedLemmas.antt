@@ -12,7 +12,7 @@ use Rattle.plain_world.specs.Events.{Reply, Number, Done, Visited, Advanced, Ten
 use Rattle.plain_world.specs.Staging.{TransactionData, transaction_with, staged_in}
 use Rattle.plain_world.specs.States.{WorldData}
 use Rattle.plain_world.specs.Admitting as admitting
-use Rattle.plain_world.proofs.RunLemmas.{and_then_ok, given_ok}
+use Rattle.plain_world.proofs.RunLemmas.{and_then_ok, given_ok, same_ok}
 
 abbrev pub is_refusal : Reply → Bool
 is_refusal (Refused fault) = true
@@ -45,9 +45,6 @@ by_unless old new (Tended t) Does P refused each h = each h
 by_unless old new (Rows a) Does P refused each h = each h
 by_unless old new (Ended o) Does P refused each h = each h
 by_unless old new (TakenOut p) Does P refused each h = each h
-
-same_ok : {A : Type 0} (x y : A) → ◌≡◌ {A = Result A Fault} (Ok x) (Ok y) → x ≡ y
-same_ok x y e = cc
 
 pub seat_same : (seat : ℕ) (s r : Search) → owned seat s ≡ Ok r → (s ≡ r) × (r.seat ≡ seat)
 seat_same seat s r = go (s.seat == seat) refl

@@ -1,9 +1,7 @@
 -- Events that are admitted, and do what they say.
-use Rattle.std.proofs.Common.{◌≡◌, ◌≢◌, ℕ, ◌+◌, ◌<◌, ◌==◌, nat_lt, Bool, true, false, List, [], length, Option, None, Some, MatchOption, Result, Ok, Err, refl, subst, sym, arith}
+use Rattle.std.proofs.Common.{◌≡◌, ◌≢◌, ℕ, ◌+◌, ◌<◌, ◌==◌, nat_lt, Bool, true, false, List, length, Result, Ok, refl, subst, sym, arith}
 use Rattle.std.specs.Bool.{MatchBool}
 use Rattle.std.proofs.lemmas.Bool.Decides.{nat_tests}
-use Rattle.std.proofs.lemmas.Option.{slice_get-get_or}
-use Rattle.plane.specs.declared.point.Point.{Point}
 use Rattle.features.specs.declared.actors.Subject.{Subject}
 use Rattle.features.specs.declared.rows.Change.{Change}
 use Rattle.features.specs.Changes.{after}
@@ -13,11 +11,9 @@ use Rattle.audit_trail.specs.Records.{applied}
 use Rattle.plain_world.specs.declared.faults.Fault.{Fault}
 use Rattle.plain_world.specs.declared.faults.Fault.TheVariants as faults
 use Rattle.plain_world.specs.declared.outcomes.Outcome.TheVariants as outcomes
-use Rattle.plain_world.specs.declared.steps.Advance.TheVariants as advances
-use Rattle.search_tree.specs.declared.answers.Step.TheVariants as steps
-use Rattle.plain_world.specs.Admitting.{LAST, map_ok}
-use Rattle.plain_world.specs.Events.{Reply, Advanced, Ended, Refused, If, UnlessMemory, is_memory, Advances, Applies, Commits, recorded, without_transaction}
-use Rattle.plain_world.specs.Staging.{TransactionData, placements, next_placement, staged_in, with_step, one_placed}
+use Rattle.plain_world.specs.Admitting.{LAST}
+use Rattle.plain_world.specs.Events.{Reply, Ended, Refused, If, UnlessMemory, is_memory, Applies, Commits, recorded, without_transaction}
+use Rattle.plain_world.specs.Staging.{staged_in}
 use Rattle.plain_world.specs.States.{WorldData}
 
 pub admitted : {T : Type 0} (may : Result T Fault) (x : T) (old new : WorldData) (reply : Reply) (Does : T → Type 0) → may ≡ Ok x → Does x → If may old new reply Does
@@ -50,19 +46,3 @@ commits_accepted seat number subject changes old new reply e judged h = go (is_m
       subst (λ (list : List Change). Judged old.state subject list judgements.Accepted) e judged,
       subst (λ (list : List Change). Applies seat number subject list old new reply) e h,
     )
-
--- the next shape of a transaction is placed
-pub placed_next : (number : ℕ) (may : Result TransactionData Fault) (old new : WorldData) → map_ok (λ t. nat_lt t.placed (length (placements t.changes))) may ≡ Ok true
-    → new ≡ record old { transactions = with_step one_placed number old.transactions }
-    → If may old new (Advanced (advances.Walked steps.Placed)) (λ t. Advances number t old new (Advanced (advances.Walked steps.Placed)))
-placed_next number (Err fault) old new e same = absurd cc
-placed_next number (Ok t) old new e same =
-    let within : t.placed < length (placements t.changes) = grind (arith, nat_tests, same_ok _ _ e) in
-    go (next_placement t) (slice_get-get_or (placements t.changes) t.placed (0, []) within)
-  where
-    go : (o : Option (ℕ × List Point)) {placement : ℕ × List Point} → o ≡ Some placement → MatchOption o ((new ≡ old) × (Advanced (advances.Walked steps.Placed) ≡ Advanced advances.AllPlaced)) (λ p. new ≡ record old { transactions = with_step one_placed number old.transactions })
-    go None e = absurd cc
-    go (Some p) e = same
-
-    same_ok : (x y : Bool) → ◌≡◌ {A = Result Bool Fault} (Ok x) (Ok y) → x ≡ y
-    same_ok x y e = cc

@@ -1,5 +1,5 @@
 -- Every run keeps a world sound.
-use Rattle.std.proofs.Common.{◌≡◌, ℕ, ◌+◌, ◌-◌, ◌==◌, ◌<◌, ◌≤◌, nat_lt, ◌⊎◌, Bool, true, false, IsTrue, nat_le, List, [], ◌∷◌, ◌++◌, length, map, Option, None, Some, MatchOption, Result, Ok, Err, if◌then◌else◌, refl, sym, ap, subst, ◌∙◌, arith}
+use Rattle.std.proofs.Common.{◌≡◌, ℕ, ◌+◌, ◌==◌, ◌<◌, nat_lt, Bool, true, false, IsTrue, nat_le, List, [], ◌∷◌, length, Option, None, Some, MatchOption, Result, Ok, Err, if◌then◌else◌, refl, sym, ap, subst, ◌∙◌, arith}
 use Rattle.std.specs.Bool.{MatchBool}
 use Rattle.std.proofs.lemmas.Bool.Decides.{nat_tests}
 use Rattle.plane.specs.declared.point.Point.{Point}
@@ -11,7 +11,7 @@ use Rattle.audit_trail.specs.declared.causes.Judgement.{Judgement}
 use Rattle.audit_trail.specs.declared.causes.Judgement.TheVariants as judgements
 use Rattle.audit_trail.specs.Judging.{Judged}
 use Rattle.audit_trail.specs.Legal.{subject_of, IsSeated}
-use Rattle.audit_trail.specs.Records.{answered, applied, turned_away, governed}
+use Rattle.audit_trail.specs.Records.{applied}
 use Rattle.plain_world.specs.declared.faults.Fault.{Fault}
 use Rattle.plain_world.specs.declared.faults.Fault.TheVariants as faults
 use Rattle.search_tree.specs.declared.fault.TreeFault.TheVariants as tree
@@ -22,9 +22,9 @@ use Rattle.plain_world.specs.declared.steps.Advance.TheVariants as advances
 use Rattle.search_tree.specs.declared.answers.Step.TheVariants as steps
 use Rattle.search_tree.specs.declared.answers.Visit.TheVariants as visits
 use Rattle.plain_world.specs.Admitting.{LAST, and_then, given, placed, subject_at, stewarded, may_sit, may_open, may_go_on, own_search, has_answered_ready, may_record, may_finish, may_begin, own_transaction, all_placed, may_step, may_stage, may_commit, may_govern, may_roll}
-use Rattle.plain_world.specs.Events.{Event, TakeSeat, OpenSearch, VisitNext, Finish, DropSearch, Begin, Stage, AdvanceWalk, Commit, Abort, Govern, Tend, Roll, Reply, Number, Done, Visited, Advanced, Tended, Rows, Ended, TakenOut, Refused, If, is_memory, Happens, Run, Sees, Walks, Visits, Advances, Finishes, TurnsAway, Applies, CommitsAs, Commits, Governs, Rolls, Tends, recorded, without_search, without_transaction}
+use Rattle.plain_world.specs.Events.{Event, TakeSeat, OpenSearch, VisitNext, Finish, DropSearch, Begin, Stage, AdvanceWalk, Commit, Abort, Govern, Tend, Roll, Reply, Visited, Advanced, Tended, Ended, Refused, If, is_memory, Happens, Run, Sees, Walks, Visits, Advances, Finishes, Applies, CommitsAs, Governs, Rolls, Tends, recorded, without_transaction}
 use Rattle.plain_world.specs.Staging.{TransactionData, next_placement, staged_in}
-use Rattle.plain_world.specs.States.{WorldData, IsSound, IsSoundWorld}
+use Rattle.plain_world.specs.States.{WorldData, IsSoundWorld}
 use Rattle.plain_world.proofs.SoundLemmas.{sound_seated, sound_added}
 
 pub sound_same : (old new : WorldData) → new ≡ old → IsSoundWorld old → IsSoundWorld new
@@ -49,7 +49,7 @@ pub given_ok : {A : Type 0} (o : Option A) (x : A) → given o ≡ Ok x → o �
 given_ok (Some y) x e = cc
 given_ok None x e = absurd cc
 
-same_ok : {A : Type 0} (x y : A) → ◌≡◌ {A = Result A Fault} (Ok x) (Ok y) → x ≡ y
+pub same_ok : {A : Type 0} (x y : A) → ◌≡◌ {A = Result A Fault} (Ok x) (Ok y) → x ≡ y
 same_ok x y e = cc
 
 few_placed : (n : ℕ) (o : Option Subject) (s : Subject) → placed n o ≡ Ok s → n < SEAT_LIMIT

@@ -1,5 +1,5 @@
 -- Staged lists.
-use Rattle.std.proofs.Common.{◌≡◌, ◌≢◌, ℕ, ◌<◌, ◌≤◌, ◌+◌, ◌==◌, Bool, true, false, ◌||◌, List, [], ◌∷◌, ◌++◌, ◌∙◌, ap, length, Option, None, Some, slice_get, if◌then◌else◌, refl, sym, subst, arith, zero, suc}
+use Rattle.std.proofs.Common.{◌≡◌, ◌≢◌, ℕ, ◌<◌, ◌+◌, ◌==◌, Bool, true, false, ◌||◌, List, [], ◌∷◌, ◌++◌, ap, length, Some, if◌then◌else◌, refl, subst, arith}
 use Rattle.std.specs.Bool.{MatchBool}
 use Rattle.std.proofs.lemmas.Bool.Decides.{nat_tests}
 use Rattle.plane.specs.declared.point.Point.{Point}
@@ -7,7 +7,7 @@ use Rattle.features.specs.declared.rows.Change.{Change}
 use Rattle.features.specs.declared.rows.Change.TheVariants.{Add, Reshape, Delete}
 use Rattle.features.specs.Changes.{change_id, IsUnnamed}
 use Rattle.plain_world.specs.declared.settings.TheConstants.{CHANGE_LIMIT}
-use Rattle.plain_world.specs.Staging.{TransactionData, transaction_with, names, placements, brought_by, MayStage, MayPlace}
+use Rattle.plain_world.specs.Staging.{TransactionData, transaction_with, names, placements, MayStage, MayPlace}
 
 not_named : (v w : Bool) → (v || w) ≡ false → (v ≡ false) × (w ≡ false)
 not_named true w e = absurd cc

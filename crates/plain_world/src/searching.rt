@@ -14,7 +14,7 @@ use crate::listing::{answered, ids_found, listed};
 use crate::searches::Search;
 use crate::settings::SEARCH_LIMIT;
 use crate::worlds::PlainWorld;
-use audit_trail::{Record, TrailFault};
+use audit_trail::TrailFault;
 use features::{Action, Meter, Name, Subject};
 use memory::{GrowVec, Refused, another};
 use plane::Shape;

@@ -80,7 +80,6 @@ impl<A: Allocator> Transaction<A> {
     }
 
     /// Stages a change. It takes no memory.
-    #[tactic(auto, using(audit_trail::proofs::AcceptedLemmas::distinct_push))]
     fn push(&mut self, change: Change)
         requires few { length self.old.changes < CHANGE_LIMIT }
         requires unnamed { IsUnnamed (change_id change) self.old.changes }

@@ -8,7 +8,8 @@ use Rattle.plane.specs.Convex.{AreOnOrLeft}
 use Rattle.plane.specs.Points.{origin}
 use Rattle.plane.specs.Rings.{turn, sides_to, is_on_line, turning, last_of}
 use Rattle.plane.proofs.RingTests.{decides_line}
-use Rattle.plane.proofs.Turns.{GoesStraight, turn-cycle, order_cases, straight_keeps_left, straight_strict, straight_on_line, straight_line_on}
+use Rattle.plane.proofs.Orders.{order_cases}
+use Rattle.plane.proofs.Turns.{GoesStraight, turn-cycle, straight_keeps_left, straight_strict, straight_on_line, straight_line_on}
 use native.Mathlib.Numerals.{unary_clauses}
 use Rattle.plane.specs.declared.point.Point.{Point}
 

@@ -92,7 +92,7 @@ at_point x y e a b c d = record { right = one_high x e.x1 b; left = one_low x e.
     one_low : (x c : ℤ) → c ≤ℤ x → (pos 1 *ℤ c) ≤ℤ x
     one_low x c h = omega (arith, ints)
 
-one_above : pos 0 <ℤ pos 1
+pub one_above : pos 0 <ℤ pos 1
 one_above = record { lt = tt }
 
 pub record SpansBoth (e f : Extent) : Type 0 where

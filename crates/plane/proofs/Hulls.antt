@@ -14,13 +14,13 @@ use Rattle.plane.specs.Points.{is_before}
 use Rattle.plane.specs.Rings.{turn, sides, sides_to, last_of, is_on_or_left, is_apart}
 use Rattle.plane.specs.Rows.{Satisfies, LiesIn, Meet, FramesMeet, Covers, edge_row, edge_rows, frame_rows, negated}
 use Rattle.plane.proofs.CornersKept.{last, next, last_of-last}
-use Rattle.plane.proofs.Covering.{LiesBetween, rows_between, between_rows, at_point, covers_if, extent_of-IsLeastFrame}
+use Rattle.plane.proofs.Covering.{LiesBetween, rows_between, between_rows, at_point, covers_if, extent_of-IsLeastFrame, one_above}
 use Rattle.plane.proofs.Least.{Precedes, precedes_if}
-use Rattle.plane.proofs.Orders.{scaled, cancelled, le_refl, le_trans, product_positive}
+use Rattle.plane.proofs.Orders.{scaled, cancelled, le_refl, le_trans, order_cases, product_positive, weak_lt}
 use Rattle.plane.proofs.RingTests.{decides_all, decides_left}
 use Rattle.plane.proofs.ShapeRows.{left_part, right_part}
 use Rattle.plane.proofs.Sums.{parts, diff-mul, diff-sub, diff-add, neg-diff, same-diff}
-use Rattle.plane.proofs.Turns.{order_cases, cross-products, turn-cycle}
+use Rattle.plane.proofs.Turns.{cross-products, turn-cycle}
 use Rattle.plane.specs.declared.fraction.Fraction.{Fraction}
 use Rattle.plane.specs.declared.point.Point.{Point}
 
@@ -275,9 +275,6 @@ min_first a b h = omega (arith, ints, clamps)
 max_second : (a b : ℤ) → a ≤ℤ b → int_max a b ≡ b
 max_second a b h = omega (arith, ints, clamps)
 
-weak_lt : (a b : ℤ) → a <ℤ b → a ≤ℤ b
-weak_lt a b h = omega (arith, ints)
-
 back_zero : (a b x y w : ℤ) → pos 0 ≤ℤ a → pos 0 ≤ℤ b → b ≡ neg_ℤ a → (a ≡ pos 0) × (b ≡ pos 0)
 back_zero a b x y w h k e = (omega (arith, ints), omega (arith, ints))
 
@@ -500,9 +497,6 @@ whole_turn side r = same side.0.x side.0.y side.1.x side.1.y r.x r.y
 
 decides_whole : (r : Point) (side : Point × Point) → Decides (is_on_or_left side r) (pos 0 ≤ℤ turn_to side r.x r.y (pos 1))
 decides_whole r side = rw (whole_turn side r) (decides_left side r)
-
-one_above : pos 0 <ℤ pos 1
-one_above = record { lt = tt }
 
 -- a point lies in a shape where the shape's frame covers it, and it is on or left of each side
 pub whole_lies : (corners : List Point) (r : Point) (frame : Extent) (v : Bool) → frame ≡ extent_of corners → Covers frame (point_extent r) → v ≡ list_all (λ side. is_on_or_left side r) (sides corners)

@@ -13,10 +13,10 @@ use Rattle.plane.specs.Convex.{AreOnOneLine}
 use Rattle.plane.specs.Points.{is_before, origin}
 use Rattle.plane.specs.Rings.{turn, is_least, from_least}
 use Rattle.plane.proofs.RingTests.{decides_all}
-use Rattle.plane.proofs.Orders.{le_refl, product_positive, product_not_negative}
+use Rattle.plane.proofs.Orders.{le_refl, order_cases, product_positive, product_not_negative, weak_lt}
 use Rattle.std.proofs.Math.IntN.{*ℤ-zero, zero-*ℤ}
 use Rattle.plane.proofs.Sums.{parts, diff-mul, diff-sub, diff-add, neg-diff, same-diff}
-use Rattle.plane.proofs.Turns.{order_cases, from_middle, on_one_line, same_point, no_zero_product}
+use Rattle.plane.proofs.Turns.{from_middle, on_one_line, same_point, no_zero_product}
 use Rattle.plane.specs.declared.point.Point.{Point}
 
 -- p is q, or has the lesser x, or at the same x the lesser y
@@ -46,9 +46,6 @@ one_precedes p q =
     even : (a b : ℤ) → a ≤ℤ b → b ≤ℤ a → a ≡ b
     even a b h k = omega (arith, ints)
 
-    weak_lt : (a b : ℤ) → a <ℤ b → a ≤ℤ b
-    weak_lt a b h = omega (arith, ints)
-
 -- what the test of the order says
 lt_no : (a b : ℤ) → b ≤ℤ a → int_lt a b ≡ false
 lt_no a b h = grind (arith, ints)
@@ -61,9 +58,6 @@ eq_no a b h = false_from_ne_true _ (λ e. apart ((Decides-int_eq a b).0 e))
   where
     apart : a ≡ b → ⊥
     apart e = omega (arith, ints)
-
-weak_lt : (a b : ℤ) → a <ℤ b → a ≤ℤ b
-weak_lt a b h = omega (arith, ints)
 
 even : (a b : ℤ) → a ≤ℤ b → b ≤ℤ a → a ≡ b
 even a b h k = omega (arith, ints)

@@ -41,8 +41,12 @@ scaled k a b h e =
     omega (arith, ints, mul-sub k a b)
 
 -- a positive factor may be left out
-order_cases : (a b : ℤ) (P : Type 0) → (a ≤ℤ b → P) → (b <ℤ a → P) → P
+-- of two numbers one is at most the other, or the other is below it
+pub order_cases : (a b : ℤ) (P : Type 0) → (a ≤ℤ b → P) → (b <ℤ a → P) → P
 order_cases a b P f g = by_lt_z b a g f
+
+pub weak_lt : (a b : ℤ) → a <ℤ b → a ≤ℤ b
+weak_lt a b h = omega (arith, ints)
 
 pub cancelled : (k a b : ℤ) → pos 0 <ℤ k → (k *ℤ a) ≤ℤ (k *ℤ b) → a ≤ℤ b
 cancelled k a b h e = order_cases a b (a ≤ℤ b) (λ le. le)

@@ -18,7 +18,8 @@ use Rattle.plane.proofs.CornersKept.{next_among, AreCorners, StepsDiffer, TurnsA
 use Rattle.plane.proofs.Least.{Precedes, not_before, StartsLeast, decides_least, from_least-starts, turns_at_least}
 use Rattle.plane.proofs.RingTests.{decides_all, decides_in_range, decides_same, decides_line, decides_goes_left, repeats_not}
 use Rattle.plane.proofs.Rotations.{from_least_convex}
-use Rattle.plane.proofs.Turns.{order_cases, turn-cycle, turn_back, turn_nowhere}
+use Rattle.plane.proofs.Orders.{order_cases}
+use Rattle.plane.proofs.Turns.{turn-cycle, turn_back, turn_nowhere}
 use Rattle.plane.specs.declared.point.Point.{Point}
 use Rattle.plane.specs.declared.ring.TheConstants.{LISTED_LIMIT}
 use Rattle.plane.specs.declared.shape.TheConstants.{CORNER_LIMIT}

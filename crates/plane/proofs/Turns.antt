@@ -1,9 +1,9 @@
 -- Turns: areas of triangles, and points on one line.
 use Rattle.std.specs.Prelude.{◌≡◌, ℤ, pos, ◌+ℤ◌, ◌-ℤ◌, ◌*ℤ◌, neg_ℤ, ◌≤ℤ◌, ◌<ℤ◌, ◌⊎◌}
 use Rattle.std.proofs.Common.{arith, ap, sym, subst, inl, inr, ◌∙◌}
-use Rattle.std.proofs.lemmas.Int.{ints, by_lt_z}
+use Rattle.std.proofs.lemmas.Int.{ints}
 use Rattle.plane.specs.Rings.{turn}
-use Rattle.plane.proofs.Orders.{product_not_negative, cancelled, scaled, le_refl}
+use Rattle.plane.proofs.Orders.{product_not_negative, cancelled, order_cases, scaled, le_refl}
 use Rattle.std.proofs.Math.IntN.{*ℤ_comm, *ℤ-zero, zero-*ℤ}
 use Rattle.plane.proofs.Sums.{parts, diff-mul, diff-sub, diff-add, neg-diff, same-diff, zero-diff}
 use Rattle.plane.specs.declared.point.Point.{Point}
@@ -36,9 +36,6 @@ pub turn_nowhere : (p r : Point) → turn p p r ≡ pos 0
 turn_nowhere p r = rw (parts p.x, parts p.y, parts r.x, parts r.y) (simp (diff-mul, diff-sub) (zero-diff _ _ (omega arith)))
 
 -- ---- numbers
-
-pub order_cases : (a b : ℤ) (P : Type 0) → (a ≤ℤ b → P) → (b <ℤ a → P) → P
-order_cases a b P f g = by_lt_z b a g f
 
 -- where a positive number times a is another times b, a and b have one sign
 pub sign_follows : (d e a b : ℤ) → pos 0 <ℤ e → pos 0 ≤ℤ d → e *ℤ a ≡ d *ℤ b → pos 0 ≤ℤ b → pos 0 ≤ℤ a

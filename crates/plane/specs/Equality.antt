@@ -10,10 +10,11 @@ use Rattle.plane.specs.Points.{is_same}
 use Rattle.plane.specs.declared.point.Point.{Point}
 
 -- a test that answers true of each value and itself, and of no two that are not one, decides `≡`
-decides_by : {X : Type 0} (test : X → X → Bool) → ((a : X) → test a a ≡ true) → ((a b : X) → test a b ≡ true → a ≡ b) → (a b : X) → Decides (test a b) (a ≡ b)
+pub decides_by : {X : Type 0} (test : X → X → Bool) → ((a : X) → test a a ≡ true) → ((a b : X) → test a b ≡ true → a ≡ b) → (a b : X) → Decides (test a b) (a ≡ b)
 decides_by test itself told a b = (told a b, λ e. subst (λ c. test a c ≡ true) e (itself a))
 
-both_so : (p q : Bool) → p ≡ true → q ≡ true → (p && q) ≡ true
+-- two tests that answer true
+pub both_so : (p q : Bool) → p ≡ true → q ≡ true → (p && q) ≡ true
 both_so p q h k = λ i. h i && k i
 
 equal_itself : (a : ℤ) → int_eq a a ≡ true
@@ -38,6 +39,9 @@ same_shape = pointwise is_same
 
 pub same_shape_decides : (a b : List Point) → Decides (same_shape a b) (a ≡ b)
 same_shape_decides = pointwise_decides is_same_decides
+
+pub same_shape-itself : (a : List Point) → same_shape a a ≡ true
+same_shape-itself a = (same_shape_decides a a).1 refl
 
 -- two frames, by their ends
 abbrev pub same_frame : Extent → Extent → Bool

@@ -4,8 +4,10 @@ use Rattle.std.proofs.lemmas.Bool.Decides.{Decides-at}
 use Rattle.std.specs.Cmp.Lexicographic.{pointwise, pointwise_decides}
 use Rattle.std.specs.Option.{option_eq}
 use Rattle.features.specs.Equality.{same_name}
+use Rattle.plane.specs.Equality.{same_shape}
+use Rattle.plane.specs.Points.{is_same}
 use Rattle.policy_text.proofs.RowLemmas.{same_from, same_from-more_at, same_from-other_at}
-use Rattle.policy_text.specs.Equality.{same_action, same_match, same_term, same_match_decides, same_target, same_atom, same_atom_decides, same_conditions, same_rule, same_rule_decides, same_node, same_node_decides, same_point, same_shape, same_zone, same_zones, same_document, same_document_decides}
+use Rattle.policy_text.specs.Equality.{same_action, same_match, same_term, same_match_decides, same_target, same_atom, same_atom_decides, same_conditions, same_rule, same_rule_decides, same_node, same_node_decides, same_zone, same_zones, same_document, same_document_decides}
 use Rattle.features.specs.contracts.actors.ActionPartialEq.TheImpl as acting
 use Rattle.features.specs.declared.actors.Action.{Action}
 use Rattle.features.specs.declared.actors.Action.TheVariants as actions
@@ -85,7 +87,7 @@ pub exact_document_zones : (s : Bool) (a b : DocumentData) → s ≡ same_zones 
 exact_document_zones s a b zones other =
     Decides-at s (same_document a b) (other ∙ ap (λ v. v && same_node a.root b.root) (sym other ∙ zones)) (same_document_decides a b)
 
-same_point_derived : (a b : Point) → pointing.eq-value.it a b ≡ same_point a b
+same_point_derived : (a b : Point) → pointing.eq-value.it a b ≡ is_same a b
 same_point_derived a b = refl
 
 same_shape_derived : (a b : List Point) → shaping.eq-value.it a b ≡ same_shape a b

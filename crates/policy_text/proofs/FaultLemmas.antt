@@ -9,7 +9,7 @@ use Rattle.plane.specs.declared.fault.ShapeFault.TheVariants as shapes
 use Rattle.wkt.specs.contracts.fault.WktFaultPartialEq.TheImpl as reading
 use Rattle.wkt.specs.declared.fault.WktFault.{WktFault}
 use Rattle.wkt.specs.declared.fault.WktFault.TheVariants as texts
-use Rattle.policy_text.specs.Equality.{decides_by}
+use Rattle.plane.specs.Equality.{decides_by}
 use Rattle.features.specs.Equality.{same_name}
 use Rattle.policy_text.specs.Places.{same_path_decides}
 use Rattle.policy_text.specs.contracts.faults.TextFaultPartialEq.TheImpl as comparing

@@ -1,15 +1,14 @@
 -- When two parts of documents are one: a test for each type of plain data, and that each of these tests decides `≡`.
 use Rattle.std.specs.Prelude.{◌≡◌, ℕ, Bool, true, false, ◌&&◌, List, refl}
 use Rattle.std.specs.Bool.{Decides}
-use Rattle.std.specs.Cmp.{first_so, second_so, signed_Decides}
+use Rattle.std.specs.Cmp.{first_so, second_so}
 use Rattle.std.specs.Cmp.Lexicographic.{pointwise, pointwise_decides, bytes_decides}
-use Rattle.std.specs.Ordering.{int_eq}
-use Rattle.std.proofs.Common.{ap, subst}
+use Rattle.std.proofs.Common.{ap}
 use Rattle.std.proofs.lemmas.Bool.{false≢true}
 use Rattle.features.specs.declared.actors.Action.{Action}
 use Rattle.features.specs.declared.actors.Action.TheVariants as actions
-use Rattle.plane.specs.declared.point.Point.{Point}
-use Rattle.features.specs.Equality.{same_name}
+use Rattle.plane.specs.Equality.{both_so, decides_by, same_shape, same_shape_decides}
+use Rattle.features.specs.Equality.{same_name, same_name-itself}
 use Rattle.policy_text.specs.Documents.{RuleData, Head, NodeData, set, policy, Children, no_children, child, DocumentData}
 use Rattle.policy_text.specs.declared.algorithms.Algorithm.{Algorithm}
 use Rattle.policy_text.specs.declared.algorithms.Algorithm.TheVariants as algorithms
@@ -22,13 +21,6 @@ use Rattle.policy_text.specs.declared.matches.Term.TheVariants as terms
 use Rattle.policy_text.specs.declared.matches.Atom.{Atom}
 use Rattle.policy_text.specs.declared.matches.Atom.TheVariants as atoms
 use Rattle.policy_text.specs.declared.zones.Zone.{Zone}
-
--- a test that answers true of each value and itself, and of no two that are not one, decides `≡`
-pub decides_by : {X : Type 0} (test : X → X → Bool) → ((a : X) → test a a ≡ true) → ((a b : X) → test a b ≡ true → a ≡ b) → (a b : X) → Decides (test a b) (a ≡ b)
-decides_by test itself told a b = (told a b, λ e. subst (λ c. test a c ≡ true) e (itself a))
-
-both_so : (p q : Bool) → p ≡ true → q ≡ true → (p && q) ≡ true
-both_so p q h k = λ i. h i && k i
 
 abbrev pub same_action : Action → Action → Bool
 same_action actions.Read actions.Read = true
@@ -50,9 +42,6 @@ same_action-told actions.Reshape actions.Reshape e = refl
 same_action-told actions.Delete actions.Delete e = refl
 same_action-told a b e = absurd (false≢true e)
 
-pub same_action_decides : (a b : Action) → Decides (same_action a b) (a ≡ b)
-same_action_decides = decides_by same_action same_action-itself same_action-told
-
 abbrev pub same_effect : Effect → Effect → Bool
 same_effect effects.Permit effects.Permit = true
 same_effect effects.Deny effects.Deny = true
@@ -66,9 +55,6 @@ same_effect-told : (a b : Effect) → same_effect a b ≡ true → a ≡ b
 same_effect-told effects.Permit effects.Permit e = refl
 same_effect-told effects.Deny effects.Deny e = refl
 same_effect-told a b e = absurd (false≢true e)
-
-pub same_effect_decides : (a b : Effect) → Decides (same_effect a b) (a ≡ b)
-same_effect_decides = decides_by same_effect same_effect-itself same_effect-told
 
 abbrev pub same_algorithm : Algorithm → Algorithm → Bool
 same_algorithm algorithms.DenyOverrides algorithms.DenyOverrides = true
@@ -93,9 +79,6 @@ same_algorithm-told algorithms.PermitUnlessDeny algorithms.PermitUnlessDeny e = 
 same_algorithm-told algorithms.FirstApplicable algorithms.FirstApplicable e = refl
 same_algorithm-told a b e = absurd (false≢true e)
 
-pub same_algorithm_decides : (a b : Algorithm) → Decides (same_algorithm a b) (a ≡ b)
-same_algorithm_decides = decides_by same_algorithm same_algorithm-itself same_algorithm-told
-
 abbrev pub same_match : Match → Match → Bool
 same_match (matches.Role a) (matches.Role b) = same_name a b
 same_match (matches.Office a) (matches.Office b) = same_name a b
@@ -104,9 +87,6 @@ same_match (matches.Owner a) (matches.Owner b) = same_name a b
 same_match (matches.Zone a) (matches.Zone b) = same_name a b
 same_match (matches.Action a) (matches.Action b) = same_action a b
 same_match a b = false
-
-same_name-itself : (a : List ℕ) → same_name a a ≡ true
-same_name-itself a = (bytes_decides a a).1 refl
 
 same_name-told : (a b : List ℕ) → same_name a b ≡ true → a ≡ b
 same_name-told a b = (bytes_decides a b).0
@@ -144,9 +124,6 @@ same_term-told : (a b : Term) → same_term a b ≡ true → a ≡ b
 same_term-told (terms.Match a) (terms.Match b) e = ap terms.Match (same_match-told a b e)
 same_term-told terms.Own terms.Own e = refl
 same_term-told a b e = absurd (false≢true e)
-
-pub same_term_decides : (a b : Term) → Decides (same_term a b) (a ≡ b)
-same_term_decides = decides_by same_term same_term-itself same_term-told
 
 abbrev pub same_atom : Atom → Atom → Bool
 same_atom (atoms.Is a) (atoms.Is b) = same_term a b
@@ -229,9 +206,6 @@ same_head-told a b e =
     (same_algorithm-told a.combine b.combine (second_so (same_name a.name b.name) (same_algorithm a.combine b.combine) two))
     ((same_target_decides a.target b.target).0 (second_so (same_name a.name b.name && same_algorithm a.combine b.combine) (same_target a.target b.target) e))
 
-pub same_head_decides : (a b : Head) → Decides (same_head a b) (a ≡ b)
-same_head_decides = decides_by same_head same_head-itself same_head-told
-
 -- what a set and a policy have in common
 abbrev pub head_of : NodeData → Head
 head_of (set head _) = head
@@ -287,34 +261,8 @@ mutual
   same_children-told no_children (child b others) e = absurd (false≢true e)
   same_children-told (child a rest) no_children e = absurd (false≢true e)
 
-pub same_children_decides : (a b : Children) → Decides (same_children a b) (a ≡ b)
-same_children_decides = decides_by same_children same_children-itself same_children-told
-
 pub same_node_decides : (a b : NodeData) → Decides (same_node a b) (a ≡ b)
 same_node_decides = decides_by same_node same_node-itself same_node-told
-
-abbrev pub same_point : Point → Point → Bool
-same_point p q = int_eq p.x q.x && int_eq p.y q.y
-
-same_point-itself : (p : Point) → same_point p p ≡ true
-same_point-itself p = both_so _ _ ((signed_Decides p.x p.x).1 refl) ((signed_Decides p.y p.y).1 refl)
-
-same_point-by : (p q : Point) → p.x ≡ q.x → p.y ≡ q.y → p ≡ q
-same_point-by p q h k = λ i. record { x = h i; y = k i }
-
-same_point-told : (p q : Point) → same_point p q ≡ true → p ≡ q
-same_point-told p q e =
-    same_point-by p q ((signed_Decides p.x q.x).0 (first_so (int_eq p.x q.x) (int_eq p.y q.y) e)) ((signed_Decides p.y q.y).0 (second_so (int_eq p.x q.x) (int_eq p.y q.y) e))
-
-pub same_point_decides : (p q : Point) → Decides (same_point p q) (p ≡ q)
-same_point_decides = decides_by same_point same_point-itself same_point-told
-
--- two shapes, by their corners
-abbrev pub same_shape : List Point → List Point → Bool
-same_shape = pointwise same_point
-
-pub same_shape_decides : (a b : List Point) → Decides (same_shape a b) (a ≡ b)
-same_shape_decides = pointwise_decides same_point_decides
 
 abbrev pub same_zone : Zone → Zone → Bool
 same_zone a b = same_name a.name b.name && same_shape a.shape b.shape

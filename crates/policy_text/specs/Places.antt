@@ -5,7 +5,7 @@ use Rattle.std.specs.Cmp.{unsigned_Decides}
 use Rattle.std.specs.Cmp.Lexicographic.{pointwise, pointwise_decides}
 use Rattle.std.proofs.Common.{ap}
 use Rattle.std.proofs.lemmas.Bool.{false≢true}
-use Rattle.policy_text.specs.Equality.{decides_by}
+use Rattle.plane.specs.Equality.{decides_by}
 use Rattle.policy_text.specs.declared.paths.Key.{Key}
 use Rattle.policy_text.specs.declared.paths.Key.TheVariants as keys
 use Rattle.policy_text.specs.declared.paths.Step.{Step}
@@ -78,9 +78,6 @@ same_key-told keys.Action keys.Action e = refl
 same_key-told keys.Own keys.Own e = refl
 same_key-told keys.Not keys.Not e = refl
 same_key-told a b e = absurd (false≢true e)
-
-pub same_key_decides : (a b : Key) → Decides (same_key a b) (a ≡ b)
-same_key_decides = decides_by same_key same_key-itself same_key-told
 
 abbrev pub same_step : Step → Step → Bool
 same_step (steps.Key a) (steps.Key b) = same_key a b

@@ -7,7 +7,7 @@ const ABOUT: &str = "A map feature server for land agencies";
 
 const LONG_ABOUT: &str =
     "A map feature server for land agencies: offices search features by a window and change them \
-by lists. Policies are read and checked; a script is not held to them yet.";
+by lists. Policies rule what each of them may read and change.";
 
 const EXAMPLES: &str = "Examples:
   landmap script day.map
@@ -48,8 +48,8 @@ const SCRIPT_EXAMPLES: &str = "Example:
 Exit status:
   0  all lines are answered, be it by `error`
   1  the run ended by a fault, of which one line on standard error tells:
-     `cannot read FILE`, `cannot write`, or a code: B1 to B5 and N1 to N3 of the configuration,
-     D2 to D8 of its policies, X12 and V1 to V4 of the run
+     `cannot read FILE`, `cannot write`, or a code: B1, B2, B5 and N1 to N3 of the configuration,
+     D2 to D8 of its policies, X12, V1, V3 and V4 of the run
   2  the command line is wrong";
 
 /// What the command line asks.

@@ -6,7 +6,8 @@ ghost use Rattle.search_tree.specs.Faults.{code_of};
 use memory::Refused;
 use std::fmt;
 
-/// Why a tree refuses a step. A refused step is not counted, and changes nothing; S7 alone ends its own search or walk.
+/// Why a tree refuses a step. A refused step is not counted, and changes nothing that callers see; S7 alone ends its own search, and
+/// a walk that it refuses is refused by it from then on.
 #[derive(Debug, Drop, PartialEq, Eq)]
 pub enum TreeFault {
     /// S1: no search runs under the number.

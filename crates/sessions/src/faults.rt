@@ -12,7 +12,7 @@ pub enum Fault {
     LineTooLong,
     /// E2: the command is unknown, a word is missing, or something is left over.
     Command,
-    /// E3: a word is no number of 1 to 20 digits below 2^64.
+    /// E3: a word is no number of 1 to 20 digits below 2^64, or no number of steps from 1 to 1,000,000.
     Number,
     /// E4: a word is no name, or no action.
     Name,
@@ -30,7 +30,7 @@ pub enum Fault {
     NoSubject,
     /// H2: all seats are given.
     NoPlace,
-    /// K1 to K5, P1 to P9: the text spells no shape.
+    /// K1 to K5, or the code of what its points lack: the text spells no shape.
     Shape(WktFault),
 }
 

@@ -53,7 +53,8 @@ pub enum Reply {
     Error(Fault),
     /// `error CODE`, D1 to D8: the text is no policy document.
     Unread(TextFault),
-    /// `error CODE`, X1 to X15 and S1 to S7: the world refuses the call.
+    /// `error CODE`, an X or an S: the world refuses the call. X9 is shown as the code of the index; want of memory, a subject
+    /// that is unknown, a seat too many and a list that is held back have replies of their own.
     Refused(WorldFault),
 }
 

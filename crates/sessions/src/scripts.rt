@@ -441,7 +441,7 @@ impl<A: Allocator + Copy> LineDesk for Table<A> {
 }
 
 /// Runs the lines of a script to the end of the input, each line `label: line` of the session of its label, and writes
-/// what each is answered, by one call of the writer for each line of a reply; after each line one slot of the index is
+/// what each is answered; after each line one slot of the index is
 /// tended. `alloc` serves what the world keeps and the buffers, `heap` documents and their texts. Faults: `Memory` where the
 /// buffers are refused, before anything is read; `Read` and `Write` where a read or a write fails;
 /// `TooManyTurns` after 16,777,216 reads. What was done before stands, and staged lists and open searches are dropped. However

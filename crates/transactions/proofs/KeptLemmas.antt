@@ -1,9 +1,9 @@
 -- What the index keeps has each feature's shape, and all that is staged.
-use Rattle.std.proofs.Common.{◌≡◌, ℕ, ◌<◌, ◌==◌, ◌||◌, ◌&&◌, zero, suc, Bool, true, false, List, [], ◌∷◌, take, Option, Some, None, if◌then◌else◌, refl, sym, ap, subst, ◌∙◌, arith, IsTrue}
+use Rattle.std.proofs.Common.{◌≡◌, ℕ, ◌<◌, ◌==◌, ◌||◌, ◌&&◌, zero, suc, Bool, true, false, List, [], ◌∷◌, take, Some, if◌then◌else◌, refl, ap, ◌∙◌, arith}
 use Rattle.std.specs.List.{Contains, list_any}
 use Rattle.std.proofs.lemmas.Bool.Decides.{nat_tests}
 use Rattle.plane.specs.declared.point.Point.{Point}
-use Rattle.plane.specs.Equality.{same_shape, same_shape_decides}
+use Rattle.plane.specs.Equality.{same_shape, same_shape-itself}
 use Rattle.features.specs.declared.rows.Change.{Change}
 use Rattle.features.specs.declared.rows.Change.TheVariants.{Add, Reshape, Delete}
 use Rattle.features.specs.declared.rows.Feature.{Feature}
@@ -13,9 +13,6 @@ use Rattle.plain_world.specs.Staging.{TransactionData, placements}
 use Rattle.plain_world.specs.States.{WorldData}
 use Rattle.transactions.specs.Index.{AreAmong, HasFeatures, HasPlacements}
 use Rattle.transactions.proofs.SearchLemmas.{differs, same_number}
-
-same_shape-itself : (a : List Point) → same_shape a a ≡ true
-same_shape-itself a = (same_shape_decides a a).1 refl
 
 or_right : (a b : Bool) → b ≡ true → (a || b) ≡ true
 or_right true b e = refl

@@ -25,7 +25,7 @@ use std::marker::Model;
 
 /// The world of many sessions: the features, the policy in force and the trail, the seats that were given, the searches and
 /// transactions that are under way, the index over the features, and the walks of the transactions. A contract sees all but
-/// the index as plain data, and the index as its pairs, searches and counts.
+/// the index as plain data, and the index as the contracts of the tree see it.
 #[derive(Drop)]
 pub struct World<A: Allocator> {
     pub(crate) plain: PlainWorld<A>,

@@ -1,4 +1,4 @@
-//! Tests of the search tree and of what it stands on, and a caller of the arena.
+//! Tests of the search tree and of what it stands on, and callers of the arena and of running searches.
 #![tactic(auto)]
 
 pub mod arena_uses;

@@ -52,10 +52,10 @@ AllInRange ring = list_all is_in_range ring.0 ≡ true
 abbrev ReadsInRange : ℕ → List Token → Type 0
 ReadsInRange end ts = (due : Due) (ring : List Point × List Token) → IsInRangeDue due → ring_from due end ts ≡ Ok ring → AllInRange ring
 
-abbrev done : {A : Type 0} → A → Result A WktFault
+abbrev pub done : {A : Type 0} → A → Result A WktFault
 done x = Ok x
 
-ok_is : {A : Type 0} (x y : A) → done x ≡ done y → x ≡ y
+pub ok_is : {A : Type 0} (x y : A) → done x ≡ done y → x ≡ y
 ok_is x y e = cc
 
 go-pair : (end : ℕ) (t : Token) (ts : List Token) (ring : List Point × List Token) (n : Result ℤ WktFault) → ReadsInRange end ts → number_of_token t ≡ n

@@ -15,17 +15,12 @@ use Rattle.wkt.specs.Tokens.{Token, tokens, OPENING, CLOSING, COMMA}
 use Rattle.wkt.specs.Numbers.{in_limits, number_of, coordinate_of}
 use Rattle.wkt.specs.Reading.{◌>>=◌, with_rest, pair_of, is_word, is_the_mark, is_left_out_kind, is_left_out_form, begins_with_mark, kind_of, keyword_at, opening_at, mark_at, closing_at, end_at, number_of_token, number_at, pair_at, is_more, more_at, ring_at, made, shape_of}
 use Rattle.wkt.specs.Spelling.{Word, words, mark_word, SpellsNumber, SpellsPair, SpellsPairs, Listed, one_point, two_points, ring, IsKeyword, SpellsListed, canonical_of, Spells}
+use Rattle.wkt.proofs.KeptLemmas.{done, ok_is}
 use Rattle.wkt.proofs.NumberGrammar.{number_found}
 use Rattle.wkt.proofs.Machine.{start, run, judged, listing, keyword_listing, reading_run, point_inside, point_pair, point_after, point_listing, line_inside, line_pair, line_next, line_second, line_after, line_listing, ring_inside, ring_first, ring_behind, ring_end, ring_listing}
 use Rattle.wkt.proofs.RingLemmas.{behind_pair, after_pair, ring_step}
 
 -- ---- results
-
-abbrev done : {A : Type 0} → A → Result A WktFault
-done x = Ok x
-
-ok_is : {A : Type 0} (x y : A) → done x ≡ done y → x ≡ y
-ok_is x y e = cc
 
 bind_ok : {A B : Type 0} (r : Result A WktFault) (f : A → Result B WktFault) (y : B) → (r >>= f) ≡ Ok y → (x : A) × (r ≡ Ok x) × (f x ≡ Ok y)
 bind_ok (Ok x) f y e = (x, refl, e)

@@ -14,6 +14,7 @@ use Rattle.wkt.specs.Tokens.{Token, tokens, is_mark, OPENING, CLOSING, COMMA}
 use Rattle.wkt.specs.Numbers.{coordinate_of}
 use Rattle.wkt.specs.Reading.{◌>>=◌, with_front, is_the_mark, begins_with_mark, kind_of, keyword_at, opening_at, mark_at, closing_at, end_at, number_of_token, number_at, pair_at, is_more, more_at, ring_at, made, point_at, line_string_at, polygon_at, body_at, shape_of}
 use Rattle.wkt.specs.Spelling.{Word, words, mark_word, SpellsSign, SpellsNumber, SpellsPair, SpellsPairs, Listed, one_point, two_points, ring, IsKeyword, SpellsPoint, SpellsLineString, SpellsRing, SpellsListed, canonical_of, Spells}
+use Rattle.wkt.proofs.KeptLemmas.{ok_is}
 use Rattle.wkt.proofs.NumberGrammar.{number_only}
 use Rattle.wkt.proofs.PrintedNumbers.{coordinate_test}
 use Rattle.wkt.proofs.RingLemmas.{ring_more, ring_last}
@@ -207,12 +208,6 @@ pub only : (text : List ℕ) (corners : List Point) → Spells text corners → 
 unfolding shape_of
 only text corners h = listed_only (length text) (tokens 0 text) h.listed h.spelled ∙ ap made h.canonical
 
-abbrev done : List Point → Result (List Point) WktFault
-done x = Ok x
-
-same_ok : (a b : List Point) → done a ≡ done b → a ≡ b
-same_ok a b e = cc
-
 -- no text spells two shapes
 pub one : (text : List ℕ) (a b : List Point) → Spells text a → Spells text b → a ≡ b
-one text a b h k = same_ok a b (sym (only text a h) ∙ only text b k)
+one text a b h k = ok_is a b (sym (only text a h) ∙ only text b k)

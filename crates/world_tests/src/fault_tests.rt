@@ -5,7 +5,7 @@ use crate::fakes::{
 use crate::worlds::opened;
 use refusing::Refusing;
 use sessions::{READ_LIMIT, ServeFault, run_script};
-use std::alloc::{AllocError, Allocator, Global};
+use std::alloc::{AllocError, Global};
 use std::process::Abort;
 use std::test::Fail;
 use transactions::World;

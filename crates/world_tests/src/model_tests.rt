@@ -12,9 +12,7 @@ use policy_text::Document;
 use std::alloc::Global;
 use std::process::Abort;
 use std::test::Fail;
-use transactions::{
-    Advance, Answer, Fault, Limits, Outcome, Step, Tending, TreeFault, Visit, World,
-};
+use transactions::{Advance, Answer, Fault, Limits, Outcome, Step, TreeFault, Visit, World};
 
 /// How many events are tried.
 const EVENTS: u32 = 10_000;
