@@ -24,7 +24,7 @@ same_choice : {X : Type 0} (b : Bool) (x : X) → cond b x x ≡ x
 same_choice true x = refl
 same_choice false x = refl
 
-pub verdict : Decision → Option ℕ → Verdict
+unfoldable pub verdict : Decision → Option ℕ → Verdict
 verdict d r = record { decision = d; rule = r }
 
 module _ (p d : Bool) (f : Decision) (c : Bool) (permitting denying : Option ℕ) (v : Verdict) where
