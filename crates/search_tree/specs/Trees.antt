@@ -149,8 +149,9 @@ module _ (C : Class) where
     -- each search that runs has its progress, and no other
     pub progress_of_each : (s : ℕ) → is_some (progress_at s t.progress) ≡ is_some (search_at t.running s)
 
-  -- a tree that nobody has called yet: it has no pairs and no searches, and its root is its one node
-  pub record IsFirst (counter next limit : ℕ) (t : PlainTree C.Key C.Query C.Item) : Type 0 where
+  -- a tree that nobody has called yet: it has no pairs and no searches, its root is its one node, and each
+  -- slot starts at this generation
+  pub record IsFirst (generation counter next limit : ℕ) (t : PlainTree C.Key C.Query C.Item) : Type 0 where
     pub contents : IsContents (tree_of t) []
     pub searches : (s : ℕ) → search_in t s ≡ None
     pub none_run : t.running.running ≡ []
@@ -159,3 +160,4 @@ module _ (C : Class) where
     pub limit_is : t.limit ≡ limit
     pub level : root_level t ≡ 0
     pub taken : taken_count t.nodes ≡ 1
+    pub generation_is : t.nodes.first ≡ generation

@@ -208,7 +208,7 @@ serves_tended w t u Cleaned ordered h tended contents =
 
 -- ---- a world that has just been opened
 
-pub serves_first : (subjects : List Subject) (decider : DeciderData) (starts : Starts) (limits : Limits) (t : Index) → IsFirst frames starts.counter starts.search limits.steps t → Serves (opened subjects decider starts limits) t
+pub serves_first : (subjects : List Subject) (decider : DeciderData) (starts : Starts) (limits : Limits) (t : Index) → IsFirst frames starts.generation starts.counter starts.search limits.steps t → Serves (opened subjects decider starts limits) t
 serves_first subjects decider starts limits t first = record {
   contents = [];
   are_contents = first.contents;

@@ -194,7 +194,7 @@ pub world_served : (w : WorldData) (t u : Index) (js : List JourneyData) → IsW
 world_served w t u js h serves = record { ordered = h.ordered; under_way = h.under_way; serves = serves; walks = h.walks }
 
 -- a world that has just been opened
-pub world_first : (subjects : List Subject) (decider : DeciderData) (starts : Starts) (limits : Limits) (w : WorldData) (t : Index) → w ≡ opened subjects decider starts limits → IsFirst frames starts.counter starts.search limits.steps t → IsWorld (indexed w t [])
+pub world_first : (subjects : List Subject) (decider : DeciderData) (starts : Starts) (limits : Limits) (w : WorldData) (t : Index) → w ≡ opened subjects decider starts limits → IsFirst frames starts.generation starts.counter starts.search limits.steps t → IsWorld (indexed w t [])
 world_first subjects decider starts limits w t is first = subst (λ (x : WorldData). IsWorld (indexed x t [])) (sym is) (record {
   ordered = opened_ordered subjects decider starts limits;
   under_way = opened_way subjects decider starts limits;

@@ -170,7 +170,7 @@ impl<A: Allocator + Copy> World<A> {
         requires features { limits.features ≤ FEATURE_LIMIT }
         requires steps { limits.steps ≤ STEP_LIMIT }
         ensures ok { IfOk result (λ w. w.plain ≡ opened subjects (record { document = document; edition = starts.edition }) starts limits) }
-        ensures index { IfOk result (λ w. IsFirst frames starts.counter starts.search limits.steps w.index) }
+        ensures index { IfOk result (λ w. IsFirst frames starts.generation starts.counter starts.search limits.steps w.index) }
         ensures walks { IfOk result (λ w. w.walks ≡ []) }
         ensures err { IfErr result (λ e. e ≡ (document, Fault.Memory refused)) }
     {
@@ -198,7 +198,7 @@ fn first_index<A: Allocator + Copy>(
     limits: Limits,
 ) -> Result<Tree<Frames, A>, Refused>
     requires { limits.steps ≤ STEP_LIMIT }
-    ensures { IfOk result (IsFirst frames starts.counter starts.search limits.steps) }
+    ensures { IfOk result (IsFirst frames starts.generation starts.counter starts.search limits.steps) }
 {
     let steps = limits.steps as u64;
     match Tree::starting_at(

@@ -138,6 +138,15 @@ fn forty<A: Allocator + Copy>(rt: &impl Abort, alloc: A, apart: i32) -> Tree<Fra
     tree
 }
 
+// The same, where a slot is worn out once its first node is taken out.
+fn forty_used_once<A: Allocator + Copy>(rt: &impl Abort, alloc: A, apart: i32) -> Tree<Frames, A> {
+    let made = Tree::starting_at(alloc, u32::MAX, 0, 1, 1_000);
+    assert!(rt; made.is_ok());
+    let mut tree = made.unwrap();
+    fill(rt, &mut tree, 1, 40, apart);
+    tree
+}
+
 // A search for the band that has made one step, and has more to see.
 fn begun<A: Allocator + Copy>(rt: &impl Abort, tree: &mut Tree<Frames, A>) -> u64 {
     let opened = tree.open_search(band(rt));
@@ -211,15 +220,14 @@ fn held_by_ready_search(rt: HostRuntime) -> Result<(), Fail> {
     Ok(())
 }
 
-#[test]
-fn retire_and_free(rt: HostRuntime) -> Result<(), Fail> {
-    let mut tree = forty(&rt, rt.alloc(), 1);
-    let search = begun(&rt, &mut tree);
-    fill(&rt, &mut tree, 41, 120, 1);
+// Retires leaves of the numbers 1 to 40 under a search, and frees them once that is closed.
+fn retire_and_free_leaves<A: Allocator + Copy>(rt: &impl Abort, tree: &mut Tree<Frames, A>) {
+    let search = begun(rt, tree);
+    fill(rt, tree, 41, 120, 1);
     let keeper = KeepOne { key: 120 };
     let mut retired: u32 = 0;
     for _ in 0..100 {
-        let round = tend_all(&rt, &mut tree, &keeper);
+        let round = tend_all(rt, tree, &keeper);
         retired = retired.saturating_add(round.retired);
         assert!(rt; round.freed == 0);
         if round.idle == tree.slots() {
@@ -227,17 +235,22 @@ fn retire_and_free(rt: HostRuntime) -> Result<(), Fail> {
         }
     }
     assert!(rt; 0 < retired);
-    see_all(&rt, &mut tree, search);
-    assert!(rt; has_found(&tree, search, 120, 120));
+    see_all(rt, tree, search);
+    assert!(rt; has_found(tree, search, 120, 120));
     tree.close_search(search);
-    assert_eq!(rt; tend_all(&rt, &mut tree, &keeper).freed, retired);
-    Ok(())
+    assert_eq!(rt; tend_all(rt, tree, &keeper).freed, retired);
 }
 
 #[test]
-fn restarted_where_the_leaf_is_gone(rt: HostRuntime) -> Result<(), Fail> {
-    let mut tree = forty(&rt, rt.alloc(), 1);
-    let mut walk = tree.start_walk(41, pin(&rt, 41, 0));
+fn retire_and_free(rt: HostRuntime) -> Result<(), Fail> {
+    retire_and_free_leaves(&rt, &mut forty(&rt, rt.alloc(), 1));
+    retire_and_free_leaves(&rt, &mut forty_used_once(&rt, rt.alloc(), 1));
+    Ok(())
+}
+
+// Takes away the leaf where a walk stands, of the numbers 1 to 40. The walk begins anew, and its pair is placed.
+fn restart_a_walk<A: Allocator + Copy>(rt: &impl Abort, tree: &mut Tree<Frames, A>) {
+    let mut walk = tree.start_walk(41, pin(rt, 41, 0));
     assert!(rt; tree.advance(&mut walk) == Ok(Step::Moved));
     let keeper = KeepOne { key: 0 };
     let slot = walk.slot();
@@ -250,7 +263,35 @@ fn restarted_where_the_leaf_is_gone(rt: HostRuntime) -> Result<(), Fail> {
     }
     assert!(rt; freed);
     assert!(rt; tree.advance(&mut walk) == Ok(Step::Restarted));
-    finish(&rt, &mut tree, &mut walk);
+    finish(rt, tree, &mut walk);
+}
+
+#[test]
+fn restarted_where_the_leaf_is_gone(rt: HostRuntime) -> Result<(), Fail> {
+    restart_a_walk(&rt, &mut forty(&rt, rt.alloc(), 1));
+    restart_a_walk(&rt, &mut forty_used_once(&rt, rt.alloc(), 1));
+    Ok(())
+}
+
+#[test]
+fn worn_out_slots_are_used_once(rt: HostRuntime) -> Result<(), Fail> {
+    let mut tree = forty_used_once(&rt, rt.alloc(), 1);
+    let keeper = KeepOne { key: 0 };
+    let mut freed: Vec<u32> = Vec::new(rt.alloc());
+    for _ in 0..4 {
+        for _ in 0..100 {
+            for slot in 0..tree.slots() {
+                if tree.tend(slot, &keeper) == Ok(Tending::Freed) {
+                    assert!(rt; !freed.contains(&slot), "slot {slot} is used twice");
+                    freed.push(slot)?;
+                }
+            }
+        }
+        let used = tree.slots();
+        fill(&rt, &mut tree, 1, 40, 1);
+        assert!(rt; used < tree.slots());
+    }
+    assert!(rt; !freed.is_empty());
     Ok(())
 }
 

@@ -35,4 +35,5 @@ returns-clause-ok g c =
       limit_is = refl;
       level = rw (given.has_value, c.in_ok-first.ensures) refl;
       taken = let more = c.in_ok-root.ensures.counts.taken in omega (arith, more, none);
+      generation_is = given.same_first ∙ rw c.starting_at-nodes.ensures.value refl;
     }
