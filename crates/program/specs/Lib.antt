@@ -1,4 +1,6 @@
+pub mod Asking
 pub mod BuiltIn
+pub mod CommandLine
 pub mod ConfigFaults
 pub mod ConfigFiles
 pub mod Configs

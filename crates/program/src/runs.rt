@@ -1,8 +1,9 @@
-ghost use Rattle.std.specs.Prelude.{◌≡◌, ◌≤◌, ℕ, List, Option, Some, OnOk, IfOk, IfSome, option_map};
+ghost use Rattle.std.specs.Prelude.{◌≡◌, ◌↔◌, ℕ, List, Option, Some, OnOk, IfOk, IfSome, IsTrue, map, option_map, string_bytes};
 ghost use Rattle.std.specs.Io.KnownBytes.{Appends};
+ghost use Rattle.clap.specs.Words.{kind_of};
 ghost use Rattle.program.specs.Configs.{config_data};
 ghost use Rattle.program.specs.Ends.{exit_status, fault_line};
-ghost use Rattle.program.specs.Runs.{IsConfigOf, Ran, Served};
+ghost use Rattle.program.specs.Runs.{IsConfigOf, IsRun, Ran, Served};
 
 use crate::built_in::built_in_config;
 use crate::configs::Config;
@@ -10,6 +11,7 @@ use crate::faults::ProgramFault;
 use crate::files::{FileFault, read_config_file};
 use crate::words::{Asked, ScriptWords, read_words};
 use clap::Error;
+use clap::error::ErrorKind;
 use sessions::{ServeFault, run_script};
 use std::alloc::{Allocator, Global};
 use std::io;
@@ -113,6 +115,13 @@ pub fn run_named<'a, F: Folder, W: Write>(
     run_file(heap, heap, config, &mut file, output)
 }
 
+/// Whether a text of clap's is the help that was asked for.
+fn is_help(text: &Error) -> bool
+    ensures { IsTrue result ↔ (kind_of text.now ≡ ErrorKind.DisplayHelp) }
+{
+    matches!(text.kind(), ErrorKind::DisplayHelp)
+}
+
 /// Writes help to the output.
 fn show_help<'a, W: Write>(help: &Error, output: &mut W) -> Result<(), ProgramFault<'a>> {
     if write!(output, "{help}").is_err() || output.flush().is_err() {
@@ -138,6 +147,17 @@ pub fn tell<E: Write>(fault: &ProgramFault<'_>, errors: &mut E) -> io::Result<()
     write!(errors, "landmap: {fault}\n")
 }
 
+/// Tells of the fault by which a run ended, if it did, and answers the exit status.
+fn end_run<E: Write>(end: &Result<(), ProgramFault<'_>>, errors: &mut E) -> u8
+    ensures status { result ≡ exit_status end.now }
+    ensures quiet { OnOk end.now (errors.new ≡ errors.old) }
+{
+    if let Err(fault) = end {
+        let _ = tell(fault, errors);
+    }
+    status_of(end)
+}
+
 /// Runs the program with these words, of which the first is its name, and answers its exit status: 0; 1 where it ended
 /// by a fault, of which one line is written to `errors`; 2 where the command line is wrong, and then clap says there why.
 /// A fault of `errors` itself changes nothing.
@@ -148,20 +168,15 @@ pub fn run_program<F: Folder, O: Write, E: Write>(
     output: &mut O,
     errors: &mut E,
 ) -> u8
-    ensures status { result ≤ 2 }
-    ensures quiet { result ≡ 0 → errors.new ≡ errors.old }
+    ensures { IsRun (map (λ word. string_bytes word) words.now) (F.holds folder.now) O.contents output.old output.new errors.old errors.new result }
 {
-    let end = match read_words(alloc, words) {
-        Ok(Asked::Script(words)) => run_named(alloc, words, folder, output),
-        Ok(Asked::Text(help)) if !help.use_stderr() => show_help(&help, output),
+    match read_words(alloc, words) {
+        Ok(Asked::Script(files)) => end_run(&run_named(alloc, files, folder, output), errors),
+        Ok(Asked::Text(help)) if is_help(&help) => { end_run(&show_help(&help, output), errors) }
         Ok(Asked::Text(mistake)) => {
             let _ = write!(errors, "{mistake}");
-            return 2;
+            2
         }
-        Err(fault) => Err(fault),
-    };
-    if let Err(fault) = &end {
-        let _ = tell(fault, errors);
+        Err(fault) => end_run(&Err(fault), errors),
     }
-    status_of(&end)
 }

@@ -1,3 +1,9 @@
+ghost use Rattle.std.specs.Prelude.{◌≡◌, false, map, string_bytes, IfOk, IfErr};
+ghost use Rattle.clap.specs.Words.{app_of};
+ghost use Rattle.clap.specs.declared.builder.command.Command.TheViews.{out-Command as fields_of};
+ghost use Rattle.program.specs.Asking.{IsAsked};
+ghost use Rattle.program.specs.CommandLine.{command_line, script_line};
+
 use crate::faults::ProgramFault;
 use clap::error::ErrorKind;
 use clap::{Arg, Command, Error};
@@ -70,7 +76,10 @@ pub struct ScriptWords<'a> {
 }
 
 /// The subcommand that runs a script.
-fn script_command<'a>(alloc: Global) -> Result<Command<'a>, AllocError> {
+fn script_command<'a>(alloc: Global) -> Result<Command<'a>, AllocError>
+    ensures app { IfOk result (λ command. app_of command ≡ script_line) }
+    ensures local { IfOk result (λ command. (fields_of command).has_globals ≡ false) }
+{
     let config = Arg::new(alloc, "config")
         .long("config")
         .value_name("FILE")
@@ -87,7 +96,9 @@ fn script_command<'a>(alloc: Global) -> Result<Command<'a>, AllocError> {
 }
 
 /// The command line.
-fn command<'a>(alloc: Global) -> Result<Command<'a>, AllocError> {
+fn command<'a>(alloc: Global) -> Result<Command<'a>, AllocError>
+    ensures { IfOk result (λ command. app_of command ≡ command_line) }
+{
     Command::new(alloc, "landmap")
         .about(ABOUT)
         .long_about(LONG_ABOUT)
@@ -101,7 +112,10 @@ fn command<'a>(alloc: Global) -> Result<Command<'a>, AllocError> {
 pub(crate) fn read_words<'a>(
     alloc: Global,
     words: &'a [String],
-) -> Result<Asked<'a>, ProgramFault<'a>> {
+) -> Result<Asked<'a>, ProgramFault<'a>>
+    ensures ok { IfOk result (IsAsked (map (λ word. string_bytes word) words.entry.now)) }
+    ensures err { IfErr result (λ fault. fault ≡ ProgramFault.NoMemory) }
+{
     let Ok(command) = command(alloc) else {
         return Err(ProgramFault::NoMemory);
     };

@@ -60,7 +60,7 @@ module _ (C : Class) (t : PlainTree C.Key C.Query C.Item) (at : Handle) (may : M
     abbrev sifted : PlainTree C.Key C.Query C.Item
     sifted = record t { nodes = nodes }
 
-    cleaned_step : IsCleaned (tree_of C t) (tree_of C sifted) (λ pair. IsTrue (kept pair)) at
+    pub cleaned_step : IsCleaned (tree_of C t) (tree_of C sifted) (λ pair. IsTrue (kept pair)) at
     cleaned_step =
         record {
           node = may.node;

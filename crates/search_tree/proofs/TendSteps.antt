@@ -57,7 +57,7 @@ module _ (C : Class) (t : PlainTree C.Key C.Query C.Item) where
     abbrev let_go : PlainTree C.Key C.Query C.Item
     let_go = record t { nodes = nodes }
 
-    freed_step : IsFreed (tree_of C t) (tree_of C let_go) at
+    pub freed_step : IsFreed (tree_of C t) (tree_of C let_go) at
     freed_step =
         record {
           node = may.node;
@@ -114,7 +114,7 @@ module _ (C : Class) (t : PlainTree C.Key C.Query C.Item) where
         let same : may.leaf ≡ may.node = some_one may.leaf_is (subst (λ h. value_at t.nodes h ≡ Some may.node) e may.is) in
         body_apart _ _ may.leaf may.node may.empty may.body same
 
-    retired_step : IsRetired (tree_of C t) (tree_of C let_out) at parent
+    pub retired_step : IsRetired (tree_of C t) (tree_of C let_out) at parent
     retired_step =
         record {
           leaf = may.leaf;

@@ -1,5 +1,5 @@
 -- What tending finds to do at a node.
-use Rattle.std.specs.Prelude.{ℕ, Option, None, Some, ⊤}
+use Rattle.std.specs.Prelude.{◌≡◌, ℕ, Option, None, Some, ⊤}
 use Rattle.node_arena.specs.declared.handle.Handle.{Handle}
 use Rattle.search_tree.specs.Tends.{MayClean, MayFree, MayInstall, MayRetire}
 use Rattle.search_tree.specs.Trees.{PlainTree}
@@ -25,6 +25,6 @@ stamp_at (Some node) = stamp_in node.place
 abbrev pub MayDo : (C : Class) (t : PlainTree C.Key C.Query C.Item) → Handle → Due C.Key → Type 0
 MayDo C t at Nothing = ⊤
 MayDo C t at Free = MayFree C t at
-MayDo C t at (Install entry) = MayInstall C t entry
+MayDo C t at (Install entry) = MayInstall C t entry × (entry.left ≡ at)
 MayDo C t at Clean = MayClean C t at
 MayDo C t at (Retire parent place) = MayRetire C t at parent place

@@ -8,7 +8,7 @@ use Rattle.search_tree.specs.Trees.{PlainTree, search_in, steps_in, root_level, 
 use Rattle.search_tree.specs.declared.answers.Tending.{Tending}
 use Rattle.search_tree.specs.declared.answers.Tending.TheVariants.{Idle, Freed, Installed, Cleaned, Retired}
 use Rattle.search_tree.specs.declared.installing.NewEntry.{NewEntry}
-use Rattle.tree_theory.specs.Changes.{IsKeyFor}
+use Rattle.tree_theory.specs.Changes.{IsKeyFor, IsFreed, IsInstalled, IsCleaned, IsRetired}
 use Rattle.tree_theory.specs.Contents.{IsContents, LosesPairs}
 use Rattle.tree_theory.specs.KeyClasses.{Class}
 use Rattle.tree_theory.specs.Nodes.{Node}
@@ -55,6 +55,15 @@ module _ (C : Class) (t : PlainTree C.Key C.Query C.Item) where
   ContentsTended Kept u Installed = SameContents C t u
   ContentsTended Kept u Cleaned = ContentsLess u Kept
   ContentsTended Kept u Retired = SameContents C t u
+
+  -- what tending does at a node: nothing, or the one step that its answer tells. A cleaned leaf has what it had of
+  -- Kept, and nothing else
+  abbrev pub StepsAt : (ℕ × C.Item → Type 0) → Handle → PlainTree C.Key C.Query C.Item → Tending → Type 0
+  StepsAt Kept at u Idle = u ≡ t
+  StepsAt Kept at u Freed = IsFreed (tree_of C t) (tree_of C u) at
+  StepsAt Kept at u Installed = (parent : Handle) × (right : Handle) × IsInstalled (tree_of C t) (tree_of C u) parent at right
+  StepsAt Kept at u Cleaned = IsCleaned (tree_of C t) (tree_of C u) Kept at
+  StepsAt Kept at u Retired = (parent : Handle) × IsRetired (tree_of C t) (tree_of C u) at parent
 
   -- a leaf
   pub record MayClean (at : Handle) : Type 0 where

@@ -6,7 +6,9 @@ ghost use Rattle.node_arena.specs.declared.handle.Handle.{Handle};
 ghost use Rattle.predicate_locks.specs.Searches.{last_number};
 ghost use Rattle.search_tree.specs.Calls.{SameContents};
 ghost use Rattle.search_tree.specs.Dues.{AnswersFirst};
-ghost use Rattle.search_tree.specs.Tends.{HasTended, ContentsLess, ContentsTended, MayClean, MayFree, MayRetire};
+ghost use Rattle.search_tree.specs.Tends.{HasTended, ContentsLess, ContentsTended, MayClean, MayFree, MayRetire, StepsAt};
+ghost use Rattle.search_tree.specs.Trees.{tree_of};
+ghost use Rattle.tree_theory.specs.Changes.{IsFreed, IsCleaned, IsRetired};
 ghost use Rattle.tree_theory.specs.KeyClasses.{class_of};
 
 use crate::answers::Tending;
@@ -29,6 +31,7 @@ impl<C: KeyClass, A: Allocator> Tree<C, A> {
         ensures tended { IfOk result (HasTended (class_of C.covered C.may_match C.is_match C.key_with C.united) self.old self.new) }
         ensures contents { IfOk result (ContentsTended (class_of C.covered C.may_match C.is_match C.key_with C.united) self.old (λ pair. IsTrue (K.kept keeper.now pair.0 pair.1)) self.new) }
         ensures first { (at : Handle) → at.slot ≡ slot → IsSome (value_at self.old.nodes at) → AnswersFirst (class_of C.covered C.may_match C.is_match C.key_with C.united) self.old (λ pair. IsTrue (K.kept keeper.now pair.0 pair.1)) at result }
+        ensures step { (at : Handle) → at.slot ≡ slot → IsSome (value_at self.old.nodes at) → IfOk result (StepsAt (class_of C.covered C.may_match C.is_match C.key_with C.united) self.old (λ pair. IsTrue (K.kept keeper.now pair.0 pair.1)) at self.new) }
         ensures nobody { ((at : Handle) → at.slot ≡ slot → IsSome (value_at self.old.nodes at) → ⊥) → result ≡ Ok Tending.Idle }
         ensures spent { IfErr result (λ fault. (fault ≡ TreeFault.Spent) × (self.old.counter ≡ last_number)) }
         ensures err { OnErr result (self.new ≡ self.old) }
@@ -44,6 +47,7 @@ impl<C: KeyClass, A: Allocator> Tree<C, A> {
         ensures tended { IfOk result (HasTended (class_of C.covered C.may_match C.is_match C.key_with C.united) self.old self.new) }
         ensures contents { IfOk result (ContentsTended (class_of C.covered C.may_match C.is_match C.key_with C.united) self.old (λ pair. IsTrue (K.kept keeper.now pair.0 pair.1)) self.new) }
         ensures first { IsSome (value_at self.old.nodes at) → AnswersFirst (class_of C.covered C.may_match C.is_match C.key_with C.united) self.old (λ pair. IsTrue (K.kept keeper.now pair.0 pair.1)) at result }
+        ensures step { IfOk result (StepsAt (class_of C.covered C.may_match C.is_match C.key_with C.united) self.old (λ pair. IsTrue (K.kept keeper.now pair.0 pair.1)) at self.new) }
         ensures spent { IfErr result (λ fault. (fault ≡ TreeFault.Spent) × (self.old.counter ≡ last_number)) }
         ensures err { OnErr result (self.new ≡ self.old) }
     {
@@ -86,6 +90,7 @@ impl<C: KeyClass, A: Allocator> Tree<C, A> {
         requires { MayFree (class_of C.covered C.may_match C.is_match C.key_with C.united) self.old at }
         ensures tended { HasTended (class_of C.covered C.may_match C.is_match C.key_with C.united) self.old self.new Tending.Freed }
         ensures contents { SameContents (class_of C.covered C.may_match C.is_match C.key_with C.united) self.old self.new }
+        ensures step { IsFreed (tree_of (class_of C.covered C.may_match C.is_match C.key_with C.united) self.old) (tree_of (class_of C.covered C.may_match C.is_match C.key_with C.united) self.new) at }
     {
         self.nodes.remove(at);
     }
@@ -96,6 +101,7 @@ impl<C: KeyClass, A: Allocator> Tree<C, A> {
         requires stamp { stamp ≡ self.old.counter + 1 }
         ensures tended { HasTended (class_of C.covered C.may_match C.is_match C.key_with C.united) self.old self.new Tending.Retired }
         ensures contents { SameContents (class_of C.covered C.may_match C.is_match C.key_with C.united) self.old self.new }
+        ensures step { IsRetired (tree_of (class_of C.covered C.may_match C.is_match C.key_with C.united) self.old) (tree_of (class_of C.covered C.may_match C.is_match C.key_with C.united) self.new) at parent }
     {
         set_place(&mut self.nodes, at, Place::Retired { stamp });
         remove_entry(&mut self.nodes, parent, place);
@@ -107,6 +113,7 @@ impl<C: KeyClass, A: Allocator> Tree<C, A> {
         requires { MayClean (class_of C.covered C.may_match C.is_match C.key_with C.united) self.old at }
         ensures tended { HasTended (class_of C.covered C.may_match C.is_match C.key_with C.united) self.old self.new Tending.Cleaned }
         ensures contents { ContentsLess (class_of C.covered C.may_match C.is_match C.key_with C.united) self.old self.new (λ pair. IsTrue (K.kept keeper.now pair.0 pair.1)) }
+        ensures step { IsCleaned (tree_of (class_of C.covered C.may_match C.is_match C.key_with C.united) self.old) (tree_of (class_of C.covered C.may_match C.is_match C.key_with C.united) self.new) (λ pair. IsTrue (K.kept keeper.now pair.0 pair.1)) at }
     {
         keep(&mut self.nodes, at, keeper);
     }

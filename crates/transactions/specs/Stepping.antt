@@ -9,7 +9,7 @@ use Rattle.plain_world.specs.Keeping.{is_kept}
 use Rattle.plain_world.specs.States.{WorldData}
 use Rattle.search_tree.specs.Calls.{IsVisit}
 use Rattle.search_tree.specs.Dues.{AnswersFirst}
-use Rattle.search_tree.specs.Tends.{ContentsTended, HasTended}
+use Rattle.search_tree.specs.Tends.{ContentsTended, HasTended, StepsAt}
 use Rattle.search_tree.specs.declared.answers.Tending.{Tending}
 use Rattle.search_tree.specs.declared.answers.Tending.TheVariants.{Idle}
 use Rattle.search_tree.specs.declared.answers.Visit.{Visit}
@@ -40,4 +40,5 @@ pub record TendsIndex (w : WorldData) (slot : ℕ) (old new : Index) (result : R
   pub tended : IfOk answer (HasTended frames old new)
   pub contents : IfOk answer (ContentsTended frames old (Keeps w) new)
   pub first : (at : Handle) → at.slot ≡ slot → IsSome (value_at old.nodes at) → AnswersFirst frames old (Keeps w) at answer
+  pub step : (at : Handle) → at.slot ≡ slot → IsSome (value_at old.nodes at) → IfOk answer (StepsAt frames old (Keeps w) at new)
   pub nobody : ((at : Handle) → at.slot ≡ slot → IsSome (value_at old.nodes at) → ⊥) → answer ≡ Ok Idle

@@ -1,5 +1,5 @@
 use Rattle.tree_theory.specs.KeyClasses.{Laws, class_of}
-use Rattle.search_tree.proofs.CleanSteps.{clean_leaf, cleaned_sound, cleaned_less, cleaned_call}
+use Rattle.search_tree.proofs.CleanSteps.{clean_leaf, cleaned_sound, cleaned_less, cleaned_call, cleaned_step}
 use Rattle.search_tree.proofs.tree.Tree.clean.Goals as goal
 
 pub keep-requires : goal.keep-requires
@@ -17,3 +17,6 @@ returns-clause-contents g c = rw (← c.self.view_is) (cleaned_less _ _ c.args.a
 
 pub returns-clause-tended : goal.returns-clause-tended
 returns-clause-tended g c = rw (← c.self.view_is) (cleaned_call _ _ c.args.at (rw (← c.self.view_is) at c.requires) _ _ c.keep.ensures)
+
+pub returns-clause-step : goal.returns-clause-step
+returns-clause-step g c = rw (← c.self.view_is) (cleaned_step _ _ c.args.at (rw (← c.self.view_is) at c.requires) _ _ c.keep.ensures)

@@ -27,5 +27,6 @@ returns-clause-index g c =
       tended = c.tend.ensures.tended;
       contents = c.tend.ensures.contents;
       first = c.tend.ensures.first;
+      step = c.tend.ensures.step;
       nobody = c.tend.ensures.nobody;
     })

@@ -1,0 +1,12 @@
+-- What the words of a command line ask for.
+use Rattle.std.specs.Prelude.{◌≡◌, ℕ, List, [], Some, codes, option_map}
+use Rattle.clap.specs.Words.{IsAmong, kind_of}
+use Rattle.program.specs.CommandLine.{refusals, word_for}
+use Rattle.program.specs.declared.words.Asked.{Asked}
+use Rattle.program.specs.declared.words.Asked.TheVariants.{Script, Text}
+
+-- a script of these files, or a text: help, or what is wrong
+abbrev pub IsAsked : List (List ℕ) → Asked → Type 0
+IsAsked words (Script files) =
+    (refusals words ≡ []) × (word_for (codes "FILE") words ≡ Some files.script.now) × (word_for (codes "config") words ≡ option_map (λ name. name.now) files.config)
+IsAsked words (Text text) = IsAmong (kind_of text) (refusals words)
