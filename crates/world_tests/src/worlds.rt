@@ -2,7 +2,6 @@
 use features::{Change, FEATURE_LIMIT, Meter, Name, Subject, Subjects};
 use plane::{Point, Shape};
 use policy_text::{Document, print_document, read_document};
-use sessions::built_in_subjects;
 use std::alloc::{Allocator, Global};
 use std::process::Abort;
 use transactions::{Advance, Answer, Limits, ROLLED_LIMIT, STEP_LIMIT, Starts, Visit, World};
@@ -87,13 +86,6 @@ pub fn subjects(rt: &impl Abort) -> Subjects {
     ]);
     assert!(rt; made.is_ok());
     made.unwrap()
-}
-
-/// A world of the built-in subjects, in which everything is permitted.
-pub fn opened<A: Allocator + Copy>(rt: &impl Abort, alloc: A, heap: Global) -> World<A> {
-    let world = World::open(alloc, heap, built_in_subjects(), document(rt, heap, OPEN));
-    assert!(rt; world.is_ok());
-    world.unwrap()
 }
 
 /// A world of this policy, with three seats: north has the first, south the second, chief the third.
