@@ -46,9 +46,9 @@ pub data IsRun {O E : Type 0} (words : List Text) (held : List ℕ → Option (L
   serves : (script : List ℕ) → refusals words ≡ [] → word_for (codes "FILE") words ≡ Some script
       → Ran (option_map held (word_for (codes "config") words)) (held script) (written output) (written output_after)
       → errors_after ≡ errors → IsRun words held written output output_after errors errors_after 0
-  -- they ask for help, which is on the output
+  -- they ask for help
   helps : IsAmong DisplayHelp (refusals words) → errors_after ≡ errors → IsRun words held written output output_after errors errors_after 0
-  -- a fault
+  -- it ended by a fault
   fails : IsRun words held written output output_after errors errors_after 1
   -- clap turns them down, and nothing is done
   turns_down : (kind : ErrorKind) → IsAmong kind (refusals words) → kind ≢ DisplayHelp → output_after ≡ output → IsRun words held written output output_after errors errors_after 2
