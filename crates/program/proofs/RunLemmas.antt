@@ -1,24 +1,44 @@
 -- A configuration from a file, and a run by it.
-use Rattle.std.proofs.Common.{◌≡◌, ◌∙◌, ℕ, List, Option, None, Some, subst, IfSome, OnOk, Result, Ok, Err}
+use Rattle.std.proofs.Common.{◌≡◌, ◌∙◌, ℕ, List, [], Option, None, Some, refl, sym, subst, IfErr, IsErrAnd, IfSome, OnOk, Result, Ok, Err}
 use Rattle.std.specs.Io.KnownBytes.{Appends, Keeps}
-use Rattle.sessions.specs.Scripts.{IsScriptText}
+use Rattle.sessions.specs.Scripts.{IsScriptText, LineTells, script}
+use Rattle.sessions.specs.States.{SessionState}
+use Rattle.sessions.specs.Streams.{Ran as RanLines}
+use Rattle.sessions.specs.declared.streams.ServeFault.{ServeFault}
+use Rattle.sessions.specs.declared.streams.ServeFault.TheVariants as reasons
 use Rattle.plain_world.specs.States.{WorldData}
-use Rattle.program.specs.ConfigFiles.{FileGives}
+use Rattle.program.specs.ConfigFiles.{FileGives, IsConfigFault, IsConfigText}
 use Rattle.program.specs.Configs.{ConfigData, config_data}
+use Rattle.program.specs.Ends.{told_as}
+use Rattle.program.specs.RunFaults.{BrokeOff, CameTo, IsOfRun}
 use Rattle.program.specs.Runs.{IsConfigOf, Ran, Served, world_of}
+use Rattle.program.specs.declared.config_faults.ConfigFault.{ConfigFault}
 use Rattle.program.specs.declared.configs.Config.{Config}
+use Rattle.program.specs.declared.faults.ProgramFault.{ProgramFault}
 
 -- what was read of a file is its configuration
-pub configured : {A : Type 0} (known : Option (List ℕ)) (config : Config A) → IfSome known (λ text. FileGives (Ok config) text) → IsConfigOf (Some known) (config_data config)
-configured None config h = tt
-configured (Some text) config h = h.1
+pub configured : {A : Type 0} (known text : Option (List ℕ)) (config : Config A) → known ≡ text → IfSome known (λ text. FileGives (Ok config) text) →
+    IfSome text (λ text. IsConfigText (config_data config) text)
+configured known text config same h = subst (λ known. IfSome known (λ text. IsConfigText (config_data config) text)) same h
 
--- a run by a configuration served the script of a file
-pub ran : {E : Type 0} (result : Result (Unit {0}) E) (config : Option (Option (List ℕ))) (c : ConfigData) (known script before after : Option (List ℕ)) →
-    IsConfigOf config c → known ≡ script → OnOk result (IfSome known (λ text. Served c text before after)) → OnOk result (Ran config script before after)
-ran (Ok u) config c known script before after is_config same served =
-    record { configured = c; is_config = is_config; served = subst (λ known. IfSome known (λ text. Served c text before after)) same served }
-ran (Err e) config c known script before after is_config same served = tt
+-- what was told of a file is its fault
+pub misconfigured : (known text : Option (List ℕ)) (fault : ConfigFault) → known ≡ text → IfSome known (λ text. IsConfigFault fault text) →
+    IfSome text (λ text. IsConfigFault fault text)
+misconfigured known text fault same h = subst (λ known. IfSome known (λ text. IsConfigFault fault text)) same h
+
+module _ (held : List ℕ → Option (List ℕ)) (config : Option (List ℕ)) (name : List ℕ) (c : ConfigData) (known before after : Option (List ℕ)) where
+  -- a run by a configuration served the script of a file
+  pub ran : (result : Result (Unit {0}) ProgramFault) → IsConfigOf held config c → known ≡ held name → OnOk result (IfSome known (λ text. Served c text before after)) →
+      OnOk result (Ran held config name before after)
+  ran (Ok u) is_config same served =
+      record { configured = c; is_config = is_config; served = subst (λ known. IfSome known (λ text. Served c text before after)) same served }
+  ran (Err e) is_config same served = tt
+
+  -- or it broke off
+  pub broke_off : (result : Result (Unit {0}) ProgramFault) → IsConfigOf held config c → known ≡ held name → IfErr result (IsOfRun c known before after) →
+      IfErr result (BrokeOff held config name before after)
+  broke_off (Ok u) is_config same h = tt
+  broke_off (Err fault) is_config same h = BrokeOff.in_run c is_config (subst (λ known. IsOfRun c known before after fault) same h)
 
 -- what is appended stays where the flush that follows keeps what it found
 kept_on : (before mid after : Option (List ℕ)) (said : List ℕ) → Appends before mid said → Keeps mid after → Appends before after said
@@ -39,3 +59,29 @@ served c (Some input) before mid after world end opens told keeps =
       written = kept_on before mid after told.0 told.1 keeps;
       text = subst (λ w. IsScriptText w input end told.0) opens told.2;
     }
+
+-- how far such a run has come
+pub came : (c : ConfigData) (end : Result (Unit {0}) ServeFault) (world last : WorldData) (sessions : List SessionState) (input left before mid after : Option (List ℕ)) →
+    world ≡ world_of c → RanLines LineTells end (script world []) (script last sessions) input left before mid → Keeps mid after →
+    CameTo c end input before after
+came c end world last sessions input left before mid after opens ran keeps =
+    record {
+      sessions = sessions;
+      last = last;
+      left = left;
+      written = mid;
+      ran = subst (λ w. RanLines LineTells end (script w []) (script last sessions) input left before mid) opens ran;
+      kept = keeps;
+    }
+
+-- the fault by which it ended, as it is told
+pub of_run : (c : ConfigData) (fault : ServeFault) (input before after : Option (List ℕ)) → CameTo c (Err fault) input before after → IsOfRun c input before after (told_as fault)
+of_run c reasons.Read input before after h = (refl, h)
+of_run c reasons.Write input before after h = (Err reasons.Write, h)
+of_run c reasons.TooManyTurns input before after h = (refl, h)
+of_run c (reasons.Memory refused) input before after h = (refl, h)
+
+-- what left by `?` is the fault that was met
+pub left_by : (r : Result (Unit {0}) ProgramFault) (e : ProgramFault) (P : ProgramFault → Type 0) → IsErrAnd r (λ f. f ≡ e) → P e → IfErr r P
+left_by (Ok u) e P is told = tt
+left_by (Err f) e P is told = subst P (sym is) told

@@ -1,7 +1,8 @@
 -- The file of a configuration, whose bytes may be known.
 use Rattle.std.specs.Prelude.{◌≡◌, ◌≤◌, ℕ, List, length, Option, IfSome, Result, Ok, Err}
 use Rattle.program.specs.ConfigFaults.{Fails}
-use Rattle.program.specs.Configs.{config_data, config_of}
+use Rattle.program.specs.Configs.{ConfigData, config_data, config_of}
+use Rattle.program.specs.declared.config_faults.ConfigFault.{ConfigFault}
 use Rattle.program.specs.declared.config_faults.ConfigFault.TheVariants.{Memory}
 use Rattle.program.specs.declared.configs.Config.{Config}
 use Rattle.program.specs.declared.files.FileFault.{FileFault}
@@ -18,10 +19,17 @@ IsUnread reasons.CannotRead = Unit {0}
 IsUnread (reasons.Config (Memory refused)) = Unit {0}
 IsUnread (reasons.Config _) = ⊥
 
--- What a file of these bytes gives: its configuration or the first fault of that, where it is not too long. That it cannot
--- be read, and want of memory, may come of any.
+-- a file of these bytes is not too long, and they spell this configuration
+abbrev pub IsConfigText : ConfigData → List ℕ → Type 0
+IsConfigText config text = (length text ≤ CONFIG_LIMIT) × (config_of text ≡ Ok config)
+
+-- a file of these bytes is not too long, and this is their first fault. Want of memory may come of any
+abbrev pub IsConfigFault : ConfigFault → List ℕ → Type 0
+IsConfigFault (Memory refused) text = Unit {0}
+IsConfigFault fault text = (length text ≤ CONFIG_LIMIT) × Fails fault (config_of text)
+
+-- What a file of these bytes gives. That it cannot be read may come of any.
 abbrev pub FileGives : {A : Type 0} → Result (Config A) FileFault → List ℕ → Type 0
-FileGives (Ok config) text = (length text ≤ CONFIG_LIMIT) × (config_of text ≡ Ok (config_data config))
+FileGives (Ok config) text = IsConfigText (config_data config) text
 FileGives (Err reasons.CannotRead) text = Unit {0}
-FileGives (Err (reasons.Config (Memory refused))) text = Unit {0}
-FileGives (Err (reasons.Config fault)) text = (length text ≤ CONFIG_LIMIT) × Fails fault (config_of text)
+FileGives (Err (reasons.Config fault)) text = IsConfigFault fault text

@@ -4,7 +4,14 @@ use Rattle.program.specs.declared.faults.ProgramFault.{ProgramFault}
 use Rattle.program.specs.declared.faults.ProgramFault.TheVariants.{CannotRead, CannotWrite, NoMemory, Config, World, Run}
 use Rattle.program.specs.ConfigFaults.{config_code_of}
 use Rattle.sessions.specs.Faults.{serve_code_of}
+use Rattle.sessions.specs.declared.streams.ServeFault.{ServeFault}
+use Rattle.sessions.specs.declared.streams.ServeFault.TheVariants as reasons
 use Rattle.plain_world.specs.FaultCodes.{fault_code}
+
+-- how the program tells of the fault by which a run of lines ended: that a write failed has one name, whatever was written
+abbrev pub told_as : ServeFault → ProgramFault
+told_as reasons.Write = CannotWrite
+told_as fault = Run fault
 
 abbrev pub fault_text : ProgramFault → List ℕ
 fault_text (CannotRead name) = codes "cannot read " ++ name.now

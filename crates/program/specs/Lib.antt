@@ -5,5 +5,7 @@ pub mod ConfigFaults
 pub mod ConfigFiles
 pub mod Configs
 pub mod Ends
+pub mod Programs
+pub mod RunFaults
 pub mod Runs
 pub mod Spelling

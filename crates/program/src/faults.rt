@@ -43,3 +43,17 @@ impl fmt::Display for ProgramFault<'_> {
         }
     }
 }
+
+impl From<ServeFault> for ProgramFault<'_> {
+    ghost use Rattle.std.specs.Prelude.{◌≡◌};
+    ghost use Rattle.program.specs.Ends.{told_as};
+
+    ghost from_gives = { λ end fault. fault ≡ told_as end };
+
+    fn from(end: ServeFault) -> Self {
+        match end {
+            ServeFault::Write => ProgramFault::CannotWrite,
+            fault => ProgramFault::Run(fault),
+        }
+    }
+}

@@ -1,9 +1,11 @@
-ghost use Rattle.std.specs.Prelude.{◌≡◌, ◌↔◌, ℕ, List, Option, Some, OnOk, IfOk, IfSome, IsTrue, map, option_map, string_bytes};
+ghost use Rattle.std.specs.Prelude.{◌≡◌, ◌↔◌, ℕ, List, Option, Some, OnOk, IfOk, IfErr, IfSome, IsTrue, map, option_map, string_bytes};
 ghost use Rattle.std.specs.Io.KnownBytes.{Appends};
 ghost use Rattle.clap.specs.Words.{kind_of};
 ghost use Rattle.program.specs.Configs.{config_data};
 ghost use Rattle.program.specs.Ends.{exit_status, fault_line};
-ghost use Rattle.program.specs.Runs.{IsConfigOf, IsRun, Ran, Served};
+ghost use Rattle.program.specs.Programs.{IsRun};
+ghost use Rattle.program.specs.RunFaults.{BrokeOff, IsOfConfig, IsOfRun};
+ghost use Rattle.program.specs.Runs.{IsConfigOf, Ran, Served};
 
 use crate::built_in::built_in_config;
 use crate::configs::Config;
@@ -12,7 +14,7 @@ use crate::files::{FileFault, read_config_file};
 use crate::words::{Asked, ScriptWords, read_words};
 use clap::Error;
 use clap::error::ErrorKind;
-use sessions::{ServeFault, run_script};
+use sessions::run_script;
 use std::alloc::{Allocator, Global};
 use std::io;
 use std::io::{Read, Write};
@@ -40,7 +42,8 @@ pub fn run_file<'a, A: Allocator + Copy, R: Read, W: Write>(
     file: &mut R,
     output: &mut W,
 ) -> Result<(), ProgramFault<'a>>
-    ensures { OnOk result (IfSome (R.remaining file.old) (λ script. Served (config_data config) script (W.contents output.old) (W.contents output.new))) }
+    ensures served { OnOk result (IfSome (R.remaining file.old) (λ script. Served (config_data config) script (W.contents output.old) (W.contents output.new))) }
+    ensures err { IfErr result (IsOfRun (config_data config) (R.remaining file.old) (W.contents output.old) (W.contents output.new)) }
 {
     let mut world = match World::open(alloc, heap, config.subjects, config.document) {
         Ok(world) => world,
@@ -50,21 +53,18 @@ pub fn run_file<'a, A: Allocator + Copy, R: Read, W: Write>(
     if output.flush().is_err() {
         return Err(ProgramFault::CannotWrite);
     }
-    match end {
-        Ok(()) => Ok(()),
-        Err(ServeFault::Write) => Err(ProgramFault::CannotWrite),
-        Err(fault) => Err(ProgramFault::Run(fault)),
-    }
+    Ok(end?)
 }
 
 /// The configuration that stands in the file of this name.
-#[tactic(auto, using(crate::proofs::RunLemmas::configured))]
+#[tactic(auto, using(crate::proofs::RunLemmas::configured, crate::proofs::RunLemmas::misconfigured))]
 fn named_config<'a, F: Folder>(
     heap: Global,
     name: &'a str,
     folder: &F,
 ) -> Result<Config<Global>, ProgramFault<'a>>
-    ensures { IfOk result (λ config. IsConfigOf (Some (F.holds folder.now name.now)) (config_data config)) }
+    ensures ok { IfOk result (λ config. IsConfigOf (F.holds folder.now) (Some name.now) (config_data config)) }
+    ensures err { IfErr result (IsOfConfig (F.holds folder.now) (Some name.now)) }
 {
     let Some(mut file) = folder.open_file(name) else {
         return Err(ProgramFault::CannotRead(name));
@@ -82,7 +82,8 @@ fn asked_config<'a, F: Folder>(
     name: Option<&'a str>,
     folder: &F,
 ) -> Result<Config<Global>, ProgramFault<'a>>
-    ensures { IfOk result (λ config. IsConfigOf (option_map (λ name. F.holds folder.now name.now) name.entry) (config_data config)) }
+    ensures ok { IfOk result (λ config. IsConfigOf (F.holds folder.now) (option_map (λ name. name.now) name.entry) (config_data config)) }
+    ensures err { IfErr result (IsOfConfig (F.holds folder.now) (option_map (λ name. name.now) name.entry)) }
 {
     let Some(name) = name else {
         return match built_in_config(heap, heap) {
@@ -96,14 +97,15 @@ fn asked_config<'a, F: Folder>(
 /// Runs the script that the command line names, by the configuration that it names or the built-in one. The first of
 /// these faults ends it: the configuration's file cannot be read, the configuration is none, the script's file cannot
 /// be read, and those of the run.
-#[tactic(auto, using(crate::proofs::RunLemmas::ran))]
+#[tactic(auto, using(crate::proofs::RunLemmas::ran, crate::proofs::RunLemmas::broke_off))]
 pub fn run_named<'a, F: Folder, W: Write>(
     heap: Global,
     words: ScriptWords<'a>,
     folder: &F,
     output: &mut W,
 ) -> Result<(), ProgramFault<'a>>
-    ensures { OnOk result (Ran (option_map (λ name. F.holds folder.now name.now) words.entry.config) (F.holds folder.now words.entry.script.now) (W.contents output.old) (W.contents output.new)) }
+    ensures ran { OnOk result (Ran (F.holds folder.now) (option_map (λ name. name.now) words.entry.config) words.entry.script.now (W.contents output.old) (W.contents output.new)) }
+    ensures err { IfErr result (BrokeOff (F.holds folder.now) (option_map (λ name. name.now) words.entry.config) words.entry.script.now (W.contents output.old) (W.contents output.new)) }
 {
     let config = match asked_config(heap, words.config, folder) {
         Ok(config) => config,
@@ -123,7 +125,9 @@ fn is_help(text: &Error) -> bool
 }
 
 /// Writes help to the output.
-fn show_help<'a, W: Write>(help: &Error, output: &mut W) -> Result<(), ProgramFault<'a>> {
+fn show_help<'a, W: Write>(help: &Error, output: &mut W) -> Result<(), ProgramFault<'a>>
+    ensures { IfErr result (λ fault. fault ≡ ProgramFault.CannotWrite) }
+{
     if write!(output, "{help}").is_err() || output.flush().is_err() {
         return Err(ProgramFault::CannotWrite);
     }

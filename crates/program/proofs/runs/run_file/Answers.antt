@@ -1,7 +1,20 @@
-use Rattle.program.proofs.RunLemmas.{served}
+use Rattle.std.proofs.Common.{Err}
+use Rattle.program.proofs.RunLemmas.{came, left_by, of_run, served}
 use Rattle.program.specs.Configs.{config_data}
+use Rattle.program.specs.RunFaults.{IsOfRun}
 use Rattle.program.proofs.runs.run_file.Goals as goal
 
-pub returns-in-Ok-end : goal.returns-in-Ok-end
-returns-in-Ok-end g c =
-    served (config_data c.args.config) (g.R.Read.remaining c.args.file.now) (g.W.Write.contents c.args.output.now) (g.W.Write.contents c.run_script-end.new.writer) (g.W.Write.contents c.flush.new.self) c.in-Ok.world.plain c.run_script-end.new.world.plain c.in-Ok.ensures.ok c.in-Ok-end.ensures.script_text c.flush.ensures.bytes
+pub returns-in_err-end-clause-err : goal.returns-in_err-end-clause-err
+returns-in_err-end-clause-err g c =
+    let opened = config_data c.args.config in
+    let script = g.R.Read.remaining c.args.file.now in
+    let before = g.W.Write.contents c.args.output.now in
+    let after = g.W.Write.contents c.flush.new.self in
+    let fault = c.in_err-end.field-0.0 in
+    let ran = c.in_err-end.ensures.ran in
+    let far = came opened (Err fault) c.in-Ok.world.plain ran.1 ran.0 script (g.R.Read.remaining c.run_script-end.new.reader) before (g.W.Write.contents c.run_script-end.new.writer) after c.in-Ok.ensures.ok ran.2 c.flush.ensures.bytes in
+    left_by c.from_residual.result _ (IsOfRun opened script before after) c.from_residual.ensures.1 (of_run opened fault script before after far)
+
+pub returns-clause-served : goal.returns-clause-served
+returns-clause-served g c =
+    served (config_data c.args.config) (g.R.Read.remaining c.args.file.now) (g.W.Write.contents c.args.output.now) (g.W.Write.contents c.run_script-end.new.writer) (g.W.Write.contents c.flush.new.self) c.in-Ok.world.plain c.run_script-end.new.world.plain c.in-Ok.ensures.ok c.in_ok-end.ensures.script_text c.flush.ensures.bytes

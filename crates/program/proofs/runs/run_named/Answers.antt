@@ -1,0 +1,7 @@
+use Rattle.std.proofs.Common.{refl}
+use Rattle.program.specs.Configs.{config_data}
+use Rattle.program.specs.RunFaults.{BrokeOff}
+use Rattle.program.proofs.runs.run_named.Goals as goal
+
+pub returns-in_default-clause-err : goal.returns-in_default-clause-err
+returns-in_default-clause-err g c = BrokeOff.without_script (config_data c.in-Ok.config) c.in-Ok.ensures.ok refl refl
