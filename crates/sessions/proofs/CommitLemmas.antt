@@ -1,7 +1,7 @@
 -- A commit from its beginning to its end, over a world in which no other transaction is open.
 use Rattle.std.proofs.Common.{◌≡◌, ◌≢◌, ◌⊎◌, ℕ, zero, suc, ◌+◌, ◌<◌, ◌≤◌, ◌==◌, ◌||◌, nat_le, nat_lt, not, Bool, true, false, List, [], ◌∷◌, ◌++◌, length, take, length-take, get_or, slice_get, Option, None, Some, MatchOption, Result, Ok, Err, if◌then◌else◌, refl, sym, ap, subst, ◌∙◌, inl, inr, arith}
 use Rattle.std.specs.Bool.{MatchBool}
-use Rattle.std.proofs.lemmas.Bool.{ne_eqb}
+use Rattle.std.proofs.lemmas.Bool.{cases_eq, ne_eqb}
 use Rattle.std.proofs.lemmas.Bool.Decides.{nat_tests}
 use Rattle.plane.specs.declared.point.Point.{Point}
 use Rattle.memory.specs.declared.refused.Refused.{Refused as Refusal}
@@ -22,12 +22,12 @@ use Rattle.plain_world.specs.declared.steps.Advance.TheVariants as advances
 use Rattle.search_tree.specs.declared.answers.Step.TheVariants as steps
 use Rattle.plain_world.specs.Admitting.{LAST, and_then, given, transaction_owned, subject_at, own_transaction, may_step, may_add, all_placed, may_record, may_commit, next_transaction}
 use Rattle.plain_world.specs.Answers.{denial_of}
-use Rattle.plain_world.specs.Events.{Begin, Stage, AdvanceWalk, Commit, Abort, Happens, Reply, Number, Done, Advanced, Ended, Refused, UnlessMemory, Walks, Advances, Applies, CommitsAs, Commits as CommitsEvent, is_memory, is_want, recorded, reply_of, without_transaction}
+use Rattle.plain_world.specs.Events.{Begin, Stage, AdvanceWalk, Commit, Abort, Happens, Reply, Number, Done, Advanced, Ended, Refused, UnlessMemory, NoReadySeeks, Walks, Advances, Applies, CommitsAs, Commits as CommitsEvent, is_memory, is_want, recorded, reply_of, without_transaction}
 use Rattle.plain_world.specs.Staging.{TransactionData, placements, with_step, staged, one_placed, ended, names}
 use Rattle.plain_world.specs.States.{WorldData}
-use Rattle.sessions.specs.Services.{Commits, EndsAs, HoldsList, holder, is_full, is_unplaced, may_conclude}
+use Rattle.sessions.specs.Services.{Brings, Commits, EndsAs, HoldsList, NoReadySeeksAny, holder, is_full, is_unplaced, may_conclude}
 use Rattle.sessions.specs.States.{IsAtRest, begun}
-use Rattle.sessions.specs.Steps.{Concludes, ConcludesAll, IsStuck, Stands, closed, under}
+use Rattle.sessions.specs.Steps.{Concludes, ConcludesAll, IsStuck, NoReadySeeksFirst, Stands, closed, under}
 use Rattle.sessions.proofs.SearchLemmas.{IsFree, same_number, want_is, does, refuses, done, turned, rests_same}
 
 -- ---- a world at rest
@@ -76,6 +76,41 @@ not_within [] n none = grind (arith, nat_tests)
 not_within (x ∷ xs) zero none = absurd cc
 not_within (x ∷ xs) (suc n) none = let rest = not_within xs n none in grind (arith, nat_tests, rest)
 
+-- an element stands before a place that is behind the list's end
+before_end : {T : Type 0} (xs : List T) (at n : ℕ) (x : T) → slice_get xs at ≡ Some x → slice_get xs n ≡ None → at < n
+before_end [] at n x e none = absurd cc
+before_end (first ∷ xs) at zero x e none = absurd cc
+before_end (first ∷ xs) zero (suc n) x e none = omega (arith)
+before_end (first ∷ xs) (suc at) (suc n) x e none = let lt = before_end xs at n x e none in omega (arith, lt)
+
+-- a list that has an element at a place is not empty
+has_some : {T : Type 0} (xs : List T) (at : ℕ) (x : T) → slice_get xs at ≡ Some x → xs ≢ []
+has_some [] at x e none = absurd cc
+has_some (first ∷ xs) at x e none = absurd cc
+
+brings : (changes : List Change) (at : ℕ) (placement : ℕ × List Point) → slice_get (placements changes) at ≡ Some placement → Brings changes
+brings changes at placement e = has_some (placements changes) at placement e
+
+-- ---- searches that look for what a list brings
+
+pub none_yet : (changes : List Change) (w : WorldData) → NoReadySeeksFirst 0 changes w
+none_yet changes w at placement lt e = absurd (omega (arith, lt))
+
+-- one more of the shapes is placed
+one_further : (changes : List Change) (w : WorldData) (placed : ℕ) (placement : ℕ × List Point) → slice_get (placements changes) placed ≡ Some placement → NoReadySeeks placement.1 w
+    → NoReadySeeksFirst placed changes w → NoReadySeeksFirst (placed + 1) changes w
+one_further changes w placed placement is none before at other lt e = elim (cases_eq at placed) [
+  | inl same ↦
+      let one : Some placement ≡ Some other = sym is ∙ (ap (slice_get (placements changes)) (sym same) ∙ e) in
+      let here : placement ≡ other = cc (one) in
+      subst (λ (p : ℕ × List Point). NoReadySeeks p.1 w) here none
+  | inr apart ↦ before at other (omega (arith, lt, apart)) e
+]
+
+-- all of them are
+all_placed_so : (changes : List Change) (w : WorldData) (placed : ℕ) → slice_get (placements changes) placed ≡ None → NoReadySeeksFirst placed changes w → NoReadySeeksAny changes w
+all_placed_so changes w placed none before at placement e = before at placement (before_end (placements changes) at placed placement e none) e
+
 -- ---- the one transaction that is under way
 
 module _ (number seat : ℕ) (w : WorldData) (subject : Subject) (seated : subject_at seat w ≡ Ok subject) where
@@ -112,38 +147,38 @@ module _ (number seat : ℕ) (w : WorldData) (subject : Subject) (seated : subje
 
   -- what a step of a walk leaves
   abbrev pub Advancing : List Change → ℕ → WorldData → Reply → Type 0
-  Advancing changes placed new (Advanced advances.AllPlaced) = (new ≡ under number seat changes placed w) × (slice_get (placements changes) placed ≡ None)
-  Advancing changes placed new (Advanced (advances.Walked step)) = (further : ℕ) × (new ≡ under number seat changes further w)
+  Advancing changes placed new (Advanced advances.AllPlaced) = (new ≡ under number seat changes placed w) × (slice_get (placements changes) placed ≡ None) × NoReadySeeksAny changes w
+  Advancing changes placed new (Advanced (advances.Walked step)) = (further : ℕ) × (new ≡ under number seat changes further w) × NoReadySeeksFirst further changes w × Brings changes
   Advancing changes placed new (Refused fault) = IsStuck changes w fault × Stands seat number changes w new
   Advancing changes placed new _ = ⊥
 
-  walks : (changes : List Change) (placed : ℕ) (placement : ℕ × List Point) (is : slice_get (placements changes) placed ≡ Some placement) (new : WorldData) (reply : Reply)
+  walks : (changes : List Change) (placed : ℕ) (placement : ℕ × List Point) (is : slice_get (placements changes) placed ≡ Some placement) (before : NoReadySeeksFirst placed changes w) (new : WorldData) (reply : Reply)
       → UnlessMemory (under number seat changes placed w) new reply (Walks number placement.1 (under number seat changes placed w) new reply) → Advancing changes placed new reply
-  walks changes placed placement is new (Advanced (advances.Walked steps.Moved)) d = (placed, d)
-  walks changes placed placement is new (Advanced (advances.Walked steps.Split)) d = (placed, d)
-  walks changes placed placement is new (Advanced (advances.Walked steps.Installed)) d = (placed, d)
-  walks changes placed placement is new (Advanced (advances.Walked steps.Restarted)) d = (placed, d)
-  walks changes placed placement is new (Advanced (advances.Walked steps.Placed)) d =
-      (placed + 1, d ∙ ap (λ (ts : List TransactionData). record w { transactions = ts }) (next_step one_placed (one changes placed) refl))
-  walks changes placed placement is new (Refused (faults.Memory refusal)) d = (tt, inl (placed, d))
-  walks changes placed placement is new (Refused (faults.Tree (tree.Held search))) d = ((placed, placement, is, d.0), inl (placed, d.1))
-  walks changes placed placement is new (Refused (faults.Tree tree.Full)) d = (tt, inl (placed, d))
-  walks changes placed placement is new (Refused (faults.Tree tree.TooHigh)) d = (tt, inl (placed, d))
-  walks changes placed placement is new (Refused (faults.Tree tree.Spent)) d = (tt, inl (placed, d))
-  walks changes placed placement is new (Refused (faults.Tree tree.Overrun)) d =
-      (tt, inr (d ∙ ap (λ (ts : List TransactionData). record w { transactions = ts }) (gone changes placed)))
-  walks changes placed placement is new _ d = absurd d
+  walks changes placed placement is before new (Advanced (advances.Walked steps.Moved)) d = (placed, d, before, brings changes placed placement is)
+  walks changes placed placement is before new (Advanced (advances.Walked steps.Split)) d = (placed, d, before, brings changes placed placement is)
+  walks changes placed placement is before new (Advanced (advances.Walked steps.Installed)) d = (placed, d, before, brings changes placed placement is)
+  walks changes placed placement is before new (Advanced (advances.Walked steps.Restarted)) d = (placed, d, before, brings changes placed placement is)
+  walks changes placed placement is before new (Advanced (advances.Walked steps.Placed)) d =
+      (placed + 1, d.1 ∙ ap (λ (ts : List TransactionData). record w { transactions = ts }) (next_step one_placed (one changes placed) refl), one_further changes w placed placement is d.0 before, brings changes placed placement is)
+  walks changes placed placement is before new (Refused (faults.Memory refusal)) d = (tt, inl (placed, d))
+  walks changes placed placement is before new (Refused (faults.Tree (tree.Held search))) d = ((placed, placement, is, d.0), inl (placed, d.1))
+  walks changes placed placement is before new (Refused (faults.Tree tree.Full)) d = (brings changes placed placement is, inl (placed, d))
+  walks changes placed placement is before new (Refused (faults.Tree tree.TooHigh)) d = (brings changes placed placement is, inl (placed, d))
+  walks changes placed placement is before new (Refused (faults.Tree tree.Spent)) d = (brings changes placed placement is, inl (placed, d))
+  walks changes placed placement is before new (Refused (faults.Tree tree.Overrun)) d =
+      (brings changes placed placement is, inr (d ∙ ap (λ (ts : List TransactionData). record w { transactions = ts }) (gone changes placed)))
+  walks changes placed placement is before new _ d = absurd d
 
-  pub advancing : (changes : List Change) (placed : ℕ) (new : WorldData) (reply : Reply) → Happens (AdvanceWalk seat number) (under number seat changes placed w) new reply → Advancing changes placed new reply
-  advancing changes placed new reply h =
+  pub advancing : (changes : List Change) (placed : ℕ) → NoReadySeeksFirst placed changes w → (new : WorldData) (reply : Reply) → Happens (AdvanceWalk seat number) (under number seat changes placed w) new reply → Advancing changes placed new reply
+  advancing changes placed before new reply h =
       go (slice_get (placements changes) placed) refl (does _ (one changes placed) (under number seat changes placed w) new reply (λ t. Advances number t (under number seat changes placed w) new reply) (stepped changes placed) h)
     where
       go : (next : Option (ℕ × List Point)) → slice_get (placements changes) placed ≡ next
           → MatchOption next ((new ≡ under number seat changes placed w) × (reply ≡ Advanced advances.AllPlaced))
           (λ placement. UnlessMemory (under number seat changes placed w) new reply (Walks number placement.1 (under number seat changes placed w) new reply))
           → Advancing changes placed new reply
-      go None e d = subst (λ (r : Reply). Advancing changes placed new r) (sym d.1) (d.0, e)
-      go (Some placement) e d = walks changes placed placement e new reply d
+      go None e d = subst (λ (r : Reply). Advancing changes placed new r) (sym d.1) (d.0, e, all_placed_so changes w placed e before)
+      go (Some placement) e d = walks changes placed placement e before new reply d
 
   -- whatever stands of the transaction is given up
   pub aborted : (changes : List Change) (mid new : WorldData) (reply : Reply) → Stands seat number changes w mid → Happens (Abort seat number) mid new reply → new ≡ closed w
@@ -247,9 +282,10 @@ begin_refused seat changes old new fault still h =
     Does : Subject → Type 0
     Does subject =
         MatchBool (is_want fault) ((new ≡ closed old) ⊎ (new ≡ begun (closed old)))
-        (MatchBool (is_unplaced (Refused fault)) (new ≡ begun (closed old))
+        (MatchBool (is_unplaced (Refused fault)) (Brings changes × (new ≡ begun (closed old)))
         (MatchOption (holder (Refused fault))
-        (MatchBool (is_full (closed old)) ((Refused fault ≡ Refused faults.TrailFull) × (new ≡ begun (closed old)))
+        (NoReadySeeksAny changes (closed old)
+        × MatchBool (is_full (closed old)) ((Refused fault ≡ Refused faults.TrailFull) × (new ≡ begun (closed old)))
         ((judgement : Judgement) × Judged old.state subject changes judgement × EndsAs judgement seat subject changes (closed old) new (Refused fault)))
         (λ search. (new ≡ begun (closed old)) × HoldsList search changes (closed old))))
 
@@ -257,9 +293,10 @@ begin_refused seat changes old new fault still h =
     wants subject true e d = (
       d,
       subst (λ (b : Bool). MatchBool b ((new ≡ closed old) ⊎ (new ≡ begun (closed old)))
-          (MatchBool (is_unplaced (Refused fault)) (new ≡ begun (closed old))
+          (MatchBool (is_unplaced (Refused fault)) (Brings changes × (new ≡ begun (closed old)))
           (MatchOption (holder (Refused fault))
-          (MatchBool (is_full (closed old)) ((Refused fault ≡ Refused faults.TrailFull) × (new ≡ begun (closed old)))
+          (NoReadySeeksAny changes (closed old)
+          × MatchBool (is_full (closed old)) ((Refused fault ≡ Refused faults.TrailFull) × (new ≡ begun (closed old)))
           ((judgement : Judgement) × Judged old.state subject changes judgement × EndsAs judgement seat subject changes (closed old) new (Refused fault)))
           (λ search. (new ≡ begun (closed old)) × HoldsList search changes (closed old))))) (sym e) (inl d),
     )
@@ -309,9 +346,10 @@ module _ (seat : ℕ) (changes : List Change) (old mid : WorldData) (number : �
   abbrev Does : WorldData → Reply → Subject → Type 0
   Does new reply subject =
       MatchBool (is_memory reply) ((new ≡ closed old) ⊎ (new ≡ begun (closed old)))
-      (MatchBool (is_unplaced reply) (new ≡ begun (closed old))
+      (MatchBool (is_unplaced reply) (Brings changes × (new ≡ begun (closed old)))
       (MatchOption (holder reply)
-      (MatchBool (is_full (closed old)) ((reply ≡ Refused faults.TrailFull) × (new ≡ begun (closed old)))
+      (NoReadySeeksAny changes (closed old)
+      × MatchBool (is_full (closed old)) ((reply ≡ Refused faults.TrailFull) × (new ≡ begun (closed old)))
       ((judgement : Judgement) × Judged old.state subject changes judgement × EndsAs judgement seat subject changes (closed old) new reply))
       (λ search. (new ≡ begun (closed old)) × HoldsList search changes (closed old))))
 
@@ -320,13 +358,15 @@ module _ (seat : ℕ) (changes : List Change) (old mid : WorldData) (number : �
       subst (λ (o : WorldData). Commits seat changes o new reply) (sym (closed_same old still.transactions)) (done _ started.subject (closed old) new reply (Does new reply) admits d)
 
   -- where the trail takes a record
-  judged : (new : WorldData) (reply : Reply) → is_full old ≡ false
+  judged : (new : WorldData) (reply : Reply) → is_full old ≡ false → NoReadySeeksAny changes (closed old)
       → ((judgement : Judgement) × Judged old.state started.subject changes judgement × EndsAs judgement seat started.subject changes (closed old) new reply)
-      → MatchBool (is_full (closed old)) ((reply ≡ Refused faults.TrailFull) × (new ≡ begun (closed old)))
+      → NoReadySeeksAny changes (closed old) × MatchBool (is_full (closed old)) ((reply ≡ Refused faults.TrailFull) × (new ≡ begun (closed old)))
       ((judgement : Judgement) × Judged old.state started.subject changes judgement × EndsAs judgement seat started.subject changes (closed old) new reply)
-  judged new reply room d =
-      subst (λ (b : Bool). MatchBool b ((reply ≡ Refused faults.TrailFull) × (new ≡ begun (closed old)))
-      ((judgement : Judgement) × Judged old.state started.subject changes judgement × EndsAs judgement seat started.subject changes (closed old) new reply)) (sym room) d
+  judged new reply room none d = (
+    none,
+    subst (λ (b : Bool). MatchBool b ((reply ≡ Refused faults.TrailFull) × (new ≡ begun (closed old)))
+        ((judgement : Judgement) × Judged old.state started.subject changes judgement × EndsAs judgement seat started.subject changes (closed old) new reply)) (sym room) d,
+  )
 
   concluded : (stopped : WorldData) (reply : Reply) → Concludes seat number changes mid stopped reply → ConcludesAll seat number changes (begun old) stopped reply
   concluded stopped reply all = all (begun old) started.subject started.seated started.stands
@@ -341,10 +381,10 @@ module _ (seat : ℕ) (changes : List Change) (old mid : WorldData) (number : �
       stuck : (fault : Fault) → IsStuck changes (begun old) fault → new ≡ begun (closed old) → Does new (Refused fault) started.subject
       stuck (faults.Memory refusal) s e = inr e
       stuck (faults.Tree (tree.Held search)) s e = (e, s)
-      stuck (faults.Tree tree.Full) s e = e
-      stuck (faults.Tree tree.TooHigh) s e = e
-      stuck (faults.Tree tree.Spent) s e = e
-      stuck (faults.Tree tree.Overrun) s e = e
+      stuck (faults.Tree tree.Full) s e = (s, e)
+      stuck (faults.Tree tree.TooHigh) s e = (s, e)
+      stuck (faults.Tree tree.Spent) s e = (s, e)
+      stuck (faults.Tree tree.Overrun) s e = (s, e)
       stuck _ s e = absurd s
 
       AppliesSo : Bool → Bool → Reply → Type 0
@@ -353,11 +393,11 @@ module _ (seat : ℕ) (changes : List Change) (old mid : WorldData) (number : �
           (MatchBool over ((said ≡ Refused faults.StoreFull) × (new ≡ begun (closed old)))
           ((said ≡ Ended (outcomes.Applied (old.state.version + 1))) × (new ≡ begun (recorded seat (applied started.subject (old.state.version + 1) changes) (closed old)))))
 
-      refused_so : (fault : Fault) (placed : ℕ) (judgement : Judgement) → is_full old ≡ false → Judged old.state started.subject changes judgement
+      refused_so : (fault : Fault) (placed : ℕ) (judgement : Judgement) → is_full old ≡ false → NoReadySeeksAny changes (closed old) → Judged old.state started.subject changes judgement
           → EndsSo number seat (begun old) started.subject started.seated changes placed judgement stopped (Refused fault)
           → (stopped ≡ under number seat changes placed (begun old) → new ≡ begun (closed old))
           → IsAtRest new × Does new (Refused fault) started.subject
-      refused_so fault placed judgements.Accepted room accepted d last_of =
+      refused_so fault placed judgements.Accepted room none accepted d last_of =
           decide (old.state.version == LAST) (nat_lt old.limits.features (length (after (old.state.version + 1) started.subject.office changes old.state.features))) refl refl d
         where
           decide : (last over : Bool) → (old.state.version == LAST) ≡ last → nat_lt old.limits.features (length (after (old.state.version + 1) started.subject.office changes old.state.features)) ≡ over
@@ -369,40 +409,40 @@ module _ (seat : ℕ) (changes : List Change) (old mid : WorldData) (number : �
               let left = last_of d.1 in (
                 is_rest (begun old) new still.searches left,
                 subst (λ (r : Reply). Does new r started.subject) (sym d.0)
-                    (judged new (Refused faults.Spent) room (judgements.Accepted, accepted, subst (λ (b : Bool). AppliesSo b (nat_lt old.limits.features (length (after (old.state.version + 1) started.subject.office changes old.state.features))) (Refused faults.Spent)) (sym e) (refl, left))),
+                    (judged new (Refused faults.Spent) room none (judgements.Accepted, accepted, subst (λ (b : Bool). AppliesSo b (nat_lt old.limits.features (length (after (old.state.version + 1) started.subject.office changes old.state.features))) (Refused faults.Spent)) (sym e) (refl, left))),
               )
           decide false true e f d =
               let left = last_of d.1 in (
                 is_rest (begun old) new still.searches left,
                 subst (λ (r : Reply). Does new r started.subject) (sym d.0)
-                    (judged new (Refused faults.StoreFull) room (
+                    (judged new (Refused faults.StoreFull) room none (
                       judgements.Accepted,
                       accepted,
                       subst (λ (b : Bool). AppliesSo b (nat_lt old.limits.features (length (after (old.state.version + 1) started.subject.office changes old.state.features))) (Refused faults.StoreFull)) (sym e) (subst (λ (b : Bool). AppliesSo false b (Refused faults.StoreFull)) (sym f) (refl, left)),
                     )),
               )
           decide false false e f d = (let wrong = d.0 in absurd cc)
-      refused_so fault placed (judgements.Refused refusal question) room accepted d last_of = (let wrong = d.0 in absurd cc)
+      refused_so fault placed (judgements.Refused refusal question) room none accepted d last_of = (let wrong = d.0 in absurd cc)
 
-      ended_so : (placed : ℕ) → Committed number seat (begun old) started.subject started.seated changes placed stopped (Refused fault) → IsAtRest new × Does new (Refused fault) started.subject
-      ended_so placed (inl (refusal, e, stands)) =
+      ended_so : (placed : ℕ) → NoReadySeeksAny changes (closed old) → Committed number seat (begun old) started.subject started.seated changes placed stopped (Refused fault) → IsAtRest new × Does new (Refused fault) started.subject
+      ended_so placed none (inl (refusal, e, stands)) =
           let left = leaves (inl (placed, stands)) in
           (is_rest (begun old) new still.searches left, subst (λ (r : Reply). Does new r started.subject) (sym e) (inr left))
-      ended_so placed (inr (inl (full, e, stands))) =
+      ended_so placed none (inr (inl (full, e, stands))) =
           let left = leaves (inl (placed, stands)) in (
             is_rest (begun old) new still.searches left,
             subst (λ (r : Reply). Does new r started.subject) (sym e)
-                (subst (λ (b : Bool). MatchBool b ((Refused faults.TrailFull ≡ Refused faults.TrailFull) × (new ≡ begun (closed old)))
+                (none, subst (λ (b : Bool). MatchBool b ((Refused faults.TrailFull ≡ Refused faults.TrailFull) × (new ≡ begun (closed old)))
                 ((judgement : Judgement) × Judged old.state started.subject changes judgement × EndsAs judgement seat started.subject changes (closed old) new (Refused faults.TrailFull))) (sym full) (refl, left)),
           )
-      ended_so placed (inr (inr (room, (judgement, is_judged, d)))) = refused_so fault placed judgement room is_judged d (λ stands. leaves (inl (placed, stands)))
+      ended_so placed none (inr (inr (room, (judgement, is_judged, d)))) = refused_so fault placed judgement room none is_judged d (λ stands. leaves (inl (placed, stands)))
 
       go : ConcludesAll seat number changes (begun old) stopped (Refused fault) → IsAtRest new × Commits seat changes old new (Refused fault)
       go (inl (f, is_stuck, stands, e)) =
           let left = leaves stands in
           (is_rest (begun old) new still.searches left, whole new (Refused fault) (subst (λ (r : Reply). Does new r started.subject) (sym e) (stuck f is_stuck left)))
-      go (inr (placed, none, happens)) =
-          let ends = ended_so placed (committed number seat (begun old) started.subject started.seated changes placed stopped (Refused fault) none happens) in
+      go (inr (placed, all, none, happens)) =
+          let ends = ended_so placed none (committed number seat (begun old) started.subject started.seated changes placed stopped (Refused fault) all happens) in
           (ends.0, whole new (Refused fault) ends.1)
 
   -- a list that is judged
@@ -427,15 +467,15 @@ module _ (seat : ℕ) (changes : List Change) (old mid : WorldData) (number : �
           decide false false d = (is_rest (recorded seat (applied started.subject (old.state.version + 1) changes) (begun old)) new still.searches d.1, d)
       ends placed (judgements.Refused refusal question) d = (is_rest (recorded seat (turned_away started.subject changes refusal) (begun old)) new still.searches d.1, d)
 
-      ended_so : (placed : ℕ) → Committed number seat (begun old) started.subject started.seated changes placed new (Ended outcome) → IsAtRest new × Does new (Ended outcome) started.subject
-      ended_so placed (inl (refusal, e, stands)) = absurd cc
-      ended_so placed (inr (inl (full, e, stands))) = absurd cc
-      ended_so placed (inr (inr (room, (judgement, is_judged, d)))) =
+      ended_so : (placed : ℕ) → NoReadySeeksAny changes (closed old) → Committed number seat (begun old) started.subject started.seated changes placed new (Ended outcome) → IsAtRest new × Does new (Ended outcome) started.subject
+      ended_so placed none (inl (refusal, e, stands)) = absurd cc
+      ended_so placed none (inr (inl (full, e, stands))) = absurd cc
+      ended_so placed none (inr (inr (room, (judgement, is_judged, d)))) =
           let end = ends placed judgement d in
-          (end.0, judged new (Ended outcome) room (judgement, is_judged, end.1))
+          (end.0, judged new (Ended outcome) room none (judgement, is_judged, end.1))
 
       go : ConcludesAll seat number changes (begun old) new (Ended outcome) → IsAtRest new × Commits seat changes old new (Ended outcome)
       go (inl (f, is_stuck, stands, e)) = absurd cc
-      go (inr (placed, none, happens)) =
-          let end = ended_so placed (committed number seat (begun old) started.subject started.seated changes placed new (Ended outcome) none happens) in
+      go (inr (placed, all, none, happens)) =
+          let end = ended_so placed none (committed number seat (begun old) started.subject started.seated changes placed new (Ended outcome) all happens) in
           (end.0, whole new (Ended outcome) end.1)

@@ -25,7 +25,7 @@ use Rattle.sessions.specs.declared.streams.ServeFault.TheVariants.{Read, Write, 
 use Rattle.sessions.specs.Lines.{is_too_long}
 use Rattle.sessions.specs.Printed.{led, reply_text}
 use Rattle.sessions.specs.Replies.{SaidData, line}
-use Rattle.sessions.specs.Services.{Call, Hello, Search as SearchCall, Commit, Govern, Explain, Roll, Leave, Serves, Searches, Commits, EndsAs, HoldsList, ListsRows, holder, is_full, is_overrun, is_unplaced, may_conclude, may_search}
+use Rattle.sessions.specs.Services.{Call, Hello, Search as SearchCall, Commit, Govern, Explain, Roll, Leave, Serves, Searches, Commits, Brings, EndsAs, HoldsList, ListsRows, NoReadySeeksAny, holder, is_full, is_overrun, is_unplaced, may_conclude, may_search}
 use Rattle.sessions.specs.Serving as serving
 use Rattle.sessions.specs.Serving.{Calls}
 use Rattle.sessions.specs.States.{Desk, IsAtRest, IsIdle, SoloState, WhereAtRest, begun, searched}
@@ -164,18 +164,18 @@ commits_leave seat changes old new reply h =
     full subject true d = leaves_as old new (begun old) d.1 refl refl
     full subject false d = ends subject d.0 d.2
 
-    held : (subject : Subject) (o : Option ℕ) → MatchOption o (MatchBool (is_full old) ((reply ≡ Refused faults.TrailFull) × (new ≡ begun old)) (Judges subject)) (λ search. (new ≡ begun old) × HoldsList search changes old) → Leaves old new
-    held subject None d = full subject (is_full old) d
+    held : (subject : Subject) (o : Option ℕ) → MatchOption o (NoReadySeeksAny changes old × MatchBool (is_full old) ((reply ≡ Refused faults.TrailFull) × (new ≡ begun old)) (Judges subject)) (λ search. (new ≡ begun old) × HoldsList search changes old) → Leaves old new
+    held subject None d = full subject (is_full old) d.1
     held subject (Some search) d = leaves_as old new (begun old) d.0 refl refl
 
-    unplaced : (subject : Subject) (b : Bool) → MatchBool b (new ≡ begun old)
-        (MatchOption (holder reply) (MatchBool (is_full old) ((reply ≡ Refused faults.TrailFull) × (new ≡ begun old)) (Judges subject)) (λ search. (new ≡ begun old) × HoldsList search changes old)) → Leaves old new
-    unplaced subject true d = leaves_as old new (begun old) d refl refl
+    unplaced : (subject : Subject) (b : Bool) → MatchBool b (Brings changes × (new ≡ begun old))
+        (MatchOption (holder reply) (NoReadySeeksAny changes old × MatchBool (is_full old) ((reply ≡ Refused faults.TrailFull) × (new ≡ begun old)) (Judges subject)) (λ search. (new ≡ begun old) × HoldsList search changes old)) → Leaves old new
+    unplaced subject true d = leaves_as old new (begun old) d.1 refl refl
     unplaced subject false d = held subject (holder reply) d
 
     wants : (subject : Subject) (b : Bool) → MatchBool b ((new ≡ old) ⊎ (new ≡ begun old))
-        (MatchBool (is_unplaced reply) (new ≡ begun old)
-        (MatchOption (holder reply) (MatchBool (is_full old) ((reply ≡ Refused faults.TrailFull) × (new ≡ begun old)) (Judges subject)) (λ search. (new ≡ begun old) × HoldsList search changes old))) → Leaves old new
+        (MatchBool (is_unplaced reply) (Brings changes × (new ≡ begun old))
+        (MatchOption (holder reply) (NoReadySeeksAny changes old × MatchBool (is_full old) ((reply ≡ Refused faults.TrailFull) × (new ≡ begun old)) (Judges subject)) (λ search. (new ≡ begun old) × HoldsList search changes old))) → Leaves old new
     wants subject true (inl d) = leaves_same old new d
     wants subject true (inr d) = leaves_as old new (begun old) d refl refl
     wants subject false d = unplaced subject (is_unplaced reply) d

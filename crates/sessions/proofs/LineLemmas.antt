@@ -39,7 +39,8 @@ use Rattle.sessions.specs.Streams.{Ran}
 use Rattle.sessions.proofs.DeskLemmas.{line_keeps}
 use Rattle.sessions.proofs.HeldLemmas.{AllStay, AreGone, AreHeld, Goes, all_dropped, all_stay, drop_goes, drop_gone, drop_rests, drops_goes, drops_gone, drops_rest, event_rests, finish_goes, finish_gone, finish_rests, goes_same, goes_then, gone_stay, held_more, held_push, held_pushed, held_set, overrun_gone, set_has, visit_goes, visit_rests}
 use Rattle.sessions.proofs.KeepLemmas.{Rests, call_rests, idle_rests, rests_none, run_keeps}
-use Rattle.sessions.proofs.SearchLemmas.{more_same, opened}
+use Rattle.sessions.proofs.SearchLemmas.{opened}
+use Rattle.sessions.proofs.StepLemmas.{finds_same}
 
 -- what a line that a session takes leaves, whatever sessions there are beside
 pub record Moves (before after : SessionState) (old new : WorldData) : Type 0 where
@@ -139,10 +140,6 @@ module _ (seat : ℕ) (old new : SessionState) (old_world new_world : WorldData)
   left_cases (refusals.Tree tree.Overrun) number = inr refl
   left_cases _ number = inl refl
 
-  finds_same : (number count : ℕ) (mid : WorldData) → FindsMore seat number count old_world mid → mid ≡ old_world
-  finds_same number zero mid h = h
-  finds_same number (suc count) mid h = more_same seat number h.0 mid h.2 ∙ finds_same number count h.0 h.1
-
   module _ (number : ℕ) (opened_it : old.search ≡ Some number) where
     -- the search is gone, and the session has none
     gone_here : AreGone (Some seat) (Some number) new_world.searches → AllStay old new new_world.searches
@@ -160,7 +157,7 @@ module _ (seat : ℕ) (old new : SessionState) (old_world new_world : WorldData)
     step_moves count said h = go h.0 h.1 h.2
       where
         from_here : (reply : EventReply) (before : ℕ) (mid : WorldData) → FindsMore seat number before old_world mid → Happens (VisitNext seat number) mid new_world reply → Happens (VisitNext seat number) old_world new_world reply
-        from_here reply before mid more h = subst (λ (w : WorldData). Happens (VisitNext seat number) w new_world reply) (finds_same number before mid more) h
+        from_here reply before mid more h = subst (λ (w : WorldData). Happens (VisitNext seat number) w new_world reply) (finds_same seat number before old_world mid more) h
 
         refused : (fault : WorldFault) → Happens (VisitNext seat number) old_world new_world (Refused fault) → new ≡ record old { search = left_open fault number } → Moves old new old_world new_world
         refused fault h e = cases (left_cases fault number)
@@ -175,7 +172,7 @@ module _ (seat : ℕ) (old new : SessionState) (old_world new_world : WorldData)
 
         go : (end : Result Visit WorldFault) → GoesOn seat number count old_world new_world end → new ≡ record old { search = stepped_as end number } → Moves old new old_world new_world
         go (Ok visits.More) h e =
-            moves_none old new old_world new_world (ap (λ (x : SessionState). x.seat) e) (ap (λ (x : SessionState). x.search) e ∙ sym opened_it) (finds_same number count new_world h)
+            moves_none old new old_world new_world (ap (λ (x : SessionState). x.seat) e) (ap (λ (x : SessionState). x.search) e ∙ sym opened_it) (finds_same seat number count old_world new_world h)
         go (Ok visits.Ready) h e =
             visit_moves (Visited visits.Ready) (from_here (Visited visits.Ready) h.0 h.1 h.3 h.4)
             (stay_same old new new_world.searches (ap (λ (x : SessionState). x.seat) e) (ap (λ (x : SessionState). x.search) e ∙ sym opened_it))
@@ -188,12 +185,12 @@ module _ (seat : ℕ) (old new : SessionState) (old_world new_world : WorldData)
       goes_then old_world ready mid (visit_goes seat number old_world ready (Visited visits.Ready) h) (finish_goes seat number ready mid reply f),
       λ still. finish_rests seat number ready mid reply f (visit_rests seat number old_world ready (Visited visits.Ready) h still),
     )
-    seeks_goes mid reply (inr (inr (e, r))) = (goes_same old_world mid e, λ still. subst (λ (w : WorldData). IsAtRest w) (sym e) still)
+    seeks_goes mid reply (inr (inr (more, e, r))) = (goes_same old_world mid e, λ still. subst (λ (w : WorldData). IsAtRest w) (sym e) still)
 
     seeks_gone : (mid : WorldData) (answer : AnswerData) → Seeks seat number old_world mid (Rows answer) → AreGone (Some seat) (Some number) mid.searches
     seeks_gone mid answer (inl (fault, h, e)) = absurd cc
     seeks_gone mid answer (inr (inl (ready, h, f))) = finish_gone (Some seat) seat number ready mid answer f
-    seeks_gone mid answer (inr (inr (e, r))) = absurd cc
+    seeks_gone mid answer (inr (inr (more, e, r))) = absurd cc
 
     end_moves : (said : SaidData) → Ends seat number old old_world new new_world said → Moves old new old_world new_world
     end_moves said h = go h.0 h.1 h.2

@@ -174,7 +174,7 @@ module _ (number seat : ℕ) (window : List Point) (w : WorldData) (subject : Su
       unseen (faults.Tree tree.Overrun) d = (inr (inl refl), inr d)
       unseen _ d = absurd d
   sought new reply (inr (inl (mid, h, f))) = finishes mid new reply (visiting mid (Visited visits.Ready) h) f
-  sought new reply (inr (inr (e, r))) = subst (λ (r : Reply). Sought new r) (sym r) (inr (inl refl), inl (false, e))
+  sought new reply (inr (inr (more, e, r))) = subst (λ (r : Reply). Sought new r) (sym r) (inr (inl refl), inl (false, e))
 
   -- whatever stays is dropped
   pub dropped : (mid new : WorldData) (reply : Reply) → Stays mid → Happens (DropSearch seat number) mid new reply → new ≡ w
@@ -355,8 +355,11 @@ module _ (seat number : ℕ) (start old : WorldData) (same : old ≡ start) wher
   pub seeks_ready : (mid new : WorldData) (reply : Reply) → Happens (VisitNext seat number) old mid (Visited visits.Ready) → Happens (Finish seat number) mid new reply → Seeks seat number start new reply
   seeks_ready mid new reply h f = inr (inl (mid, subst (λ (x : WorldData). Happens (VisitNext seat number) x mid (Visited visits.Ready)) same h, f))
 
-  pub seeks_on : (new : WorldData) → Happens (VisitNext seat number) old new (Visited visits.More) → new ≡ start
-  seeks_on new h = more_same seat number old new h ∙ same
+  -- whatever came before, a visit has found more to see
+  pub seeks_on : (new : WorldData) → Happens (VisitNext seat number) old new (Visited visits.More) → (new ≡ start) × Happens (VisitNext seat number) start start (Visited visits.More)
+  seeks_on new h =
+      let stays : new ≡ start = more_same seat number old new h ∙ same in
+      (stays, subst (λ (x : WorldData). Happens (VisitNext seat number) start x (Visited visits.More)) stays (subst (λ (x : WorldData). Happens (VisitNext seat number) x new (Visited visits.More)) same h))
 
-  pub seeks_none : Seeks seat number start old (Refused (faults.Tree tree.Overrun))
-  seeks_none = inr (inr (same, refl))
+  pub seeks_none : Happens (VisitNext seat number) start start (Visited visits.More) → Seeks seat number start old (Refused (faults.Tree tree.Overrun))
+  seeks_none more = inr (inr (more, same, refl))

@@ -1,9 +1,11 @@
 -- A session's line that a session by itself knows too, and the visits of an open search, one after another.
-use Rattle.std.proofs.Common.{◌≡◌, ℕ, suc, ◌+◌, ◌<◌, List, Option, None, Ok, Err, sym, ap, subst, arith}
+use Rattle.std.proofs.Common.{◌≡◌, ℕ, zero, suc, ◌+◌, ◌<◌, List, Option, None, Result, Ok, Err, sym, ap, subst, ◌∙◌, arith}
 use Rattle.std.specs.Bool.{MatchBool}
 use Rattle.features.specs.declared.rows.Change.{Change}
 use Rattle.plain_world.specs.declared.faults.Fault.{Fault}
+use Rattle.search_tree.specs.declared.answers.Visit.{Visit}
 use Rattle.search_tree.specs.declared.answers.Visit.TheVariants as visits
+use Rattle.plain_world.specs.Admitting.{may_go_on}
 use Rattle.plain_world.specs.Events.{VisitNext, Happens, Visited, Refused}
 use Rattle.plain_world.specs.States.{WorldData}
 use Rattle.sessions.specs.Desks.{Answers}
@@ -11,7 +13,10 @@ use Rattle.sessions.specs.Replies.{SaidData}
 use Rattle.sessions.specs.Scripts.{TakesPlain, desk_of, keeps_seat}
 use Rattle.sessions.specs.Services.{Serves, solo_subject}
 use Rattle.sessions.specs.States.{SessionState, desk, solo}
-use Rattle.sessions.specs.Stepping.{Drops, FindsMore, GoesOn}
+use Rattle.sessions.specs.Stepping.{Drops, FindsMore, GoesOn, SeesMore, VisitsOn}
+use Rattle.sessions.proofs.SearchLemmas.{more_same}
+use Rattle.transactions.specs.Index.{Index}
+use Rattle.transactions.specs.Stepping.{VisitsIndex}
 
 -- a session is served, and its open search stays or is given up
 pub plain_so : (text : List ℕ) (old mid new : SessionState) (before : Option ℕ) (old_world mid_world new_world : WorldData) (said : SaidData) → Answers solo_subject Serves text (desk_of old_world old) (desk_of mid_world mid) said
@@ -38,3 +43,24 @@ module _ (seat number count : ℕ) (start old new : WorldData) (more : FindsMore
 
   pub goes_refused : (most : ℕ) (fault : Fault) → count < most → Happens (VisitNext seat number) old new (Refused fault) → GoesOn seat number most start new (Err fault)
   goes_refused most fault lt h = (count, old, lt, more, h)
+
+-- visits that find more to see leave the world as it was
+pub finds_same : (seat number count : ℕ) (old new : WorldData) → FindsMore seat number count old new → new ≡ old
+finds_same seat number zero old new h = h
+finds_same seat number (suc count) old new h = more_same seat number h.0 new h.2 ∙ finds_same seat number count old h.0 h.1
+
+-- the same as the index knows it
+module _ (seat number count : ℕ) (start world : WorldData) (more : FindsMore seat number count start world) (first old new : Index) (seen : SeesMore (may_go_on seat number start) number count first old) where
+  here : (result : Result Visit Fault) → VisitsIndex (may_go_on seat number world) number old new result → VisitsIndex (may_go_on seat number start) number old new result
+  here result visit = subst (λ (w : WorldData). VisitsIndex (may_go_on seat number w) number old new result) (finds_same seat number count start world more) visit
+
+  pub sees_one_more : VisitsIndex (may_go_on seat number world) number old new (Ok visits.More) → SeesMore (may_go_on seat number start) number (count + 1) first new
+  sees_one_more visit =
+      let next : suc count ≡ count + 1 = omega arith in
+      subst (λ (n : ℕ). SeesMore (may_go_on seat number start) number n first new) next (old, seen, here (Ok visits.More) visit)
+
+  pub sees_ready : (most : ℕ) → count < most → VisitsIndex (may_go_on seat number world) number old new (Ok visits.Ready) → VisitsOn (may_go_on seat number start) number most first new (Ok visits.Ready)
+  sees_ready most lt visit = (count, old, lt, seen, here (Ok visits.Ready) visit)
+
+  pub sees_refused : (most : ℕ) (fault : Fault) → count < most → VisitsIndex (may_go_on seat number world) number old new (Err fault) → VisitsOn (may_go_on seat number start) number most first new (Err fault)
+  sees_refused most fault lt visit = (count, old, lt, seen, here (Err fault) visit)

@@ -1,5 +1,5 @@
 -- What the calls of a session make of a world, each from its beginning to its end.
-use Rattle.std.specs.Prelude.{◌≡◌, ◌⊎◌, ℕ, ◌+◌, ◌==◌, nat_le, nat_lt, Bool, true, false, List, length, map, slice_get, Option, None, Some, MatchOption, Result, Ok, Err, if◌then◌else◌}
+use Rattle.std.specs.Prelude.{◌≡◌, ◌≢◌, ◌⊎◌, ℕ, ◌+◌, ◌==◌, nat_le, nat_lt, Bool, true, false, List, [], length, map, slice_get, Option, None, Some, MatchOption, Result, Ok, Err, if◌then◌else◌}
 use Rattle.std.specs.Bool.{MatchBool}
 use Rattle.plane.specs.declared.point.Point.{Point}
 use Rattle.features.specs.declared.actors.Subject.{Subject}
@@ -23,7 +23,7 @@ use Rattle.plain_world.specs.declared.outcomes.Outcome.{Outcome}
 use Rattle.plain_world.specs.declared.outcomes.Outcome.TheVariants as outcomes
 use Rattle.plain_world.specs.Admitting.{LAST, and_then, map_ok, next_search, subject_at}
 use Rattle.plain_world.specs.Answers.{AnswerData, denial_of}
-use Rattle.plain_world.specs.Events.{Reply as EventReply, Number, Rows, Ended, TakenOut, Refused, TakeSeat, Govern as GovernEvent, Roll as RollEvent, Happens, HoldsBack, If, is_memory, recorded, reply_of}
+use Rattle.plain_world.specs.Events.{Reply as EventReply, Number, Rows, Ended, TakenOut, Refused, TakeSeat, Govern as GovernEvent, Roll as RollEvent, Happens, HoldsBack, NoReadySeeks, If, is_memory, recorded, reply_of}
 use Rattle.plain_world.specs.Rolls.{RolledData}
 use Rattle.plain_world.specs.Staging.{placements}
 use Rattle.plain_world.specs.States.{WorldData}
@@ -80,6 +80,10 @@ Searches seat window old new reply =
 abbrev pub may_conclude : ℕ → WorldData → Result Subject Fault
 may_conclude seat w = and_then (subject_at seat w) (λ subject. if w.next_transaction == LAST then Err faults.Spent else Ok subject)
 
+-- the list adds or reshapes something
+abbrev pub Brings : List Change → Type 0
+Brings changes = placements changes ≢ []
+
 -- the index does not place a shape
 abbrev pub is_unplaced : EventReply → Bool
 is_unplaced (Refused (faults.Tree tree.Full)) = true
@@ -112,16 +116,21 @@ holder _ = None
 abbrev pub HoldsList : ℕ → List Change → WorldData → Type 0
 HoldsList search changes w = (at : ℕ) × (placement : ℕ × List Point) × (slice_get (placements changes) at ≡ Some placement) × HoldsBack search placement.1 w
 
+-- no search that has answered Ready looks for a shape that the list brings
+abbrev pub NoReadySeeksAny : List Change → WorldData → Type 0
+NoReadySeeksAny changes w = (at : ℕ) (placement : ℕ × List Point) → slice_get (placements changes) at ≡ Some placement → NoReadySeeks placement.1 w
+
 -- A list of changes is committed, all or none of it. A commit that comes to nothing changes nothing, but uses a number up;
 -- the searches that run stay as they are. Only the index knows whether it places a shape, and whether it holds one back for a
--- search that looks for it.
+-- search that looks for it and is not ready; for one that is, it always does.
 abbrev pub Commits : ℕ → List Change → WorldData → WorldData → EventReply → Type 0
 Commits seat changes old new reply =
     If (may_conclude seat old) old new reply (λ subject.
     MatchBool (is_memory reply) ((new ≡ old) ⊎ (new ≡ begun old))
-    (MatchBool (is_unplaced reply) (new ≡ begun old)
+    (MatchBool (is_unplaced reply) (Brings changes × (new ≡ begun old))
     (MatchOption (holder reply)
-    (MatchBool (is_full old) ((reply ≡ Refused faults.TrailFull) × (new ≡ begun old))
+    (NoReadySeeksAny changes old
+    × MatchBool (is_full old) ((reply ≡ Refused faults.TrailFull) × (new ≡ begun old))
     ((judgement : Judgement) × Judged old.state subject changes judgement × EndsAs judgement seat subject changes old new reply))
     (λ search. (new ≡ begun old) × HoldsList search changes old))))
 

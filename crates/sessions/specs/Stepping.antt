@@ -10,6 +10,9 @@ use Rattle.search_tree.specs.declared.answers.Visit.{Visit}
 use Rattle.search_tree.specs.declared.answers.Visit.TheVariants as visits
 use Rattle.plain_world.specs.Events.{VisitNext, Finish, DropSearch, Happens, Reply as EventReply, Visited, Refused, reply_of}
 use Rattle.plain_world.specs.States.{WorldData}
+use Rattle.plain_world.specs.declared.searches.Search.{Search}
+use Rattle.transactions.specs.Index.{Index}
+use Rattle.transactions.specs.Stepping.{VisitsIndex}
 use Rattle.sessions.specs.declared.faults.Fault.{Fault}
 use Rattle.sessions.specs.declared.faults.Fault.TheVariants.{Number, OutOfTurn}
 use Rattle.sessions.specs.declared.stepping.StepCommand.{StepCommand}
@@ -86,13 +89,24 @@ GoesOn seat number most old new (Ok visits.More) = FindsMore seat number most ol
 GoesOn seat number most old new end =
     (before : ℕ) × (mid : WorldData) × (before < most) × FindsMore seat number before old mid × Happens (VisitNext seat number) mid new (reply_of Visited end)
 
+-- The same as the index knows it, of a search that may go on: it makes as many visits as were asked for, each of which finds more
+-- to see, or fewer, where one before the last is the first that does not.
+abbrev pub SeesMore : Result Search WorldFault → ℕ → ℕ → Index → Index → Type 0
+SeesMore may number zero old new = new ≡ old
+SeesMore may number (suc count) old new = (mid : Index) × SeesMore may number count old mid × VisitsIndex may number mid new (Ok visits.More)
+
+abbrev pub VisitsOn : Result Search WorldFault → ℕ → ℕ → Index → Index → Result Visit WorldFault → Type 0
+VisitsOn may number most old new (Ok visits.More) = SeesMore may number most old new
+VisitsOn may number most old new end =
+    (before : ℕ) × (mid : Index) × (before < most) × SeesMore may number before old mid × VisitsIndex may number mid new end
+
 -- A search goes on until it is ready, and is finished, or a visit is refused before. (Visits that find more to see leave the
--- world as it was.) The index may also never come to an end: then the search is given up.
+-- world as it was.) The index may also find more to see for ever: then the search is given up.
 abbrev pub Seeks : ℕ → ℕ → WorldData → WorldData → EventReply → Type 0
 Seeks seat number old new reply =
     ((fault : WorldFault) × Happens (VisitNext seat number) old new (Refused fault) × (reply ≡ Refused fault))
     ⊎ (((mid : WorldData) × Happens (VisitNext seat number) old mid (Visited visits.Ready) × Happens (Finish seat number) mid new reply)
-    ⊎ ((new ≡ old) × (reply ≡ Refused (refusals.Tree tree.Overrun))))
+    ⊎ (Happens (VisitNext seat number) old old (Visited visits.More) × (new ≡ old) × (reply ≡ Refused (refusals.Tree tree.Overrun))))
 
 -- a search that is open is finished; one that the index gives up is gone, whatever else is refused leaves it open
 abbrev pub Finishes : ℕ → ℕ → WorldData → WorldData → EventReply → Type 0

@@ -1,5 +1,5 @@
 -- The calls of a search and of a commit on their way, for the proofs of the calls.
-use Rattle.std.specs.Prelude.{◌≡◌, ◌⊎◌, ℕ, Bool, List, [], ◌∷◌, ◌++◌, slice_get, None, Result, Ok, Err}
+use Rattle.std.specs.Prelude.{◌≡◌, ◌⊎◌, ◌<◌, ℕ, Bool, List, [], ◌∷◌, ◌++◌, slice_get, None, Some, Result, Ok, Err}
 use Rattle.plane.specs.declared.point.Point.{Point}
 use Rattle.features.specs.declared.actors.Subject.{Subject}
 use Rattle.features.specs.declared.rows.Change.{Change}
@@ -7,10 +7,10 @@ use Rattle.plain_world.specs.declared.faults.Fault.{Fault}
 use Rattle.plain_world.specs.declared.faults.Fault.TheVariants as faults
 use Rattle.search_tree.specs.declared.fault.TreeFault.TheVariants as tree
 use Rattle.plain_world.specs.Admitting.{subject_at}
-use Rattle.plain_world.specs.Events.{Commit, Reply, Refused, Happens}
+use Rattle.plain_world.specs.Events.{Commit, Reply, Refused, Happens, NoReadySeeks}
 use Rattle.plain_world.specs.Staging.{placements}
 use Rattle.plain_world.specs.States.{WorldData}
-use Rattle.sessions.specs.Services.{HoldsList}
+use Rattle.sessions.specs.Services.{Brings, HoldsList, NoReadySeeksAny}
 
 -- a world without open transactions
 abbrev pub closed : WorldData → WorldData
@@ -30,22 +30,27 @@ Stages seat number changes old new result =
     (w : WorldData) (subject : Subject) → subject_at seat w ≡ Ok subject → old ≡ under number seat [] 0 w
     → (result ≡ Ok tt) × (new ≡ under number seat changes 0 w)
 
--- memory was wanted, the index does not make a step, or a search that runs holds the list back
+-- memory was wanted, the index does not make a step of a walk, or a search that runs holds the list back
 abbrev pub IsStuck : List Change → WorldData → Fault → Type 0
 IsStuck changes w (faults.Memory refused) = Unit {0}
 IsStuck changes w (faults.Tree (tree.Held search)) = HoldsList search changes w
-IsStuck changes w (faults.Tree tree.Full) = Unit {0}
-IsStuck changes w (faults.Tree tree.TooHigh) = Unit {0}
-IsStuck changes w (faults.Tree tree.Spent) = Unit {0}
-IsStuck changes w (faults.Tree tree.Overrun) = Unit {0}
+IsStuck changes w (faults.Tree tree.Full) = Brings changes
+IsStuck changes w (faults.Tree tree.TooHigh) = Brings changes
+IsStuck changes w (faults.Tree tree.Spent) = Brings changes
+IsStuck changes w (faults.Tree tree.Overrun) = Brings changes
 IsStuck changes w _ = ⊥
 
 -- the transaction stands as far as it has come, or is gone
 abbrev pub Stands : ℕ → ℕ → List Change → WorldData → WorldData → Type 0
 Stands seat number changes w new = ((placed : ℕ) × (new ≡ under number seat changes placed w)) ⊎ (new ≡ closed w)
 
+-- no search that has answered Ready looks for one of the first shapes that the list brings
+abbrev pub NoReadySeeksFirst : ℕ → List Change → WorldData → Type 0
+NoReadySeeksFirst count changes w =
+    (at : ℕ) (placement : ℕ × List Point) → at < count → slice_get (placements changes) at ≡ Some placement → NoReadySeeks placement.1 w
+
 abbrev pub PlacesAll : ℕ → ℕ → List Change → WorldData → WorldData → Result (Unit {0}) Fault → Type 0
-PlacesAll seat number changes w new (Ok u) = (placed : ℕ) × (new ≡ under number seat changes placed w) × (slice_get (placements changes) placed ≡ None)
+PlacesAll seat number changes w new (Ok u) = (placed : ℕ) × (new ≡ under number seat changes placed w) × (slice_get (placements changes) placed ≡ None) × NoReadySeeksAny changes w
 PlacesAll seat number changes w new (Err fault) = IsStuck changes w fault × Stands seat number changes w new
 
 -- all that the changes of a transaction bring is placed, or a step is not made
@@ -58,7 +63,7 @@ Places seat number old new result =
 abbrev pub ConcludesAll : ℕ → ℕ → List Change → WorldData → WorldData → Reply → Type 0
 ConcludesAll seat number changes w new reply =
     ((fault : Fault) × IsStuck changes w fault × Stands seat number changes w new × (reply ≡ Refused fault))
-    ⊎ ((placed : ℕ) × (slice_get (placements changes) placed ≡ None) × Happens (Commit seat number) (under number seat changes placed w) new reply)
+    ⊎ ((placed : ℕ) × (slice_get (placements changes) placed ≡ None) × NoReadySeeksAny changes w × Happens (Commit seat number) (under number seat changes placed w) new reply)
 
 abbrev pub Concludes : ℕ → ℕ → List Change → WorldData → WorldData → Reply → Type 0
 Concludes seat number changes old new reply =

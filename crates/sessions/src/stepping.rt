@@ -1,9 +1,10 @@
 //! Searches that go step by step: what a line of a script asks of one, and the calls of the world that it needs.
 
 ghost use Rattle.std.specs.Prelude.{◌≡◌, option_map};
+ghost use Rattle.plain_world.specs.Admitting.{may_go_on};
 ghost use Rattle.plain_world.specs.Events.{Refused, Rows, reply_of};
 ghost use Rattle.sessions.specs.Services.{is_overrun};
-ghost use Rattle.sessions.specs.Stepping.{Finishes, GoesOn, left_open, step_allowed, step_arguments_at, step_at, step_command_at, step_count, step_verb_at, step_verb_of};
+ghost use Rattle.sessions.specs.Stepping.{Finishes, GoesOn, VisitsOn, left_open, step_allowed, step_arguments_at, step_at, step_command_at, step_count, step_verb_at, step_verb_of};
 
 use crate::calls::seek;
 use crate::commands::{as_number, as_shape, due_word, end};
@@ -132,7 +133,8 @@ pub(crate) fn go_on<A: Allocator + Copy>(
     number: u64,
     steps: u32,
 ) -> Result<Visit, WorldFault>
-    ensures { GoesOn seat number steps world.old.plain world.new.plain result }
+    ensures happens { GoesOn seat number steps world.old.plain world.new.plain result }
+    ensures index { VisitsOn (may_go_on seat number world.old.plain) number steps world.old.index world.new.index result }
 {
     for _ in 0..steps {
         match world.visit(seat, number) {

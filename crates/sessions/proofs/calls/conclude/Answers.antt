@@ -13,4 +13,4 @@ pub returns-in-Ok-place_all : goal.returns-in-Ok-place_all
 returns-in-Ok-place_all g c w subject seated start =
     let staged = c.in-Ok.ensures w subject seated start in
     let placed = c.in-Ok-place_all.ensures w subject c.args.changes.now seated staged.1 in
-    inr (placed.0, placed.2, from_same (Commit c.args.seat c.args.number) _ _ _ _ placed.1 c.commit.ensures.happens)
+    inr (placed.0, placed.2, placed.3, from_same (Commit c.args.seat c.args.number) _ _ _ _ placed.1 c.commit.ensures.happens)

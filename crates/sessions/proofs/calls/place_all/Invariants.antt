@@ -1,12 +1,13 @@
-use Rattle.std.proofs.Common.{◌≡◌, ℕ, List, Ok}
+use Rattle.std.proofs.Common.{◌≡◌, ◌⊎◌, ℕ, List, Ok}
 use Rattle.features.specs.declared.actors.Subject.{Subject}
 use Rattle.features.specs.declared.rows.Change.{Change}
 use Rattle.plain_world.specs.Admitting.{subject_at}
 use Rattle.plain_world.specs.States.{WorldData}
-use Rattle.sessions.specs.Steps.{under}
+use Rattle.sessions.specs.Services.{Brings}
+use Rattle.sessions.specs.Steps.{NoReadySeeksFirst, under}
 use Rattle.sessions.proofs.calls.place_all.Given as goal
 
 abbrev pub invariant-loop : goal.invariant-loop
 invariant-loop g l =
     (w : WorldData) (subject : Subject) (changes : List Change) → subject_at l.seat w ≡ Ok subject → l.fn.world.plain ≡ under l.number l.seat changes 0 w
-    → (placed : ℕ) × (l.world.plain ≡ under l.number l.seat changes placed w)
+    → (placed : ℕ) × (l.world.plain ≡ under l.number l.seat changes placed w) × NoReadySeeksFirst placed changes w × ((l.counter ≡ 0) ⊎ Brings changes)

@@ -1,5 +1,9 @@
-use Rattle.std.proofs.Common.{◌≡◌}
+use Rattle.std.proofs.Common.{◌≡◌, ◌⊎◌}
+use Rattle.search_tree.specs.declared.answers.Visit.TheVariants as visits
+use Rattle.plain_world.specs.Events.{Happens, VisitNext, Visited}
 use Rattle.sessions.proofs.calls.seek.Given as goal
 
 abbrev pub invariant-loop : goal.invariant-loop
-invariant-loop g l = l.world.plain ≡ l.fn.world.plain
+invariant-loop g l =
+    (l.world.plain ≡ l.fn.world.plain)
+    × ((l.counter ≡ 0) ⊎ Happens (VisitNext l.seat l.number) l.fn.world.plain l.fn.world.plain (Visited visits.More))

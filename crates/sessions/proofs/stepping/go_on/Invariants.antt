@@ -1,5 +1,8 @@
-use Rattle.sessions.specs.Stepping.{FindsMore}
+use Rattle.plain_world.specs.Admitting.{may_go_on}
+use Rattle.sessions.specs.Stepping.{FindsMore, SeesMore}
 use Rattle.sessions.proofs.stepping.go_on.Given as goal
 
 abbrev pub invariant-loop : goal.invariant-loop
-invariant-loop g l = FindsMore l.seat l.number l.counter l.fn.world.plain l.world.plain
+invariant-loop g l =
+    FindsMore l.seat l.number l.counter l.fn.world.plain l.world.plain
+    × SeesMore (may_go_on l.seat l.number l.fn.world.plain) l.number l.counter l.fn.world.index l.world.index
