@@ -128,7 +128,7 @@ ordered_walks number shape old new (Advanced (advances.Walked steps.Moved)) d h 
 ordered_walks number shape old new (Advanced (advances.Walked steps.Split)) d h = ordered_same old new d h
 ordered_walks number shape old new (Advanced (advances.Walked steps.Installed)) d h = ordered_same old new d h
 ordered_walks number shape old new (Advanced (advances.Walked steps.Restarted)) d h = ordered_same old new d h
-ordered_walks number shape old new (Advanced (advances.Walked steps.Placed)) d h = ordered_by new _ d h.sorted (apart_placed number old.transactions h.apart)
+ordered_walks number shape old new (Advanced (advances.Walked steps.Placed)) d h = ordered_by new _ d.1 h.sorted (apart_placed number old.transactions h.apart)
 ordered_walks number shape old new (Refused (faults.Tree (tree.Held search))) d h = ordered_same old new d.1 h
 ordered_walks number shape old new (Refused (faults.Tree tree.Full)) d h = ordered_same old new d h
 ordered_walks number shape old new (Refused (faults.Tree tree.TooHigh)) d h = ordered_same old new d h

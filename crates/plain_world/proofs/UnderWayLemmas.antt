@@ -197,7 +197,7 @@ way_walks number t placement old new (Advanced (advances.Walked steps.Split)) fo
 way_walks number t placement old new (Advanced (advances.Walked steps.Installed)) found next d h = way_same old new d h
 way_walks number t placement old new (Advanced (advances.Walked steps.Restarted)) found next d h = way_same old new d h
 way_walks number t placement old new (Advanced (advances.Walked steps.Placed)) found next d h =
-    way_by new _ d h.searches (given_step one_placed (λ t. refl) number old.next_transaction old.transactions h.transactions)
+    way_by new _ d.1 h.searches (given_step one_placed (λ t. refl) number old.next_transaction old.transactions h.transactions)
     (within_step one_placed number old.transactions t found (within_placed t placement next) h.within)
 way_walks number t placement old new (Refused (faults.Tree (tree.Held search))) found next d h = way_same old new d.1 h
 way_walks number t placement old new (Refused (faults.Tree tree.Full)) found next d h = way_same old new d h

@@ -129,13 +129,19 @@ without_transaction number w = record w { transactions = ended number w.transact
 abbrev pub HoldsBack : ℕ → List Point → WorldData → Type 0
 HoldsBack search shape w = (s : Search) × (search_with search w.searches ≡ Some s) × Meet shape s.window
 
--- What the index may answer to a step of the walk that places a shape: which of these, it alone knows.
+-- no search that has answered Ready looks for the shape
+abbrev pub NoReadySeeks : List Point → WorldData → Type 0
+NoReadySeeks shape w = (number : ℕ) (s : Search) → search_with number w.searches ≡ Some s → s.ready ≡ true → Meet shape s.window → ⊥
+
+-- What the index may answer to a step of the walk that places a shape: which of these, it alone knows. It places none that a
+-- search which has answered Ready looks for.
 abbrev pub Walks : ℕ → List Point → WorldData → WorldData → Reply → Type 0
 Walks number shape old new (Advanced (advances.Walked steps.Moved)) = new ≡ old
 Walks number shape old new (Advanced (advances.Walked steps.Split)) = new ≡ old
 Walks number shape old new (Advanced (advances.Walked steps.Installed)) = new ≡ old
 Walks number shape old new (Advanced (advances.Walked steps.Restarted)) = new ≡ old
-Walks number shape old new (Advanced (advances.Walked steps.Placed)) = new ≡ record old { transactions = with_step one_placed number old.transactions }
+Walks number shape old new (Advanced (advances.Walked steps.Placed)) =
+    NoReadySeeks shape old × (new ≡ record old { transactions = with_step one_placed number old.transactions })
 Walks number shape old new (Refused (faults.Tree (tree.Held search))) = HoldsBack search shape old × (new ≡ old)
 Walks number shape old new (Refused (faults.Tree tree.Full)) = new ≡ old
 Walks number shape old new (Refused (faults.Tree tree.TooHigh)) = new ≡ old

@@ -19,7 +19,7 @@ use Rattle.transactions.specs.Index.{Index, IndexedWorld, IsWorld, Serves, frame
 use Rattle.transactions.specs.Refusing.{RefusesGrowth, is_overrun, told}
 use Rattle.transactions.specs.Walking.{IsWalked, WalksOn, after_step, area_growth, margin_growth, next_walk, told_step}
 use Rattle.transactions.specs.Walks.{IsWalkFor, JourneyData, ended, with_walk}
-use Rattle.transactions.proofs.StepLemmas.{AfterStep, GoesOn, ended_happens, is_no_overrun, is_no_placing, is_the_overrun, is_the_placing, moved_happens, next_of, placed_happens, placed_step, refused_happens, refuses_growth, stepped_as}
+use Rattle.transactions.proofs.StepLemmas.{AfterStep, GoesOn, ended_happens, is_no_overrun, is_no_placing, is_the_overrun, is_the_placing, moved_happens, next_of, none_seeks, placed_happens, placed_step, refused_happens, refuses_growth, stepped_as}
 use Rattle.transactions.proofs.WalkLemmas.{ended_again, kept_again, next_for}
 use Rattle.transactions.proofs.WorldLemmas.{indexed, world_ended, world_kept_walk, world_placed}
 
@@ -75,7 +75,7 @@ module _ (seat number : ℕ) (w : WorldData) (t u : Index) (js : List JourneyDat
       pub placed_event : (v : WorldData) → v ≡ record w { transactions = with_step one_placed number w.transactions } → Happens (AdvanceWalk seat number) w v (Advanced (advances.Walked step))
       placed_event v to =
           subst (λ (s : Step). Happens (AdvanceWalk seat number) w v (Advanced (advances.Walked s))) (sym placing.0)
-          (placed_happens seat number w own.0 (walk.key, walk.item) own.1 going.next v to)
+          (placed_happens seat number w own.0 (walk.key, walk.item) own.1 going.next v (none_seeks w t u (walk.key, walk.item) h.serves placing.1) to)
 
       pub placed_walks : (ks : List JourneyData) → ks ≡ with_walk number None js → ks ≡ after_step number after answer js
       placed_walks ks left = left ∙ left_by true None placed refl

@@ -10,7 +10,7 @@ use Rattle.plain_world.specs.declared.faults.Fault.TheVariants as faults
 use Rattle.plain_world.specs.declared.searches.Search.{Search}
 use Rattle.plain_world.specs.declared.steps.Advance.TheVariants as advances
 use Rattle.plain_world.specs.Admitting.{map_ok, may_go_on, may_step, own_transaction, search_with, subject_at}
-use Rattle.plain_world.specs.Events.{Happens, HoldsBack, VisitNext, AdvanceWalk, Advances, Visits, UnlessMemory, Walks, Reply, Visited, Advanced, Refused, without_search, without_transaction, with_ready}
+use Rattle.plain_world.specs.Events.{Happens, HoldsBack, NoReadySeeks, VisitNext, AdvanceWalk, Advances, Visits, UnlessMemory, Walks, Reply, Visited, Advanced, Refused, without_search, without_transaction, with_ready}
 use Rattle.plain_world.specs.Laws.{IsUnderWay}
 use Rattle.plain_world.specs.Staging.{TransactionData, transaction_with, next_placement, with_step, one_placed}
 use Rattle.plain_world.specs.States.{WorldData}
@@ -136,6 +136,12 @@ holds_back w t item search h held =
     let here = told_of w t search held.seen h held.runs in
     (here.0, here.1, subst (λ (window : List Point). Meet item window) (sym here.2) held.matches)
 
+-- no search that is ready in the world looks for what the index has placed
+pub none_seeks : (w : WorldData) (t u : Index) (pair : ℕ × List Point) → Serves w t → HasPlacedBehindNone frames t u pair → NoReadySeeks pair.1 w
+none_seeks w t u pair h placed number s is ready meets =
+    let seen = seen_of w t number s h is in
+    placed.behind number seen.0 seen.1 (seen.3 ∙ ready) (subst (λ (window : List Point). Meet pair.1 window) (sym seen.2) meets)
+
 -- a walk that goes on is one of the same placement
 pub goes_on_for : (tr : TransactionData) (old new : PlainWalk (List Point)) → IsWalkFor tr old → new.key ≡ old.key → new.item ≡ old.item → new.placed ≡ false → IsWalkFor tr new
 goes_on_for tr old new h key item waits = record {
@@ -251,8 +257,8 @@ module _ (seat number : ℕ) (w : WorldData) (tr : TransactionData) (pair : ℕ 
   moved_happens steps.Restarted e = advance_happens seat number w w tr pair _ may next refl
   moved_happens steps.Placed e = absurd cc
 
-  pub placed_happens : (v : WorldData) → v ≡ record w { transactions = with_step one_placed number w.transactions } → Happens (AdvanceWalk seat number) w v (Advanced (advances.Walked steps.Placed))
-  placed_happens v is = advance_happens seat number w v tr pair _ may next is
+  pub placed_happens : (v : WorldData) → NoReadySeeks pair.1 w → v ≡ record w { transactions = with_step one_placed number w.transactions } → Happens (AdvanceWalk seat number) w v (Advanced (advances.Walked steps.Placed))
+  placed_happens v none is = advance_happens seat number w v tr pair _ may next (none, is)
 
   pub ended_happens : (v : WorldData) → v ≡ without_transaction number w → Happens (AdvanceWalk seat number) w v (Refused (faults.Tree tree.Overrun))
   ended_happens v is = advance_happens seat number w v tr pair _ may next is

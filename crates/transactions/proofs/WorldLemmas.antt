@@ -42,7 +42,7 @@ use Rattle.transactions.specs.Index.{HasFeatures, Index, IndexedWorld, IsWorld, 
 use Rattle.transactions.specs.Walks.{AreWalks, IsWalkFor, JourneyData, begun, ended, with_walk}
 use Rattle.transactions.proofs.SearchLemmas.{has_number}
 use Rattle.transactions.proofs.ServeLemmas.{seen_of, serves_first, serves_opened, serves_placed, serves_shut}
-use Rattle.transactions.proofs.StepLemmas.{GoesOn, goes_on_for, placed_happens, ended_happens}
+use Rattle.transactions.proofs.StepLemmas.{GoesOn, goes_on_for, none_seeks, placed_happens, ended_happens}
 use Rattle.transactions.proofs.WalkLemmas.{as_many_walks, walks_ended, walks_kept, walks_placed}
 use Rattle.transactions.proofs.EventWalkLemmas.{transactions_govern, transactions_roll, transactions_seat, walks_abort, walks_begin, walks_commit, walks_stage}
 use Rattle.transactions.proofs.BesideLemmas.{Beside, beside_ended, serves_beside, beside_seat, beside_begin, beside_stage, beside_commit, beside_abort, beside_govern, beside_roll}
@@ -227,7 +227,7 @@ module _ (seat number : ℕ) (w : WorldData) (t u : Index) (js : List JourneyDat
   -- the walk's pair is placed
   pub world_placed : (v : WorldData) (ks : List JourneyData) → HasPlacedBehindNone frames t u (walk.key, walk.item) → v ≡ record w { transactions = with_step one_placed number w.transactions } → ks ≡ with_walk number None js → IsWorld (indexed w t js) → IsWorld (indexed v u ks)
   world_placed v ks placed is left h =
-      world_by (AdvanceWalk seat number) w v t u js ks (Advanced (advances.Walked steps.Placed)) (placed_happens seat number w tr (walk.key, walk.item) may going.next v is) h
+      world_by (AdvanceWalk seat number) w v t u js ks (Advanced (advances.Walked steps.Placed)) (placed_happens seat number w tr (walk.key, walk.item) may going.next v (none_seeks w t u (walk.key, walk.item) h.serves placed) is) h
       (subst (λ (x : WorldData). Serves x u) (sym is) (serves_placed w t u number (walk.key, walk.item) h.serves placed
       (λ x there. subst (λ (y : TransactionData). next_placement y ≡ Some (walk.key, walk.item)) (same_one tr x (sym found ∙ there)) going.next)))
       (rw (is, left) (walks_placed number w.transactions js h.walks))

@@ -138,6 +138,8 @@ impl<A: Allocator + Copy> World<A> {
         ensures ok { IfOk result (λ w. w.plain ≡ opened subjects (record { document = document; edition = 1 })
             (record { generation = 0; counter = 0; search = 1; version = 0; edition = 1; rolled = 0 })
             (record { steps = STEP_LIMIT; records = RECORD_LIMIT; features = FEATURE_LIMIT })) }
+        ensures index { IfOk result (λ w. IsFirst frames 0 0 1 STEP_LIMIT w.index) }
+        ensures walks { IfOk result (λ w. w.walks ≡ []) }
         ensures err { IfErr result (λ e. e ≡ (document, Fault.Memory refused)) }
     {
         let starts = Starts {
