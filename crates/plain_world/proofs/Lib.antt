@@ -8,6 +8,7 @@ pub mod OrderLemmas
 pub mod JoinLemmas
 pub mod ForceLemmas
 pub mod UnderWayLemmas
+pub mod AskedLemmas
 pub mod TransactionLemmas
 pub mod SoundLemmas
 pub mod RunLemmas

@@ -1,9 +1,10 @@
 -- What the laws over runs say of an event.
-use Rattle.std.specs.Prelude.{◌≡◌, ℕ, ◌+◌, ◌<◌, ◌≤◌, IsTrue, List, [], ◌∷◌, ◌++◌, length, map, Option, None, Some}
+use Rattle.std.specs.Prelude.{◌≡◌, ◌⊎◌, ℕ, ◌+◌, ◌<◌, ◌≤◌, IsTrue, List, [], ◌∷◌, ◌++◌, length, map, Option, None, Some}
 use Rattle.features.specs.declared.actors.Subject.{Subject}
 use Rattle.features.specs.declared.rows.Change.{Change}
 use Rattle.features.specs.Changes.{after}
 use Rattle.features.specs.Rows.{IsSortedById}
+use Rattle.features.specs.Subjects.{subject_named}
 use Rattle.policy_text.specs.Documents.{DocumentData}
 use Rattle.decision.specs.Deciders.{DeciderData}
 use Rattle.audit_trail.specs.declared.causes.Cause.{Cause}
@@ -24,7 +25,7 @@ use Rattle.plain_world.specs.declared.searches.Search.{Search}
 use Rattle.plain_world.specs.declared.settings.TheConstants.{CHANGE_LIMIT}
 use Rattle.plain_world.specs.Admitting.{search_with}
 use Rattle.plain_world.specs.Answers.{AnswerData, DenialData, IsDenial, denial_of}
-use Rattle.plain_world.specs.Events.{Event, VisitNext, Finish, AdvanceWalk, Commit, Govern, Roll, Reply, Number, Rows, Ended, TakenOut, without_search, without_transaction}
+use Rattle.plain_world.specs.Events.{Event, TakeSeat, OpenSearch, VisitNext, Finish, Begin, Stage, AdvanceWalk, Commit, Govern, Roll, Reply, Number, Done, Rows, Ended, TakenOut, without_search, without_transaction}
 use Rattle.plain_world.specs.Rolls.{RolledData}
 use Rattle.plain_world.specs.Staging.{TransactionData, transaction_with, staged_in, placements}
 use Rattle.plain_world.specs.States.{WorldData}
@@ -171,3 +172,36 @@ pub record IsUnderWay (w : WorldData) : Type 0 where
 abbrev pub outcome_of : PlainState → Judgement → Outcome
 outcome_of state judgements.Accepted = outcomes.Applied (state.version + 1)
 outcome_of state (judgements.Refused refusal question) = outcomes.Refused refusal (denial_of state.decider refusal.cause question)
+
+-- A search that runs after an event ran before it, for the same seat and window; or the event opened it, for the seat and the
+-- window that it asks.
+abbrev pub IsAskedSearch : Event → WorldData → Reply → ℕ → Search → Type 0
+IsAskedSearch event old reply number s =
+    ((before : Search) × (search_with number old.searches ≡ Some before) × (s.seat ≡ before.seat) × (s.window ≡ before.window))
+    ⊎ ((event ≡ OpenSearch s.seat s.window) × (reply ≡ Number number))
+
+-- a staged list is as it was, or has the change more that the event asks of its seat and transaction
+abbrev pub IsAskedStaging : Event → Reply → ℕ → TransactionData → TransactionData → Type 0
+IsAskedStaging event reply number before t =
+    (t.changes ≡ before.changes)
+    ⊎ ((change : Change) × (event ≡ Stage t.seat number change) × (reply ≡ Done) × (t.changes ≡ before.changes ++ change ∷ []))
+
+-- A transaction that is open after an event was open before it, of the same seat; or the event opened it, for the seat that
+-- it asks, and it has staged nothing.
+abbrev pub IsAskedTransaction : Event → WorldData → Reply → ℕ → TransactionData → Type 0
+IsAskedTransaction event old reply number t =
+    ((before : TransactionData) × (transaction_with number old.transactions ≡ Some before) × (t.seat ≡ before.seat) × IsAskedStaging event reply number before t)
+    ⊎ ((event ≡ Begin t.seat) × (reply ≡ Number number) × (t.changes ≡ []))
+
+-- the seats are those that were given before, or one more, to the subject of the name that the event asks
+abbrev pub AreAskedSeats : Event → WorldData → WorldData → Reply → Type 0
+AreAskedSeats event old new reply =
+    (new.seats ≡ old.seats)
+    ⊎ ((name : List ℕ) × (subject : Subject) × (event ≡ TakeSeat name) × (subject_named name old.subjects ≡ Some subject)
+    × (reply ≡ Number (length old.seats + 1)) × (new.seats ≡ old.seats ++ subject ∷ []))
+
+-- what is under way after an event was under way before it, or is what the event asks
+pub record IsAsked (event : Event) (old new : WorldData) (reply : Reply) : Type 0 where
+  pub searches : (number : ℕ) (s : Search) → search_with number new.searches ≡ Some s → IsAskedSearch event old reply number s
+  pub transactions : (number : ℕ) (t : TransactionData) → transaction_with number new.transactions ≡ Some t → IsAskedTransaction event old reply number t
+  pub seats : AreAskedSeats event old new reply

@@ -101,6 +101,7 @@ impl<A: Allocator> PlainWorld<A> {
         self.own_search(seat, number)
     }
 
+    /// The subject and the search that are finished.
     pub(crate) fn may_finish(&self, seat: u32, number: u64) -> Result<(Subject, Search), Fault>
         ensures value { result ≡ may_finish seat number self.now }
         ensures seated { IfOk result (λ who. IsSeated seat self.now.seats who.0) }
@@ -127,6 +128,7 @@ impl<A: Allocator> PlainWorld<A> {
         Ok(self.next_transaction)
     }
 
+    /// The number of the transaction that a seat opens next.
     pub(crate) fn may_begin(&self, seat: u32) -> Result<u64, Fault>
         ensures value { result ≡ may_begin seat self.now }
         ensures left { IfOk result (λ number. number < u64.MAX) }
@@ -150,6 +152,7 @@ impl<A: Allocator> PlainWorld<A> {
         }
     }
 
+    /// The transaction that a seat goes on with, or gives up.
     pub(crate) fn may_step(&self, seat: u32, number: u64) -> Result<&Transaction<A>, Fault>
         ensures value { map_ok (λ t. t.now) result ≡ may_step seat number self.now }
         ensures is { IfOk result (λ t. transaction_with number self.now.transactions ≡ Some t.now) }
@@ -158,6 +161,7 @@ impl<A: Allocator> PlainWorld<A> {
         self.own_transaction(seat, number)
     }
 
+    /// That the seat's own transaction of a number takes a change.
     pub(crate) fn may_stage(&self, seat: u32, number: u64, change: &Change) -> Result<(), Fault>
         ensures value { result ≡ may_stage seat number change.now self.now }
         ensures may { OnOk result ((t : TransactionData) × (transaction_with number self.now.transactions ≡ Some t) × (length t.changes < CHANGE_LIMIT) × IsUnnamed (change_id change.now) t.changes) }
@@ -166,6 +170,7 @@ impl<A: Allocator> PlainWorld<A> {
         may_add(transaction.changes(), change)
     }
 
+    /// The subject that commits the seat's own transaction of a number.
     pub(crate) fn may_commit(&self, seat: u32, number: u64) -> Result<Subject, Fault>
         ensures value { result ≡ may_commit seat number self.now }
         ensures seated { IfOk result (λ subject. IsSeated seat self.now.seats subject) }
@@ -188,6 +193,7 @@ impl<A: Allocator> PlainWorld<A> {
         Ok(())
     }
 
+    /// The steward who puts a document in force.
     pub(crate) fn may_govern(&self, seat: u32) -> Result<Subject, Fault>
         ensures value { result ≡ may_govern seat self.now }
         ensures seated { IfOk result (λ subject. IsSeated seat self.now.seats subject × IsTrue subject.steward) }
@@ -201,6 +207,7 @@ impl<A: Allocator> PlainWorld<A> {
         Ok(subject)
     }
 
+    /// That a seat may roll the trail over.
     pub(crate) fn may_roll(&self, seat: u32) -> Result<(), Fault>
         ensures value { result ≡ may_roll seat self.now }
         ensures left { OnOk result (self.now.first + length self.now.trail ≤ FIRST_LIMIT) }

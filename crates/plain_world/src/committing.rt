@@ -124,7 +124,7 @@ impl<A: Allocator + Copy> PlainWorld<A> {
         match self.trail.prepare(entry) {
             Err(fault) => Err(Fault::Memory(want_of(fault))),
             Ok(shared) => match denial_for(&self.decider, &refusal.cause, question) {
-                Err(refusal) => Err(Fault::Memory(refusal)),
+                Err(want) => Err(Fault::Memory(want)),
                 Ok(denial) => {
                     self.trail.put(shared);
                     end(&mut self.transactions, number);

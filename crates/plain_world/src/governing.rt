@@ -1,6 +1,6 @@
 //! Policies are put in force.
 
-ghost use Rattle.std.specs.Prelude.{◌≡◌, ◌+◌, IfErr};
+ghost use Rattle.std.specs.Prelude.{◌≡◌, ◌<◌, ◌+◌, IfErr};
 ghost use Rattle.std.specs.Arc.{arc_value};
 ghost use Rattle.plain_world.specs.Events.{Happens, Govern, Number, reply_of, reply_handing};
 
@@ -16,10 +16,10 @@ use std::sync::Arc;
 
 impl<A: Allocator + Copy> PlainWorld<A> {
     /// Puts a document in force by a decider that was made before, of the next edition. X1 where the seat was not given,
-    /// X7 where its subject is no steward, X8 where the edition is at its end, X10 where the trail is full, X12 where a
-    /// growth is refused.
+    /// X7 where its subject is no steward, X8 where the edition is at its end, whatever the decider's then is, X10 where the
+    /// trail is full, X12 where a growth is refused.
     pub fn govern_by(&mut self, seat: u32, decider: Arc<Decider>) -> Result<u64, Fault>
-        requires { (arc_value decider).edition ≡ self.old.state.decider.edition + 1 }
+        requires { self.old.state.decider.edition < u64.MAX → (arc_value decider).edition ≡ self.old.state.decider.edition + 1 }
         ensures { Happens (Govern seat (arc_value decider).document) self.old self.new (reply_of Number result) }
     {
         self.may_govern(seat)?;

@@ -9,7 +9,7 @@ ghost use Rattle.audit_trail.specs.declared.causes.Judgement.{Judgement};
 ghost use Rattle.audit_trail.specs.Legal.{IsSeated, IsLegal, replay};
 ghost use Rattle.plain_world.specs.Answers.{AnswerData};
 ghost use Rattle.plain_world.specs.Events.{Event, Finish, Commit, Govern, Roll, Reply, Number, Rows, Ended, TakenOut, Happens, Refused, Run};
-ghost use Rattle.plain_world.specs.Laws.{IsExact, Accounts, EndsAs, IsStewards, LeadsOn, AddsAlone, Leaves, IsOrdered, IsUnderWay, records_out, in_force, outcome_of};
+ghost use Rattle.plain_world.specs.Laws.{IsExact, Accounts, EndsAs, IsStewards, LeadsOn, AddsAlone, Leaves, IsAsked, IsOrdered, IsUnderWay, records_out, in_force, outcome_of};
 ghost use Rattle.plain_world.specs.Rolls.{RolledData};
 ghost use Rattle.plain_world.specs.Staging.{TransactionData, transaction_with};
 ghost use Rattle.plain_world.specs.States.{WorldData, IsSoundWorld, opened};
@@ -94,6 +94,14 @@ pub fn policy_in_force_is_the_last()
 pub fn what_is_under_way_is_in_order()
     ensures opened { (subjects : List Subject) (decider : DeciderData) (starts : Starts) (limits : Limits) → IsUnderWay (opened subjects decider starts limits) }
     ensures run { (old new : WorldData) (steps : List (Event × Reply)) → IsUnderWay old → Run old steps new → IsUnderWay new }
+{}
+
+/// What is under way is what was asked. A search that runs after an event was opened by it, for the seat and the window that
+/// it asks, or ran before for the same. A transaction that is open was opened by it, for its seat and with nothing staged, or
+/// was open before, of the same seat, with the same list or with the one change more that the event asks of just this seat
+/// and transaction. The seats that were given stay; one more goes to the subject of the name that the event asks.
+pub fn what_is_under_way_was_asked()
+    ensures { (event : Event) (old new : WorldData) (reply : Reply) → Happens event old new reply → IsAsked event old new reply }
 {}
 
 /// A commit ends as its judgement asks, where it is not refused: an accepted list is applied, and a list that fails is turned

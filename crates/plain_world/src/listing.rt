@@ -1,6 +1,6 @@
 //! The rows of a search, and the record of them.
 
-ghost use Rattle.std.specs.Prelude.{◌≡◌, ◌↔◌, ◌≤◌, ◌+◌, ℕ, Contains, IsTrue, IfOk, length, map};
+ghost use Rattle.std.specs.Prelude.{◌≡◌, ◌↔◌, ◌≤◌, ◌<◌, ◌+◌, ℕ, Contains, IsTrue, IfOk, length, map};
 ghost use Rattle.std.specs.List.Sorted.{IsStrictlyIncreasing};
 ghost use Rattle.features.specs.Rows.{IsSortedById};
 ghost use Rattle.audit_trail.specs.Listing.{IsListed, IsShown, question_on};
@@ -67,8 +67,10 @@ pub(crate) fn listed<A: Allocator>(
     ensures listed { IfOk result (λ rows. IsListed folded.now.decider.document folded.now.subject window.now store.now rows.items) }
     ensures sorted { IsSortedById store.now }
     ensures metered { meter.new ≤ meter.old + length ids.now }
+    ensures raised { meter.old ≤ meter.new }
 {
     stand_in_order(store);
+    count_to_the_greatest(meter);
     let mut rows = Vec::new(alloc);
     for id in ids {
         if let Some(feature) = store.get(*id, meter) {
@@ -85,6 +87,13 @@ fn stand_in_order<A: Allocator>(store: &Store<A>)
     ensures { IsSortedById store.now }
 {
     let _first = store.row_at(0);
+}
+
+/// The ticks of a meter are at most the greatest `u64`. The reader of its ticks says so, and a tick does not.
+fn count_to_the_greatest(meter: &Meter)
+    ensures { meter.now ≤ u64.MAX }
+{
+    let _ticks = meter.ticks();
 }
 
 /// Whether a feature is shown: its shape meets the window, and the subject may read it.

@@ -1,10 +1,10 @@
 //! Seats and searches.
 
-ghost use Rattle.std.specs.Prelude.{◌≡◌, ◌≤◌, ◌<◌, ◌+◌, ◌++◌, [], ◌∷◌, false, length, IfOk, IsTrue, Some};
+ghost use Rattle.std.specs.Prelude.{◌≡◌, ◌≤◌, ◌<◌, ◌+◌, ◌++◌, [], ◌∷◌, false, length, IfOk, OnErr, IsTrue, Some};
 ghost use Rattle.memory.specs.Refused.{refused};
 ghost use Rattle.audit_trail.specs.Listing.{Listed};
 ghost use Rattle.plain_world.specs.declared.searches.Search.{Search};
-ghost use Rattle.plain_world.specs.Admitting.{search_with};
+ghost use Rattle.plain_world.specs.Admitting.{may_finish, search_with};
 ghost use Rattle.plain_world.specs.Finding.{FindsAll};
 ghost use Rattle.plain_world.specs.Events.{Happens, TakeSeat, Finish, DropSearch, Number, Done, Rows, reply_of, with_ready, without_search};
 
@@ -75,9 +75,11 @@ impl<A: Allocator> PlainWorld<A> {
 impl<A: Allocator + Copy> PlainWorld<A> {
     /// Finishes a search for which the index has found these pairs of an id and a shape, among them the id of every feature
     /// that meets the window if the search has answered Ready. Its answer has the rows that are listed now, by the policy in
-    /// force and at the shapes that stand in the store, and is written to the trail. Each id that was found is looked up
-    /// once, which costs a tick. X1 where the seat was not given or no such search runs, X2 where it is another seat's, X3
-    /// where it has not answered Ready, X10 where the trail is full, X12 where a growth is refused.
+    /// force and at the shapes that stand in the store, and is written to the trail. X1 where the seat was not given or no
+    /// such search runs, X2 where it is another seat's, X3 where it has not answered Ready, X10 where the trail is full, X12
+    /// where a growth is refused. The meter counts at most a tick for each pair that was found, and none where the call is
+    /// refused before X12. Each id that was found is looked up once, which costs a tick; that nothing else is read from the
+    /// store no clause says.
     pub fn finish(
         &mut self,
         seat: u32,
@@ -88,6 +90,8 @@ impl<A: Allocator + Copy> PlainWorld<A> {
         requires found { (s : Search) → search_with number self.old.searches ≡ Some s → IsTrue s.ready → FindsAll self.old.state.features s.window found.now }
         ensures happens { Happens (Finish seat number) self.old self.new (reply_of Rows result) }
         ensures metered { meter.new ≤ meter.old + length found.now }
+        ensures raised { meter.old ≤ meter.new }
+        ensures unread { OnErr (may_finish seat number self.old) (meter.new ≡ meter.old) }
     {
         let (subject, running) = self.may_finish(seat, number)?;
         let answer = self.answer(subject, running.window, found, meter)?;
@@ -114,6 +118,7 @@ impl<A: Allocator + Copy> PlainWorld<A> {
         ensures told { IfOk result (λ a. Listed self.now.state subject window a.rows
             × (a ≡ record { subject = subject; window = window; decider = self.now.state.decider; rows = a.rows })) }
         ensures metered { meter.new ≤ meter.old + length found.now }
+        ensures raised { meter.old ≤ meter.new }
     {
         let ids = ids_found(self.alloc, found)?;
         let folded = self.decider.fold(&subject, &Action::Read)?;

@@ -1,6 +1,6 @@
 //! Policies are put in force, and the trail is rolled over.
 
-ghost use Rattle.std.specs.Prelude.{◌≡◌, ◌+◌, IfErr};
+ghost use Rattle.std.specs.Prelude.{◌≡◌, ◌<◌, ◌+◌, IfErr};
 ghost use Rattle.std.specs.Arc.{arc_value};
 ghost use Rattle.plain_world.specs.Events.{Happens, Govern, Roll, Number, TakenOut, reply_handing, reply_of};
 
@@ -13,10 +13,10 @@ use std::sync::Arc;
 
 impl<A: Allocator + Copy> World<A> {
     /// Puts a document in force by a decider that was made before, of the next edition. X1 where the seat was not given,
-    /// X7 where its subject is no steward, X8 where the edition is at its end, X10 where the trail is full, X12 where a
-    /// growth is refused.
+    /// X7 where its subject is no steward, X8 where the edition is at its end, whatever the decider's then is, X10 where the
+    /// trail is full, X12 where a growth is refused.
     pub fn govern_by(&mut self, seat: u32, decider: Arc<Decider>) -> Result<u64, Fault>
-        requires { (arc_value decider).edition ≡ self.old.plain.state.decider.edition + 1 }
+        requires { self.old.plain.state.decider.edition < u64.MAX → (arc_value decider).edition ≡ self.old.plain.state.decider.edition + 1 }
         ensures happens { Happens (Govern seat (arc_value decider).document) self.old.plain self.new.plain (reply_of Number result) }
         ensures index { self.new.index ≡ self.old.index }
         ensures walks { self.new.walks ≡ self.old.walks }

@@ -1,11 +1,11 @@
 //! Seats and searches.
 
-ghost use Rattle.std.specs.Prelude.{◌≡◌, ◌+◌, ◌≤◌, length, IfErr};
+ghost use Rattle.std.specs.Prelude.{◌≡◌, ◌+◌, ◌≤◌, length, IfErr, OnErr};
 ghost use Rattle.plain_world.specs.Events.{Happens, TakeSeat, OpenSearch, VisitNext, Finish, DropSearch, Number, Done, Visited, Rows, reply_of};
 ghost use Rattle.search_tree.specs.Calls.{found_in};
-ghost use Rattle.plain_world.specs.Admitting.{may_go_on};
+ghost use Rattle.plain_world.specs.Admitting.{may_finish, may_go_on};
 ghost use Rattle.transactions.specs.Refusing.{GivesUp};
-ghost use Rattle.transactions.specs.Stepping.{VisitsIndex};
+ghost use Rattle.transactions.specs.Stepping.{EndsInIndex, OpensInIndex, VisitsIndex};
 
 use crate::faults::{fault_of, is_overrun, refusal_of};
 use crate::worlds::World;
@@ -30,6 +30,7 @@ impl<A: Allocator> World<A> {
     /// no memory.
     pub fn drop_search(&mut self, seat: u32, number: u64) -> Result<(), Fault>
         ensures happens { Happens (DropSearch seat number) self.old.plain self.new.plain (reply_of (λ _. Done) result) }
+        ensures index { EndsInIndex number self.old.index self.new.index result }
         ensures walks { self.new.walks ≡ self.old.walks }
     {
         self.plain.drop_search(seat, number)?;
@@ -43,6 +44,7 @@ impl<A: Allocator + Copy> World<A> {
     /// or the number is at its end (S6), X12 where a growth is refused.
     pub fn open_search(&mut self, seat: u32, window: Shape) -> Result<u64, Fault>
         ensures happens { Happens (OpenSearch seat window) self.old.plain self.new.plain (reply_of Number result) }
+        ensures index { OpensInIndex window self.old.index self.new.index result }
         ensures walks { self.new.walks ≡ self.old.walks }
     {
         let number = self.plain.may_open(seat)?;
@@ -86,11 +88,14 @@ impl<A: Allocator + Copy> World<A> {
 
     /// Finishes a search: its answer has the rows that are listed now, by the policy in force, and is written to the trail.
     /// X1 where the seat was not given or no such search runs, X2 where it is another seat's, X3 where it has not
-    /// answered Ready, X10 where the trail is full, X12 where a growth is refused. The meter counts a look-up for each
-    /// feature that the search has found in the index, at most one a pair.
+    /// answered Ready, X10 where the trail is full, X12 where a growth is refused. The meter counts at most a look-up for
+    /// each pair that the search has found in the index, and none where the call is refused before X12.
     pub fn finish(&mut self, seat: u32, number: u64, meter: &mut Meter) -> Result<Answer<A>, Fault>
         ensures happens { Happens (Finish seat number) self.old.plain self.new.plain (reply_of Rows result) }
+        ensures index { EndsInIndex number self.old.index self.new.index result }
         ensures metered { meter.new ≤ meter.old + length (found_in self.old.index number) }
+        ensures raised { meter.old ≤ meter.new }
+        ensures unread { OnErr (may_finish seat number self.old.plain) (meter.new ≡ meter.old) }
         ensures walks { self.new.walks ≡ self.old.walks }
     {
         let answer = self

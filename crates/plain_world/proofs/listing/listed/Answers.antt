@@ -1,4 +1,4 @@
-use Rattle.std.proofs.Common.{◌≡◌, ◌+◌, Some, None, drop, get_or, List, sym, arith, subst}
+use Rattle.std.proofs.Common.{◌+◌, Some, None, drop, get_or, List, sym, arith, subst}
 use Rattle.std.proofs.lemmas.List.{drop_more, drop_all}
 use Rattle.features.specs.declared.rows.Feature.{Feature}
 use Rattle.audit_trail.proofs.ListingLemmas.{Lists, lists_yes, lists_no, lists_end}
@@ -32,6 +32,8 @@ loop-id-preserved g c =
             rw w.rows-is there)
       ];
       metered = omega (arith, c.get.ensures.cost, c.loop-id.invariant.metered);
+      raised = omega (arith, c.get.ensures.cost, c.loop-id.invariant.raised, c.loop-id.invariant.within);
+      within = omega (arith, c.get.ensures.cost, c.loop-id.invariant.within);
     }
 
 pub returns-clause-listed : goal.returns-clause-listed

@@ -7,4 +7,6 @@ abbrev pub invariant-loop-id : goal.invariant-loop-id
 invariant-loop-id g l = record {
   told : Lists l.folded.decider.document l.folded.subject l.window (looked_up l.store l.ids) (looked_up l.store (drop l.id-index l.ids)) l.rows.items;
   metered : l.meter ≤ l.fn.meter + l.id-index;
+  raised : l.fn.meter ≤ l.meter;
+  within : l.meter ≤ 18446744073709551615;
 }

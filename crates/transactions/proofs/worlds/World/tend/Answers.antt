@@ -28,5 +28,6 @@ returns-clause-index g c =
       contents = c.tend.ensures.contents;
       first = c.tend.ensures.first;
       step = c.tend.ensures.step;
+      refused = c.tend.ensures.err;
       nobody = c.tend.ensures.nobody;
     })
