@@ -1,5 +1,6 @@
 -- What is said of a success, by what was said of it, and which step a walk takes, by what is next for it.
-use Rattle.std.proofs.Common.{◌≡◌, ◌≢◌, ◌⊎◌, ◌+◌, ◌<◌, ℕ, Result, Ok, Err, IfOk, refl, ap, sym, subst, inl, inr}
+use Rattle.std.proofs.Common.{◌≡◌, ◌↔◌, ◌⊎◌, ◌∙◌, ◌+◌, ◌<◌, ◌≤◌, ℕ, Result, Ok, Err, IfOk, refl, ap, sym, subst, inl, inr}
+use Rattle.std.proofs.lemmas.Bool.{cases_lt}
 use Rattle.memory.specs.Refused.{refused}
 use Rattle.node_arena.specs.Slots.{taken_count}
 use Rattle.node_arena.specs.declared.TheConstants.{MAX_SLOTS}
@@ -33,20 +34,44 @@ module _ (C : Class) (t u : PlainTree C.Key C.Query C.Item) (at now : Handle) wh
   makes_room growth second_growth pair Nothing answer next made = absurd made
 
   -- why each change is refused
-  pub not_linked : (left : Handle) (fault : TreeFault) → (fault ≡ Spent) × (t.counter ≡ last_number) → Answers C t u at now (Linking left) (Err fault)
-  not_linked left fault is = subst (λ f. Answers C t u at now (Linking left) (Err f)) (sym is.0) (counter_ends is.1)
+  pub not_linked : (left : Handle) (fault : TreeFault) → (fault ≡ Spent) × (t.counter ≡ last_number) → u ≡ t → Answers C t u at now (Linking left) (Err fault)
+  not_linked left fault is same = subst (λ f. Answers C t u at now (Linking left) (Err f)) (sym is.0) (counter_ends is.1 same)
 
-  pub not_parted : (T : Type 0) (full : Handle) (fault : TreeFault) → (fault ≡ Full) ⊎ (fault ≡ Memory refused) → (◌≡◌ {A = Result T TreeFault} (Err fault) (Err Full) → MAX_SLOTS < taken_count t.nodes + 1) → Answers C t u at now (Parting full) (Err fault)
-  not_parted T full fault is slots = elim is [
-    | inl none_left ↦ subst (λ f. Answers C t u at now (Parting full) (Err f)) (sym none_left) (no_slot (slots (ap (λ (f : TreeFault). Err f) none_left)))
-    | inr no_room ↦ subst (λ f. Answers C t u at now (Parting full) (Err f)) (sym no_room) no_memory
+  -- so many slots are left where it is not the slots that are refused
+  fits : (T : Type 0) (more : ℕ) (fault : TreeFault) → fault ≡ Memory refused → ◌≡◌ {A = Result T TreeFault} (Err fault) (Err Full) ↔ (MAX_SLOTS < taken_count t.nodes + more) → taken_count t.nodes + more ≤ MAX_SLOTS
+  fits T more fault is full = elim (cases_lt MAX_SLOTS (taken_count t.nodes + more)) [
+    | inl few ↦
+        let both : ◌≡◌ {A = Result T TreeFault} (Err (Memory refused)) (Err Full) = ap (λ (f : TreeFault). Err f) (sym is) ∙ full.1 few in
+        absurd (cc (both))
+    | inr enough ↦ enough
   ]
 
-  pub not_grown : (T : Type 0) (fault : TreeFault) → (fault ≡ TooHigh) ⊎ (fault ≡ Full) ⊎ (fault ≡ Memory refused) → (◌≡◌ {A = Result T TreeFault} (Err fault) (Err TooHigh) → root_level t ≡ TOP_LEVEL) → (◌≡◌ {A = Result T TreeFault} (Err fault) (Err Full) → (root_level t ≢ TOP_LEVEL) × (MAX_SLOTS < taken_count t.nodes + 2)) → Answers C t u at now Growing (Err fault)
-  not_grown T fault is high slots = elim is [
-    | inl top ↦ subst (λ f. Answers C t u at now Growing (Err f)) (sym top) (top_level (high (ap (λ (f : TreeFault). Err f) top)))
+  -- the root stands lower where it is not its level that is refused
+  lower : (T : Type 0) (fault : TreeFault) → fault ≡ Memory refused → ◌≡◌ {A = Result T TreeFault} (Err fault) (Err TooHigh) → ⊥
+  lower T fault is e =
+      let both : ◌≡◌ {A = Result T TreeFault} (Err (Memory refused)) (Err TooHigh) = ap (λ (f : TreeFault). Err f) (sym is) ∙ e in
+      absurd (cc (both))
+
+  pub not_parted : (T : Type 0) (full : Handle) (fault : TreeFault) → (fault ≡ Full) ⊎ (fault ≡ Memory refused) → ◌≡◌ {A = Result T TreeFault} (Err fault) (Err Full) ↔ (MAX_SLOTS < taken_count t.nodes + 1) → (◌≡◌ {A = Result T TreeFault} (Err fault) (Err Full) → u ≡ t) → Answers C t u at now (Parting full) (Err fault)
+  not_parted T full fault is slots same = elim is [
+    | inl none_left ↦
+        let e = ap (λ (f : TreeFault). Err f) none_left in
+        subst (λ f. Answers C t u at now (Parting full) (Err f)) (sym none_left) (no_slot (slots.0 e) (same e))
+    | inr no_room ↦ subst (λ f. Answers C t u at now (Parting full) (Err f)) (sym no_room) (no_memory (fits T 1 fault no_room slots))
+  ]
+
+  pub not_grown : (T : Type 0) (fault : TreeFault) → (fault ≡ TooHigh) ⊎ (fault ≡ Full) ⊎ (fault ≡ Memory refused) → ◌≡◌ {A = Result T TreeFault} (Err fault) (Err TooHigh) ↔ ((taken_count t.nodes + 2 ≤ MAX_SLOTS) × (root_level t ≡ TOP_LEVEL)) → ◌≡◌ {A = Result T TreeFault} (Err fault) (Err Full) ↔ (MAX_SLOTS < taken_count t.nodes + 2) → (◌≡◌ {A = Result T TreeFault} (Err fault) (Err Full) ⊎ ◌≡◌ {A = Result T TreeFault} (Err fault) (Err TooHigh) → u ≡ t) → Answers C t u at now Growing (Err fault)
+  not_grown T fault is high slots same = elim is [
+    | inl top ↦
+        let e = ap (λ (f : TreeFault). Err f) top in
+        let at_top = high.0 e in
+        subst (λ f. Answers C t u at now Growing (Err f)) (sym top) (top_level at_top.0 at_top.1 (same (inr e)))
     | inr other ↦ elim other [
-      | inl none_left ↦ let few = slots (ap (λ (f : TreeFault). Err f) none_left) in subst (λ f. Answers C t u at now Growing (Err f)) (sym none_left) (no_slots few.0 few.1)
-      | inr no_room ↦ subst (λ f. Answers C t u at now Growing (Err f)) (sym no_room) no_memory_to_grow
+      | inl none_left ↦
+          let e = ap (λ (f : TreeFault). Err f) none_left in
+          subst (λ f. Answers C t u at now Growing (Err f)) (sym none_left) (no_slots (slots.0 e) (same (inl e)))
+      | inr no_room ↦
+          let enough = fits T 2 fault no_room slots in
+          subst (λ f. Answers C t u at now Growing (Err f)) (sym no_room) (no_memory_to_grow enough (λ top. lower T fault no_room (high.1 (enough, top))))
     ]
   ]

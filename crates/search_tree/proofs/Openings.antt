@@ -10,7 +10,7 @@ use Rattle.tree_theory.specs.Changes.{IsOpened, IsClosed}
 use Rattle.tree_theory.specs.KeyClasses.{Class}
 use Rattle.std.specs.Option.{option_map}
 use Rattle.search_tree.specs.Calls.{IsOpen, IsShut, found_in, found_of}
-use Rattle.search_tree.specs.Trees.{PlainProgress, PlainTree, IsFirstOf, IsSound, search_of, progress_at, search_in, seen, tree_of}
+use Rattle.search_tree.specs.Trees.{PlainProgress, PlainTree, IsFirstOf, IsSound, search_of, progress_at, search_in, seen, steps_of, tree_of}
 use Rattle.search_tree.proofs.ListEnds.{read_any}
 use Rattle.search_tree.proofs.ProgressLemmas.{first_read, pushed_here, pushed_other, filtered_here, filtered_other}
 
@@ -25,6 +25,7 @@ module _ (C : Class) (t : PlainTree C.Key C.Query C.Item) where
     pub listed : running.running ≡ t.running.running ++ record { number = p.number; query = query; begun = t.counter } ∷ []
     pub stack : p.stack ≡ (t.root, t.counter) ∷ []
     pub found : p.found ≡ []
+    pub steps : p.steps ≡ 0
 
   abbrev with_entered : RunningSearches C.Query → PlainProgress C.Item → PlainTree C.Key C.Query C.Item
   with_entered running p = record t { running = running; progress = t.progress ++ p ∷ [] }
@@ -70,6 +71,11 @@ module _ (C : Class) (t : PlainTree C.Key C.Query C.Item) where
         more = ap length has.listed ∙ length-append t.running.running (record { number = p.number; query = query; begun = t.counter } ∷ []);
         contents = λ xs. contents_opened (opened_step sound has);
         counts = record { counter = refl; limit = refl; level = refl; taken = refl; slots = refl };
+        begun = rw has.entered.runs refl;
+        steps = rw (pushed_here t.progress p (absent sound has)) has.steps;
+        others_begun = λ x apart. ap (option_map (λ (run : RunningSearch C.Query). run.begun)) (has.entered.others x apart);
+        others_steps = λ x apart. ap steps_of (pushed_other x t.progress p (λ e. apart (sym e)));
+        step = opened_step sound has;
       }
 
   -- a search less
@@ -114,6 +120,9 @@ module _ (C : Class) (t : PlainTree C.Key C.Query C.Item) where
         fewer = λ has. fewer (seen_runs number has);
         contents = λ xs. contents_closed (closed_step left);
         counts = record { counter = refl; limit = refl; level = refl; taken = refl; slots = refl };
+        others_begun = λ x apart. ap (option_map (λ (run : RunningSearch C.Query). run.begun)) (left.others x apart);
+        others_steps = λ x apart. ap steps_of (filtered_other number x t.progress apart);
+        step = closed_step left;
       }
 
   -- what a search has found stands in its progress

@@ -120,6 +120,7 @@ module _ (C : Class) (t : PlainTree C.Key C.Query C.Item) (at search : ℕ) wher
           running = refl;
           contents = λ xs. contents_visited (visited_seen C t at search run p q nodes runs first reads visited.x visited.memo visited.rest visited.popped number named saw);
           counts = record { counter = refl; limit = refl; level = level_kept nodes visited.x _ saw.changed (λ n. refl); taken = saw.changed.counts.taken; slots = saw.changed.counts.slots };
+          step = record { node = visited.x; memo = visited.memo; sees = inl (visited_seen C t at search run p q nodes runs first reads visited.x visited.memo visited.rest visited.popped number named saw) };
         }
         | inr gone ↦ record {
           before = record { query = run.query; found = p.found; ready = false };
@@ -135,5 +136,6 @@ module _ (C : Class) (t : PlainTree C.Key C.Query C.Item) (at search : ℕ) wher
           running = refl;
           contents = λ xs. contents_visited_gone (visited_gone C t at search run p q nodes runs first reads visited.x visited.memo visited.rest visited.popped number gone);
           counts = record { counter = refl; limit = refl; level = ap level_of (gone.same.each t.root); taken = gone.same.counts.taken; slots = gone.same.counts.slots };
+          step = record { node = visited.x; memo = visited.memo; sees = inr (visited_gone C t at search run p q nodes runs first reads visited.x visited.memo visited.rest visited.popped number gone) };
         }
       ]

@@ -1,14 +1,17 @@
 -- What the calls do, as callers see it: the contents, the searches, and the counts.
-use Rattle.std.specs.Prelude.{◌≡◌, ◌≢◌, ◌+◌, ◌++◌, ◌<◌, ◌≤◌, ℕ, Bool, true, false, [], List, Contains, length, slice_index_or, Option, None, Some, is_some, Result, Ok, Err}
+use Rattle.std.specs.Prelude.{◌≡◌, ◌≢◌, ◌+◌, ◌++◌, ◌<◌, ◌≤◌, ◌⊎◌, ℕ, Bool, true, false, [], List, Contains, length, slice_index_or, Option, None, Some, is_some, Result, Ok, Err}
 use Rattle.std.specs.Option.{option_map}
 use Rattle.memory.specs.declared.refused.Refused.{Refused}
-use Rattle.predicate_locks.specs.Searches.{last_number}
+use Rattle.predicate_locks.specs.Searches.{last_number, search_at}
+use Rattle.predicate_locks.specs.declared.running.RunningSearch.{RunningSearch}
 use Rattle.search_tree.specs.declared.answers.Visit.{Visit}
 use Rattle.search_tree.specs.declared.answers.Visit.TheVariants.{More, Ready}
 use Rattle.search_tree.specs.declared.fault.TreeFault.{TreeFault}
 use Rattle.search_tree.specs.declared.fault.TreeFault.TheVariants.{NoSearch, Overrun, Memory}
 use Rattle.search_tree.specs.Trees.{PlainProgress, PlainTree, IsFirstOf, is_empty, SeenSearch, search_in, steps_in, tree_of, root_level}
 use Rattle.node_arena.specs.Slots.{taken_count, slot_count}
+use Rattle.node_arena.specs.declared.handle.Handle.{Handle}
+use Rattle.tree_theory.specs.Changes.{IsOpened, IsClosed, IsVisited, IsVisitedGone}
 use Rattle.tree_theory.specs.Contents.{InContents, IsContents}
 use Rattle.tree_theory.specs.KeyClasses.{Class}
 use Rattle.tree_theory.specs.declared.TheConstants.{NODE_SIZE}
@@ -20,6 +23,10 @@ found_of (Some search) = search.found
 
 abbrev pub found_in : {Key Query Item : Type 0} → PlainTree Key Query Item → ℕ → List (ℕ × Item)
 found_in t s = found_of (search_in t s)
+
+-- where the counter stood when the search with this number began, if it runs
+abbrev pub begun_in : {Key Query Item : Type 0} → PlainTree Key Query Item → ℕ → Option ℕ
+begun_in {Query = Query} t s = option_map (λ (run : RunningSearch Query). run.begun) (search_at t.running s)
 
 module _ (C : Class) where
   -- the same contents, order aside
@@ -34,7 +41,8 @@ module _ (C : Class) where
     pub taken : taken_count u.nodes ≡ taken_count t.nodes
     pub slots : slot_count u.nodes ≡ slot_count t.nodes
 
-  -- a search begins under the next number and has found nothing. Nothing else changes
+  -- a search begins under the next number and at the tree's counter, with the root before it. It has found nothing and
+  -- has made no step. Nothing else changes, the nodes included
   pub record IsOpen (t u : PlainTree C.Key C.Query C.Item) (query : C.Query) (search : ℕ) : Type 0 where
     pub number : search ≡ t.running.next
     pub did_not_run : search_in t search ≡ None
@@ -44,8 +52,13 @@ module _ (C : Class) where
     pub more : length u.running.running ≡ length t.running.running + 1
     pub contents : SameContents t u
     pub counts : SameCounts t u
+    pub begun : begun_in u search ≡ Some t.counter
+    pub steps : steps_in u search ≡ 0
+    pub others_begun : (other : ℕ) → other ≢ search → begun_in u other ≡ begun_in t other
+    pub others_steps : (other : ℕ) → other ≢ search → steps_in u other ≡ steps_in t other
+    pub step : IsOpened (tree_of C t) (tree_of C u) query
 
-  -- no search runs under the number. Nothing else changes
+  -- no search runs under the number. Nothing else changes, the nodes included
   pub record IsShut (t u : PlainTree C.Key C.Query C.Item) (search : ℕ) : Type 0 where
     pub gone : search_in u search ≡ None
     pub others : (other : ℕ) → other ≢ search → search_in u other ≡ search_in t other
@@ -53,6 +66,9 @@ module _ (C : Class) where
     pub fewer : is_some (search_in t search) ≡ true → length u.running.running + 1 ≡ length t.running.running
     pub contents : SameContents t u
     pub counts : SameCounts t u
+    pub others_begun : (other : ℕ) → other ≢ search → begun_in u other ≡ begun_in t other
+    pub others_steps : (other : ℕ) → other ≢ search → steps_in u other ≡ steps_in t other
+    pub step : IsClosed (tree_of C t) (tree_of C u) search
 
   -- where the search is ready, it has found every pair of the tree that it looks for
   abbrev pub IsComplete : PlainTree C.Key C.Query C.Item → ℕ → List (ℕ × C.Item) → Type 0
@@ -68,8 +84,14 @@ module _ (C : Class) where
     pub contents : SameContents t u
     pub counts : SameCounts t u
 
+  -- the search takes the last node from its stack, with its memo, and sees it or finds it gone, as the theory has it
+  pub record SeesNode (t u : PlainTree C.Key C.Query C.Item) (search : ℕ) : Type 0 where
+    pub node : Handle
+    pub memo : ℕ
+    pub sees : IsVisited (tree_of C t) (tree_of C u) search node memo ⊎ IsVisitedGone (tree_of C t) (tree_of C u) search node memo
+
   -- the search makes a step: it finds these pairs, no more than a node has, each of them in the tree and one that
-  -- it looks for. Nothing else changes
+  -- it looks for. The step is one of the theory's. Nothing else that callers see changes
   pub record IsFurther (t u : PlainTree C.Key C.Query C.Item) (search : ℕ) (ready : Bool) : Type 0 where
     pub before : SeenSearch C.Query C.Item
     pub ran : search_in t search ≡ Some before
@@ -84,6 +106,7 @@ module _ (C : Class) where
     pub running : u.running ≡ t.running
     pub contents : SameContents t u
     pub counts : SameCounts t u
+    pub step : SeesNode t u search
 
 -- the search runs and has seen all there is
 abbrev pub IsReadyIn : {Key Query Item : Type 0} → PlainTree Key Query Item → ℕ → Type 0

@@ -37,9 +37,17 @@ module _ (C : Class) (s : Searches C.Query) (old : C.Key) where
     pub runs : search_at s number ≡ Some search
     pub inconsistent : C.Consistent old search.query → ⊥
 
-  -- the attached searches that run and that a wider key leads on, but not the old one
+  -- a search runs and is attached, and this wider key leads it on
+  pub record IsLedOn (wider : C.Key) (attached : List ℕ) (number : ℕ) : Type 0 where
+    pub search : RunningSearch C.Query
+    pub runs : search_at s number ≡ Some search
+    pub is_attached : Contains attached number
+    pub consistent : C.Consistent wider search.query
+
+  -- the attached searches that run and that a wider key leads on, but not the old one: those alone, and all of them
   pub record AreLed (wider : C.Key) (attached led : List ℕ) : Type 0 where
     pub listed : (number : ℕ) → Contains led number → IsNotLed number
+    pub led_on : (number : ℕ) → Contains led number → IsLedOn wider attached number
     pub missed : (number : ℕ) (search : RunningSearch C.Query) → search_at s number ≡ Some search → Contains attached number → (Contains led number → ⊥) → C.Consistent wider search.query → C.Consistent old search.query
 
 -- the right node of a marked node

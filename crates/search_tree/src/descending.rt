@@ -34,6 +34,7 @@ pub(crate) fn led_searches<C: KeyClass, A: Allocator>(
 // Whether the wider key leads a search with this query on, and the old one does not.
 fn is_led<C: KeyClass>(old: C::Key, wider: C::Key, query: C::Query) -> bool
     ensures led { IsTrue result → C.may_match old query → ⊥ }
+    ensures wider { IsTrue result → C.may_match wider query }
     ensures not_led { result ≡ false → C.may_match wider query → C.may_match old query }
 {
     C::consistent(wider, query) && !C::consistent(old, query)

@@ -16,7 +16,7 @@ pub enum TreeFault {
     TooMany,
     /// S3: the search of this number has seen the leaf already, and looks for the item that would be put there.
     Held(u64),
-    /// S4: every slot is taken.
+    /// S4: fewer slots are free than the new nodes want.
     Full,
     /// S5: the root would stand too high.
     TooHigh,

@@ -1,6 +1,6 @@
 //! The full root grows.
 
-ghost use Rattle.std.specs.Prelude.{◌≡◌, ◌≢◌, ◌↔◌, ◌⊎◌, ◌+◌, ◌<◌, [], Err, IfOk, IfErr, OnOk, OnErr};
+ghost use Rattle.std.specs.Prelude.{◌≡◌, ◌≢◌, ◌↔◌, ◌⊎◌, ◌+◌, ◌<◌, ◌≤◌, [], Err, IfOk, IfErr, OnOk, OnErr};
 ghost use Rattle.memory.specs.Refused.{refused};
 ghost use Rattle.node_arena.specs.Slots.{value_at, taken_count, HasRoomFor};
 ghost use Rattle.node_arena.specs.declared.TheConstants.{MAX_SLOTS};
@@ -37,13 +37,14 @@ struct Lower<K, I, A: Allocator> {
 impl<C: KeyClass, A: Allocator + Copy> Tree<C, A> {
     // Gives the full root two new nodes, which have a part each of what it had and the searches attached to it. It has their entries, one level higher.
     //
-    // S5 where the root stands at the highest level, else S4 where fewer than two slots more can be taken, and S8 where there is no memory. Then nothing has changed.
+    // S4 where fewer than two slots more can be taken, else S5 where the root stands at the highest level, and then nothing has changed. Else S8 where there is no memory, and then nothing has changed but the room.
     pub(crate) fn grow(&mut self) -> Result<(), TreeFault>
         requires { MayGrow (class_of C.covered C.may_match C.is_match C.key_with C.united) self.old }
         ensures ok { OnOk result (HasMoreNodes (class_of C.covered C.may_match C.is_match C.key_with C.united) self.old self.new 2 1) }
         ensures grown { OnOk result (HasGrown (class_of C.covered C.may_match C.is_match C.key_with C.united) self.old.nodes self.new.nodes self.old.root self.old.counter) }
-        ensures too_high { (result ≡ Err TreeFault.TooHigh) ↔ (root_level self.old ≡ TOP_LEVEL) }
-        ensures full { (result ≡ Err TreeFault.Full) ↔ ((root_level self.old ≢ TOP_LEVEL) × (MAX_SLOTS < taken_count self.old.nodes + 2)) }
+        ensures full { (result ≡ Err TreeFault.Full) ↔ (MAX_SLOTS < taken_count self.old.nodes + 2) }
+        ensures too_high { (result ≡ Err TreeFault.TooHigh) ↔ ((taken_count self.old.nodes + 2 ≤ MAX_SLOTS) × (root_level self.old ≡ TOP_LEVEL)) }
+        ensures untouched { (result ≡ Err TreeFault.Full) ⊎ (result ≡ Err TreeFault.TooHigh) → self.new ≡ self.old }
         ensures faults { IfErr result (λ fault. (fault ≡ TreeFault.TooHigh) ⊎ (fault ≡ TreeFault.Full) ⊎ (fault ≡ TreeFault.Memory refused)) }
         ensures err { OnErr result (IsAlike (class_of C.covered C.may_match C.is_match C.key_with C.united) self.old self.new) }
     {
@@ -60,11 +61,15 @@ fn grow_in<C: KeyClass, A: Allocator + Copy>(
 ) -> Result<(), TreeFault>
     requires { IsFullRoot nodes.old root }
     ensures ok { OnOk result (HasGrown (class_of C.covered C.may_match C.is_match C.key_with C.united) nodes.old nodes.new root seq) }
-    ensures too_high { (result ≡ Err TreeFault.TooHigh) ↔ (level_of (value_at nodes.old root) ≡ TOP_LEVEL) }
-    ensures full { (result ≡ Err TreeFault.Full) ↔ ((level_of (value_at nodes.old root) ≢ TOP_LEVEL) × (MAX_SLOTS < taken_count nodes.old + 2)) }
+    ensures full { (result ≡ Err TreeFault.Full) ↔ (MAX_SLOTS < taken_count nodes.old + 2) }
+    ensures too_high { (result ≡ Err TreeFault.TooHigh) ↔ ((taken_count nodes.old + 2 ≤ MAX_SLOTS) × (level_of (value_at nodes.old root) ≡ TOP_LEVEL)) }
+    ensures untouched { (result ≡ Err TreeFault.Full) ⊎ (result ≡ Err TreeFault.TooHigh) → nodes.new ≡ nodes.old }
     ensures faults { IfErr result (λ fault. (fault ≡ TreeFault.TooHigh) ⊎ (fault ≡ TreeFault.Full) ⊎ (fault ≡ TreeFault.Memory refused)) }
     ensures err { OnErr result (AreSame nodes.old nodes.new) }
 {
+    if !nodes.has_room(2) {
+        return Err(TreeFault::Full);
+    }
     if level_at(nodes, root) == TOP_LEVEL {
         return Err(TreeFault::TooHigh);
     }

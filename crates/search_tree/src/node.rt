@@ -181,13 +181,6 @@ impl<K: Copy, I: Copy, A: Allocator> TreeNode<K, I, A> {
         self.seq = seq;
     }
 
-    /// Gives it another rightlink.
-    pub fn set_right(&mut self, right: Option<Handle>)
-        ensures { self.new ≡ record self.old { right = right } }
-    {
-        self.right = right;
-    }
-
     /// Puts it elsewhere.
     pub fn set_place(&mut self, place: Place)
         ensures { self.new ≡ record self.old { place = place } }

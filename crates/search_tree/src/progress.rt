@@ -67,13 +67,6 @@ impl<I: Copy, A: Allocator> Progress<I, A> {
         self.steps
     }
 
-    /// The nodes that it has yet to visit.
-    pub fn stack(&self) -> &[(Handle, u64)]
-        ensures { result.now ≡ self.now.stack }
-    {
-        &self.stack
-    }
-
     /// Whether it has seen all there is.
     pub fn is_ready(&self) -> bool
         ensures { result ≡ is_empty self.now.stack }

@@ -34,19 +34,6 @@ pub fn set_seq<K: Copy, I: Copy, A: Allocator>(nodes: &mut Nodes<K, I, A>, at: H
     }
 }
 
-/// Gives a node another rightlink.
-pub fn set_right<K: Copy, I: Copy, A: Allocator>(
-    nodes: &mut Nodes<K, I, A>,
-    at: Handle,
-    right: Option<Handle>,
-)
-    ensures { IsChanged nodes.old nodes.new at (λ node. record node { right = right }) }
-{
-    if let Some(node) = nodes.get_mut(at) {
-        node.set_right(right);
-    }
-}
-
 /// Puts a node elsewhere.
 pub fn set_place<K: Copy, I: Copy, A: Allocator>(
     nodes: &mut Nodes<K, I, A>,

@@ -24,7 +24,7 @@ use tree_theory::{KeyClass, Place};
 impl<C: KeyClass, A: Allocator + Copy> Tree<C, A> {
     // Splits a full node that is linked and not marked, and answers its new right node. The right node has a part of what the node had, its number, its rightlink and its attached searches; no entry names it yet. The node is marked, and leads to it.
     //
-    // S4 where no slot more can be taken, S8 where there is no memory. Then nothing has changed.
+    // S4 where no slot more can be taken, and then nothing has changed. S8 where there is no memory, and then nothing has changed but the room.
     pub(crate) fn split(&mut self, at: Handle) -> Result<Handle, TreeFault>
         requires { MaySplit (class_of C.covered C.may_match C.is_match C.key_with C.united) self.old at }
         ensures ok { OnOk result (HasMoreNodes (class_of C.covered C.may_match C.is_match C.key_with C.united) self.old self.new 1 0) }
@@ -32,6 +32,7 @@ impl<C: KeyClass, A: Allocator + Copy> Tree<C, A> {
         ensures parted { IfOk result (HasSplit self.old.nodes self.new.nodes at) }
         ensures full { (result ≡ Err TreeFault.Full) ↔ (MAX_SLOTS < taken_count self.old.nodes + 1) }
         ensures faults { IfErr result (λ fault. (fault ≡ TreeFault.Full) ⊎ (fault ≡ TreeFault.Memory refused)) }
+        ensures untouched { result ≡ Err TreeFault.Full → self.new ≡ self.old }
         ensures err { OnErr result (IsAlike (class_of C.covered C.may_match C.is_match C.key_with C.united) self.old self.new) }
     {
         split_in::<C, A>(&mut self.nodes, self.alloc, at)
@@ -48,6 +49,7 @@ fn split_in<C: KeyClass, A: Allocator + Copy>(
     ensures ok { IfOk result (HasSplit nodes.old nodes.new at) }
     ensures full { (result ≡ Err TreeFault.Full) ↔ (MAX_SLOTS < taken_count nodes.old + 1) }
     ensures faults { IfErr result (λ fault. (fault ≡ TreeFault.Full) ⊎ (fault ≡ TreeFault.Memory refused)) }
+    ensures untouched { result ≡ Err TreeFault.Full → nodes.new ≡ nodes.old }
     ensures err { OnErr result (AreSame nodes.old nodes.new) }
 {
     if let Err(fault) = make_slots(nodes, 1) {
@@ -69,6 +71,7 @@ pub(crate) fn make_slots<K, I, A: Allocator>(
     ensures fits { OnOk result (taken_count nodes.old + more ≤ MAX_SLOTS) }
     ensures full { (result ≡ Err TreeFault.Full) ↔ (MAX_SLOTS < taken_count nodes.old + more) }
     ensures faults { IfErr result (λ fault. (fault ≡ TreeFault.Full) ⊎ (fault ≡ TreeFault.Memory refused)) }
+    ensures untouched { OnErr result (nodes.new ≡ nodes.old) }
     ensures same { AreSame nodes.old nodes.new }
 {
     match nodes.reserve(more) {

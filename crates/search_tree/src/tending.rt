@@ -22,7 +22,7 @@ use std::alloc::Allocator;
 use tree_theory::{KeyClass, Place};
 
 impl<C: KeyClass, A: Allocator> Tree<C, A> {
-    /// Tends one slot: it lets go of what stands there and is no longer needed, or gives a right node its entry. Where there is nothing to do it answers Idle.
+    /// Tends one slot: it lets go of what stands there and is no longer needed, or gives a right node its entry. Where there is nothing to do it answers Idle, and changes nothing.
     ///
     /// A retired node goes (Freed) where every running search began since it was retired. A marked node's right node gets its entry where their parent has room (Installed). A leaf loses the pairs that are not kept (Cleaned). An empty leaf that is not its parent's only child is retired (Retired). It takes no memory, and changes no search.
     ///
@@ -33,6 +33,7 @@ impl<C: KeyClass, A: Allocator> Tree<C, A> {
         ensures first { (at : Handle) → at.slot ≡ slot → IsSome (value_at self.old.nodes at) → AnswersFirst (class_of C.covered C.may_match C.is_match C.key_with C.united) self.old (λ pair. IsTrue (K.kept keeper.now pair.0 pair.1)) at result }
         ensures step { (at : Handle) → at.slot ≡ slot → IsSome (value_at self.old.nodes at) → IfOk result (StepsAt (class_of C.covered C.may_match C.is_match C.key_with C.united) self.old (λ pair. IsTrue (K.kept keeper.now pair.0 pair.1)) at self.new) }
         ensures nobody { ((at : Handle) → at.slot ≡ slot → IsSome (value_at self.old.nodes at) → ⊥) → result ≡ Ok Tending.Idle }
+        ensures untouched { ((at : Handle) → at.slot ≡ slot → IsSome (value_at self.old.nodes at) → ⊥) → self.new ≡ self.old }
         ensures spent { IfErr result (λ fault. (fault ≡ TreeFault.Spent) × (self.old.counter ≡ last_number)) }
         ensures err { OnErr result (self.new ≡ self.old) }
     {

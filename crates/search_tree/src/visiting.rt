@@ -39,7 +39,7 @@ pub(crate) enum State {
 impl<C: KeyClass, A: Allocator + Copy> Tree<C, A> {
     /// One step of a search: it sees one node. Ready is answered where it has then seen all there is; from then on until it is closed, `found` has every pair of the tree whose item matches its query.
     ///
-    /// S1 where no search runs under the number. A search that is ready is answered Ready again, and makes no step. S7 where it has made all its steps: then it ends. S8 where there is no memory; then nothing has changed.
+    /// S1 where no search runs under the number. A search that is ready is answered Ready again, and makes no step. S7 where it has made all its steps: then it ends. S8 where there is no memory; then nothing has changed that callers see.
     pub fn visit(&mut self, search: u64) -> Result<Visit, TreeFault>
         ensures { IsVisit (class_of C.covered C.may_match C.is_match C.key_with C.united) self.old self.new search result }
     {

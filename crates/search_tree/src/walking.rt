@@ -23,11 +23,7 @@ pub(crate) fn holder_of<C: KeyClass, A: Allocator>(
     ensures held { IfSome result (IsHolder (class_of C.covered C.may_match C.is_match C.key_with C.united) running.now attached.now.numbers item) }
     ensures free { IfNone result (NoneHolds (class_of C.covered C.may_match C.is_match C.key_with C.united) running.now attached.now.numbers item) }
 {
-    let first = running.first_meeting(attached, &|query: &C::Query| C::matches(item, *query));
-    match first {
-        Some(number) => Some(number),
-        None => None,
-    }
+    running.first_meeting(attached, &|query: &C::Query| C::matches(item, *query))
 }
 
 impl<C: KeyClass, A: Allocator> Tree<C, A> {

@@ -9,6 +9,10 @@ returns-clause-led g c =
           let found = met.listed number has in
           let accepted = found.3 in
           record { search = found.0; runs = found.1; inconsistent = search rules };
+      led_on = λ number has.
+          let found = met.listed number has in
+          let accepted = found.3 in
+          record { search = found.0; runs = found.1; is_attached = found.2; consistent = search rules };
       missed = λ number one runs attached apart.
           let refused = met.missed number one runs attached apart in
           search rules;

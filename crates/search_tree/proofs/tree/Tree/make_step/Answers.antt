@@ -20,7 +20,7 @@ pub returns-in-Err-clause-first : goal.returns-in-Err-clause-first
 returns-in-Err-clause-first g c = wants_memory c.in-Descend.ensures.first.1
 
 pub returns-in-Hold-clause-first : goal.returns-in-Hold-clause-first
-returns-in-Hold-clause-first g c = is_held c.in-Hold.ensures.first.1 c.in-Hold.ensures.first.2
+returns-in-Hold-clause-first g c = is_held c.in-Hold.ensures.first.1 c.in-Hold.ensures.first.2 refl
 
 pub returns-in-Place-clause-first : goal.returns-in-Place-clause-first
 returns-in-Place-clause-first g c = places c.in-Place.ensures.first.1 c.in-Place.ensures.first.2 c.place.ensures.step refl

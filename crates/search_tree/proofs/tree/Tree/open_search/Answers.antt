@@ -12,6 +12,7 @@ invariant_of-self-2 g c =
       listed = subst (λ (n : ℕ). c.enter.new.self.running ≡ c.self.inside.running.running ++ record { number = n; query = c.args.query; begun = c.self.inside.counter } ∷ []) same c.in-Ok.ensures.listed;
       stack = c.in_ok-progress.ensures.2;
       found = c.in_ok-progress.ensures.3;
+      steps = c.in_ok-progress.ensures.1;
     })
     )
 
@@ -24,5 +25,6 @@ returns-clause-ok g c =
       listed = subst (λ (n : ℕ). c.enter.new.self.running ≡ c.self.inside.running.running ++ record { number = n; query = c.args.query; begun = c.self.inside.counter } ∷ []) same c.in-Ok.ensures.listed;
       stack = c.in_ok-progress.ensures.2;
       found = c.in_ok-progress.ensures.3;
+      steps = c.in_ok-progress.ensures.1;
     })
     )
