@@ -18,7 +18,8 @@ pub enum ConfigFault {
     Subjects(SubjectsFault),
     /// B4: the policies are no document. It is shown as D2 to D8.
     Policies(TextFault),
-    /// B5: a growth was refused. It may come in the place of each fault but those of a list of subjects.
+    /// B5: a growth was refused. It may come of any text, in the place of each other fault. Only of no bytes `read_config`
+    /// always tells `NotJson`.
     Memory(Refused),
 }
 

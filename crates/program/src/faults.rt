@@ -13,7 +13,7 @@ pub enum ProgramFault<'a> {
     CannotRead(&'a str),
     /// What the program has to say cannot be written.
     CannotWrite,
-    /// There is no memory for the command line. It is shown as V4.
+    /// There is no memory for the command line, or for the output's buffer. It is shown as V4.
     NoMemory,
     /// The configuration is none.
     Config(ConfigFault),

@@ -227,7 +227,7 @@ fn the_built_in_one(rt: HostRuntime) {
     }
 }
 
-/// What a file of so many line feeds gives.
+/// What a file of so many bytes gives, which are no JSON.
 fn file_of(heap: Global, left: usize) -> Result<Config<Global>, FileFault> {
     read_config_file(heap, heap, &mut LongReader { left })
 }

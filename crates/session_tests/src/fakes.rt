@@ -1,4 +1,4 @@
-//! A worked script, and readers and writers that fail.
+//! Worked scripts, and readers and writers that fail.
 use std::io;
 use std::io::{ErrorKind, Read, Write};
 
@@ -9,6 +9,17 @@ pub const FIRST_POINT: &str =
 /// Its replies.
 pub const FIRST_REPLIES: &str =
     "n: hello north\nn: staged\nn: applied 1\nn: rows 1\nn: 1 1 north mast POINT (3 4)\nn: rows 0\n";
+
+/// Sixteen features in a row, and one more that is staged.
+pub const SIXTEEN: &str =
+    "n: HELLO north\nn: ADD 1 road POINT (1 0)\nn: ADD 2 road POINT (2 0)\nn: ADD 3 road POINT (3 0)\nn: ADD 4 road POINT (4 0)\nn: ADD 5 road POINT (5 0)\nn: ADD 6 road POINT (6 0)\nn: ADD 7 road POINT (7 0)\nn: ADD 8 road POINT (8 0)\nn: ADD 9 road POINT (9 0)\nn: ADD 10 road POINT (10 0)\nn: ADD 11 road POINT (11 0)\nn: ADD 12 road POINT (12 0)\nn: ADD 13 road POINT (13 0)\nn: ADD 14 road POINT (14 0)\nn: ADD 15 road POINT (15 0)\nn: ADD 16 road POINT (16 0)\nn: COMMIT\nn: ADD 17 road POINT (17 0)\n";
+
+/// What a search for the sixteen is answered, and for the seventeen.
+pub const SIXTEEN_ROWS: &str =
+    "n: rows 16\nn: 1 1 north road POINT (1 0)\nn: 2 1 north road POINT (2 0)\nn: 3 1 north road POINT (3 0)\nn: 4 1 north road POINT (4 0)\nn: 5 1 north road POINT (5 0)\nn: 6 1 north road POINT (6 0)\nn: 7 1 north road POINT (7 0)\nn: 8 1 north road POINT (8 0)\nn: 9 1 north road POINT (9 0)\nn: 10 1 north road POINT (10 0)\nn: 11 1 north road POINT (11 0)\nn: 12 1 north road POINT (12 0)\nn: 13 1 north road POINT (13 0)\nn: 14 1 north road POINT (14 0)\nn: 15 1 north road POINT (15 0)\nn: 16 1 north road POINT (16 0)\n";
+
+pub const SEVENTEEN_ROWS: &str =
+    "n: rows 17\nn: 1 1 north road POINT (1 0)\nn: 2 1 north road POINT (2 0)\nn: 3 1 north road POINT (3 0)\nn: 4 1 north road POINT (4 0)\nn: 5 1 north road POINT (5 0)\nn: 6 1 north road POINT (6 0)\nn: 7 1 north road POINT (7 0)\nn: 8 1 north road POINT (8 0)\nn: 9 1 north road POINT (9 0)\nn: 10 1 north road POINT (10 0)\nn: 11 1 north road POINT (11 0)\nn: 12 1 north road POINT (12 0)\nn: 13 1 north road POINT (13 0)\nn: 14 1 north road POINT (14 0)\nn: 15 1 north road POINT (15 0)\nn: 16 1 north road POINT (16 0)\nn: 17 2 north road POINT (17 0)\n";
 
 /// A reader that gives one byte a call, and fails at a call, counted from 1.
 #[derive(Drop)]
@@ -98,7 +109,7 @@ impl Read for CountingReader {
     }
 }
 
-/// A reader that fills what it is given with line feeds, so many in all.
+/// A reader that fills what it is given with one comment line, so many bytes in all.
 #[derive(Drop)]
 pub struct LongReader {
     pub left: usize,
@@ -107,7 +118,10 @@ pub struct LongReader {
 impl Read for LongReader {
     fn read(&mut self, buf: &mut [u8]) -> io::Result<usize> {
         let count = buf.len().min(self.left);
-        buf[..count].fill(b'\n');
+        buf[..count].fill(b'#');
+        if let Some(last) = buf[..count].last_mut() {
+            *last = b'\n';
+        }
         self.left -= count;
         Ok(count)
     }

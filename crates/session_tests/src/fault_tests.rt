@@ -1,6 +1,6 @@
 //! What stands when a run ends by a fault.
 use crate::fakes::{
-    CountingReader, FIRST_POINT, FIRST_REPLIES, FailingReader, FailingWriter, Failure,
+    CountingReader, FIRST_POINT, FIRST_REPLIES, FailingReader, FailingWriter, Failure, LongReader,
 };
 use crate::worlds::opened;
 use refusing::Refusing;
@@ -51,13 +51,14 @@ fn check_left(
 
 #[test]
 fn each_read_fails(rt: HostRuntime) -> Result<(), Fail> {
+    // The last of these reads would tell that the input ends.
     let mut lines = 0;
-    for (at, byte) in FIRST_POINT.bytes().enumerate() {
+    for at in 0..=FIRST_POINT.len() {
         let mut world = opened(&rt, rt.alloc(), rt.alloc());
         let mut output = Vec::new(rt.alloc());
         let mut reader = FailingReader {
             bytes: FIRST_POINT.as_bytes(),
-            fails_at: at as u64 + 1,
+            fails_at: (at as u64).saturating_add(1),
         };
         let end = run_script(rt.alloc(), rt.alloc(), &mut world, &mut reader, &mut output);
         assert_eq!(rt; end, Err(ServeFault::Read), "at {at}");
@@ -67,15 +68,18 @@ fn each_read_fails(rt: HostRuntime) -> Result<(), Fail> {
             "at {at}"
         );
         check_left(&rt, rt.alloc(), &mut world, lines)?;
-        if byte == b'\n' {
-            lines = (lines + 1).min(REPLIES.len());
+        if FIRST_POINT.as_bytes().get(at) == Some(&b'\n') {
+            lines = lines.saturating_add(1);
         }
     }
     assert_eq!(rt; lines, 5);
     Ok(())
 }
 
-/// Runs the worked script into a writer that fails.
+/// How many lines of the worked script were answered when each line of its replies is written.
+const ANSWERED: [usize; 6] = [1, 2, 3, 4, 4, 5];
+
+/// Runs the worked script into a writer that fails, and a new run over the world that is left.
 fn run_into(
     rt: &impl Abort,
     alloc: Global,
@@ -97,8 +101,6 @@ fn run_into(
 
 #[test]
 fn each_write_fails(rt: HostRuntime) -> Result<(), Fail> {
-    // The replies in lines, and how many lines of the script were answered when each is written.
-    let lines = [1, 2, 3, 4, 4, 5];
     let mut written = 0;
     for (at, reply) in FIRST_REPLIES.split_inclusive('\n').enumerate() {
         for failure in [Failure::Error, Failure::Nothing] {
@@ -108,7 +110,7 @@ fn each_write_fails(rt: HostRuntime) -> Result<(), Fail> {
                 fails_at: at as u64 + 1,
                 with: failure,
             };
-            let answered = lines.get(at).copied().unwrap_or(0);
+            let answered = ANSWERED.get(at).copied().unwrap_or(0);
             run_into(
                 &rt,
                 rt.alloc(),
@@ -130,22 +132,25 @@ fn each_write_fails(rt: HostRuntime) -> Result<(), Fail> {
 
 #[test]
 fn each_byte_fails(rt: HostRuntime) -> Result<(), Fail> {
-    for at in 0..FIRST_REPLIES.len() {
-        let mut world = opened(&rt, rt.alloc(), rt.alloc());
+    let mut reply = 0;
+    for (at, byte) in FIRST_REPLIES.bytes().enumerate() {
         let mut writer = FailingWriter {
             taken: Vec::new(rt.alloc()),
             most: 1,
             fails_at: at as u64 + 1,
             with: Failure::Error,
         };
-        let end = run_script(
+        let answered = ANSWERED.get(reply).copied().unwrap_or(0);
+        run_into(
+            &rt,
             rt.alloc(),
-            rt.alloc(),
-            &mut world,
-            &mut FIRST_POINT.as_bytes(),
             &mut writer,
-        );
-        assert_eq!(rt; end, Err(ServeFault::Write));
+            Err(ServeFault::Write),
+            answered,
+        )?;
+        if byte == b'\n' {
+            reply = reply.saturating_add(1);
+        }
         assert_eq!(rt;
             Some(writer.taken.as_slice()),
             FIRST_REPLIES.as_bytes().get(..at),
@@ -184,11 +189,22 @@ fn run_bytes(rt: &impl Abort, alloc: Global, bytes: u64, end: Result<(), ServeFa
     assert_eq!(rt; output.len(), 0);
 }
 
+/// More bytes than a run has reads, many of which a read gives.
+fn run_long(rt: &impl Abort, alloc: Global) {
+    let mut world = opened(rt, alloc, alloc);
+    let mut output = Vec::new(alloc);
+    let mut reader = LongReader { left: 17_000_000 };
+    let ended = run_script(alloc, alloc, &mut world, &mut reader, &mut output);
+    assert_eq!(rt; ended, Ok(()));
+    assert_eq!(rt; (reader.left, output.len()), (0, 0));
+}
+
 #[test]
 fn a_reader_that_does_not_end(rt: HostRuntime) {
     let reads = READ_LIMIT as u64;
     run_bytes(&rt, rt.alloc(), reads - 1, Ok(()), reads);
     run_bytes(&rt, rt.alloc(), reads, Err(ServeFault::TooManyTurns), reads);
+    run_long(&rt, rt.alloc());
 }
 
 #[test]

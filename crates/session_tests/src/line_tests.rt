@@ -6,6 +6,7 @@ use sessions::{run_script, serve_world};
 use std::alloc::{AllocError, Global};
 use std::process::Abort;
 use std::test::Fail;
+use transactions::World;
 
 const SEATS: &str = "n: HELLO north\ns: HELLO south\nc: HELLO chief\n";
 
@@ -149,8 +150,32 @@ fn without_labels(rt: HostRuntime) -> Result<(), Fail> {
     Ok(())
 }
 
-/// Each allocation that a world makes for the worked script is refused in turn: the line is answered `memory`, or the
-/// reply is the worked one; a run behind it finds a world that still answers.
+/// A run over the world that a run has left: it finds the point exactly where its commit was answered, and no staged list.
+fn check_behind<'a>(
+    rt: &impl Abort,
+    heap: Global,
+    world: &mut World<&'a Refusing<Global>>,
+    memory: &'a Refusing<Global>,
+    first: &[u8],
+) -> Result<(), AllocError> {
+    memory.refuse(0);
+    let mut output = Vec::new(heap);
+    let mut script = "n: HELLO north\nn: COMMIT\nn: SEARCH POINT (3 4)\n".as_bytes();
+    let end = run_script(memory, heap, world, &mut script, &mut output);
+    assert!(rt; end.is_ok());
+    let replies = str::from_utf8(first);
+    assert!(rt; replies.is_ok());
+    let expected = if replies.unwrap().contains("n: applied 1\n") {
+        "n: hello north\nn: error E7\nn: rows 1\nn: 1 1 north mast POINT (3 4)\n"
+    } else {
+        "n: hello north\nn: error E7\nn: rows 0\n"
+    };
+    assert_eq!(rt; output.as_slice(), expected.as_bytes());
+    Ok(())
+}
+
+/// Each allocation that a world makes for the worked script is refused in turn: a line is answered `memory`, and a new
+/// run over the world finds what was committed before.
 #[test]
 fn each_allocation_refused(rt: HostRuntime) -> Result<(), Fail> {
     let memory = Refusing::new(rt.alloc(), 0);
@@ -172,6 +197,7 @@ fn each_allocation_refused(rt: HostRuntime) -> Result<(), Fail> {
             return Ok(());
         }
         assert!(rt; output.as_slice() != FIRST_REPLIES.as_bytes());
+        check_behind(&rt, rt.alloc(), &mut world, &memory, output.as_slice())?;
     }
     assert!(rt; false, "each allocation was refused");
     Ok(())

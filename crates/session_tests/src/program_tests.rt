@@ -161,20 +161,24 @@ const OF_INES: &str = "n: HELLO north\ni: HELLO ines\ni: EXPLAIN read north mast
 const BY_INES: &str =
     r#"{"subjects":[{"name":"ines","office":"north","role":"editor"}],"policies":{"root":{"combine":"first-applicable","policy":"start","rules":[]}}}"#;
 
-/// The script by this configuration ends so.
+/// The configuration of a run that names none.
+const AS_BUILT_IN: &str =
+    r#"{"subjects":[{"name":"north","office":"north","role":"editor"},{"name":"south","office":"south","role":"viewer"},{"name":"chief","office":"hq","role":"chief","steward":true}],"policies":{"root":{"combine":"first-applicable","policy":"start","rules":[{"effect":"permit","rule":"open"}]}}}"#;
+
+/// This script by this configuration is answered so.
 fn configured(
     rt: &impl Abort,
     alloc: Global,
     config: &str,
-    status: u8,
-    written: (&str, &str),
+    script: &str,
+    replies: &str,
 ) -> Result<(), AllocError> {
     let folder = Two {
         config: config.as_bytes(),
-        script: OF_INES.as_bytes(),
+        script: script.as_bytes(),
     };
     let words = ["script", "--config", "a.json", "a.map"];
-    check(rt, alloc, &words, &folder, status, written)
+    check(rt, alloc, &words, &folder, 0, (replies, ""))
 }
 
 #[test]
@@ -183,25 +187,132 @@ fn a_configuration_is_read(rt: HostRuntime) -> Result<(), Fail> {
         &rt,
         rt.alloc(),
         BY_INES,
-        0,
-        ("n: error H1\ni: hello ines\ni: denied none edition 1\n", ""),
+        OF_INES,
+        "n: error H1\ni: hello ines\ni: denied none edition 1\n",
     )?;
-    configured(&rt, rt.alloc(), "{", 1, ("", "landmap: B1\n"))?;
-    configured(&rt, rt.alloc(), "{}", 1, ("", "landmap: B2\n"))?;
-    configured(
-        &rt,
-        rt.alloc(),
-        r#"{"subjects":[],"policies":{}}"#,
-        1,
-        ("", "landmap: N1\n"),
+    configured(&rt, rt.alloc(), AS_BUILT_IN, FIRST_POINT, FIRST_REPLIES)?;
+    Ok(())
+}
+
+/// This configuration is none, and this is its code: the run ends with status 1, and nothing is answered.
+fn misconfigured(
+    rt: &impl Abort,
+    alloc: Global,
+    config: &str,
+    code: &str,
+) -> Result<(), AllocError> {
+    let folder = Two {
+        config: config.as_bytes(),
+        script: OF_INES.as_bytes(),
+    };
+    let line = format!(in alloc; "landmap: {code}\n")?;
+    let words = ["script", "--config", "a.json", "a.map"];
+    check(rt, alloc, &words, &folder, 1, ("", line.as_str()))
+}
+
+#[test]
+fn a_configuration_at_fault(rt: HostRuntime) -> Result<(), Fail> {
+    let cases = [
+        ("{", "B1"),
+        ("{}", "B2"),
+        (
+            r#"{"subjects":[{"name":"a","office":"b","role":"c"}],"policies":{},"x":1}"#,
+            "B2",
+        ),
+        (r#"{"subjects":[],"policies":{}}"#, "N1"),
+        (
+            r#"{"subjects":[{"name":"a","office":"b","role":"c"},{"name":"a","office":"d","role":"e"}],"policies":{}}"#,
+            "N3",
+        ),
+    ];
+    for (config, code) in cases {
+        misconfigured(&rt, rt.alloc(), config, code)?;
+    }
+    let many = of_subjects(rt.alloc(), 65)?;
+    misconfigured(&rt, rt.alloc(), many.as_str(), "N2")?;
+    Ok(())
+}
+
+/// A configuration of so many subjects, and no policies.
+fn of_subjects(alloc: Global, count: u32) -> Result<String, AllocError> {
+    let mut text = String::from_str(
+        alloc,
+        r#"{"policies":{},"subjects":[{"name":"first","office":"b","role":"c"}"#,
     )?;
-    configured(
-        &rt,
-        rt.alloc(),
-        r#"{"subjects":[{"name":"a","office":"b","role":"c"}],"policies":{}}"#,
-        1,
-        ("", "landmap: D2\n"),
+    for at in 1..count {
+        write!(text, r#",{{"name":"s{at}","office":"b","role":"c"}}"#)?;
+    }
+    text.push_str("]}")?;
+    Ok(text)
+}
+
+/// A configuration of one subject by these policies is none, and this is its code.
+fn ruled(rt: &impl Abort, alloc: Global, policies: &str, code: &str) -> Result<(), AllocError> {
+    let config = format!(in alloc;
+        r#"{{"subjects":[{{"name":"a","office":"b","role":"c"}}],"policies":{policies}}}"#
     )?;
+    misconfigured(rt, alloc, config.as_str(), code)
+}
+
+/// A set in a set, and so on, so many deep.
+fn nested(alloc: Global, count: u32) -> Result<String, AllocError> {
+    let mut text = String::from_str(alloc, r#"{"root":"#)?;
+    for at in 0..count {
+        write!(text, r#"{{"set":"s{at}","combine":"deny-overrides","of":["#)?;
+    }
+    for _ in 0..count {
+        text.push_str("]}")?;
+    }
+    text.push('}')?;
+    Ok(text)
+}
+
+/// A policy of so many rules.
+fn of_rules(alloc: Global, count: u32) -> Result<String, AllocError> {
+    let mut text = String::from_str(
+        alloc,
+        r#"{"root":{"policy":"p","combine":"deny-overrides","rules":[{"rule":"first","effect":"deny"}"#,
+    )?;
+    for at in 1..count {
+        write!(text, r#",{{"rule":"r{at}","effect":"deny"}}"#)?;
+    }
+    text.push_str("]}}")?;
+    Ok(text)
+}
+
+#[test]
+fn policies_at_fault(rt: HostRuntime) -> Result<(), Fail> {
+    let cases = [
+        ("{}", "D2"),
+        (
+            r#"{"root":{"policy":"p","combine":"deny-overrides","rules":[],"x":1}}"#,
+            "D3",
+        ),
+        (
+            r#"{"root":{"policy":"p","combine":"deny-overrides","rules":[{"rule":"p","effect":"deny"}]}}"#,
+            "D4",
+        ),
+        (
+            r#"{"root":{"policy":"p","combine":"deny-overrides","target":[[[{"zone":"z"}]]],"rules":[]}}"#,
+            "D5",
+        ),
+        (
+            r#"{"zones":[{"zone":"z","shape":"POINT (1)"}],"root":{"policy":"p","combine":"deny-overrides","rules":[]}}"#,
+            "D6",
+        ),
+    ];
+    for (policies, code) in cases {
+        ruled(&rt, rt.alloc(), policies, code)?;
+    }
+    Ok(())
+}
+
+#[test]
+fn policies_too_large(rt: HostRuntime) -> Result<(), Fail> {
+    let deep = nested(rt.alloc(), 9)?;
+    ruled(&rt, rt.alloc(), deep.as_str(), "D7")?;
+    let many = of_rules(rt.alloc(), 513)?;
+    ruled(&rt, rt.alloc(), many.as_str(), "D8")?;
     Ok(())
 }
 
@@ -342,10 +453,25 @@ fn memory_is_refused(rt: HostRuntime) -> Result<(), Fail> {
         let told = without_memory(&rt, rt.alloc(), opened.saturating_add(at))?;
         assert_eq!(rt; told.as_slice(), b"landmap: V4\n".as_slice());
     }
-    let mut errors = Vec::new(rt.alloc());
-    assert!(rt; tell(&ProgramFault::NoMemory, &mut errors).is_ok());
-    assert_eq!(rt; errors.as_slice(), b"landmap: V4\n".as_slice());
+    is_told(&rt, rt.alloc(), &ProgramFault::NoMemory, "landmap: V4\n");
+    let memory = Refusing::new(rt.alloc(), 1);
+    match built_in_config(&memory, rt.alloc()) {
+        Ok(_) => assert!(rt; false, "no allocation was refused"),
+        Err(fault) => is_told(
+            &rt,
+            rt.alloc(),
+            &ProgramFault::Config(fault),
+            "landmap: B5\n",
+        ),
+    }
     Ok(())
+}
+
+/// This fault is told by this line.
+fn is_told(rt: &impl Abort, alloc: Global, fault: &ProgramFault<'_>, line: &str) {
+    let mut errors = Vec::new(alloc);
+    assert!(rt; tell(fault, &mut errors).is_ok());
+    assert_eq!(rt; errors.as_slice(), line.as_bytes());
 }
 
 /// The status of a run whose output, or whose standard error, fails so; and what it wrote to the other.
@@ -404,13 +530,14 @@ fn standard_error_fails(rt: HostRuntime) -> Result<(), Fail> {
     Ok(())
 }
 
-/// The words are shown a text of clap's, which begins so, on the output or on standard error.
+/// The words are shown a text of clap's, which begins so, and has these parts, on the output or on standard error.
 fn shows(
     rt: &impl Abort,
     alloc: Global,
     texts: &[&str],
     status: u8,
     begins: &str,
+    parts: &[&str],
 ) -> Result<(), AllocError> {
     let folder = Text {
         bytes: FIRST_POINT.as_bytes(),
@@ -428,24 +555,56 @@ fn shows(
     };
     assert!(rt; shown.starts_with(begins.as_bytes()), "{begins}");
     assert_eq!(rt; other.len(), 0);
+    has_parts(rt, shown.as_slice(), parts);
     Ok(())
 }
 
+/// A text has each of these parts, and no line of more than 80 columns.
+fn has_parts(rt: &impl Abort, text: &[u8], parts: &[&str]) {
+    let read = str::from_utf8(text);
+    assert!(rt; read.is_ok());
+    let text = read.unwrap();
+    for part in parts {
+        assert!(rt; text.contains(*part), "{part}");
+    }
+    for line in text.lines() {
+        assert!(rt; line.len() <= 80, "{line}");
+    }
+}
+
 #[test]
-fn texts_of_clap(rt: HostRuntime) -> Result<(), Fail> {
+fn help(rt: HostRuntime) -> Result<(), Fail> {
     shows(
         &rt,
         rt.alloc(),
         &["--help"],
         0,
-        "A map feature server for land agencies: offices search features by a window",
+        "A map feature server for land agencies",
+        &[
+            "\n  landmap script day.map\n",
+            "\n  landmap script --config agency.json day.map\n",
+            "`landmap script --help`",
+            "\nExit status:\n  0  ",
+            "\n  1  a file cannot be read, the configuration is faulty, or the run broke off;\n     one line on standard error says which\n",
+            "\n  2  the command line is wrong",
+        ],
     )?;
     shows(
         &rt,
         rt.alloc(),
         &["script", "--help"],
         0,
-        "Runs the session lines of a file, and writes the replies to standard output.\n\nA line is `label: command`.",
+        "Runs the session lines of a file, and writes the replies",
+        &[
+            "\n  HELLO name, SEARCH shape, ADD id class shape, RESHAPE id version shape,\n",
+            "\n    n: SEARCH POINT (3 4)\n",
+            "\n    n: 1 1 north mast POINT (3 4)\n",
+            "\n  `landmap script --config agency.json first.map` writes the same",
+            "\n  0  all lines are answered, even where a reply is `error`\n",
+            "\n       N1        it has no subject\n",
+            "\n       V4        there was no memory",
+            "\n  2  the command line is wrong",
+        ],
     )?;
     shows(
         &rt,
@@ -453,34 +612,30 @@ fn texts_of_clap(rt: HostRuntime) -> Result<(), Fail> {
         &["script", "-h"],
         0,
         "Runs the session lines of a file, and writes the replies\n\nUsage: landmap script [OPTIONS] <FILE>\n",
+        &["--config <FILE>"],
     )?;
-    shows(
-        &rt,
-        rt.alloc(),
-        &[],
-        2,
-        "A map feature server for land agencies\n\nUsage: landmap <COMMAND>\n",
-    )?;
-    shows(
-        &rt,
-        rt.alloc(),
-        &["run"],
-        2,
-        "error: unrecognized subcommand 'run'\n",
-    )?;
-    shows(
-        &rt,
-        rt.alloc(),
-        &["script"],
-        2,
-        "error: the following required arguments were not provided:\n  <FILE>\n",
-    )?;
-    shows(
-        &rt,
-        rt.alloc(),
-        &["script", "a.map", "b.map"],
-        2,
-        "error: unexpected argument 'b.map' found\n",
-    )?;
+    Ok(())
+}
+
+#[test]
+fn wrong_command_lines(rt: HostRuntime) -> Result<(), Fail> {
+    let cases: [(&[&str], &str); 4] = [
+        (
+            &[],
+            "A map feature server for land agencies\n\nUsage: landmap <COMMAND>\n",
+        ),
+        (&["run"], "error: unrecognized subcommand 'run'\n"),
+        (
+            &["script"],
+            "error: the following required arguments were not provided:\n  <FILE>\n",
+        ),
+        (
+            &["script", "a.map", "b.map"],
+            "error: unexpected argument 'b.map' found\n",
+        ),
+    ];
+    for (texts, begins) in cases {
+        shows(&rt, rt.alloc(), texts, 2, begins, &[])?;
+    }
     Ok(())
 }

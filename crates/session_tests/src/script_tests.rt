@@ -1,6 +1,6 @@
 use crate::fakes::{FIRST_POINT, FIRST_REPLIES};
 use crate::worlds::opened;
-use sessions::run_script;
+use sessions::{run_script, serve_world};
 use std::alloc::{AllocError, Global};
 use std::process::Abort;
 use std::test::Fail;
@@ -215,5 +215,76 @@ fn long_lines(rt: HostRuntime) -> Result<(), Fail> {
         let output = replies(&rt, rt.alloc(), script.as_str())?;
         assert_eq!(rt; output.as_slice(), expected.as_bytes(), "{len}");
     }
+    served_alone(&rt, rt.alloc(), 65_536, "error E2\nbye\n")?;
+    served_alone(&rt, rt.alloc(), 65_537, "error E1\nbye\n")?;
+    Ok(())
+}
+
+/// A session by itself is answered so to a line of this length, and a BYE behind it.
+fn served_alone(
+    rt: &impl Abort,
+    alloc: Global,
+    len: usize,
+    expected: &str,
+) -> Result<(), AllocError> {
+    let mut text = String::new(alloc);
+    push_long_line(&mut text, len)?;
+    text.push_str("\nBYE\n")?;
+    let mut world = opened(rt, alloc, alloc);
+    let mut output = Vec::new(alloc);
+    let end = serve_world(alloc, alloc, &mut world, &mut text.as_bytes(), &mut output);
+    assert!(rt; end.is_ok());
+    assert_eq!(rt; output.as_slice(), expected.as_bytes(), "{len}");
+    Ok(())
+}
+
+/// Lines that add sixteen points and delete them again, in lists, so many times; before each stands this label.
+fn rounds(alloc: Global, count: u64, label: &str) -> Result<String, AllocError> {
+    let mut lines = String::new(alloc);
+    write!(lines, "{label}HELLO north\n")?;
+    for round in 0..count {
+        for id in 0..16 {
+            write!(lines, "{label}ADD {id} road POINT ({id} 0)\n")?;
+        }
+        write!(lines, "{label}COMMIT\n")?;
+        let version = round.saturating_mul(2).saturating_add(1);
+        for id in 0..16 {
+            write!(lines, "{label}DELETE {id} {version}\n")?;
+        }
+        write!(lines, "{label}COMMIT\n")?;
+    }
+    Ok(lines)
+}
+
+/// How many slots the index has behind such lines of a script.
+fn slots_of_a_script(rt: &impl Abort, alloc: Global, lines: &str) -> u32 {
+    let mut world = opened(rt, alloc, alloc);
+    let mut output = Vec::new(alloc);
+    let end = run_script(alloc, alloc, &mut world, &mut lines.as_bytes(), &mut output);
+    assert!(rt; end.is_ok());
+    assert!(rt; output.ends_with(b"n: staged\nn: applied 200\n"));
+    world.slots()
+}
+
+/// How many it has behind the lines of a session by itself, which tends nothing.
+fn slots_of_a_session(rt: &impl Abort, alloc: Global, lines: &str) -> u32 {
+    let mut world = opened(rt, alloc, alloc);
+    let mut output = Vec::new(alloc);
+    let end = serve_world(alloc, alloc, &mut world, &mut lines.as_bytes(), &mut output);
+    assert!(rt; end.is_ok());
+    assert!(rt; output.ends_with(b"staged\napplied 200\n"));
+    world.slots()
+}
+
+/// A leaf holds sixteen pairs, so the 1,600 that are placed here take a hundred leaves where none is cleaned. A script
+/// tends one slot after each line, in turn, and so the index stays small.
+#[test]
+fn slots_are_tended(rt: HostRuntime) -> Result<(), Fail> {
+    let labelled = rounds(rt.alloc(), 100, "n: ")?;
+    let tended = slots_of_a_script(&rt, rt.alloc(), labelled.as_str());
+    assert!(rt; tended < 20, "{tended}");
+    let alone = rounds(rt.alloc(), 100, "")?;
+    let untended = slots_of_a_session(&rt, rt.alloc(), alone.as_str());
+    assert!(rt; untended > 100, "{untended}");
     Ok(())
 }

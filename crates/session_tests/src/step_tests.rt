@@ -1,4 +1,5 @@
 //! Searches that go step by step: OPEN, STEP and FINISH of a script.
+use crate::fakes::{SEVENTEEN_ROWS, SIXTEEN};
 use crate::worlds::opened;
 use sessions::{run_script, serve_world};
 use std::alloc::{AllocError, Global};
@@ -93,6 +94,42 @@ fn numbers_of_steps(rt: HostRuntime) -> Result<(), Fail> {
         "n: OPEN POINT (0 0)\nn: STEP\nn: STEP 0x\nn: STEP 0\nn: STEP 0 x\nn: STEP 1000001\nn: STEP 1 x\nn: FINISH x\nn: STEP 1000000 \nn: STEP 1\nn: FINISH\n",
         "n: opened\nn: error E2\nn: error E3\nn: error E3\nn: error E3\nn: error E3\nn: error E2\nn: error E2\nn: ready\nn: ready\nn: rows 0\n",
     )?;
+    Ok(())
+}
+
+/// Behind a search that is open for seventeen points, these lines are answered so.
+fn check_steps(
+    rt: &impl Abort,
+    alloc: Global,
+    steps: &str,
+    expected: &str,
+) -> Result<(), AllocError> {
+    let script = format!(in alloc;
+        "{SIXTEEN}n: COMMIT\nn: OPEN POLYGON ((0 -1, 500 -1, 500 1, 0 1, 0 -1))\n{steps}"
+    )?;
+    let mut world = opened(rt, alloc, alloc);
+    let output = replies(rt, alloc, &mut world, script.as_str())?;
+    assert!(rt; output.ends_with(expected.as_bytes()), "{steps}");
+    Ok(())
+}
+
+/// Seventeen points are a root and two leaves, since a leaf holds sixteen: a search that looks for all of them is ready
+/// after three steps. A STEP makes as many as it says, or those that are left.
+#[test]
+fn steps_are_counted(rt: HostRuntime) -> Result<(), Fail> {
+    let cases = [
+        (
+            "n: STEP 1\nn: STEP 1\nn: STEP 1\n",
+            "n: opened\nn: more\nn: more\nn: ready\n",
+        ),
+        ("n: STEP 1\nn: STEP 2\n", "n: opened\nn: more\nn: ready\n"),
+        ("n: STEP 2\nn: STEP 1\n", "n: opened\nn: more\nn: ready\n"),
+        ("n: STEP 4\nn: STEP 1\n", "n: opened\nn: ready\nn: ready\n"),
+        ("n: STEP 1\nn: FINISH\n", SEVENTEEN_ROWS),
+    ];
+    for (steps, expected) in cases {
+        check_steps(&rt, rt.alloc(), steps, expected)?;
+    }
     Ok(())
 }
 
