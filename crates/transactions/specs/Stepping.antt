@@ -53,3 +53,4 @@ pub record TendsIndex (w : WorldData) (slot : ℕ) (old new : Index) (result : R
   pub step : (at : Handle) → at.slot ≡ slot → IsSome (value_at old.nodes at) → IfOk answer (StepsAt frames old (Keeps w) at new)
   pub refused : OnErr answer (new ≡ old)
   pub nobody : ((at : Handle) → at.slot ≡ slot → IsSome (value_at old.nodes at) → ⊥) → answer ≡ Ok Idle
+  pub untouched : ((at : Handle) → at.slot ≡ slot → IsSome (value_at old.nodes at) → ⊥) → new ≡ old

@@ -30,4 +30,5 @@ returns-clause-index g c =
       step = c.tend.ensures.step;
       refused = c.tend.ensures.err;
       nobody = c.tend.ensures.nobody;
+      untouched = c.tend.ensures.untouched;
     })
