@@ -431,9 +431,11 @@ module _ (seat : ℕ) (changes : List Change) (old mid : WorldData) (number : �
       ended_so placed none (inr (inl (full, e, stands))) =
           let left = leaves (inl (placed, stands)) in (
             is_rest (begun old) new still.searches left,
-            subst (λ (r : Reply). Does new r started.subject) (sym e)
-                (none, subst (λ (b : Bool). MatchBool b ((Refused faults.TrailFull ≡ Refused faults.TrailFull) × (new ≡ begun (closed old)))
-                ((judgement : Judgement) × Judged old.state started.subject changes judgement × EndsAs judgement seat started.subject changes (closed old) new (Refused faults.TrailFull))) (sym full) (refl, left)),
+            subst (λ (r : Reply). Does new r started.subject) (sym e) (
+              none,
+              subst (λ (b : Bool). MatchBool b ((Refused faults.TrailFull ≡ Refused faults.TrailFull) × (new ≡ begun (closed old)))
+                  ((judgement : Judgement) × Judged old.state started.subject changes judgement × EndsAs judgement seat started.subject changes (closed old) new (Refused faults.TrailFull))) (sym full) (refl, left),
+            ),
           )
       ended_so placed none (inr (inr (room, (judgement, is_judged, d)))) = refused_so fault placed judgement room none is_judged d (λ stands. leaves (inl (placed, stands)))
 
