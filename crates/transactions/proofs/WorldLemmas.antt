@@ -189,6 +189,12 @@ world_opened seat number search window w v t u js may is opens h =
     (subst (λ (x : WorldData). Serves x u) (sym is) (serves_opened w t u seat number search window h.serves (open_number seat w number may) opens))
     (subst (λ (x : WorldData). AreWalks x.transactions js) (sym is) h.walks)
 
+-- the index opens it under the number that the world gives it
+pub opened_there : (seat number search : ℕ) (window : List Point) (w : WorldData) (t u z : Index) (js : List JourneyData) → may_open seat w ≡ Ok number → IsOpen frames t u window search → IsWorld (indexed w t js) → t ≡ z → IsOpen frames z u window number
+opened_there seat number search window w t u z js may opens h same =
+    let one : search ≡ number = opens.number ∙ (h.serves.next ∙ sym (open_number seat w number may)) in
+    subst (λ (x : Index). IsOpen frames x u window number) same (subst (λ (n : ℕ). IsOpen frames t u window n) one opens)
+
 -- a world whose index serves it on
 pub world_served : (w : WorldData) (t u : Index) (js : List JourneyData) → IsWorld (indexed w t js) → Serves w u → IsWorld (indexed w u js)
 world_served w t u js h serves = record { ordered = h.ordered; under_way = h.under_way; serves = serves; walks = h.walks }
