@@ -223,6 +223,15 @@ module _ (C : Class) (t : PlainTree C.Key C.Query C.Item) where
     pub second_sound : IsChanged one two child (λ n. record n { attached = filter (does_run t.running) (with_numbers searches n.attached) }) → IsSound C (with_nodes two)
     second_sound second = joined_sound C (with_nodes one) two laws child searches may_second second first_sound
 
+    -- who has joined the right node has seen it after the child is joined too
+    right_done : IsChanged one two child (λ n. record n { attached = filter (does_run t.running) (with_numbers searches n.attached) }) → ((s : ℕ) → Contains searches s → Done (tree_of C (with_nodes two)) s child) → (s : ℕ) → Contains searches s → Done (tree_of C (with_nodes two)) s right
+    right_done second child_done s has =
+        let before = joined_done one right searches may_first.node may_first.is first s has (ap is_some (may.each s has).runs) in
+        elim (handle_cases right child) [
+          | inl same ↦ subst (Done (tree_of C (with_nodes two)) s) (sym same) (child_done s has)
+          | inr apart ↦ record { node = before.node; is = second.others right apart ∙ before.is; attached = before.attached }
+        ]
+
     pub both_joined : IsChanged one two child (λ n. record n { attached = filter (does_run t.running) (with_numbers searches n.attached) }) → HasJoinedBelow C t (with_nodes two) child searches
     both_joined second =
         record {
@@ -230,6 +239,8 @@ module _ (C : Class) (t : PlainTree C.Key C.Query C.Item) where
           more = more_both C searches t.nodes one two first_more (more_from C t.running searches one two child second);
           done = λ s has. let seen = joined_done2 s has second in seen;
           alike = alike_both C t (with_nodes one) (with_nodes two) first_alike (joined_call C (with_nodes one) two child searches may_second second).alike;
+          beside = λ to leads_to s has. subst (Done (tree_of C (with_nodes two)) s) (some_one leads leads_to) (right_done second (λ s has. joined_done2 s has second) s has);
+          others = λ h apart beyond. second.others h apart ∙ first.others h (λ e. beyond (leads ∙ ap Some (sym e)));
         }
       where
         joined_done2 : (s : ℕ) → Contains searches s → IsChanged one two child (λ n. record n { attached = filter (does_run t.running) (with_numbers searches n.attached) }) → Done (tree_of C (with_nodes two)) s child
@@ -259,4 +270,6 @@ module _ (C : Class) (t : PlainTree C.Key C.Query C.Item) where
             attached = all_join C t searches may_alone.node.attached s has (ap is_some (may.each s has).runs);
           };
           alike = join.alike;
+          beside = λ right leads s has. let no : ◌≡◌ {A = Option Handle} None (Some right) = sym alone ∙ leads in absurd (cc (no));
+          others = λ h apart beyond. join.changed.others h apart;
         }

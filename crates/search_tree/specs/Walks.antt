@@ -1,5 +1,5 @@
 -- What a step of a walk needs, and what it leaves.
-use Rattle.std.specs.Prelude.{◌≡◌, ◌⊎◌, ◌++◌, ◌∷◌, ◌<◌, ℕ, List, [], Contains, Option, None, Some, if◌then◌else◌, filter, length, slice_get}
+use Rattle.std.specs.Prelude.{◌≡◌, ◌≢◌, ◌⊎◌, ◌++◌, ◌∷◌, ◌<◌, ℕ, List, [], Contains, Option, None, Some, if◌then◌else◌, filter, length, slice_get}
 use Rattle.node_arena.specs.Slots.{Slots, value_at}
 use Rattle.node_arena.specs.declared.handle.Handle.{Handle}
 use Rattle.predicate_locks.specs.Numbers.{with_numbers}
@@ -123,12 +123,15 @@ module _ (C : Class) (t : PlainTree C.Key C.Query C.Item) where
     pub entry : Contains (entries_of node.body) (key, child)
     pub each : (s : ℕ) → Contains searches s → IsNotLed C t.running key s
 
-  -- the child has them attached. Other nodes may have got some of them too, and nothing else changes
+  -- the child has them attached, and where it is marked its right node too. At these two nodes nothing else changes but
+  -- who is attached, and no other node changes
   pub record HasJoinedBelow (u : PlainTree C.Key C.Query C.Item) (child : Handle) (searches : List ℕ) : Type 0 where
     pub only_nodes : u ≡ record t { nodes = u.nodes }
     pub more : MoreAttached C searches t.nodes u.nodes
     pub done : (s : ℕ) → Contains searches s → Done (tree_of C u) s child
     pub alike : IsAlike C t u
+    pub beside : (right : Handle) → marked_right (value_at t.nodes child) ≡ Some right → (s : ℕ) → Contains searches s → Done (tree_of C u) s right
+    pub others : (h : Handle) → h ≢ child → marked_right (value_at t.nodes child) ≢ Some h → value_at u.nodes h ≡ value_at t.nodes h
 
   -- the entry of p that has this key and names the child has the union of the key with another one
   pub record HasEnlarged (u : PlainTree C.Key C.Query C.Item) (p : Handle) (old key : C.Key) (child : Handle) : Type 0 where
