@@ -5,3 +5,4 @@ pub mod FileLemmas
 pub mod ProgramLemmas
 pub mod RunLemmas
 pub mod SpellingLaws
+pub mod TellLemmas

@@ -1,5 +1,6 @@
 -- How the program ends.
-use Rattle.std.specs.Prelude.{ℕ, List, ◌++◌, codes, Result, Ok, Err}
+use Rattle.std.specs.Prelude.{◌≡◌, ℕ, List, [], ◌++◌, codes, Option, Result, Ok, Err}
+use Rattle.std.specs.Io.KnownBytes.{Appends}
 use Rattle.program.specs.declared.faults.ProgramFault.{ProgramFault}
 use Rattle.program.specs.declared.faults.ProgramFault.TheVariants.{CannotRead, CannotWrite, NoMemory, Config, World, Run}
 use Rattle.program.specs.ConfigFaults.{config_code_of}
@@ -13,17 +14,29 @@ abbrev pub told_as : ServeFault → ProgramFault
 told_as reasons.Write = CannotWrite
 told_as fault = Run fault
 
+-- what is told of a fault: that a file cannot be read, with its name behind it, that something cannot be written, or a code
+abbrev pub fault_word : ProgramFault → List ℕ
+fault_word (CannotRead name) = codes "cannot read "
+fault_word CannotWrite = codes "cannot write"
+fault_word NoMemory = codes "V4"
+fault_word (Config fault) = config_code_of fault
+fault_word (World fault) = fault_code fault
+fault_word (Run fault) = serve_code_of fault
+
+abbrev pub fault_name : ProgramFault → List ℕ
+fault_name (CannotRead name) = name.now
+fault_name _ = []
+
 abbrev pub fault_text : ProgramFault → List ℕ
-fault_text (CannotRead name) = codes "cannot read " ++ name.now
-fault_text CannotWrite = codes "cannot write"
-fault_text NoMemory = codes "V4"
-fault_text (Config fault) = config_code_of fault
-fault_text (World fault) = fault_code fault
-fault_text (Run fault) = serve_code_of fault
+fault_text fault = fault_word fault ++ fault_name fault
 
 -- the one line on standard error
 abbrev pub fault_line : ProgramFault → List ℕ
 fault_line fault = codes "landmap: " ++ fault_text fault ++ codes "\n"
+
+-- a writer took the front of these bytes, or all of them
+abbrev pub TookFront : Option (List ℕ) → Option (List ℕ) → List ℕ → Type 0
+TookFront before after text = (front : List ℕ) × (left : List ℕ) × (text ≡ front ++ left) × Appends before after front
 
 abbrev pub exit_status : Result (Unit {0}) ProgramFault → ℕ
 exit_status (Ok u) = 0

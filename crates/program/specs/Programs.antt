@@ -4,6 +4,7 @@ use Rattle.clap.specs.Words.{IsAmong, Text}
 use Rattle.clap.specs.declared.error.kind.ErrorKind.{ErrorKind}
 use Rattle.clap.specs.declared.error.kind.ErrorKind.TheVariants.{DisplayHelp}
 use Rattle.program.specs.CommandLine.{refusals, word_for}
+use Rattle.program.specs.Ends.{TookFront, fault_line}
 use Rattle.program.specs.RunFaults.{BrokeOff}
 use Rattle.program.specs.Runs.{Ran}
 use Rattle.program.specs.declared.faults.ProgramFault.{ProgramFault}
@@ -19,15 +20,17 @@ pub data Failed (words : List Text) (held : List ℕ → Option (List ℕ)) (bef
   unread : after ≡ before → Failed words held before after NoMemory
 
 -- What a run of the program with these words leaves, and its exit status: of the output the bytes that are known, of
--- the standard error all. `held` is what the file of a name reads, where that is known.
-pub data IsRun {O E : Type 0} (words : List Text) (held : List ℕ → Option (List ℕ)) (written : O → Option (List ℕ)) (output output_after : O) (errors errors_after : E) : ℕ → Type 0 where
+-- the standard error all, or, where a line is told there, the bytes that are known. `held` is what the file of a name
+-- reads, where that is known.
+pub data IsRun {O E : Type 0} (words : List Text) (held : List ℕ → Option (List ℕ)) (written : O → Option (List ℕ)) (output output_after : O) (told : E → Option (List ℕ)) (errors errors_after : E) : ℕ → Type 0 where
   -- they ask for a script, which is served
   serves : (script : List ℕ) → refusals words ≡ [] → word_for (codes "FILE") words ≡ Some script
       → Ran held (word_for (codes "config") words) script (written output) (written output_after)
-      → errors_after ≡ errors → IsRun words held written output output_after errors errors_after 0
+      → errors_after ≡ errors → IsRun words held written output output_after told errors errors_after 0
   -- they ask for help
-  helps : IsAmong DisplayHelp (refusals words) → errors_after ≡ errors → IsRun words held written output output_after errors errors_after 0
-  -- it ended by a fault
-  fails : (fault : ProgramFault) → Failed words held (written output) (written output_after) fault → IsRun words held written output output_after errors errors_after 1
+  helps : IsAmong DisplayHelp (refusals words) → errors_after ≡ errors → IsRun words held written output output_after told errors errors_after 0
+  -- it ended by a fault, of which the line is told, or, where a write failed there, the line's front
+  fails : (fault : ProgramFault) → Failed words held (written output) (written output_after) fault
+      → TookFront (told errors) (told errors_after) (fault_line fault) → IsRun words held written output output_after told errors errors_after 1
   -- clap turns them down, and nothing is done
-  turns_down : (kind : ErrorKind) → IsAmong kind (refusals words) → kind ≢ DisplayHelp → output_after ≡ output → IsRun words held written output output_after errors errors_after 2
+  turns_down : (kind : ErrorKind) → IsAmong kind (refusals words) → kind ≢ DisplayHelp → output_after ≡ output → IsRun words held written output output_after told errors errors_after 2

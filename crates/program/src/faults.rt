@@ -23,6 +23,34 @@ pub enum ProgramFault<'a> {
     Run(ServeFault),
 }
 
+impl ProgramFault<'_> {
+    ghost use Rattle.program.specs.Ends.{fault_name, fault_word};
+
+    /// What is told of the fault: the code of one that has a code. Behind it stands the name of the file, if there is one.
+    pub fn word(&self) -> &'static str
+        ensures { result.now ≡ fault_word self.now }
+    {
+        match self {
+            ProgramFault::CannotRead(_) => "cannot read ",
+            ProgramFault::CannotWrite => "cannot write",
+            ProgramFault::NoMemory => "V4",
+            ProgramFault::Config(fault) => fault.code(),
+            ProgramFault::World(fault) => fault.code(),
+            ProgramFault::Run(fault) => fault.code(),
+        }
+    }
+
+    /// The name of the file that cannot be read. Other faults have none.
+    pub fn name(&self) -> &str
+        ensures { result.now ≡ fault_name self.now }
+    {
+        match self {
+            ProgramFault::CannotRead(name) => name,
+            _ => "",
+        }
+    }
+}
+
 impl fmt::Display for ProgramFault<'_> {
     ghost use Rattle.std.specs.Prelude.{Some};
     ghost use Rattle.program.specs.Ends.{fault_text};
@@ -30,17 +58,8 @@ impl fmt::Display for ProgramFault<'_> {
     ghost output = { λ fault. Some (fault_text fault) };
 
     fn fmt<W: fmt::Write>(&self, f: &mut fmt::Formatter<W>) -> fmt::Result {
-        match self {
-            ProgramFault::CannotRead(name) => {
-                f.write_str("cannot read ")?;
-                f.write_str(name)
-            }
-            ProgramFault::CannotWrite => f.write_str("cannot write"),
-            ProgramFault::NoMemory => f.write_str("V4"),
-            ProgramFault::Config(fault) => f.write_str(fault.code()),
-            ProgramFault::World(fault) => f.write_str(fault.code()),
-            ProgramFault::Run(fault) => f.write_str(fault.code()),
-        }
+        f.write_str(self.word())?;
+        f.write_str(self.name())
     }
 }
 

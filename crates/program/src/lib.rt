@@ -10,6 +10,7 @@ mod files;
 mod hosts;
 mod laws;
 mod runs;
+mod telling;
 mod words;
 
 pub use built_in::built_in_config;
@@ -19,5 +20,6 @@ pub use faults::ProgramFault;
 pub use files::{CONFIG_LIMIT, FileFault, read_config_file};
 pub use hosts::HostFolder;
 pub use laws::{configurations_are_one, read_is_spelled};
-pub use runs::{Folder, run_file, run_named, run_program, status_of, tell};
+pub use runs::{Folder, run_file, run_named, run_program, status_of};
+pub use telling::tell;
 pub use words::ScriptWords;

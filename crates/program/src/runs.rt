@@ -1,8 +1,7 @@
 ghost use Rattle.std.specs.Prelude.{◌≡◌, ◌↔◌, ℕ, List, Option, Some, OnOk, IfOk, IfErr, IfSome, IsTrue, map, option_map, string_bytes};
-ghost use Rattle.std.specs.Io.KnownBytes.{Appends};
 ghost use Rattle.clap.specs.Words.{kind_of};
 ghost use Rattle.program.specs.Configs.{config_data};
-ghost use Rattle.program.specs.Ends.{exit_status, fault_line};
+ghost use Rattle.program.specs.Ends.{TookFront, exit_status, fault_line};
 ghost use Rattle.program.specs.Programs.{IsRun};
 ghost use Rattle.program.specs.RunFaults.{BrokeOff, IsOfConfig, IsOfRun};
 ghost use Rattle.program.specs.Runs.{IsConfigOf, Ran, Served};
@@ -11,12 +10,12 @@ use crate::built_in::built_in_config;
 use crate::configs::Config;
 use crate::faults::ProgramFault;
 use crate::files::{FileFault, read_config_file};
+use crate::telling::tell;
 use crate::words::{Asked, ScriptWords, read_words};
 use clap::Error;
 use clap::error::ErrorKind;
 use sessions::run_script;
 use std::alloc::{Allocator, Global};
-use std::io;
 use std::io::{Read, Write};
 use transactions::World;
 
@@ -144,17 +143,11 @@ pub fn status_of(end: &Result<(), ProgramFault<'_>>) -> u8
     }
 }
 
-/// Writes the one line that tells of a fault.
-pub fn tell<E: Write>(fault: &ProgramFault<'_>, errors: &mut E) -> io::Result<()>
-    ensures { OnOk result (Appends (E.contents errors.old) (E.contents errors.new) (fault_line fault.now)) }
-{
-    write!(errors, "landmap: {fault}\n")
-}
-
 /// Tells of the fault by which a run ended, if it did, and answers the exit status.
 fn end_run<E: Write>(end: &Result<(), ProgramFault<'_>>, errors: &mut E) -> u8
     ensures status { result ≡ exit_status end.now }
     ensures quiet { OnOk end.now (errors.new ≡ errors.old) }
+    ensures told { IfErr end.now (λ fault. TookFront (E.contents errors.old) (E.contents errors.new) (fault_line fault)) }
 {
     if let Err(fault) = end {
         let _ = tell(fault, errors);
@@ -163,7 +156,7 @@ fn end_run<E: Write>(end: &Result<(), ProgramFault<'_>>, errors: &mut E) -> u8
 }
 
 /// Runs the program with these words, of which the first is its name, and answers its exit status: 0; 1 where it ended
-/// by a fault, of which one line is written to `errors`; 2 where the command line is wrong, and then clap says there why.
+/// by a fault, of which one line is written to `errors`, or its front; 2 where the command line is wrong, and then clap says there why.
 /// A fault of `errors` itself changes nothing.
 pub fn run_program<F: Folder, O: Write, E: Write>(
     alloc: Global,
@@ -172,7 +165,7 @@ pub fn run_program<F: Folder, O: Write, E: Write>(
     output: &mut O,
     errors: &mut E,
 ) -> u8
-    ensures { IsRun (map (λ word. string_bytes word) words.now) (F.holds folder.now) O.contents output.old output.new errors.old errors.new result }
+    ensures { IsRun (map (λ word. string_bytes word) words.now) (F.holds folder.now) O.contents output.old output.new E.contents errors.old errors.new result }
 {
     match read_words(alloc, words) {
         Ok(Asked::Script(files)) => end_run(&run_named(alloc, files, folder, output), errors),
