@@ -230,9 +230,10 @@ fn write_some<W: Write>(bytes: &[u8], writer: &mut W) -> io::Result<usize>
     }
 }
 
-/// Writes all these bytes, by as many calls as the writer wants. It is `Write::write_all`, and says beside what the
-/// writer took where a call fails.
-fn write_whole<W: Write>(bytes: &[u8], writer: &mut W) -> io::Result<()>
+/// Writes all these bytes, by as many calls as the writer wants; one that is interrupted is made again. It is
+/// `Write::write_all`, and says beside what the writer took where a call fails: the bytes' front. An error is the
+/// writer's, or that it takes no more.
+pub fn write_whole<W: Write>(bytes: &[u8], writer: &mut W) -> io::Result<()>
     ensures { Took result (W.contents writer.old) (W.contents writer.new) bytes.now }
 {
     let mut rest = bytes;

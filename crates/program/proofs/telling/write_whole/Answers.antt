@@ -1,5 +1,0 @@
-use Rattle.sessions.proofs.WritingLemmas.{wrote_more}
-use Rattle.program.proofs.telling.write_whole.Goals as goal
-
-pub loop-preserved : goal.loop-preserved
-loop-preserved g c = wrote_more c.args.bytes.now c.loop.rest.now _ c.in_ok-count.count _ _ _ c.loop.invariant c.in_ok-count.ensures.1 c.split_at.ensures.back
