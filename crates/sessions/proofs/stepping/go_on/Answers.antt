@@ -1,6 +1,3 @@
-use Rattle.std.proofs.Common.{Ok}
-use Rattle.search_tree.specs.declared.answers.Visit.TheVariants as visits
-use Rattle.plain_world.specs.Events.{Happens, VisitNext, Visited}
 use Rattle.sessions.proofs.StepLemmas.{finds_one_more, sees_one_more, sees_ready, sees_refused}
 use Rattle.sessions.proofs.stepping.go_on.Goals as goal
 
