@@ -1,5 +1,4 @@
-//! Session lines at the ends of counters and limits, and lines whose allocations are refused in turn.
-use crate::fakes::{SEVENTEEN_ROWS, SIXTEEN, SIXTEEN_ROWS};
+//! Session lines at the ends of counters and limits, and a commit whose allocations are refused in turn.
 use crate::worlds::{LIMITS, OPEN, ROADS, STARTS, document};
 use features::FEATURE_LIMIT;
 use refusing::Refusing;
@@ -62,25 +61,13 @@ fn check_at(
     Ok(())
 }
 
-/// One's own is permitted, all else is denied by default, and a denial behind it is not reached.
-const OWN_FIRST: &str =
-    r#"{"root":{"combine":"first-applicable","of":[{"combine":"deny-unless-permit","policy":"a","rules":[{"effect":"permit","rule":"mine","when":[{"own":true}]}]},{"combine":"deny-overrides","policy":"b","rules":[{"effect":"deny","rule":"late"}]}],"set":"top"}}"#;
-
-/// The same, where the denial counts.
-const OWN_OR_LATE: &str =
-    r#"{"root":{"combine":"deny-overrides","of":[{"combine":"deny-unless-permit","policy":"a","rules":[{"effect":"permit","rule":"mine","when":[{"own":true}]}]},{"combine":"deny-overrides","policy":"b","rules":[{"effect":"deny","rule":"late"}]}],"set":"top"}}"#;
-
 /// Everything is permitted, by no rule.
 const WITHOUT_RULE: &str = r#"{"root":{"combine":"permit-unless-deny","policy":"w","rules":[]}}"#;
 
-/// What the office south, and then the office north, may have read.
-const EXPLAINED: &str =
-    "n: EXPLAIN read south mast POINT (0 0)\nn: EXPLAIN read north mast POINT (0 0)\n";
-
 #[test]
-fn decided_by_default(rt: HostRuntime) -> Result<(), Fail> {
+fn permitted_without_a_rule(rt: HostRuntime) -> Result<(), Fail> {
     let script = format!(in rt.alloc();
-        "c: POLICY {OWN_FIRST}\n{EXPLAINED}n: ADD 1 mast POINT (0 0)\nn: COMMIT\ns: DELETE 1 1\ns: COMMIT\nc: POLICY {OWN_OR_LATE}\n{EXPLAINED}n: DELETE 1 1\nn: COMMIT\nc: POLICY {WITHOUT_RULE}\n{EXPLAINED}s: DELETE 1 1\ns: COMMIT\n"
+        "c: POLICY {WITHOUT_RULE}\nn: EXPLAIN read south mast POINT (0 0)\nn: ADD 1 mast POINT (0 0)\nn: COMMIT\n"
     )?;
     check_at(
         &rt,
@@ -88,7 +75,7 @@ fn decided_by_default(rt: HostRuntime) -> Result<(), Fail> {
         STARTS,
         LIMITS,
         script.as_str(),
-        "c: edition 2\nn: denied none edition 2\nn: permit rule mine edition 2\nn: staged\nn: applied 1\ns: staged\ns: denied none change 1\nc: edition 3\nn: denied rule late edition 3\nn: denied rule late edition 3\nn: staged\nn: denied rule late change 1\nc: edition 4\nn: permit none edition 4\nn: permit none edition 4\ns: staged\ns: applied 2\n",
+        "c: edition 2\nn: permit none edition 2\nn: staged\nn: applied 1\n",
     )?;
     Ok(())
 }
@@ -122,22 +109,6 @@ n: error X10
 c: rolled 1
 c: {"ids":[],"kind":"answered","number":1,"seat":1,"subject":"north","window":"POINT (0 0)"}
 n: rows 0
-"#,
-    )?;
-    // A roll makes room for a record again.
-    check_at(
-        &rt,
-        rt.alloc(),
-        STARTS,
-        one_record,
-        "n: ADD 1 mast POINT (3 4)\nn: COMMIT\nn: SEARCH POINT (3 4)\nc: ROLL\nn: SEARCH POINT (3 4)\n",
-        r#"n: staged
-n: applied 1
-n: error X10
-c: rolled 1
-c: {"changes":[{"class":"mast","id":1,"shape":"POINT (3 4)","what":"add"}],"kind":"applied","number":1,"seat":1,"subject":"north","version":1}
-n: rows 1
-n: 1 1 north mast POINT (3 4)
 "#,
     )?;
     let last_roll = Starts {
@@ -214,11 +185,15 @@ fn ends_of_features(rt: HostRuntime) -> Result<(), Fail> {
     Ok(())
 }
 
-/// A script in four parts, one a read. An allocation of the third is to be refused, counted from its beginning, and none
-/// of the fourth, which is there only where that allocation was reached.
+/// Sixteen features in a row, and one more that is staged.
+const SIXTEEN: &str =
+    "n: HELLO north\nn: ADD 1 road POINT (1 0)\nn: ADD 2 road POINT (2 0)\nn: ADD 3 road POINT (3 0)\nn: ADD 4 road POINT (4 0)\nn: ADD 5 road POINT (5 0)\nn: ADD 6 road POINT (6 0)\nn: ADD 7 road POINT (7 0)\nn: ADD 8 road POINT (8 0)\nn: ADD 9 road POINT (9 0)\nn: ADD 10 road POINT (10 0)\nn: ADD 11 road POINT (11 0)\nn: ADD 12 road POINT (12 0)\nn: ADD 13 road POINT (13 0)\nn: ADD 14 road POINT (14 0)\nn: ADD 15 road POINT (15 0)\nn: ADD 16 road POINT (16 0)\nn: COMMIT\nn: ADD 17 road POINT (17 0)\n";
+
+/// A script in three parts, one a read. Behind the first an allocation is to be refused, counted from there; behind the
+/// second none any more.
 #[derive(Drop)]
 struct PartReader<'a> {
-    parts: [&'a [u8]; 4],
+    parts: [&'a [u8]; 3],
     next: usize,
     memory: &'a Refusing<Global>,
     refused: u64,
@@ -233,13 +208,10 @@ impl Read for PartReader<'_> {
             None => return Ok(0),
         };
         match self.next {
-            2 => self.memory.refuse(self.refused),
-            3 => {
+            1 => self.memory.refuse(self.refused),
+            2 => {
                 self.reached = self.memory.has_refused();
                 self.memory.refuse(0);
-                if !self.reached {
-                    return Ok(0);
-                }
             }
             _ => {}
         }
@@ -250,24 +222,17 @@ impl Read for PartReader<'_> {
     }
 }
 
-/// An allocation of the third of these lines, or groups of lines, is refused; whether it was reached. Then the fourth is
-/// read too, and the replies end in the second way, else in the first.
-fn refuse(
-    rt: &impl Abort,
-    heap: Global,
-    at: u64,
-    lines: [&str; 4],
-    ends: [&str; 2],
-) -> Result<bool, AllocError> {
+/// The lines behind the first `HELLO` and the seventeen changes, where this allocation of the second COMMIT is refused;
+/// whether it was reached.
+fn refuse_commit(rt: &impl Abort, heap: Global, at: u64) -> Result<bool, AllocError> {
     let memory = Refusing::new(heap, 0);
     let mut world = opened_at(rt, &memory, heap, STARTS, LIMITS);
     let mut output = Vec::new(heap);
     let mut reader = PartReader {
         parts: [
-            lines[0].as_bytes(),
-            lines[1].as_bytes(),
-            lines[2].as_bytes(),
-            lines[3].as_bytes(),
+            SIXTEEN.as_bytes(),
+            b"n: COMMIT\n".as_slice(),
+            b"n: SEARCH POINT (16 0)\nn: SEARCH POINT (17 0)\nn: COMMIT\n".as_slice(),
         ],
         next: 0,
         memory: &memory,
@@ -276,104 +241,23 @@ fn refuse(
     };
     let end = run_script(&memory, heap, &mut world, &mut reader, &mut output);
     assert!(rt; end.is_ok());
-    let expected = if reader.reached { ends[1] } else { ends[0] };
-    assert!(rt;
-        output.ends_with(expected.as_bytes()),
-        "at {at}: {expected}"
-    );
+    let expected = if reader.reached {
+        "n: staged\nn: memory\nn: rows 1\nn: 16 1 north road POINT (16 0)\nn: rows 0\nn: applied 2\n"
+    } else {
+        "n: staged\nn: applied 2\nn: rows 1\nn: 16 1 north road POINT (16 0)\nn: rows 1\nn: 17 2 north road POINT (17 0)\nn: error E7\n"
+    };
+    assert!(rt; output.ends_with(expected.as_bytes()), "at {at}");
     Ok(reader.reached)
-}
-
-/// Each allocation of a line is refused in turn, up to the first that is not reached: it is answered `memory`, and what
-/// stands behind it as it would have been.
-fn refuse_each(
-    rt: &impl Abort,
-    heap: Global,
-    lines: [&str; 4],
-    reply: &str,
-    behind: &str,
-) -> Result<(), AllocError> {
-    let refused = format!(in heap; "n: memory\n{behind}")?;
-    for at in 1..60 {
-        if !refuse(rt, heap, at, lines, [reply, refused.as_str()])? {
-            assert!(rt; at > 1, "nothing was refused: {reply}");
-            return Ok(());
-        }
-    }
-    assert!(rt; false, "each allocation was refused");
-    Ok(())
 }
 
 #[test]
 fn each_allocation_of_a_commit_refused(rt: HostRuntime) -> Result<(), Fail> {
-    let behind = format!(in rt.alloc(); "{SIXTEEN_ROWS}n: applied 2\n")?;
-    refuse_each(
-        &rt,
-        rt.alloc(),
-        [
-            SIXTEEN,
-            "n: FLY\n",
-            "n: COMMIT\n",
-            "n: SEARCH POLYGON ((0 -1, 500 -1, 500 1, 0 1, 0 -1))\nn: COMMIT\n",
-        ],
-        "n: error E2\nn: applied 2\n",
-        behind.as_str(),
-    )?;
-    Ok(())
-}
-
-/// A document by which nothing is permitted.
-const NOTHING: &str =
-    "n: POLICY {\"root\":{\"combine\":\"first-applicable\",\"policy\":\"p\",\"rules\":[]}}\n";
-
-/// The roll of a trail of one record.
-const ROLLED: &str =
-    "n: rolled 1\nn: {\"ids\":[],\"kind\":\"answered\",\"number\":2,\"seat\":2,\"subject\":\"chief\",\"window\":\"POINT (900 0)\"}\n";
-
-/// Each line that may take memory, refused and then sent again.
-#[test]
-fn each_allocation_of_a_line_refused(rt: HostRuntime) -> Result<(), Fail> {
-    let cases = [
-        ("#\n", "#\n", "n: HELLO north\n", "n: hello north\n"),
-        (
-            SIXTEEN,
-            "n: COMMIT\n",
-            "n: SEARCH POLYGON ((0 -1, 500 -1, 500 1, 0 1, 0 -1))\n",
-            SEVENTEEN_ROWS,
-        ),
-        (
-            SIXTEEN,
-            "n: BYE\nn: HELLO chief\n",
-            NOTHING,
-            "n: edition 2\n",
-        ),
-        (
-            SIXTEEN,
-            "n: BYE\nn: HELLO chief\nn: ROLL\nn: SEARCH POINT (900 0)\n",
-            "n: ROLL\n",
-            ROLLED,
-        ),
-        (
-            SIXTEEN,
-            "n: COMMIT\n",
-            "n: OPEN POLYGON ((0 -1, 500 -1, 500 1, 0 1, 0 -1))\n",
-            "n: opened\n",
-        ),
-        (
-            SIXTEEN,
-            "n: COMMIT\nn: OPEN POLYGON ((0 -1, 500 -1, 500 1, 0 1, 0 -1))\n",
-            "n: STEP 3\n",
-            "n: ready\n",
-        ),
-        (
-            SIXTEEN,
-            "n: COMMIT\nn: OPEN POLYGON ((0 -1, 500 -1, 500 1, 0 1, 0 -1))\nn: STEP 3\n",
-            "n: FINISH\n",
-            SEVENTEEN_ROWS,
-        ),
-    ];
-    for (first, before, line, reply) in cases {
-        refuse_each(&rt, rt.alloc(), [first, before, line, line], reply, reply)?;
+    for at in 1..60 {
+        if !refuse_commit(&rt, rt.alloc(), at)? {
+            assert!(rt; at > 2, "nothing was refused");
+            return Ok(());
+        }
     }
+    assert!(rt; false, "each allocation was refused");
     Ok(())
 }

@@ -454,17 +454,18 @@ fn memory_is_refused(rt: HostRuntime) -> Result<(), Fail> {
         assert_eq!(rt; told.as_slice(), b"landmap: V4\n".as_slice());
     }
     is_told(&rt, rt.alloc(), &ProgramFault::NoMemory, "landmap: V4\n");
-    let memory = Refusing::new(rt.alloc(), 1);
-    match built_in_config(&memory, rt.alloc()) {
-        Ok(_) => assert!(rt; false, "no allocation was refused"),
-        Err(fault) => is_told(
-            &rt,
-            rt.alloc(),
-            &ProgramFault::Config(fault),
-            "landmap: B5\n",
-        ),
-    }
+    config_without_memory(&rt, rt.alloc());
     Ok(())
+}
+
+/// A configuration that finds no memory is told as B5.
+fn config_without_memory(rt: &impl Abort, alloc: Global) {
+    let memory = Refusing::new(alloc, 1);
+    let made = built_in_config(&memory, alloc);
+    let Some(fault) = made.err() else {
+        panic!(rt; "no allocation was refused")
+    };
+    is_told(rt, alloc, &ProgramFault::Config(fault), "landmap: B5\n");
 }
 
 /// This fault is told by this line.
