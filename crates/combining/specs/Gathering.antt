@@ -1,4 +1,4 @@
--- What is kept of the children of a set or a policy while they are decided. Clauses of private functions alone cite it.
+-- What is kept of the children of a set or a policy while they are decided. Of this crate's public clauses those of `Gathered` and `rule_count` cite it.
 use Rattle.std.specs.Prelude.{ℕ, Bool, true, ◌&&◌, List, [], map, Option, None, if◌then◌else◌}
 use Rattle.std.specs.List.{list_all, position_from}
 use Rattle.std.specs.Option.{option_or}

@@ -1,4 +1,4 @@
--- What is kept of the decisions of a node's children. Clauses of private functions alone cite it.
+-- What is kept of the decisions of a node's children. Clauses of private functions cite it, and those of `Gathered` by `Gathering`.
 use Rattle.std.specs.Prelude.{◌||◌, List, if◌then◌else◌}
 use Rattle.std.specs.List.{list_any}
 use Rattle.policy_text.specs.declared.algorithms.Algorithm.{Algorithm}
