@@ -1,4 +1,6 @@
-//! Session lines at the ends of counters and limits, and a commit whose allocations are refused in turn.
+//! Session lines at the ends of counters and limits, and each line that takes memory of the world, its allocations
+//! refused in turn.
+use crate::fakes::{SEVENTEEN_ROWS, SIXTEEN, SIXTEEN_ROWS};
 use crate::worlds::{LIMITS, OPEN, ROADS, STARTS, document};
 use features::FEATURE_LIMIT;
 use refusing::Refusing;
@@ -61,13 +63,25 @@ fn check_at(
     Ok(())
 }
 
+/// One's own is permitted, all else is denied by default, and a denial behind it is not reached.
+const OWN_FIRST: &str =
+    r#"{"root":{"combine":"first-applicable","of":[{"combine":"deny-unless-permit","policy":"a","rules":[{"effect":"permit","rule":"mine","when":[{"own":true}]}]},{"combine":"deny-overrides","policy":"b","rules":[{"effect":"deny","rule":"late"}]}],"set":"top"}}"#;
+
+/// The same, where the denial counts.
+const OWN_OR_LATE: &str =
+    r#"{"root":{"combine":"deny-overrides","of":[{"combine":"deny-unless-permit","policy":"a","rules":[{"effect":"permit","rule":"mine","when":[{"own":true}]}]},{"combine":"deny-overrides","policy":"b","rules":[{"effect":"deny","rule":"late"}]}],"set":"top"}}"#;
+
 /// Everything is permitted, by no rule.
 const WITHOUT_RULE: &str = r#"{"root":{"combine":"permit-unless-deny","policy":"w","rules":[]}}"#;
 
+/// What the office south, and then the office north, may have read.
+const EXPLAINED: &str =
+    "n: EXPLAIN read south mast POINT (0 0)\nn: EXPLAIN read north mast POINT (0 0)\n";
+
 #[test]
-fn permitted_without_a_rule(rt: HostRuntime) -> Result<(), Fail> {
+fn decided_by_default(rt: HostRuntime) -> Result<(), Fail> {
     let script = format!(in rt.alloc();
-        "c: POLICY {WITHOUT_RULE}\nn: EXPLAIN read south mast POINT (0 0)\nn: ADD 1 mast POINT (0 0)\nn: COMMIT\n"
+        "c: POLICY {OWN_FIRST}\n{EXPLAINED}n: ADD 1 mast POINT (0 0)\nn: COMMIT\ns: DELETE 1 1\ns: COMMIT\nc: POLICY {OWN_OR_LATE}\n{EXPLAINED}n: DELETE 1 1\nn: COMMIT\nc: POLICY {WITHOUT_RULE}\n{EXPLAINED}s: DELETE 1 1\ns: COMMIT\n"
     )?;
     check_at(
         &rt,
@@ -75,7 +89,7 @@ fn permitted_without_a_rule(rt: HostRuntime) -> Result<(), Fail> {
         STARTS,
         LIMITS,
         script.as_str(),
-        "c: edition 2\nn: permit none edition 2\nn: staged\nn: applied 1\n",
+        "c: edition 2\nn: denied none edition 2\nn: permit rule mine edition 2\nn: staged\nn: applied 1\ns: staged\ns: denied none change 1\nc: edition 3\nn: denied rule late edition 3\nn: denied rule late edition 3\nn: staged\nn: denied rule late change 1\nc: edition 4\nn: permit none edition 4\nn: permit none edition 4\ns: staged\ns: applied 2\n",
     )?;
     Ok(())
 }
@@ -109,6 +123,22 @@ n: error X10
 c: rolled 1
 c: {"ids":[],"kind":"answered","number":1,"seat":1,"subject":"north","window":"POINT (0 0)"}
 n: rows 0
+"#,
+    )?;
+    // A roll makes room for a record again.
+    check_at(
+        &rt,
+        rt.alloc(),
+        STARTS,
+        one_record,
+        "n: ADD 1 mast POINT (3 4)\nn: COMMIT\nn: SEARCH POINT (3 4)\nc: ROLL\nn: SEARCH POINT (3 4)\n",
+        r#"n: staged
+n: applied 1
+n: error X10
+c: rolled 1
+c: {"changes":[{"class":"mast","id":1,"shape":"POINT (3 4)","what":"add"}],"kind":"applied","number":1,"seat":1,"subject":"north","version":1}
+n: rows 1
+n: 1 1 north mast POINT (3 4)
 "#,
     )?;
     let last_roll = Starts {
@@ -185,15 +215,101 @@ fn ends_of_features(rt: HostRuntime) -> Result<(), Fail> {
     Ok(())
 }
 
-/// Sixteen features in a row, and one more that is staged.
-const SIXTEEN: &str =
-    "n: HELLO north\nn: ADD 1 road POINT (1 0)\nn: ADD 2 road POINT (2 0)\nn: ADD 3 road POINT (3 0)\nn: ADD 4 road POINT (4 0)\nn: ADD 5 road POINT (5 0)\nn: ADD 6 road POINT (6 0)\nn: ADD 7 road POINT (7 0)\nn: ADD 8 road POINT (8 0)\nn: ADD 9 road POINT (9 0)\nn: ADD 10 road POINT (10 0)\nn: ADD 11 road POINT (11 0)\nn: ADD 12 road POINT (12 0)\nn: ADD 13 road POINT (13 0)\nn: ADD 14 road POINT (14 0)\nn: ADD 15 road POINT (15 0)\nn: ADD 16 road POINT (16 0)\nn: COMMIT\nn: ADD 17 road POINT (17 0)\n";
+/// A kind of line that takes memory of the world.
+#[derive(Clone, Copy, Drop)]
+enum LineKind {
+    Hello,
+    Search,
+    Commit,
+    Policy,
+    Roll,
+    Open,
+    Step,
+    Finish,
+}
 
-/// A script in three parts, one a read. Behind the first an allocation is to be refused, counted from there; behind the
-/// second none any more.
+/// A script with a line of this kind, which is sent again where an allocation was refused.
+impl LineKind {
+    /// What comes before the line, in two parts.
+    fn first(self) -> &'static str {
+        match self {
+            Self::Hello => "#\n",
+            _ => SIXTEEN,
+        }
+    }
+
+    fn before(self) -> &'static str {
+        match self {
+            Self::Hello => "#\n",
+            Self::Search | Self::Open => "n: COMMIT\n",
+            Self::Commit => "n: FLY\n",
+            Self::Policy => "n: BYE\nn: HELLO chief\n",
+            Self::Roll => "n: BYE\nn: HELLO chief\nn: ROLL\nn: SEARCH POINT (900 0)\n",
+            Self::Step => "n: COMMIT\nn: OPEN POLYGON ((0 -1, 500 -1, 500 1, 0 1, 0 -1))\n",
+            Self::Finish => {
+                "n: COMMIT\nn: OPEN POLYGON ((0 -1, 500 -1, 500 1, 0 1, 0 -1))\nn: STEP 3\n"
+            }
+        }
+    }
+
+    fn line(self) -> &'static str {
+        match self {
+            Self::Hello => "n: HELLO north\n",
+            Self::Search => SEARCH,
+            Self::Commit => "n: COMMIT\n",
+            Self::Policy => NOTHING,
+            Self::Roll => "n: ROLL\n",
+            Self::Open => "n: OPEN POLYGON ((0 -1, 500 -1, 500 1, 0 1, 0 -1))\n",
+            Self::Step => "n: STEP 3\n",
+            Self::Finish => "n: FINISH\n",
+        }
+    }
+
+    /// The replies to the line, where no allocation is refused.
+    fn reply(self) -> &'static str {
+        match self {
+            Self::Hello => "n: hello north\n",
+            Self::Search | Self::Finish => SEVENTEEN_ROWS,
+            Self::Commit => "n: applied 2\n",
+            Self::Policy => "n: edition 2\n",
+            Self::Roll => ROLLED,
+            Self::Open => "n: opened\n",
+            Self::Step => "n: ready\n",
+        }
+    }
+
+    /// What is read before the line is sent again: of a list whose COMMIT was refused nothing is found.
+    fn between(self) -> &'static str {
+        match self {
+            Self::Commit => SEARCH,
+            _ => "#\n",
+        }
+    }
+
+    /// The replies to that.
+    fn found(self) -> &'static str {
+        match self {
+            Self::Commit => SIXTEEN_ROWS,
+            _ => "",
+        }
+    }
+}
+
+const SEARCH: &str = "n: SEARCH POLYGON ((0 -1, 500 -1, 500 1, 0 1, 0 -1))\n";
+
+/// A document by which nothing is permitted.
+const NOTHING: &str =
+    "n: POLICY {\"root\":{\"combine\":\"first-applicable\",\"policy\":\"p\",\"rules\":[]}}\n";
+
+/// The roll of a trail of one record.
+const ROLLED: &str =
+    "n: rolled 1\nn: {\"ids\":[],\"kind\":\"answered\",\"number\":2,\"seat\":2,\"subject\":\"chief\",\"window\":\"POINT (900 0)\"}\n";
+
+/// The parts of a script, one a read. An allocation of the line is to be refused, counted from its beginning, and none of
+/// what comes behind, which is there only where that allocation was reached.
 #[derive(Drop)]
 struct PartReader<'a> {
-    parts: [&'a [u8]; 3],
+    kind: LineKind,
     next: usize,
     memory: &'a Refusing<Global>,
     refused: u64,
@@ -203,37 +319,39 @@ struct PartReader<'a> {
 
 impl Read for PartReader<'_> {
     fn read(&mut self, buf: &mut [u8]) -> io::Result<usize> {
-        let part = match self.parts.get(self.next) {
-            Some(part) => *part,
-            None => return Ok(0),
-        };
-        match self.next {
-            1 => self.memory.refuse(self.refused),
+        let part = match self.next {
+            0 => self.kind.first(),
+            1 => self.kind.before(),
             2 => {
+                self.memory.refuse(self.refused);
+                self.kind.line()
+            }
+            3 => {
                 self.reached = self.memory.has_refused();
                 self.memory.refuse(0);
+                if !self.reached {
+                    return Ok(0);
+                }
+                self.kind.between()
             }
-            _ => {}
-        }
+            4 => self.kind.line(),
+            _ => return Ok(0),
+        };
         self.next = self.next.saturating_add(1);
+        let part = part.as_bytes();
         let count = part.len().min(buf.len());
         buf[..count].copy_from_slice(&part[..count]);
         Ok(count)
     }
 }
 
-/// The lines behind the first `HELLO` and the seventeen changes, where this allocation of the second COMMIT is refused;
-/// whether it was reached.
-fn refuse_commit(rt: &impl Abort, heap: Global, at: u64) -> Result<bool, AllocError> {
+/// An allocation of this line is refused, in a world that was just opened; whether it was reached.
+fn refuse(rt: &impl Abort, heap: Global, at: u64, kind: LineKind) -> Result<bool, AllocError> {
     let memory = Refusing::new(heap, 0);
     let mut world = opened_at(rt, &memory, heap, STARTS, LIMITS);
     let mut output = Vec::new(heap);
     let mut reader = PartReader {
-        parts: [
-            SIXTEEN.as_bytes(),
-            b"n: COMMIT\n".as_slice(),
-            b"n: SEARCH POINT (16 0)\nn: SEARCH POINT (17 0)\nn: COMMIT\n".as_slice(),
-        ],
+        kind,
         next: 0,
         memory: &memory,
         refused: at,
@@ -241,23 +359,48 @@ fn refuse_commit(rt: &impl Abort, heap: Global, at: u64) -> Result<bool, AllocEr
     };
     let end = run_script(&memory, heap, &mut world, &mut reader, &mut output);
     assert!(rt; end.is_ok());
-    let expected = if reader.reached {
-        "n: staged\nn: memory\nn: rows 1\nn: 16 1 north road POINT (16 0)\nn: rows 0\nn: applied 2\n"
-    } else {
-        "n: staged\nn: applied 2\nn: rows 1\nn: 16 1 north road POINT (16 0)\nn: rows 1\nn: 17 2 north road POINT (17 0)\nn: error E7\n"
-    };
-    assert!(rt; output.ends_with(expected.as_bytes()), "at {at}");
+    let refused = if reader.reached { "n: memory\n" } else { "" };
+    let found = if reader.reached { kind.found() } else { "" };
+    let expected = format!(in heap; "{refused}{found}{}", kind.reply())?;
+    assert!(rt;
+        output.ends_with(expected.as_bytes()),
+        "at {at}: {expected}"
+    );
     Ok(reader.reached)
 }
 
-#[test]
-fn each_allocation_of_a_commit_refused(rt: HostRuntime) -> Result<(), Fail> {
+/// Each allocation of this line is refused in turn, up to the first that is not reached: it is answered `memory`, and what
+/// stands behind it as it would have been.
+fn refuse_each(rt: &impl Abort, heap: Global, kind: LineKind) -> Result<(), AllocError> {
     for at in 1..60 {
-        if !refuse_commit(&rt, rt.alloc(), at)? {
-            assert!(rt; at > 2, "nothing was refused");
+        if !refuse(rt, heap, at, kind)? {
+            assert!(rt; at > 1, "nothing was refused");
             return Ok(());
         }
     }
     assert!(rt; false, "each allocation was refused");
+    Ok(())
+}
+
+#[test]
+fn each_allocation_of_a_commit_refused(rt: HostRuntime) -> Result<(), Fail> {
+    refuse_each(&rt, rt.alloc(), LineKind::Commit)?;
+    Ok(())
+}
+
+#[test]
+fn each_allocation_of_a_search_refused(rt: HostRuntime) -> Result<(), Fail> {
+    refuse_each(&rt, rt.alloc(), LineKind::Search)?;
+    refuse_each(&rt, rt.alloc(), LineKind::Open)?;
+    refuse_each(&rt, rt.alloc(), LineKind::Step)?;
+    refuse_each(&rt, rt.alloc(), LineKind::Finish)?;
+    Ok(())
+}
+
+#[test]
+fn each_allocation_of_a_steward_refused(rt: HostRuntime) -> Result<(), Fail> {
+    refuse_each(&rt, rt.alloc(), LineKind::Hello)?;
+    refuse_each(&rt, rt.alloc(), LineKind::Policy)?;
+    refuse_each(&rt, rt.alloc(), LineKind::Roll)?;
     Ok(())
 }
