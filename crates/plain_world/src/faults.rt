@@ -6,7 +6,8 @@ use memory::Refused;
 use search_tree::TreeFault;
 use std::fmt;
 
-/// Why a world refuses a call. A refused call changes nothing, save that the overrun of a search or a walk ends it.
+/// Why a world refuses a call. A refused call changes nothing, save that an overrun ends the search, or
+/// the transaction whose walk it was.
 #[derive(Debug, Drop, PartialEq, Eq)]
 pub enum Fault {
     /// X1: the seat was not given, or no such search runs, or no such transaction is open.

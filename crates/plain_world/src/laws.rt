@@ -33,8 +33,8 @@ pub fn every_answer_is_exact()
 {}
 
 /// Whatever happened before, the outcome of a commit is the judgement of the staged list there and then: it is applied as a
-/// whole under the next version, or nothing changes. A denial is there exactly where the policy denies a change, by the
-/// decider then in force.
+/// whole under the next version, or nothing changes. A denial is there exactly where the first change that is turned away
+/// is denied, by the decider then in force.
 pub fn every_outcome_is_the_judgement()
     ensures { (old mid new : WorldData) (before : List (Event × Reply)) (seat number : ℕ) (outcome : Outcome)
         → IsSoundWorld old → Run old before mid → Happens (Commit seat number) mid new (Ended outcome)

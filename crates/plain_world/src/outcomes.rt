@@ -8,6 +8,7 @@ use audit_trail::Refusal;
 pub enum Outcome {
     /// The whole list is applied, under this version.
     Applied(u64),
-    /// The list is turned away, and no feature is changed. A denial is there exactly where the policy denies a change.
+    /// The list is turned away, and no feature is changed. A denial is there exactly where the first
+    /// change that is turned away is turned away because the policy denies it.
     Refused(Refusal, Option<Denial>),
 }

@@ -13,9 +13,13 @@ use std::marker::Model;
 /// A search that runs: whose it is, its window, and whether it has answered Ready.
 #[derive(Clone, Copy, Debug, PartialEq, Eq)]
 pub struct Search {
+    /// Its number, which no other search is given.
     pub number: u64,
+    /// The seat that opened it.
     pub seat: u32,
+    /// The shape that what it looks for meets.
     pub window: Shape,
+    /// Whether it has answered Ready.
     pub ready: bool,
 }
 

@@ -22,8 +22,11 @@ use std::sync::Arc;
 /// The state at which a trail begins.
 #[derive(Debug, Drop)]
 pub struct Base<A: Allocator> {
+    /// The features there, by rising id.
     pub features: Vec<Feature, A>,
+    /// The version of the last list that was applied before it.
     pub version: u64,
+    /// The decider in force there.
     pub decider: Arc<Decider>,
 }
 
@@ -131,8 +134,8 @@ impl<A: Allocator> PlainWorld<A> {
 }
 
 impl<A: Allocator + Copy> PlainWorld<A> {
-    /// A world with no features and no seats, by a document of the first edition. Where a growth is refused, the document
-    /// is handed back.
+    /// A world with no features and no seats, by a document of the first edition. X12 where a growth is refused: then
+    /// the document is handed back.
     pub fn open(
         alloc: A,
         heap: Global,
@@ -160,7 +163,8 @@ impl<A: Allocator + Copy> PlainWorld<A> {
         PlainWorld::open_at(alloc, heap, subjects, document, starts, limits)
     }
 
-    /// The same, where the numbers start elsewhere and the limits are other ones, for tests of what comes at their ends.
+    /// The same, where the numbers start elsewhere and the limits are other ones, for tests of what comes at their ends. No
+    /// limit is above the one that `open` sets, and no more than `ROLLED_LIMIT` records were rolled out before.
     pub fn open_at(
         alloc: A,
         heap: Global,

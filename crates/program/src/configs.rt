@@ -22,7 +22,9 @@ const SUBJECT_KEYS: [Key; 4] = [Key::Name, Key::Office, Key::Role, Key::Steward]
 /// What a server is opened with: its subjects, and its first policy document.
 #[derive(Debug, Drop)]
 pub struct Config<A: Allocator> {
+    /// The subjects that sessions may name.
     pub subjects: Subjects,
+    /// The policies that are in force at first.
     pub document: Document<A>,
 }
 

@@ -125,6 +125,15 @@ c: {"ids":[],"kind":"answered","number":1,"seat":1,"subject":"north","window":"P
 n: rows 0
 "#,
     )?;
+    Ok(())
+}
+
+#[test]
+fn ends_of_rolls(rt: HostRuntime) -> Result<(), Fail> {
+    let one_record = Limits {
+        records: 1,
+        ..LIMITS
+    };
     // A roll makes room for a record again.
     check_at(
         &rt,

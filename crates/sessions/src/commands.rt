@@ -35,9 +35,13 @@ pub enum Command {
 /// What EXPLAIN asks: may the session's subject do this with a feature of this office and class, at this shape?
 #[derive(Clone, Copy, Debug, PartialEq, Eq)]
 pub struct Asking {
+    /// What would be done.
     pub action: Action,
+    /// The office whose feature it is.
     pub owner: Name,
+    /// The feature's class.
     pub class: Name,
+    /// Where it is.
     pub shape: Shape,
 }
 

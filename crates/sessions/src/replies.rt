@@ -21,7 +21,7 @@ pub enum Reply {
     Staged,
     /// `applied VERSION`
     Applied(u64),
-    /// `denied rule NAME change K`, or `denied none change K` where no rule applies.
+    /// `denied rule NAME change K`, or `denied none change K` where no rule decides.
     Denied(Option<Name>, u64),
     /// `absent change K`: there is no feature that the change of this number, counted from 1, could change.
     Absent(u64),
@@ -43,7 +43,7 @@ pub enum Reply {
     Edition(u64),
     /// `permit rule NAME edition N`, or `permit none edition N` where the document permits by default.
     Permitted(Option<Name>, u64),
-    /// `denied rule NAME edition N`, or `denied none edition N` where no rule applies.
+    /// `denied rule NAME edition N`, or `denied none edition N` where no rule decides.
     Forbidden(Option<Name>, u64),
     /// `bye`
     Bye,

@@ -22,7 +22,8 @@ pub const READ_LIMIT: u32 = 16_777_216;
 /// How many bytes are read at once.
 const CHUNK: usize = 4_096;
 
-/// Why a run of session lines ends before its input does. What was done before stands; staged lists are dropped.
+/// Why a run of session lines ends before its input does. What was done before stands; staged lists and
+/// open searches are dropped.
 #[derive(Debug, Drop, PartialEq, Eq)]
 pub enum ServeFault {
     /// V1: a read failed.

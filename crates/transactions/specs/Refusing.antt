@@ -12,7 +12,7 @@ use Rattle.search_tree.specs.declared.fault.TreeFault.TheVariants as tree
 use Rattle.tree_theory.specs.declared.TheConstants.{TOP_LEVEL}
 use Rattle.transactions.specs.Index.{Index, frames}
 
--- a step of a walk, or tending: no slot is free, the root stands as high as it may, or the counter is at its end
+-- a step of a walk, or tending: fewer slots are free than it wants, the root stands as high as it may, or the counter is at its end
 abbrev pub RefusesGrowth : Index → Fault → Type 0
 RefusesGrowth index (faults.Tree tree.Full) = LacksSlots frames index
 RefusesGrowth index (faults.Tree tree.TooHigh) = root_level index ≡ TOP_LEVEL

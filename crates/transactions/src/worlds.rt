@@ -127,8 +127,8 @@ impl<A: Allocator> World<A> {
 }
 
 impl<A: Allocator + Copy> World<A> {
-    /// A world with no features and no seats, by a document of the first edition. Where a growth is refused, the document
-    /// is handed back.
+    /// A world with no features and no seats, by a document of the first edition. X12 where a growth is refused: then
+    /// the document is handed back.
     pub fn open(
         alloc: A,
         heap: Global,
@@ -158,7 +158,8 @@ impl<A: Allocator + Copy> World<A> {
         World::open_at(alloc, heap, subjects, document, starts, limits)
     }
 
-    /// The same, where the numbers start elsewhere and the limits are other ones, for tests of what comes at their ends.
+    /// The same, where the numbers start elsewhere and the limits are other ones, for tests of what comes at their ends. No
+    /// limit is above the one that `open` sets, and no more than `ROLLED_LIMIT` records were rolled out before.
     pub fn open_at(
         alloc: A,
         heap: Global,
