@@ -50,18 +50,23 @@ fn check_rolled(rt: &impl Abort, heap: Global, world: &mut World<Global>, lines:
     }
 }
 
+/// The trail is rolled with two records, with none and with one.
+fn roll_three_times(rt: &impl Abort, heap: Global, world: &mut World<Global>) {
+    add_mast(rt, world);
+    find_mast(rt, world);
+    check_rolled(rt, heap, world, &[ADDED, LISTED]);
+    check_rolled(rt, heap, world, &[]);
+    assert!(rt; world.trail().first() == 3 && world.trail().is_empty());
+    find_mast(rt, world);
+    check_rolled(rt, heap, world, &[AGAIN]);
+    assert!(rt; world.trail().first() == 4);
+}
+
 #[test]
 fn pieces_and_their_lines(rt: HostRuntime) -> Result<(), Fail> {
     let heap = rt.alloc();
     let mut world = seated(&rt, heap, heap, OPEN, STARTS, LIMITS);
-    add_mast(&rt, &mut world);
-    find_mast(&rt, &mut world);
-    check_rolled(&rt, heap, &mut world, &[ADDED, LISTED]);
-    check_rolled(&rt, heap, &mut world, &[]);
-    assert!(rt; world.trail().first() == 3 && world.trail().is_empty());
-    find_mast(&rt, &mut world);
-    check_rolled(&rt, heap, &mut world, &[AGAIN]);
-    assert!(rt; world.trail().first() == 4);
+    roll_three_times(&rt, heap, &mut world);
     Ok(())
 }
 
@@ -87,23 +92,31 @@ fn check_base(
     assert!(rt; base.features.iter().zip(ids).all(|(row, id)| row.id == *id));
 }
 
-#[test]
-fn each_piece_begins_where_the_last_ended(rt: HostRuntime) -> Result<(), Fail> {
-    let heap = rt.alloc();
-    let mut world = seated(&rt, heap, heap, OPEN, STARTS, LIMITS);
-    let search = ready(&rt, &mut world, 1, point(&rt, 9, 9));
-    let changes = [add(&rt, 2, "mast", 4)];
-    let open = placed(&rt, &mut world, 1, &changes);
-    add_mast(&rt, &mut world);
-    check_base(&rt, heap, &mut world, 0, 1, OPEN, &[]);
-    assert!(rt; matches!(world.govern(heap, 3, document(&rt, heap, CLOSED)), Ok(2)));
-    check_base(&rt, heap, &mut world, 1, 1, OPEN, &[1]);
-    check_base(&rt, heap, &mut world, 1, 2, CLOSED, &[1]);
-    // What is under way goes on.
+/// The trail is rolled before a policy comes and after it, while a search and a transaction are under way.
+fn roll_around_a_policy(rt: &impl Abort, heap: Global, world: &mut World<Global>) {
+    let search = ready(rt, world, 1, point(rt, 9, 9));
+    let open = placed(rt, world, 1, &[add(rt, 2, "mast", 4)]);
+    add_mast(rt, world);
+    check_base(rt, heap, world, 0, 1, OPEN, &[]);
+    assert!(rt; matches!(world.govern(heap, 3, document(rt, heap, CLOSED)), Ok(2)));
+    check_base(rt, heap, world, 1, 1, OPEN, &[1]);
+    check_base(rt, heap, world, 1, 2, CLOSED, &[1]);
+    end_both(rt, world, search, open);
+}
+
+/// What is under way goes on.
+fn end_both(rt: &impl Abort, world: &mut World<Global>, search: u64, open: u64) {
     let mut meter = Meter::new();
     assert!(rt; world.finish(1, search, &mut meter).is_ok());
     assert!(rt; matches!(world.commit(1, open), Ok(Outcome::Refused(_, Some(_)))));
     assert!(rt; world.trail().first() == 3 && world.trail().len() == 2);
+}
+
+#[test]
+fn each_piece_begins_where_the_last_ended(rt: HostRuntime) -> Result<(), Fail> {
+    let heap = rt.alloc();
+    let mut world = seated(&rt, heap, heap, OPEN, STARTS, LIMITS);
+    roll_around_a_policy(&rt, heap, &mut world);
     Ok(())
 }
 
@@ -117,33 +130,60 @@ fn recording(rt: &impl Abort, heap: Global, records: u32) -> World<Global> {
     seated(rt, heap, heap, OPEN, STARTS, limits)
 }
 
-#[test]
-fn ends_of_counters(rt: HostRuntime) -> Result<(), Fail> {
-    let heap = rt.alloc();
-    let mut world = recording(&rt, heap, 0);
-    let before = picture(&rt, heap, &world);
-    let search = ready(&rt, &mut world, 1, point(&rt, 1, 1));
+/// A search is finished in vain as often as it is tried, and then dropped.
+fn finish_in_vain(rt: &impl Abort, heap: Global, world: &mut World<Global>) {
+    let before = picture(rt, heap, world);
+    let search = ready(rt, world, 1, point(rt, 1, 1));
     let mut meter = Meter::new();
     for _ in 0..3 {
         assert!(rt; matches!(world.finish(1, search, &mut meter), Err(Fault::TrailFull)));
     }
     assert!(rt; world.drop_search(1, search) == Ok(()));
-    assert_eq!(rt; picture(&rt, heap, &world).as_str(), before.as_str());
+    assert_eq!(rt; picture(rt, heap, world).as_str(), before.as_str());
+}
+
+#[test]
+fn ends_of_counters(rt: HostRuntime) -> Result<(), Fail> {
+    let heap = rt.alloc();
+    let mut world = recording(&rt, heap, 0);
+    finish_in_vain(&rt, heap, &mut world);
     Ok(())
+}
+
+/// A search is finished once the trail, which takes one record, is rolled.
+fn finish_after_a_roll(rt: &impl Abort, heap: Global, world: &mut World<Global>) {
+    add_mast(rt, world);
+    let search = ready(rt, world, 1, square(rt, 0, 4));
+    let mut meter = Meter::new();
+    assert!(rt; matches!(world.finish(1, search, &mut meter), Err(Fault::TrailFull)));
+    check_rolled(rt, heap, world, &[ADDED]);
+    assert!(rt; world.finish(1, search, &mut meter).is_ok());
+    check_rolled(rt, heap, world, &[LISTED]);
 }
 
 #[test]
 fn a_full_trail_is_rolled(rt: HostRuntime) -> Result<(), Fail> {
     let heap = rt.alloc();
     let mut world = recording(&rt, heap, 1);
-    add_mast(&rt, &mut world);
-    let search = ready(&rt, &mut world, 1, square(&rt, 0, 4));
-    let mut meter = Meter::new();
-    assert!(rt; matches!(world.finish(1, search, &mut meter), Err(Fault::TrailFull)));
-    check_rolled(&rt, heap, &mut world, &[ADDED]);
-    assert!(rt; world.finish(1, search, &mut meter).is_ok());
-    check_rolled(&rt, heap, &mut world, &[LISTED]);
+    finish_after_a_roll(&rt, heap, &mut world);
     Ok(())
+}
+
+/// North finds nothing at a place.
+fn find_nothing(rt: &impl Abort, world: &mut World<Global>) {
+    let answer = found(rt, world, 1, point(rt, 1, 1));
+    assert_eq!(rt; answer.rows().len(), 0);
+}
+
+/// The trail is rolled while it is empty, and no more once it has a record.
+fn roll_in_vain(rt: &impl Abort, heap: Global, world: &mut World<Global>) {
+    assert!(rt; world.trail().first() == 4_293_918_720);
+    check_rolled(rt, heap, world, &[]);
+    find_nothing(rt, world);
+    let before = picture(rt, heap, world);
+    assert!(rt; matches!(world.roll(heap, 3), Err(Fault::Spent)));
+    assert!(rt; matches!(world.roll(heap, 1), Err(Fault::NotSteward)));
+    assert_eq!(rt; picture(rt, heap, world).as_str(), before.as_str());
 }
 
 #[test]
@@ -154,15 +194,19 @@ fn numbers_that_would_not_fit(rt: HostRuntime) -> Result<(), Fail> {
         ..STARTS
     };
     let mut world = seated(&rt, heap, heap, OPEN, starts, LIMITS);
-    assert!(rt; world.trail().first() == 4_293_918_720);
-    check_rolled(&rt, heap, &mut world, &[]);
-    let answer = found(&rt, &mut world, 1, point(&rt, 1, 1));
-    assert_eq!(rt; answer.rows().len(), 0);
-    let before = picture(&rt, heap, &world);
-    assert!(rt; matches!(world.roll(heap, 3), Err(Fault::Spent)));
-    assert!(rt; matches!(world.roll(heap, 1), Err(Fault::NotSteward)));
-    assert_eq!(rt; picture(&rt, heap, &world).as_str(), before.as_str());
+    roll_in_vain(&rt, heap, &mut world);
     Ok(())
+}
+
+/// No list is applied, but one that fails is turned away all the same.
+fn commit_in_vain(rt: &impl Abort, heap: Global, world: &mut World<Global>) {
+    let before = picture(rt, heap, world);
+    let number = placed(rt, world, 1, &[add(rt, 1, "mast", 4)]);
+    assert!(rt; matches!(world.commit(1, number), Err(Fault::Spent)));
+    assert_eq!(rt; picture(rt, heap, world).as_str(), before.as_str());
+    let absent = [features::Change::Delete { id: 9, version: 1 }];
+    let other = placed(rt, world, 1, &absent);
+    assert!(rt; matches!(world.commit(1, other), Ok(Outcome::Refused(_, None))));
 }
 
 #[test]
@@ -173,16 +217,21 @@ fn the_last_version(rt: HostRuntime) -> Result<(), Fail> {
         ..STARTS
     };
     let mut world = seated(&rt, heap, heap, OPEN, starts, LIMITS);
-    let before = picture(&rt, heap, &world);
-    let changes = [add(&rt, 1, "mast", 4)];
-    let number = placed(&rt, &mut world, 1, &changes);
-    assert!(rt; matches!(world.commit(1, number), Err(Fault::Spent)));
-    assert_eq!(rt; picture(&rt, heap, &world).as_str(), before.as_str());
-    // A list that fails is turned away all the same.
-    let absent = [features::Change::Delete { id: 9, version: 1 }];
-    let other = placed(&rt, &mut world, 1, &absent);
-    assert!(rt; matches!(world.commit(1, other), Ok(Outcome::Refused(_, None))));
+    commit_in_vain(&rt, heap, &mut world);
     Ok(())
+}
+
+/// A document is not put in force, and handed back.
+fn govern_in_vain(rt: &impl Abort, heap: Global, world: &mut World<Global>) {
+    let before = picture(rt, heap, world);
+    match world.govern(heap, 3, document(rt, heap, CLOSED)) {
+        Ok(_) => assert!(rt; false, "a document was put in force"),
+        Err((back, fault)) => {
+            assert!(rt; fault == Fault::Spent);
+            assert!(rt; back == document(rt, heap, CLOSED));
+        }
+    }
+    assert_eq!(rt; picture(rt, heap, world).as_str(), before.as_str());
 }
 
 #[test]
@@ -193,16 +242,17 @@ fn the_last_edition(rt: HostRuntime) -> Result<(), Fail> {
         ..STARTS
     };
     let mut world = seated(&rt, heap, heap, OPEN, starts, LIMITS);
-    let before = picture(&rt, heap, &world);
-    match world.govern(heap, 3, document(&rt, heap, CLOSED)) {
-        Ok(_) => assert!(&rt; false, "a document was put in force"),
-        Err((back, fault)) => {
-            assert!(rt; fault == Fault::Spent);
-            assert!(rt; back == document(&rt, heap, CLOSED));
-        }
-    }
-    assert_eq!(rt; picture(&rt, heap, &world).as_str(), before.as_str());
+    govern_in_vain(&rt, heap, &mut world);
     Ok(())
+}
+
+/// After the last search none is opened.
+fn search_in_vain(rt: &impl Abort, heap: Global, world: &mut World<Global>) {
+    find_nothing(rt, world);
+    let before = picture(rt, heap, world);
+    let spent = Err(Fault::Tree(TreeFault::Spent));
+    assert!(rt; world.open_search(1, point(rt, 1, 1)) == spent);
+    assert_eq!(rt; picture(rt, heap, world).as_str(), before.as_str());
 }
 
 #[test]
@@ -213,12 +263,7 @@ fn the_last_search(rt: HostRuntime) -> Result<(), Fail> {
         ..STARTS
     };
     let mut world = seated(&rt, heap, heap, OPEN, starts, LIMITS);
-    let answer = found(&rt, &mut world, 1, point(&rt, 1, 1));
-    assert_eq!(rt; answer.rows().len(), 0);
-    let before = picture(&rt, heap, &world);
-    let spent = Err(Fault::Tree(TreeFault::Spent));
-    assert!(rt; world.open_search(1, point(&rt, 1, 1)) == spent);
-    assert_eq!(rt; picture(&rt, heap, &world).as_str(), before.as_str());
+    search_in_vain(&rt, heap, &mut world);
     Ok(())
 }
 
@@ -239,22 +284,32 @@ fn add_masts(rt: &impl Abort, world: &mut World<Global>, last: u64) {
     }
 }
 
-#[test]
-fn the_last_step_of_a_walk(rt: HostRuntime) -> Result<(), Fail> {
-    let heap = rt.alloc();
-    let mut world = stepping(&rt, heap, 1, 0);
+/// North adds sixteen masts at one place, by walks of one step.
+fn fill_leaf(rt: &impl Abort, world: &mut World<Global>) {
     for id in 1..=16 {
-        let number = staged(&rt, &mut world, 1, &[add(&rt, id, "mast", 4)]);
+        let number = staged(rt, world, 1, &[add(rt, id, "mast", 4)]);
         assert!(rt; world.advance(1, number) == Ok(Advance::Walked(Step::Placed)));
         assert!(rt; matches!(world.commit(1, number), Ok(Outcome::Applied(_))));
     }
-    let before = picture(&rt, heap, &world);
-    let number = staged(&rt, &mut world, 1, &[add(&rt, 17, "mast", 4)]);
+}
+
+/// A walk of more than one step ends its transaction.
+fn walk_too_far(rt: &impl Abort, heap: Global, world: &mut World<Global>) {
+    fill_leaf(rt, world);
+    let before = picture(rt, heap, world);
+    let number = staged(rt, world, 1, &[add(rt, 17, "mast", 4)]);
     assert!(rt; world.advance(1, number) == Ok(Advance::Walked(Step::Split)));
     assert!(rt; world.advance(1, number) == Err(Fault::Tree(TreeFault::Overrun)));
     assert!(rt; world.advance(1, number) == Err(Fault::NoSuch));
     assert!(rt; matches!(world.commit(1, number), Err(Fault::NoSuch)));
-    assert_eq!(rt; picture(&rt, heap, &world).as_str(), before.as_str());
+    assert_eq!(rt; picture(rt, heap, world).as_str(), before.as_str());
+}
+
+#[test]
+fn the_last_step_of_a_walk(rt: HostRuntime) -> Result<(), Fail> {
+    let heap = rt.alloc();
+    let mut world = stepping(&rt, heap, 1, 0);
+    walk_too_far(&rt, heap, &mut world);
     Ok(())
 }
 
@@ -274,19 +329,24 @@ fn steps_of(rt: &impl Abort, world: &mut World<Global>, search: u64) -> u32 {
     panic!(rt; "a search makes more than 100 steps")
 }
 
+/// A search of more than nine steps is ended.
+fn search_too_far(rt: &impl Abort, heap: Global, world: &mut World<Global>) {
+    add_masts(rt, world, 100);
+    let before = picture(rt, heap, world);
+    let opened = world.open_search(1, square(rt, 0, 200));
+    assert!(rt; opened.is_ok());
+    let search = opened.unwrap();
+    assert_eq!(rt; steps_of(rt, world, search), 9);
+    assert!(rt; world.visit(1, search) == Err(Fault::NoSuch));
+    assert!(rt; world.drop_search(1, search) == Err(Fault::NoSuch));
+    assert_eq!(rt; picture(rt, heap, world).as_str(), before.as_str());
+}
+
 #[test]
 fn the_last_step_of_a_search(rt: HostRuntime) -> Result<(), Fail> {
     let heap = rt.alloc();
     let mut world = stepping(&rt, heap, 9, 0);
-    add_masts(&rt, &mut world, 100);
-    let before = picture(&rt, heap, &world);
-    let opened = world.open_search(1, square(&rt, 0, 200));
-    assert!(rt; opened.is_ok());
-    let search = opened.unwrap();
-    assert_eq!(rt; steps_of(&rt, &mut world, search), 9);
-    assert!(rt; world.visit(1, search) == Err(Fault::NoSuch));
-    assert!(rt; world.drop_search(1, search) == Err(Fault::NoSuch));
-    assert_eq!(rt; picture(&rt, heap, &world).as_str(), before.as_str());
+    search_too_far(&rt, heap, &mut world);
     Ok(())
 }
 
@@ -308,20 +368,29 @@ fn is_spent(rt: &impl Abort, world: &mut World<Global>, number: u64) -> bool {
     panic!(rt; "a walk makes more than 100 steps")
 }
 
-#[test]
-fn the_last_count_of_the_index(rt: HostRuntime) -> Result<(), Fail> {
-    let mut world = stepping(&rt, rt.alloc(), 1_000, u64::MAX);
+/// North adds masts at one place until a leaf below the root is to be parted, which the index's counter does not allow.
+fn add_until_spent(rt: &impl Abort, world: &mut World<Global>) {
     for id in 1..=64 {
-        let number = staged(&rt, &mut world, 1, &[add(&rt, id, "mast", 4)]);
-        if is_spent(&rt, &mut world, number) {
-            // What was placed is found.
-            let answer = found(&rt, &mut world, 1, square(&rt, 0, 9));
-            assert_eq!(rt; answer.rows().len() as u64, id.saturating_sub(1));
+        let number = staged(rt, world, 1, &[add(rt, id, "mast", 4)]);
+        if is_spent(rt, world, number) {
+            check_placed(rt, world, id.saturating_sub(1));
             assert!(rt; world.abort(1, number) == Ok(()));
-            return Ok(());
+            return;
         }
         assert!(rt; matches!(world.commit(1, number), Ok(Outcome::Applied(_))));
     }
-    assert!(&rt; false, "no leaf below the root is parted");
+    assert!(rt; false, "no leaf below the root is parted");
+}
+
+/// What was placed is found.
+fn check_placed(rt: &impl Abort, world: &mut World<Global>, count: u64) {
+    let answer = found(rt, world, 1, square(rt, 0, 9));
+    assert_eq!(rt; answer.rows().len() as u64, count);
+}
+
+#[test]
+fn the_last_count_of_the_index(rt: HostRuntime) -> Result<(), Fail> {
+    let mut world = stepping(&rt, rt.alloc(), 1_000, u64::MAX);
+    add_until_spent(&rt, &mut world);
     Ok(())
 }

@@ -5,6 +5,7 @@ use crate::worlds::{
     square, staged,
 };
 use features::{Change, Meter};
+use plane::Shape;
 use std::alloc::Global;
 use std::process::Abort;
 use std::test::Fail;
@@ -34,6 +35,12 @@ fn addition(rt: &impl Abort, id: u64) -> Change {
 /// North makes one change, as a list of its own.
 fn make(rt: &impl Abort, world: &mut World<Global>, change: Change) {
     let number = placed(rt, world, 1, &[change]);
+    assert!(rt; matches!(world.commit(1, number), Ok(Outcome::Applied(_))));
+}
+
+/// The walks of a transaction of north's go on to their end, and its list is applied.
+fn place_and_commit(rt: &impl Abort, world: &mut World<Global>, number: u64) {
+    place_all(rt, world, 1, number);
     assert!(rt; matches!(world.commit(1, number), Ok(Outcome::Applied(_))));
 }
 
@@ -82,23 +89,34 @@ fn check_rows(rt: &impl Abort, answer: &Answer<Global>, first: u64, last: u64, h
     assert_eq!(rt; answer.rows().len(), at);
 }
 
+/// A search of south's goes on to its end, and lists these and no others.
+fn check_ended(rt: &impl Abort, world: &mut World<Global>, search: u64, first: u64, last: u64) {
+    see_all(rt, world, 2, search);
+    let answer = finished(rt, world, search);
+    check_rows(rt, &answer, first, last, 300);
+}
+
 /// South finds these, and no others.
 fn check_found(rt: &impl Abort, world: &mut World<Global>, first: u64, last: u64) {
     let answer = found(rt, world, 2, square(rt, 0, 300));
     check_rows(rt, &answer, first, last, 300);
 }
 
-#[test]
-fn policy_changed_under_search(rt: HostRuntime) -> Result<(), Fail> {
-    let heap = rt.alloc();
-    let mut world = filled(&rt, heap, 40);
-    let search = begun(&rt, &mut world, 300);
-    assert!(rt; matches!(world.govern(heap, 3, document(&rt, heap, ROADS)), Ok(2)));
-    see_all(&rt, &mut world, 2, search);
-    let answer = finished(&rt, &mut world, search);
+/// A policy that lets roads alone be read comes while a search has more to see.
+fn govern_under_search(rt: &impl Abort, heap: Global, world: &mut World<Global>) {
+    let search = begun(rt, world, 300);
+    assert!(rt; matches!(world.govern(heap, 3, document(rt, heap, ROADS)), Ok(2)));
+    see_all(rt, world, 2, search);
+    let answer = finished(rt, world, search);
     assert_eq!(rt; answer.decider().edition(), 2);
     assert_eq!(rt; answer.rows().len(), 20);
     assert!(rt; answer.rows().iter().all(|row| row.id % 2 == 1));
+}
+
+#[test]
+fn policy_changed_under_search(rt: HostRuntime) -> Result<(), Fail> {
+    let mut world = filled(&rt, rt.alloc(), 40);
+    govern_under_search(&rt, rt.alloc(), &mut world);
     Ok(())
 }
 
@@ -129,29 +147,33 @@ fn fill_until_split(rt: &impl Abort, world: &mut World<Global>) -> (u64, u64) {
     panic!(rt; "no node is parted")
 }
 
+/// A walk parts a node while a search has more to see, and goes on from where it is once the search has ended.
+fn split_meanwhile(rt: &impl Abort, world: &mut World<Global>) {
+    let search = begun(rt, world, 300);
+    let (number, id) = fill_until_split(rt, world);
+    check_ended(rt, world, search, 1, id.saturating_sub(1));
+    place_and_commit(rt, world, number);
+    check_found(rt, world, 1, id);
+}
+
 #[test]
 fn split_under_search(rt: HostRuntime) -> Result<(), Fail> {
     let mut world = filled(&rt, rt.alloc(), 40);
-    let search = begun(&rt, &mut world, 300);
-    let (number, id) = fill_until_split(&rt, &mut world);
-    see_all(&rt, &mut world, 2, search);
-    let answer = finished(&rt, &mut world, search);
-    check_rows(&rt, &answer, 1, id.saturating_sub(1), 300);
-    // The walk goes on from where it is.
-    place_all(&rt, &mut world, 1, number);
-    assert!(rt; matches!(world.commit(1, number), Ok(Outcome::Applied(_))));
-    check_found(&rt, &mut world, 1, id);
+    split_meanwhile(&rt, &mut world);
     Ok(())
+}
+
+/// Eighty features come while a search has more to see.
+fn fill_meanwhile(rt: &impl Abort, world: &mut World<Global>) {
+    let search = begun(rt, world, 300);
+    fill(rt, world, 41, 120);
+    check_ended(rt, world, search, 1, 120);
 }
 
 #[test]
 fn many_placed_under_search(rt: HostRuntime) -> Result<(), Fail> {
     let mut world = filled(&rt, rt.alloc(), 40);
-    let search = begun(&rt, &mut world, 300);
-    fill(&rt, &mut world, 41, 120);
-    see_all(&rt, &mut world, 2, search);
-    let answer = finished(&rt, &mut world, search);
-    check_rows(&rt, &answer, 1, 120, 300);
+    fill_meanwhile(&rt, &mut world);
     Ok(())
 }
 
@@ -198,22 +220,37 @@ fn end_the_others(rt: &impl Abort, world: &mut World<Global>, last: u64) {
     }
 }
 
-#[test]
-fn stepped_between_placements(rt: HostRuntime) -> Result<(), Fail> {
-    let mut world = filled(&rt, rt.alloc(), 40);
+/// Eight searches of south's, each wider than the one before.
+fn open_eight(rt: &impl Abort, world: &mut World<Global>) {
     for number in 1..=8 {
-        let opened = world.open_search(2, square(&rt, 0, reach_of(number)));
+        let opened = world.open_search(2, square(rt, 0, reach_of(number)));
         assert!(rt; opened == Ok(number));
     }
+}
+
+/// Before each addition one of the searches is stepped, by turns. How many of them held an addition back.
+fn step_and_add(rt: &impl Abort, world: &mut World<Global>) -> u32 {
     let mut ended = 0u32;
     for id in 41..=160 {
         let turn: u64 = id % 8;
         let stepped = world.visit(2, turn.saturating_add(1));
         assert!(rt; stepped.is_ok() || stepped == Err(Fault::NoSuch));
-        ended = ended.saturating_add(add_among(&rt, &mut world, id));
+        ended = ended.saturating_add(add_among(rt, world, id));
     }
-    assert!(rt; ended > 2);
-    end_the_others(&rt, &mut world, 160);
+    ended
+}
+
+/// Eight searches and many additions go on side by side.
+fn search_and_add(rt: &impl Abort, world: &mut World<Global>) {
+    open_eight(rt, world);
+    assert!(rt; step_and_add(rt, world) > 2);
+    end_the_others(rt, world, 160);
+}
+
+#[test]
+fn stepped_between_placements(rt: HostRuntime) -> Result<(), Fail> {
+    let mut world = filled(&rt, rt.alloc(), 40);
+    search_and_add(&rt, &mut world);
     Ok(())
 }
 
@@ -233,75 +270,90 @@ fn check_held(rt: &impl Abort, world: &mut World<Global>, number: u64, search: u
     assert!(rt; matches!(world.commit(1, number), Err(Fault::NotPlaced)));
 }
 
+/// A ready search holds a walk until it is finished.
+fn hold_until_finished(rt: &impl Abort, world: &mut World<Global>) {
+    let search = ready(rt, world, 2, square(rt, 0, 300));
+    let number = staged(rt, world, 1, &[addition(rt, 41)]);
+    check_held(rt, world, number, search);
+    let answer = finished(rt, world, search);
+    check_rows(rt, &answer, 1, 40, 300);
+    place_and_commit(rt, world, number);
+    check_found(rt, world, 1, 41);
+}
+
 #[test]
 fn held_by_ready_search(rt: HostRuntime) -> Result<(), Fail> {
     let mut world = filled(&rt, rt.alloc(), 40);
-    let search = ready(&rt, &mut world, 2, square(&rt, 0, 300));
-    let number = staged(&rt, &mut world, 1, &[addition(&rt, 41)]);
-    check_held(&rt, &mut world, number, search);
-    let answer = finished(&rt, &mut world, search);
-    check_rows(&rt, &answer, 1, 40, 300);
-    place_all(&rt, &mut world, 1, number);
-    assert!(rt; matches!(world.commit(1, number), Ok(Outcome::Applied(_))));
-    check_found(&rt, &mut world, 1, 41);
+    hold_until_finished(&rt, &mut world);
     Ok(())
+}
+
+/// A ready search holds a walk until it is dropped.
+fn hold_until_dropped(rt: &impl Abort, world: &mut World<Global>) {
+    let search = ready(rt, world, 2, square(rt, 0, 300));
+    let number = staged(rt, world, 1, &[addition(rt, 41)]);
+    check_held(rt, world, number, search);
+    assert!(rt; world.drop_search(2, search) == Ok(()));
+    place_and_commit(rt, world, number);
 }
 
 #[test]
 fn held_until_the_search_is_dropped(rt: HostRuntime) -> Result<(), Fail> {
     let mut world = filled(&rt, rt.alloc(), 40);
-    let search = ready(&rt, &mut world, 2, square(&rt, 0, 300));
-    let number = staged(&rt, &mut world, 1, &[addition(&rt, 41)]);
-    check_held(&rt, &mut world, number, search);
-    assert!(rt; world.drop_search(2, search) == Ok(()));
-    place_all(&rt, &mut world, 1, number);
-    assert!(rt; matches!(world.commit(1, number), Ok(Outcome::Applied(_))));
+    hold_until_dropped(&rt, &mut world);
     Ok(())
+}
+
+/// A search that has made no step, and one that looks elsewhere, hold no walk.
+fn hold_nobody(rt: &impl Abort, world: &mut World<Global>) {
+    let opened = world.open_search(2, square(rt, 0, 300));
+    assert!(rt; opened.is_ok());
+    let other = ready(rt, world, 2, square(rt, -9, -1));
+    fill(rt, world, 41, 60);
+    check_ended(rt, world, opened.unwrap(), 1, 60);
+    let answer = finished(rt, world, other);
+    assert_eq!(rt; answer.rows().len(), 0);
 }
 
 #[test]
 fn held_by_nobody(rt: HostRuntime) -> Result<(), Fail> {
     let mut world = filled(&rt, rt.alloc(), 40);
-    // A search that has made no step, and one that looks elsewhere.
-    let opened = world.open_search(2, square(&rt, 0, 300));
-    assert!(rt; opened.is_ok());
-    let search = opened.unwrap();
-    let other = ready(&rt, &mut world, 2, square(&rt, -9, -1));
-    fill(&rt, &mut world, 41, 60);
-    see_all(&rt, &mut world, 2, search);
-    let answer = finished(&rt, &mut world, search);
-    check_rows(&rt, &answer, 1, 60, 300);
-    let answer = finished(&rt, &mut world, other);
-    assert_eq!(rt; answer.rows().len(), 0);
+    hold_nobody(&rt, &mut world);
     Ok(())
+}
+
+/// The feature 7 is reshaped and the feature 40 deleted while a search has more to see.
+fn change_under_search(rt: &impl Abort, world: &mut World<Global>) {
+    let search = begun(rt, world, 300);
+    let shape = square(rt, 3, 5);
+    make(
+        rt,
+        world,
+        Change::Reshape {
+            id: 7,
+            version: 7,
+            shape,
+        },
+    );
+    delete(rt, world, 40, 40);
+    see_all(rt, world, 2, search);
+    let answer = finished(rt, world, search);
+    check_rows(rt, &answer, 1, 39, 300);
+    check_reshaped(rt, &answer, shape);
+}
+
+/// The row of the feature 7 has this shape.
+fn check_reshaped(rt: &impl Abort, answer: &Answer<Global>, shape: Shape) {
+    let Some(row) = answer.rows().get(6) else {
+        panic!(rt; "the row of the reshaped feature is missing")
+    };
+    assert!(rt; row.id == 7 && row.version == 41 && row.shape == shape);
 }
 
 #[test]
 fn reshaped_under_search(rt: HostRuntime) -> Result<(), Fail> {
     let mut world = filled(&rt, rt.alloc(), 40);
-    let search = begun(&rt, &mut world, 300);
-    let shape = square(&rt, 3, 5);
-    let reshape = Change::Reshape {
-        id: 7,
-        version: 7,
-        shape,
-    };
-    make(&rt, &mut world, reshape);
-    make(
-        &rt,
-        &mut world,
-        Change::Delete {
-            id: 40,
-            version: 40,
-        },
-    );
-    see_all(&rt, &mut world, 2, search);
-    let answer = finished(&rt, &mut world, search);
-    check_rows(&rt, &answer, 1, 39, 300);
-    let Some(row) = answer.rows().get(6) else {
-        panic!(rt; "the row of the reshaped feature is missing")
-    };
-    assert!(rt; row.id == 7 && row.version == 41 && row.shape == shape);
+    change_under_search(&rt, &mut world);
     Ok(())
 }
 
@@ -355,29 +407,42 @@ fn sixteen_placed(rt: &impl Abort, world: &mut World<Global>, first: u64) -> u64
     number
 }
 
+/// What an open transaction has placed stays, until it is given up.
+fn place_and_abort(rt: &impl Abort, world: &mut World<Global>) {
+    let number = sixteen_placed(rt, world, 101);
+    check_tended(rt, world, 56);
+    check_found(rt, world, 1, 40);
+    assert!(rt; world.abort(1, number) == Ok(()));
+    assert!(rt; tend_all(rt, world).cleaned > 0);
+    assert_eq!(rt; pairs(rt, world), 40);
+    check_found(rt, world, 1, 40);
+}
+
+/// Tending lets nothing go of the index, which has so many pairs.
+fn check_tended(rt: &impl Abort, world: &mut World<Global>, count: usize) {
+    assert_eq!(rt; tend_all(rt, world).cleaned, 0);
+    assert_eq!(rt; pairs(rt, world), count);
+}
+
 #[test]
 fn aborted_shapes_are_let_go(rt: HostRuntime) -> Result<(), Fail> {
     let mut world = filled(&rt, rt.alloc(), 40);
-    let number = sixteen_placed(&rt, &mut world, 101);
-    // What an open transaction has staged stays.
-    assert_eq!(rt; tend_all(&rt, &mut world).cleaned, 0);
-    assert_eq!(rt; pairs(&rt, &mut world), 56);
-    check_found(&rt, &mut world, 1, 40);
-    assert!(rt; world.abort(1, number) == Ok(()));
-    assert!(rt; tend_all(&rt, &mut world).cleaned > 0);
-    assert_eq!(rt; pairs(&rt, &mut world), 40);
-    check_found(&rt, &mut world, 1, 40);
+    place_and_abort(&rt, &mut world);
     Ok(())
+}
+
+/// What a transaction has placed stays once it is committed.
+fn place_sixteen_and_commit(rt: &impl Abort, world: &mut World<Global>) {
+    let number = sixteen_placed(rt, world, 41);
+    assert!(rt; matches!(world.commit(1, number), Ok(Outcome::Applied(_))));
+    check_tended(rt, world, 56);
+    check_found(rt, world, 1, 56);
 }
 
 #[test]
 fn committed_shapes_stay(rt: HostRuntime) -> Result<(), Fail> {
     let mut world = filled(&rt, rt.alloc(), 40);
-    let number = sixteen_placed(&rt, &mut world, 41);
-    assert!(rt; matches!(world.commit(1, number), Ok(Outcome::Applied(_))));
-    assert_eq!(rt; tend_all(&rt, &mut world).cleaned, 0);
-    assert_eq!(rt; pairs(&rt, &mut world), 56);
-    check_found(&rt, &mut world, 1, 56);
+    place_sixteen_and_commit(&rt, &mut world);
     Ok(())
 }
 
@@ -388,71 +453,94 @@ fn delete(rt: &impl Abort, world: &mut World<Global>, first: u64, last: u64) {
     }
 }
 
+/// All features but the last are deleted, and what tending lets go of is used again.
+fn delete_and_fill(rt: &impl Abort, world: &mut World<Global>) {
+    let slots = world.slots();
+    delete(rt, world, 1, 119);
+    check_found(rt, world, 120, 120);
+    let tended = tend_all(rt, world);
+    assert!(rt; tended.cleaned > 4 && tended.retired > 4);
+    assert_eq!(rt; tended.freed, tended.retired);
+    assert_eq!(rt; pairs(rt, world), 1);
+    check_found(rt, world, 120, 120);
+    // The slots that are free are used again.
+    fill(rt, world, 1, 40);
+    assert!(rt; world.slots() <= slots);
+}
+
 #[test]
 fn deleted_features_are_let_go(rt: HostRuntime) -> Result<(), Fail> {
     let mut world = filled(&rt, rt.alloc(), 120);
-    let slots = world.slots();
-    delete(&rt, &mut world, 1, 119);
-    check_found(&rt, &mut world, 120, 120);
-    let tended = tend_all(&rt, &mut world);
-    assert!(rt; tended.cleaned > 4 && tended.retired > 4);
-    assert_eq!(rt; tended.freed, tended.retired);
-    assert_eq!(rt; pairs(&rt, &mut world), 1);
-    check_found(&rt, &mut world, 120, 120);
-    // The slots that are free are used again.
-    fill(&rt, &mut world, 1, 40);
-    assert!(rt; world.slots() <= slots);
+    delete_and_fill(&rt, &mut world);
     Ok(())
+}
+
+/// All features but the last are deleted while a search has more to see.
+fn delete_under_search(rt: &impl Abort, world: &mut World<Global>) {
+    let search = begun(rt, world, 300);
+    delete(rt, world, 1, 119);
+    let under = tend_all(rt, world);
+    assert!(rt; under.retired > 4);
+    assert_eq!(rt; under.freed, 0);
+    check_ended(rt, world, search, 120, 120);
+    assert_eq!(rt; tend_all(rt, world).freed, under.retired);
+    check_found(rt, world, 120, 120);
 }
 
 #[test]
 fn freed_once_the_search_has_ended(rt: HostRuntime) -> Result<(), Fail> {
     let mut world = filled(&rt, rt.alloc(), 120);
-    let search = begun(&rt, &mut world, 300);
-    delete(&rt, &mut world, 1, 119);
-    let under = tend_all(&rt, &mut world);
-    assert!(rt; under.retired > 4);
-    assert_eq!(rt; under.freed, 0);
-    see_all(&rt, &mut world, 2, search);
-    let answer = finished(&rt, &mut world, search);
-    check_rows(&rt, &answer, 120, 120, 300);
-    assert_eq!(rt; tend_all(&rt, &mut world).freed, under.retired);
-    check_found(&rt, &mut world, 120, 120);
+    delete_under_search(&rt, &mut world);
     Ok(())
+}
+
+/// All features are deleted while a walk is on its way.
+fn delete_under_walk(rt: &impl Abort, world: &mut World<Global>) {
+    let number = staged(rt, world, 1, &[addition(rt, 41)]);
+    assert!(rt; world.advance(1, number) == Ok(Advance::Walked(Step::Moved)));
+    delete(rt, world, 1, 40);
+    assert!(rt; tend_all(rt, world).freed > 0);
+    assert!(rt; world.advance(1, number) == Ok(Advance::Walked(Step::Restarted)));
+    place_all(rt, world, 1, number);
+    assert!(rt; matches!(world.commit(1, number), Ok(Outcome::Applied(81))));
+    check_found(rt, world, 41, 41);
 }
 
 #[test]
 fn walks_begin_anew(rt: HostRuntime) -> Result<(), Fail> {
     let mut world = filled(&rt, rt.alloc(), 40);
-    let number = staged(&rt, &mut world, 1, &[addition(&rt, 41)]);
-    assert!(rt; world.advance(1, number) == Ok(Advance::Walked(Step::Moved)));
-    delete(&rt, &mut world, 1, 40);
-    assert!(rt; tend_all(&rt, &mut world).freed > 0);
-    assert!(rt; world.advance(1, number) == Ok(Advance::Walked(Step::Restarted)));
-    place_all(&rt, &mut world, 1, number);
-    assert!(rt; matches!(world.commit(1, number), Ok(Outcome::Applied(81))));
-    check_found(&rt, &mut world, 41, 41);
+    delete_under_walk(&rt, &mut world);
     Ok(())
 }
 
-#[test]
-fn found_count_bounds_the_meter(rt: HostRuntime) -> Result<(), Fail> {
-    let mut world = filled(&rt, rt.alloc(), 40);
-    let opened = world.open_search(2, square(&rt, 0, 128));
+/// A search for some of the features is seen to its end. Its number, and how much it has found.
+fn some_found(rt: &impl Abort, world: &mut World<Global>) -> (u64, usize) {
+    let opened = world.open_search(2, square(rt, 0, 128));
     assert!(rt; opened.is_ok());
     let search = opened.unwrap();
     assert!(rt; world.found_count(search) == 0 && world.found_count(99) == 0);
-    see_all(&rt, &mut world, 2, search);
+    see_all(rt, world, 2, search);
     let count = world.found_count(search);
     assert!(rt; 10 < count && count < 40);
-    // What is deleted before the search is finished was found, and is not listed.
-    delete(&rt, &mut world, 1, 2);
+    (search, count)
+}
+
+/// What is deleted before a search is finished was found, and is not listed.
+fn delete_what_was_found(rt: &impl Abort, world: &mut World<Global>) {
+    let (search, count) = some_found(rt, world);
+    delete(rt, world, 1, 2);
     assert_eq!(rt; world.found_count(search), count);
     let mut meter = Meter::new();
     let answered = world.finish(2, search, &mut meter);
     assert!(rt; answered.is_ok());
     assert!(rt; 0 < meter.ticks() && meter.ticks() <= count as u64);
-    check_rows(&rt, &answered.unwrap(), 3, 40, 128);
+    check_rows(rt, &answered.unwrap(), 3, 40, 128);
     assert_eq!(rt; world.found_count(search), 0);
+}
+
+#[test]
+fn found_count_bounds_the_meter(rt: HostRuntime) -> Result<(), Fail> {
+    let mut world = filled(&rt, rt.alloc(), 40);
+    delete_what_was_found(&rt, &mut world);
     Ok(())
 }

@@ -48,30 +48,50 @@ fn before_event<'a>(
     event: &Taking,
 ) -> Prepared<'a> {
     let mut world = seated(rt, memory, heap, OPEN, STARTS, LIMITS);
+    let (search, transaction) = prepare(rt, heap, &mut world, event);
+    Prepared {
+        world,
+        search,
+        transaction,
+    }
+}
+
+/// North's search and transaction before an event.
+fn prepare(
+    rt: &impl Abort,
+    heap: Global,
+    world: &mut World<&Refusing<Global>>,
+    event: &Taking,
+) -> (u64, u64) {
+    add_four(rt, world);
+    fill_lists(rt, world);
+    let transaction = placed(rt, world, 1, &[change_for(rt, event)]);
+    let search = ready(rt, world, 1, square(rt, 0, 9));
+    if *event == Taking::Deny {
+        assert!(rt; matches!(world.govern(heap, 3, document(rt, heap, CLOSED)), Ok(2)));
+    }
+    (search, transaction)
+}
+
+/// North adds the roads 1 to 4.
+fn add_four(rt: &impl Abort, world: &mut World<&Refusing<Global>>) {
     let four = [
         add(rt, 1, "road", 1),
         add(rt, 2, "road", 2),
         add(rt, 3, "road", 3),
         add(rt, 4, "road", 4),
     ];
-    let number = placed(rt, &mut world, 1, &four);
+    let number = placed(rt, world, 1, &four);
     assert!(rt; matches!(world.commit(1, number), Ok(Outcome::Applied(1))));
-    // Four places of a list are made at once, so each list that may grow is full.
+}
+
+/// Four places of a list are made at once, so each list that may grow is filled.
+fn fill_lists(rt: &impl Abort, world: &mut World<&Refusing<Global>>) {
     assert!(rt; world.seat(name(rt, "south")) == Ok(4));
     for _ in 0..3 {
-        assert_eq!(rt; found(rt, &mut world, 1, square(rt, 0, 9)).rows().len(), 4);
-        ready(rt, &mut world, 2, point(rt, 0, 0));
-        staged(rt, &mut world, 2, &[]);
-    }
-    let transaction = placed(rt, &mut world, 1, &[change_for(rt, event)]);
-    let search = ready(rt, &mut world, 1, square(rt, 0, 9));
-    if *event == Taking::Deny {
-        assert!(rt; matches!(world.govern(heap, 3, document(rt, heap, CLOSED)), Ok(2)));
-    }
-    Prepared {
-        world,
-        search,
-        transaction,
+        assert_eq!(rt; found(rt, world, 1, square(rt, 0, 9)).rows().len(), 4);
+        ready(rt, world, 2, point(rt, 0, 0));
+        staged(rt, world, 2, &[]);
     }
 }
 
@@ -128,14 +148,26 @@ fn check_refused(
 fn try_refused(rt: &impl Abort, heap: Global, event: &Taking, at: u64) -> bool {
     let memory = Refusing::new(heap, 0);
     let mut prepared = before_event(rt, &memory, heap, event);
+    run_refused(rt, heap, &memory, &mut prepared, event, at)
+}
+
+/// The same, for an event that is prepared.
+fn run_refused(
+    rt: &impl Abort,
+    heap: Global,
+    memory: &Refusing<Global>,
+    prepared: &mut Prepared<'_>,
+    event: &Taking,
+    at: u64,
+) -> bool {
     let before = picture(rt, heap, &prepared.world);
     memory.refuse(at);
-    let told = run(rt, heap, &mut prepared, event);
+    let told = run(rt, heap, prepared, event);
     let refused = memory.has_refused();
     memory.refuse(0);
     if refused {
         assert!(rt; matches!(told, Some(Fault::Memory(_))), "{event:?} {at}");
-        check_refused(rt, heap, &mut prepared, event, before.as_str());
+        check_refused(rt, heap, prepared, event, before.as_str());
     } else {
         assert!(rt; told.is_none(), "{event:?} {at}");
     }
@@ -187,6 +219,18 @@ fn sixteen_staged<A: Allocator + Copy>(rt: &impl Abort, world: &mut World<A>, fi
     number
 }
 
+/// North adds sixteen roads by one list, which is applied under this version.
+fn add_sixteen<A: Allocator + Copy>(
+    rt: &impl Abort,
+    world: &mut World<A>,
+    first: u64,
+    version: u64,
+) {
+    let number = sixteen_staged(rt, world, first);
+    place_all(rt, world, 1, number);
+    assert!(rt; matches!(world.commit(1, number), Ok(Outcome::Applied(told)) if told == version));
+}
+
 /// The walks of a transaction of north's go on until all is placed. How many of their steps were refused: the walk stays
 /// where it was, and the same step is made again.
 fn place_refused<A: Allocator + Copy>(rt: &impl Abort, world: &mut World<A>, number: u64) -> u64 {
@@ -207,22 +251,28 @@ fn place_refused<A: Allocator + Copy>(rt: &impl Abort, world: &mut World<A>, num
 fn try_walks(rt: &impl Abort, heap: Global, at: u64) -> bool {
     let memory = Refusing::new(heap, 0);
     let mut world = seated(rt, &memory, heap, OPEN, STARTS, LIMITS);
-    let first = sixteen_staged(rt, &mut world, 1);
-    place_all(rt, &mut world, 1, first);
-    assert!(rt; matches!(world.commit(1, first), Ok(Outcome::Applied(1))));
-    let second = sixteen_staged(rt, &mut world, 17);
-    let before = picture(rt, heap, &world);
+    walk_refused(rt, heap, &memory, &mut world, at)
+}
+
+/// The same, in a world in which nothing is.
+fn walk_refused(
+    rt: &impl Abort,
+    heap: Global,
+    memory: &Refusing<Global>,
+    world: &mut World<&Refusing<Global>>,
+    at: u64,
+) -> bool {
+    add_sixteen(rt, world, 1, 1);
+    let second = sixteen_staged(rt, world, 17);
+    let before = picture(rt, heap, world);
     memory.refuse(at);
-    let refused = place_refused(rt, &mut world, second);
+    let refused = place_refused(rt, world, second);
     let reached = memory.has_refused();
     memory.refuse(0);
     assert_eq!(rt; refused, if reached { 1 } else { 0 });
-    assert_eq!(rt; picture(rt, heap, &world).as_str(), before.as_str());
+    assert_eq!(rt; picture(rt, heap, world).as_str(), before.as_str());
     assert!(rt; matches!(world.commit(1, second), Ok(Outcome::Applied(2))));
-    assert_eq!(rt;
-        found(rt, &mut world, 1, square(rt, 0, 99)).rows().len(),
-        32
-    );
+    assert_eq!(rt; found(rt, world, 1, square(rt, 0, 99)).rows().len(), 32);
     reached
 }
 
@@ -256,24 +306,37 @@ fn see_refused<A: Allocator + Copy>(rt: &impl Abort, world: &mut World<A>, searc
 fn try_visits(rt: &impl Abort, heap: Global, at: u64) -> bool {
     let memory = Refusing::new(heap, 0);
     let mut world = seated(rt, &memory, heap, OPEN, STARTS, LIMITS);
-    for first in [1, 17] {
-        let number = sixteen_staged(rt, &mut world, first);
-        place_all(rt, &mut world, 1, number);
-        assert!(rt; matches!(world.commit(1, number), Ok(Outcome::Applied(_))));
-    }
+    visit_refused(rt, heap, &memory, &mut world, at)
+}
+
+/// The same, in a world in which nothing is.
+fn visit_refused(
+    rt: &impl Abort,
+    heap: Global,
+    memory: &Refusing<Global>,
+    world: &mut World<&Refusing<Global>>,
+    at: u64,
+) -> bool {
+    add_sixteen(rt, world, 1, 1);
+    add_sixteen(rt, world, 17, 2);
     assert!(rt; world.open_search(1, square(rt, 0, 99)) == Ok(1));
-    let before = picture(rt, heap, &world);
+    let before = picture(rt, heap, world);
     memory.refuse(at);
-    let refused = see_refused(rt, &mut world, 1);
+    let refused = see_refused(rt, world, 1);
     let reached = memory.has_refused();
     memory.refuse(0);
     assert_eq!(rt; refused, if reached { 1 } else { 0 });
-    assert_eq!(rt; picture(rt, heap, &world).as_str(), before.as_str());
+    assert_eq!(rt; picture(rt, heap, world).as_str(), before.as_str());
+    check_finished(rt, world);
+    reached
+}
+
+/// The search of the number 1 lists 32 roads.
+fn check_finished(rt: &impl Abort, world: &mut World<&Refusing<Global>>) {
     let mut meter = Meter::new();
     let answered = world.finish(1, 1, &mut meter);
     assert!(rt; answered.is_ok());
     assert_eq!(rt; answered.unwrap().rows().len(), 32);
-    reached
 }
 
 #[test]

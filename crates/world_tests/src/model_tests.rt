@@ -94,10 +94,14 @@ fn opened(rt: &impl Abort, heap: Global) -> World<Global> {
     );
     assert!(rt; opened.is_ok());
     let mut world = opened.unwrap();
+    give_seats(rt, &mut world);
+    world
+}
+
+fn give_seats(rt: &impl Abort, world: &mut World<Global>) {
     for seat in 1..17 {
         assert!(rt; world.seat(office(rt, office_of(seat))) == Ok(seat));
     }
-    world
 }
 
 /// A refusal by its code.

@@ -14,10 +14,14 @@ use transactions::{Advance, Fault, Limits, Outcome, Step, Tending, TreeFault, Vi
 /// A world in which north has added the roads 1 and 2 at 1, 1 and 2, 2.
 fn inhabited(rt: &impl Abort, heap: Global) -> World<Global> {
     let mut world = seated(rt, heap, heap, OPEN, STARTS, LIMITS);
-    let changes = [add(rt, 1, "road", 1), add(rt, 2, "road", 2)];
-    let number = placed(rt, &mut world, 1, &changes);
-    assert!(rt; matches!(world.commit(1, number), Ok(Outcome::Applied(1))));
+    add_roads(rt, &mut world);
     world
+}
+
+fn add_roads(rt: &impl Abort, world: &mut World<Global>) {
+    let changes = [add(rt, 1, "road", 1), add(rt, 2, "road", 2)];
+    let number = placed(rt, world, 1, &changes);
+    assert!(rt; matches!(world.commit(1, number), Ok(Outcome::Applied(1))));
 }
 
 /// The world tells what it told before, and lists the same two features.
@@ -30,45 +34,65 @@ fn check_same(rt: &impl Abort, heap: Global, world: &mut World<Global>, before: 
     assert!(rt; rows[1].id == 2 && rows[1].version == 1 && rows[1].shape == point(rt, 2, 2));
 }
 
+/// A seat for nobody is not given.
+fn ask_for_nobody(rt: &impl Abort, heap: Global, world: &mut World<Global>) {
+    let before = picture(rt, heap, world);
+    assert!(rt; world.seat(name(rt, "nobody")) == Err(Fault::NoSubject));
+    check_same(rt, heap, world, before.as_str());
+}
+
 #[test]
 fn seats_that_are_not_given(rt: HostRuntime) -> Result<(), Fail> {
     let heap = rt.alloc();
     let mut world = inhabited(&rt, heap);
-    let before = picture(&rt, heap, &world);
-    assert!(rt; world.seat(name(&rt, "nobody")) == Err(Fault::NoSubject));
-    check_same(&rt, heap, &mut world, before.as_str());
+    ask_for_nobody(&rt, heap, &mut world);
     Ok(())
+}
+
+/// South takes each place that is left, and there is none for another seat.
+fn take_each_place(rt: &impl Abort, heap: Global, world: &mut World<Global>) {
+    for number in 4..1_025 {
+        assert!(rt; world.seat(name(rt, "south")) == Ok(number));
+    }
+    let before = picture(rt, heap, world);
+    assert!(rt; world.seat(name(rt, "south")) == Err(Fault::NoPlace));
+    assert!(rt; world.seat(name(rt, "nobody")) == Err(Fault::NoSubject));
+    check_same(rt, heap, world, before.as_str());
 }
 
 #[test]
 fn places_for_1024_seats(rt: HostRuntime) -> Result<(), Fail> {
     let heap = rt.alloc();
     let mut world = inhabited(&rt, heap);
-    for number in 4..1_025 {
-        assert!(rt; world.seat(name(&rt, "south")) == Ok(number));
-    }
-    let before = picture(&rt, heap, &world);
-    assert!(rt; world.seat(name(&rt, "south")) == Err(Fault::NoPlace));
-    assert!(rt; world.seat(name(&rt, "nobody")) == Err(Fault::NoSubject));
-    check_same(&rt, heap, &mut world, before.as_str());
+    take_each_place(&rt, heap, &mut world);
     Ok(())
 }
 
 /// Each event of a seat that was not given.
 fn try_all(rt: &impl Abort, heap: Global, world: &mut World<Global>, seat: u32) {
+    try_searching(rt, world, seat);
+    try_changing(rt, world, seat);
+    assert!(rt; matches!(world.roll(heap, seat), Err(Fault::NoSuch)));
+    check_handed_back(rt, heap, world, seat, Fault::NoSuch);
+}
+
+/// Each event of searches, of a seat that was not given.
+fn try_searching(rt: &impl Abort, world: &mut World<Global>, seat: u32) {
     let mut meter = Meter::new();
-    let change = Change::Delete { id: 1, version: 1 };
     assert!(rt; world.open_search(seat, point(rt, 0, 0)) == Err(Fault::NoSuch));
     assert!(rt; world.visit(seat, 1) == Err(Fault::NoSuch));
     assert!(rt; matches!(world.finish(seat, 1, &mut meter), Err(Fault::NoSuch)));
     assert!(rt; world.drop_search(seat, 1) == Err(Fault::NoSuch));
+}
+
+/// Each event of transactions, of a seat that was not given.
+fn try_changing(rt: &impl Abort, world: &mut World<Global>, seat: u32) {
+    let change = Change::Delete { id: 1, version: 1 };
     assert!(rt; world.begin(seat) == Err(Fault::NoSuch));
     assert!(rt; world.stage(seat, 1, change) == Err(Fault::NoSuch));
     assert!(rt; world.advance(seat, 1) == Err(Fault::NoSuch));
     assert!(rt; matches!(world.commit(seat, 1), Err(Fault::NoSuch)));
     assert!(rt; world.abort(seat, 1) == Err(Fault::NoSuch));
-    assert!(rt; matches!(world.roll(heap, seat), Err(Fault::NoSuch)));
-    check_handed_back(rt, heap, world, seat, Fault::NoSuch);
 }
 
 /// A document that is not put in force is handed back.
@@ -90,14 +114,19 @@ fn check_handed_back(
     }
 }
 
+/// The seat before the first and the one behind the last are nobody's.
+fn try_without_a_seat(rt: &impl Abort, heap: Global, world: &mut World<Global>) {
+    let before = picture(rt, heap, world);
+    try_all(rt, heap, world, 0);
+    try_all(rt, heap, world, 4);
+    check_same(rt, heap, world, before.as_str());
+}
+
 #[test]
 fn events_without_a_seat(rt: HostRuntime) -> Result<(), Fail> {
     let heap = rt.alloc();
     let mut world = inhabited(&rt, heap);
-    let before = picture(&rt, heap, &world);
-    try_all(&rt, heap, &mut world, 0);
-    try_all(&rt, heap, &mut world, 4);
-    check_same(&rt, heap, &mut world, before.as_str());
+    try_without_a_seat(&rt, heap, &mut world);
     Ok(())
 }
 
@@ -121,78 +150,103 @@ fn try_on(
     assert!(rt; world.abort(seat, transaction).err().as_ref() == Some(expected));
 }
 
+/// A search and a transaction of north's are tried by south and under other numbers, end well, and are there no more.
+fn try_as_another(rt: &impl Abort, heap: Global, world: &mut World<Global>) {
+    let search = ready(rt, world, 1, point(rt, 1, 1));
+    let change = add(rt, 3, "road", 3);
+    let transaction = placed(rt, world, 1, &[change]);
+    let before = picture(rt, heap, world);
+    try_on(rt, world, 2, search, transaction, &Fault::NotYours);
+    try_on(rt, world, 1, 99, 99, &Fault::NoSuch);
+    check_same(rt, heap, world, before.as_str());
+    end_both(rt, world, search, transaction);
+    try_on(rt, world, 1, search, transaction, &Fault::NoSuch);
+}
+
+/// The search and the transaction are where they were.
+fn end_both(rt: &impl Abort, world: &mut World<Global>, search: u64, transaction: u64) {
+    let mut meter = Meter::new();
+    assert!(rt; world.finish(1, search, &mut meter).is_ok());
+    assert!(rt; matches!(world.commit(1, transaction), Ok(Outcome::Applied(2))));
+}
+
 #[test]
 fn searches_and_transactions_of_others(rt: HostRuntime) -> Result<(), Fail> {
     let heap = rt.alloc();
     let mut world = inhabited(&rt, heap);
-    let search = ready(&rt, &mut world, 1, point(&rt, 1, 1));
-    let change = add(&rt, 3, "road", 3);
-    let transaction = placed(&rt, &mut world, 1, &[change]);
-    let before = picture(&rt, heap, &world);
-    try_on(&rt, &mut world, 2, search, transaction, &Fault::NotYours);
-    try_on(&rt, &mut world, 1, 99, 99, &Fault::NoSuch);
-    check_same(&rt, heap, &mut world, before.as_str());
-    // Both are where they were.
-    let mut meter = Meter::new();
-    assert!(rt; world.finish(1, search, &mut meter).is_ok());
-    assert!(rt; matches!(world.commit(1, transaction), Ok(Outcome::Applied(2))));
-    try_on(&rt, &mut world, 1, search, transaction, &Fault::NoSuch);
+    try_as_another(&rt, heap, &mut world);
     Ok(())
+}
+
+/// A search that has made no step is not finished, and once it is ready it is.
+fn finish_too_soon(rt: &impl Abort, heap: Global, world: &mut World<Global>) {
+    assert!(rt; world.open_search(1, point(rt, 1, 1)) == Ok(1));
+    let before = picture(rt, heap, world);
+    let mut meter = Meter::new();
+    assert!(rt; matches!(world.finish(1, 1, &mut meter), Err(Fault::NotReady)));
+    check_same(rt, heap, world, before.as_str());
+    assert!(rt; world.visit(1, 1) == Ok(Visit::Ready));
+    assert!(rt; world.visit(1, 1) == Ok(Visit::Ready));
+    assert!(rt; world.finish(1, 1, &mut meter).is_ok());
 }
 
 #[test]
 fn searches_that_are_not_ready(rt: HostRuntime) -> Result<(), Fail> {
     let heap = rt.alloc();
     let mut world = inhabited(&rt, heap);
-    assert!(rt; world.open_search(1, point(&rt, 1, 1)) == Ok(1));
-    let before = picture(&rt, heap, &world);
-    let mut meter = Meter::new();
-    assert!(rt; matches!(world.finish(1, 1, &mut meter), Err(Fault::NotReady)));
-    check_same(&rt, heap, &mut world, before.as_str());
-    assert!(rt; world.visit(1, 1) == Ok(Visit::Ready));
-    assert!(rt; world.visit(1, 1) == Ok(Visit::Ready));
-    assert!(rt; world.finish(1, 1, &mut meter).is_ok());
+    finish_too_soon(&rt, heap, &mut world);
     Ok(())
+}
+
+/// Sixteen searches run, and there is room for another only once one of them is dropped.
+fn search_beside_sixteen(rt: &impl Abort, heap: Global, world: &mut World<Global>) {
+    for number in 1..17 {
+        assert!(rt; world.open_search(2, point(rt, 1, 1)) == Ok(number));
+    }
+    let before = picture(rt, heap, world);
+    let many = Fault::Tree(TreeFault::TooMany);
+    assert!(rt; world.open_search(1, point(rt, 1, 1)) == Err(many));
+    assert_eq!(rt; picture(rt, heap, world).as_str(), before.as_str());
+    drop_the_fifth(rt, world);
+    check_same(rt, heap, world, before.as_str());
+}
+
+fn drop_the_fifth(rt: &impl Abort, world: &mut World<Global>) {
+    assert!(rt; world.drop_search(2, 5) == Ok(()));
+    assert!(rt; world.drop_search(2, 5) == Err(Fault::NoSuch));
+    assert!(rt; world.found_count(5) == 0);
 }
 
 #[test]
 fn sixteen_searches_run(rt: HostRuntime) -> Result<(), Fail> {
     let heap = rt.alloc();
     let mut world = inhabited(&rt, heap);
-    for number in 1..17 {
-        assert!(rt; world.open_search(2, point(&rt, 1, 1)) == Ok(number));
-    }
-    let before = picture(&rt, heap, &world);
-    let many = Fault::Tree(TreeFault::TooMany);
-    assert!(rt; world.open_search(1, point(&rt, 1, 1)) == Err(many));
-    assert_eq!(rt; picture(&rt, heap, &world).as_str(), before.as_str());
-    assert!(rt; world.drop_search(2, 5) == Ok(()));
-    assert!(rt; world.drop_search(2, 5) == Err(Fault::NoSuch));
-    assert!(rt; world.found_count(5) == 0);
-    check_same(&rt, heap, &mut world, before.as_str());
+    search_beside_sixteen(&rt, heap, &mut world);
     Ok(())
+}
+
+/// Sixty-four transactions are open, and there is room for another only once one of them is given up.
+fn begin_beside_sixty_four(rt: &impl Abort, heap: Global, world: &mut World<Global>) {
+    for number in 2..66 {
+        assert!(rt; world.begin(2) == Ok(number));
+    }
+    let before = picture(rt, heap, world);
+    assert!(rt; world.begin(1) == Err(Fault::TooMany));
+    check_same(rt, heap, world, before.as_str());
+    assert!(rt; world.abort(2, 9) == Ok(()));
+    assert!(rt; world.begin(1) == Ok(66));
 }
 
 #[test]
 fn sixty_four_transactions_are_open(rt: HostRuntime) -> Result<(), Fail> {
     let heap = rt.alloc();
     let mut world = inhabited(&rt, heap);
-    for number in 2..66 {
-        assert!(rt; world.begin(2) == Ok(number));
-    }
-    let before = picture(&rt, heap, &world);
-    assert!(rt; world.begin(1) == Err(Fault::TooMany));
-    check_same(&rt, heap, &mut world, before.as_str());
-    assert!(rt; world.abort(2, 9) == Ok(()));
-    assert!(rt; world.begin(1) == Ok(66));
+    begin_beside_sixty_four(&rt, heap, &mut world);
     Ok(())
 }
 
-#[test]
-fn lists_that_take_no_more(rt: HostRuntime) -> Result<(), Fail> {
-    let heap = rt.alloc();
-    let mut world = inhabited(&rt, heap);
-    let number = staged(&rt, &mut world, 1, &[]);
+/// Sixteen deletions are staged, of which none is staged twice.
+fn stage_sixteen(rt: &impl Abort, world: &mut World<Global>, number: u64) {
     for id in 1..17 {
         let change = Change::Delete { id, version: 1 };
         assert!(rt;
@@ -202,52 +256,85 @@ fn lists_that_take_no_more(rt: HostRuntime) -> Result<(), Fail> {
         );
         assert!(rt; world.stage(1, number, change) == Ok(()));
     }
-    let before = picture(&rt, heap, &world);
+}
+
+/// A list of sixteen changes takes no other, and none that it has.
+fn stage_beyond_sixteen(rt: &impl Abort, heap: Global, world: &mut World<Global>) {
+    let number = staged(rt, world, 1, &[]);
+    stage_sixteen(rt, world, number);
+    let before = picture(rt, heap, world);
     let full = Err(Fault::TooManyChanges);
     assert!(rt; world.stage(1, number, Change::Delete { id: 17, version: 1 }) == full);
     assert!(rt; world.stage(1, number, Change::Delete { id: 1, version: 1 }) == full);
-    check_same(&rt, heap, &mut world, before.as_str());
+    check_same(rt, heap, world, before.as_str());
+}
+
+#[test]
+fn lists_that_take_no_more(rt: HostRuntime) -> Result<(), Fail> {
+    let heap = rt.alloc();
+    let mut world = inhabited(&rt, heap);
+    stage_beyond_sixteen(&rt, heap, &mut world);
     Ok(())
+}
+
+/// North's transaction adds the road 3, deletes the road 2 and moves the road 1.
+fn staged_with_two_shapes(rt: &impl Abort, world: &mut World<Global>) -> u64 {
+    let moved = Change::Reshape {
+        id: 1,
+        version: 1,
+        shape: point(rt, 5, 5),
+    };
+    let changes = [
+        add(rt, 3, "road", 3),
+        Change::Delete { id: 2, version: 1 },
+        moved,
+    ];
+    staged(rt, world, 1, &changes)
+}
+
+/// A list is not committed before each of its shapes is placed.
+fn commit_too_soon(rt: &impl Abort, world: &mut World<Global>, number: u64) {
+    assert!(rt; matches!(world.commit(1, number), Err(Fault::NotPlaced)));
+    assert!(rt; world.advance(1, number) == Ok(Advance::Walked(Step::Placed)));
+    assert!(rt; matches!(world.commit(1, number), Err(Fault::NotPlaced)));
+    assert!(rt; world.advance(1, number) == Ok(Advance::Walked(Step::Placed)));
+    assert!(rt; world.advance(1, number) == Ok(Advance::AllPlaced));
+}
+
+/// A list that is committed too soon is applied once its shapes are placed.
+fn place_then_commit(rt: &impl Abort, heap: Global, world: &mut World<Global>) {
+    let number = staged_with_two_shapes(rt, world);
+    let before = picture(rt, heap, world);
+    commit_too_soon(rt, world, number);
+    check_same(rt, heap, world, before.as_str());
+    assert!(rt; matches!(world.commit(1, number), Ok(Outcome::Applied(2))));
+    assert_eq!(rt; world.len(), 2);
 }
 
 #[test]
 fn shapes_that_are_not_placed(rt: HostRuntime) -> Result<(), Fail> {
     let heap = rt.alloc();
     let mut world = inhabited(&rt, heap);
-    let moved = Change::Reshape {
-        id: 1,
-        version: 1,
-        shape: point(&rt, 5, 5),
-    };
-    let changes = [
-        add(&rt, 3, "road", 3),
-        Change::Delete { id: 2, version: 1 },
-        moved,
-    ];
-    let number = staged(&rt, &mut world, 1, &changes);
-    let before = picture(&rt, heap, &world);
-    assert!(rt; matches!(world.commit(1, number), Err(Fault::NotPlaced)));
-    assert!(rt; world.advance(1, number) == Ok(Advance::Walked(Step::Placed)));
-    assert!(rt; matches!(world.commit(1, number), Err(Fault::NotPlaced)));
-    assert!(rt; world.advance(1, number) == Ok(Advance::Walked(Step::Placed)));
-    assert!(rt; world.advance(1, number) == Ok(Advance::AllPlaced));
-    check_same(&rt, heap, &mut world, before.as_str());
-    assert!(rt; matches!(world.commit(1, number), Ok(Outcome::Applied(2))));
-    assert_eq!(rt; world.len(), 2);
+    place_then_commit(&rt, heap, &mut world);
     Ok(())
+}
+
+/// Editors put no document in force and roll no trail.
+fn govern_and_roll_as_editors(rt: &impl Abort, heap: Global, world: &mut World<Global>) {
+    let before = picture(rt, heap, world);
+    check_handed_back(rt, heap, world, 1, Fault::NotSteward);
+    assert!(rt; matches!(world.roll(heap, 2), Err(Fault::NotSteward)));
+    for slot in 0..3 {
+        assert!(rt; world.tend(slot) == Ok(Tending::Idle));
+    }
+    check_same(rt, heap, world, before.as_str());
 }
 
 #[test]
 fn stewards_alone_govern_and_roll(rt: HostRuntime) -> Result<(), Fail> {
     let heap = rt.alloc();
     let mut world = inhabited(&rt, heap);
-    let before = picture(&rt, heap, &world);
-    check_handed_back(&rt, heap, &mut world, 1, Fault::NotSteward);
-    assert!(rt; matches!(world.roll(heap, 2), Err(Fault::NotSteward)));
-    for slot in 0..3 {
-        assert!(rt; world.tend(slot) == Ok(Tending::Idle));
-    }
-    check_same(&rt, heap, &mut world, before.as_str());
+    govern_and_roll_as_editors(&rt, heap, &mut world);
     Ok(())
 }
 
@@ -283,13 +370,17 @@ fn check_listed(rt: &impl Abort, world: &mut World<Global>) {
     assert_eq!(rt; world.len(), 2);
 }
 
-#[test]
-fn lists_that_are_turned_away(rt: HostRuntime) -> Result<(), Fail> {
-    let heap = rt.alloc();
-    let mut world = inhabited(&rt, heap);
-    let to: Shape = point(&rt, 5, 5);
+/// A list of one change is turned away for this cause, and nothing is changed.
+fn check_turned_away(rt: &impl Abort, world: &mut World<Global>, change: Change, told: &str) {
+    assert!(rt; outcome(rt, world, change) == (1, told, false), "{told}");
+    check_listed(rt, world);
+}
+
+/// Lists for each cause but a denial.
+fn turn_away(rt: &impl Abort, world: &mut World<Global>) {
+    let to: Shape = point(rt, 5, 5);
     for (change, told) in [
-        (add(&rt, 1, "road", 1), "exists"),
+        (add(rt, 1, "road", 1), "exists"),
         (Change::Delete { id: 9, version: 1 }, "absent"),
         (Change::Delete { id: 1, version: 2 }, "stale"),
         (
@@ -309,40 +400,43 @@ fn lists_that_are_turned_away(rt: HostRuntime) -> Result<(), Fail> {
             "stale",
         ),
     ] {
-        assert!(rt;
-            outcome(&rt, &mut world, change) == (1, told, false),
-            "{told}"
-        );
-        check_listed(&rt, &mut world);
+        check_turned_away(rt, world, change, told);
     }
     assert_eq!(rt; world.trail().len(), 11);
+}
+
+#[test]
+fn lists_that_are_turned_away(rt: HostRuntime) -> Result<(), Fail> {
+    let mut world = inhabited(&rt, rt.alloc());
+    turn_away(&rt, &mut world);
     Ok(())
+}
+
+/// What the steward has closed to all is denied, before any other cause but that there is no such feature.
+fn deny(rt: &impl Abort, heap: Global, world: &mut World<Global>) {
+    assert!(rt; matches!(world.govern(heap, 3, document(rt, heap, CLOSED)), Ok(2)));
+    for change in [
+        add(rt, 1, "road", 1),
+        Change::Delete { id: 1, version: 2 },
+        Change::Reshape {
+            id: 1,
+            version: 7,
+            shape: point(rt, 5, 5),
+        },
+    ] {
+        assert!(rt; outcome(rt, world, change) == (1, "denied", true));
+        assert_eq!(rt; world.len(), 2);
+    }
+    let absent = Change::Delete { id: 9, version: 1 };
+    assert!(rt; outcome(rt, world, absent) == (1, "absent", false));
+    assert_eq!(rt; found(rt, world, 1, square(rt, -9, 9)).rows().len(), 0);
 }
 
 #[test]
 fn lists_that_are_denied(rt: HostRuntime) -> Result<(), Fail> {
     let heap = rt.alloc();
     let mut world = inhabited(&rt, heap);
-    let to: Shape = point(&rt, 5, 5);
-    assert!(rt; matches!(world.govern(heap, 3, document(&rt, heap, CLOSED)), Ok(2)));
-    for change in [
-        add(&rt, 1, "road", 1),
-        Change::Delete { id: 1, version: 2 },
-        Change::Reshape {
-            id: 1,
-            version: 7,
-            shape: to,
-        },
-    ] {
-        assert!(rt; outcome(&rt, &mut world, change) == (1, "denied", true));
-        assert_eq!(rt; world.len(), 2);
-    }
-    let absent = Change::Delete { id: 9, version: 1 };
-    assert!(rt; outcome(&rt, &mut world, absent) == (1, "absent", false));
-    assert_eq!(rt;
-        found(&rt, &mut world, 1, square(&rt, -9, 9)).rows().len(),
-        0
-    );
+    deny(&rt, heap, &mut world);
     Ok(())
 }
 
@@ -356,45 +450,74 @@ fn limited(rt: &impl Abort, heap: Global, records: u32, features: u32) -> World<
     seated(rt, heap, heap, OPEN, STARTS, limits)
 }
 
+/// What would be recorded is refused by a trail that has room for one record, and has one.
+fn try_on_full_trail(rt: &impl Abort, heap: Global, world: &mut World<Global>, search: u64) {
+    let before = picture(rt, heap, world);
+    let mut meter = Meter::new();
+    assert!(rt; matches!(world.finish(1, search, &mut meter), Err(Fault::TrailFull)));
+    assert!(rt; outcome(rt, world, add(rt, 2, "road", 2)) == (0, "X10", false));
+    assert!(rt; outcome(rt, world, add(rt, 1, "road", 2)) == (0, "X10", false));
+    check_handed_back(rt, heap, world, 3, Fault::TrailFull);
+    assert_eq!(rt; picture(rt, heap, world).as_str(), before.as_str());
+}
+
+/// After a roll there is room, and the search is where it was.
+fn finish_after_a_roll(rt: &impl Abort, heap: Global, world: &mut World<Global>, search: u64) {
+    assert!(rt; world.roll(heap, 3).is_ok());
+    let mut meter = Meter::new();
+    let answered = world.finish(1, search, &mut meter);
+    assert!(rt; answered.is_ok());
+    assert_eq!(rt; answered.unwrap().rows().len(), 1);
+}
+
+/// The trail is filled by one record, and rolled.
+fn fill_and_roll(rt: &impl Abort, heap: Global, world: &mut World<Global>) {
+    assert!(rt; outcome(rt, world, add(rt, 1, "road", 1)) == (1, "applied", false));
+    let search = ready(rt, world, 1, square(rt, -1, 1));
+    try_on_full_trail(rt, heap, world, search);
+    finish_after_a_roll(rt, heap, world, search);
+}
+
 #[test]
 fn full_trails(rt: HostRuntime) -> Result<(), Fail> {
     let heap = rt.alloc();
     let mut world = limited(&rt, heap, 1, 9);
-    assert!(rt; outcome(&rt, &mut world, add(&rt, 1, "road", 1)) == (1, "applied", false));
-    let search = ready(&rt, &mut world, 1, square(&rt, -1, 1));
-    let before = picture(&rt, heap, &world);
-    let mut meter = Meter::new();
-    assert!(rt; matches!(world.finish(1, search, &mut meter), Err(Fault::TrailFull)));
-    assert!(rt; outcome(&rt, &mut world, add(&rt, 2, "road", 2)) == (0, "X10", false));
-    assert!(rt; outcome(&rt, &mut world, add(&rt, 1, "road", 2)) == (0, "X10", false));
-    check_handed_back(&rt, heap, &mut world, 3, Fault::TrailFull);
-    assert_eq!(rt; picture(&rt, heap, &world).as_str(), before.as_str());
-    // After a roll there is room, and the search is where it was.
-    assert!(rt; world.roll(heap, 3).is_ok());
-    let answered = world.finish(1, search, &mut meter);
-    assert!(rt; answered.is_ok());
-    assert_eq!(rt; answered.unwrap().rows().len(), 1);
+    fill_and_roll(&rt, heap, &mut world);
     Ok(())
+}
+
+/// A second road is not added to a store that has room for one, and its transaction goes on.
+fn add_beyond_the_store(rt: &impl Abort, heap: Global, world: &mut World<Global>) -> u64 {
+    let before = picture(rt, heap, world);
+    let number = placed(rt, world, 1, &[add(rt, 2, "road", 2)]);
+    assert!(rt; matches!(world.commit(1, number), Err(Fault::StoreFull)));
+    assert!(rt; matches!(world.commit(1, number), Err(Fault::StoreFull)));
+    assert_eq!(rt; picture(rt, heap, world).as_str(), before.as_str());
+    number
+}
+
+/// One out and one in are no more than there were.
+fn exchange(rt: &impl Abort, world: &mut World<Global>) {
+    let both = [Change::Delete { id: 1, version: 1 }, add(rt, 2, "road", 2)];
+    let number = placed(rt, world, 1, &both);
+    assert!(rt; matches!(world.commit(1, number), Ok(Outcome::Applied(2))));
+    assert_eq!(rt; world.len(), 1);
+}
+
+/// The store is filled by one road, which is exchanged.
+fn fill_and_exchange(rt: &impl Abort, heap: Global, world: &mut World<Global>) {
+    assert!(rt; outcome(rt, world, add(rt, 1, "road", 1)) == (1, "applied", false));
+    let number = add_beyond_the_store(rt, heap, world);
+    // The judgement comes before.
+    assert!(rt; outcome(rt, world, add(rt, 1, "road", 2)) == (1, "exists", false));
+    assert!(rt; world.abort(1, number) == Ok(()));
+    exchange(rt, world);
 }
 
 #[test]
 fn full_stores(rt: HostRuntime) -> Result<(), Fail> {
     let heap = rt.alloc();
     let mut world = limited(&rt, heap, 9, 1);
-    assert!(rt; outcome(&rt, &mut world, add(&rt, 1, "road", 1)) == (1, "applied", false));
-    let before = picture(&rt, heap, &world);
-    let changes = [add(&rt, 2, "road", 2)];
-    let number = placed(&rt, &mut world, 1, &changes);
-    assert!(rt; matches!(world.commit(1, number), Err(Fault::StoreFull)));
-    assert!(rt; matches!(world.commit(1, number), Err(Fault::StoreFull)));
-    assert_eq!(rt; picture(&rt, heap, &world).as_str(), before.as_str());
-    // The judgement comes before.
-    assert!(rt; outcome(&rt, &mut world, add(&rt, 1, "road", 2)) == (1, "exists", false));
-    assert!(rt; world.abort(1, number) == Ok(()));
-    // One out and one in are no more than there were.
-    let both = [Change::Delete { id: 1, version: 1 }, add(&rt, 2, "road", 2)];
-    let exchange = placed(&rt, &mut world, 1, &both);
-    assert!(rt; matches!(world.commit(1, exchange), Ok(Outcome::Applied(2))));
-    assert_eq!(rt; world.len(), 1);
+    fill_and_exchange(&rt, heap, &mut world);
     Ok(())
 }

@@ -109,10 +109,14 @@ pub fn seated<A: Allocator + Copy>(
     );
     assert!(rt; opened.is_ok());
     let mut world = opened.unwrap();
+    give_seats(rt, &mut world);
+    world
+}
+
+fn give_seats<A: Allocator + Copy>(rt: &impl Abort, world: &mut World<A>) {
     assert!(rt; world.seat(name(rt, "north")) == Ok(1));
     assert!(rt; world.seat(name(rt, "south")) == Ok(2));
     assert!(rt; world.seat(name(rt, "chief")) == Ok(3));
-    world
 }
 
 /// An added feature at a place on the diagonal.
