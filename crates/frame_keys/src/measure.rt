@@ -20,6 +20,7 @@ pub fn height(frame: Frame) -> u64
     ensures value { result ≡ height frame }
     ensures most { result ≤ 20000000 }
 {
+    // The reader of the left side says that the ends are in order and in range.
     let (_, low, high) = (frame.x0(), frame.y0(), frame.y1());
     u64::from((high - low).unsigned_abs())
 }

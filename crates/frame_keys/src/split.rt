@@ -143,6 +143,7 @@ fn behind(keys: &[Frame], axis: Axis, place: usize) -> u16
 fn middle(frame: Frame, axis: Axis) -> i32
     ensures { result ≡ middle axis frame }
 {
+    // The reader of the left side says that every end is in range, so that the sums fit.
     let _left = frame.x0();
     match axis {
         Axis::Across => frame.x0() + frame.x1(),

@@ -66,7 +66,7 @@ MayStage number change [] = Unit {0}
 MayStage number change (t ∷ ts) =
     MatchBool (t.number == number) ((length t.changes < CHANGE_LIMIT) × IsUnnamed (change_id change) t.changes) (MayStage number change ts)
 
--- the transaction of that number has something left to place
+-- the transaction of that number, if there is one, has placed fewer shapes than a list may bring
 abbrev pub MayPlace : ℕ → List TransactionData → Type 0
 MayPlace number [] = Unit {0}
 MayPlace number (t ∷ ts) = MatchBool (t.number == number) (t.placed < CHANGE_LIMIT) (MayPlace number ts)

@@ -65,7 +65,7 @@ opened subjects decider starts limits =
       next_transaction = 1;
     }
 
--- what every world keeps: it is sound, its limits are none above those of any world, and its trail has its limit's records at most
+-- what every world keeps: it is sound, its limits of records and features are none above those of any world, and its trail has its limit's records at most
 pub record Keeps (limits : Limits) (seats : List Subject) (base : PlainState) (trail : List RecordData) (state : PlainState) : Type 0 where
   pub sound : IsSound seats base trail state
   pub records : limits.records ≤ RECORD_LIMIT

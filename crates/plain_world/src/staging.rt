@@ -14,7 +14,7 @@ use plane::Shape;
 use std::alloc::Allocator;
 use std::marker::Model;
 
-/// An open transaction: the seat whose it is, the changes that it has staged, and how many of the shapes that they bring
+/// An open transaction: the seat that opened it, the changes that it has staged, and how many of the shapes that they bring
 /// are placed in the index. No two changes name one feature, and there is room for all that it may stage.
 #[derive(Drop)]
 pub struct Transaction<A: Allocator> {

@@ -1,3 +1,5 @@
+//! Why the program ends with status 1.
+
 ghost use Rattle.std.specs.Prelude.{◌≡◌};
 
 use crate::config_faults::ConfigFault;

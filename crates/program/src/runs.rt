@@ -1,3 +1,5 @@
+//! Runs of scripts, from the words of the command line to the exit status.
+
 ghost use Rattle.std.specs.Prelude.{◌≡◌, ◌↔◌, ℕ, List, Option, Some, OnOk, IfOk, IfErr, IfSome, IsTrue, map, option_map, string_bytes};
 ghost use Rattle.clap.specs.Words.{kind_of};
 ghost use Rattle.program.specs.Configs.{config_data};

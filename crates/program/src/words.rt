@@ -1,3 +1,5 @@
+//! What the command line may say, the texts of help, and how clap reads it.
+
 ghost use Rattle.std.specs.Prelude.{◌≡◌, false, map, string_bytes, IfOk, IfErr};
 ghost use Rattle.clap.specs.Words.{app_of};
 ghost use Rattle.clap.specs.declared.builder.command.Command.TheViews.{out-Command as fields_of};
@@ -140,7 +142,8 @@ fn command<'a>(alloc: Global) -> Result<Command<'a>, AllocError>
         .subcommand(script_command(alloc)?)
 }
 
-/// Reads the command line, of which the first word is the program's name. `NoMemory` where clap found none.
+/// Reads the command line, of which the first word is the program's name. `NoMemory` where clap found none. Where clap
+/// takes the words there is a subcommand with its FILE, since both are required; should one be missing, it is `NoMemory` too.
 pub(crate) fn read_words<'a>(
     alloc: Global,
     words: &'a [String],

@@ -265,6 +265,7 @@ module _ (C : Class) (t : PlainTree C.Key C.Query C.Item) where
         grown_call : HasMoreNodes C t higher 2 1
         grown_call =
             record {
+              nodes_alone = refl;
               contents = λ xs. contents_grown (below_top low);
               searches = λ s. refl;
               steps = λ s. refl;

@@ -150,6 +150,7 @@ module _ (C : Class) (t : PlainTree C.Key C.Query C.Item) (nodes : Slots (Node C
     split_call sound =
         let level = root_level_stays sound in
         record {
+          nodes_alone = refl;
           contents = λ xs. contents_split split_step;
           searches = λ s. refl;
           steps = λ s. refl;

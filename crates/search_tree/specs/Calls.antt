@@ -33,7 +33,7 @@ module _ (C : Class) where
   abbrev pub SameContents : PlainTree C.Key C.Query C.Item → PlainTree C.Key C.Query C.Item → Type 0
   SameContents t u = (xs : List (ℕ × C.Item)) → IsContents (tree_of C t) xs → IsContents (tree_of C u) xs
 
-  -- the counts that nothing but the tree's own growth and the ends of searches move
+  -- the counts that no search moves, be it by its begin, a step or its end
   pub record SameCounts (t u : PlainTree C.Key C.Query C.Item) : Type 0 where
     pub counter : u.counter ≡ t.counter
     pub limit : u.limit ≡ t.limit

@@ -148,8 +148,10 @@ module _ (C : Class) (t : PlainTree C.Key C.Query C.Item) where
     pub is : value_at t.nodes t.root ≡ Some node
     pub full : size_of node.body ≡ NODE_SIZE
 
-  -- so many slots more are taken, and the root stands so much higher. Contents, searches and the other counts stay
+  -- so many slots more are taken, and the root stands so much higher. Contents, searches and the other counts stay,
+  -- and nothing but nodes is another
   pub record HasMoreNodes (u : PlainTree C.Key C.Query C.Item) (nodes levels : ℕ) : Type 0 where
+    pub nodes_alone : u ≡ record t { nodes = u.nodes }
     pub contents : SameContents C t u
     pub searches : (search : ℕ) → search_in u search ≡ search_in t search
     pub steps : (search : ℕ) → steps_in u search ≡ steps_in t search

@@ -37,7 +37,7 @@ level_of None = 0
 level_of (Some node) = node.level
 
 -- how far a search has come: its steps, the nodes that it has yet to visit, what it has found, and how many
--- more of both there is memory for
+-- of both there is memory for, those it has included
 pub record PlainProgress (Item : Type 0) : Type 0 where
   pub number : ℕ
   pub steps : ℕ
@@ -150,7 +150,7 @@ module _ (C : Class) where
     pub progress_of_each : (s : ℕ) → is_some (progress_at s t.progress) ≡ is_some (search_at t.running s)
 
   -- a tree that nobody has called yet: it has no pairs and no searches, its root is its one node, and each
-  -- slot starts at this generation
+  -- slot starts at this generation. The root is a leaf that has nothing yet, and has the counter's number
   pub record IsFirst (generation counter next limit : ℕ) (t : PlainTree C.Key C.Query C.Item) : Type 0 where
     pub contents : IsContents (tree_of t) []
     pub searches : (s : ℕ) → search_in t s ≡ None
@@ -159,5 +159,6 @@ module _ (C : Class) where
     pub next_is : t.running.next ≡ next
     pub limit_is : t.limit ≡ limit
     pub level : root_level t ≡ 0
+    pub root_is : value_at t.nodes t.root ≡ Some (first_leaf counter)
     pub taken : taken_count t.nodes ≡ 1
     pub generation_is : t.nodes.first ≡ generation

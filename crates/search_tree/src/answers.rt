@@ -18,7 +18,7 @@ pub enum Step {
     Split,
     /// A right node got its entry.
     Installed,
-    /// The walk begins anew at the root, since the node where it stood is gone.
+    /// The walk begins anew at the root, since the node where it stood is gone or retired.
     Restarted,
     /// The pair is placed.
     Placed,

@@ -37,7 +37,7 @@ pub struct TreeNode<K, I, A: Allocator> {
     seq: u64,
     right: Option<Handle>,
     place: Place,
-    // The searches that have seen the node.
+    // The searches that are done with the node: they have seen it, or have passed it over.
     attached: Attached<A>,
 }
 

@@ -53,7 +53,7 @@ impl<C: KeyClass, A: Allocator> Tree<C, A> {
         drop_progress(&mut self.progress, search);
     }
 
-    /// What a search has found, and nothing where none runs under the number. Of a search that is ready this is every pair of the tree whose item matches its query.
+    /// What a search has found, and nothing where none runs under the number. Of a search that is ready every pair of the tree whose item matches its query is among them.
     pub fn found(&self, search: u64) -> &[(u64, C::Item)]
         ensures value { result.now ≡ found_in self.now search }
         ensures complete { IsComplete (class_of C.covered C.may_match C.is_match C.key_with C.united) self.now search result.now }

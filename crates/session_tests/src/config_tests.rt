@@ -234,6 +234,7 @@ fn file_of(heap: Global, left: usize) -> Result<Config<Global>, FileFault> {
 
 #[test]
 fn a_file_too_long(rt: HostRuntime) {
+    assert_eq!(rt; CONFIG_LIMIT, 16_777_216);
     let fits = file_of(rt.alloc(), CONFIG_LIMIT);
     assert!(rt; matches!(fits, Err(FileFault::Config(ConfigFault::NotJson))));
     let too_long = file_of(rt.alloc(), CONFIG_LIMIT + 1);

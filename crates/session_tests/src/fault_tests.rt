@@ -201,6 +201,7 @@ fn run_long(rt: &impl Abort, alloc: Global) {
 
 #[test]
 fn a_reader_that_does_not_end(rt: HostRuntime) {
+    assert_eq!(rt; READ_LIMIT, 16_777_216);
     let reads = READ_LIMIT as u64;
     run_bytes(&rt, rt.alloc(), reads - 1, Ok(()), reads);
     run_bytes(&rt, rt.alloc(), reads, Err(ServeFault::TooManyTurns), reads);

@@ -1,3 +1,5 @@
+//! The subjects of a server without a configuration.
+
 ghost use Rattle.std.specs.Prelude.{◌≡◌, true};
 ghost use Rattle.features.specs.Names.{is_name};
 ghost use Rattle.sessions.specs.BuiltIn.{built_in};

@@ -140,6 +140,7 @@ pub(crate) fn read_arguments(verb: Verb, rest: &[u8]) -> Result<Command, Fault>
         Verb::Delete => delete(rest),
         Verb::Commit => alone(Command::Commit, rest),
         Verb::Abort => alone(Command::Abort, rest),
+        // A policy's text is no row of words: `take_command` reads it before it comes here.
         Verb::Policy => Err(Fault::Command),
         Verb::Explain => explain(rest),
         Verb::Roll => alone(Command::Roll, rest),

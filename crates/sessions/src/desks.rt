@@ -131,7 +131,7 @@ fn take_command<S: Service>(
     }
 }
 
-/// Puts the document in force that a text spells. What is staged stays.
+/// Puts the document in force that a text spells. What is staged stays: it is handed in for the contract to say so.
 fn govern<S: Service>(service: &mut S, heap: Global, staged: &Staged, text: &[u8]) -> Reply
     ensures { Governs S.serves text.now (desk staged.now service.old) (desk staged.now service.new) (line result) }
 {
@@ -141,7 +141,7 @@ fn govern<S: Service>(service: &mut S, heap: Global, staged: &Staged, text: &[u8
     }
 }
 
-/// How the document in force rules of what the session's subject asks. What is staged stays.
+/// How the document in force rules of what the session's subject asks. What is staged stays: it is handed in for the contract to say so.
 fn explain<S: Service>(service: &mut S, staged: &Staged, asking: &Asking) -> Reply
     ensures { Asks S.subject_of S.serves asking.now (desk staged.now service.old) (desk staged.now service.new) (line result) }
 {

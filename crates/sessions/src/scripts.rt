@@ -441,11 +441,11 @@ impl<A: Allocator + Copy> LineDesk for Table<A> {
 }
 
 /// Runs the lines of a script to the end of the input, each line `label: line` of the session of its label, and writes
-/// what each is answered; after each line one slot of the index is
-/// tended. `alloc` serves what the world keeps and the buffers, `heap` documents and their texts. Faults: `Memory` where the
-/// buffers are refused, before anything is read; `Read` and `Write` where a read or a write fails;
-/// `TooManyTurns` after 16,777,216 reads. What was done before stands, and staged lists and open searches are dropped. However
-/// the run ends, it leaves no search and no transaction under way, where none was before it.
+/// what each is answered; after each line one slot of the index is tended. `alloc` serves the buffers, and `heap` documents,
+/// their texts and the lines of a roll. Faults: `Memory` where the buffers are refused, before anything is read; `Read` and
+/// `Write` where a read or a write fails; `TooManyTurns` after 16,777,216 reads. What was done before stands, and staged
+/// lists and open searches are dropped. However the run ends, it leaves no search and no transaction under way, where none
+/// was before it.
 pub fn run_script<A: Allocator + Copy, R: Read, W: Write>(
     alloc: A,
     heap: Global,

@@ -55,7 +55,7 @@ impl<A: Allocator + Copy> World<A> {
 
     /// Makes a step of the walk of the next shape that is not yet placed. X1 where the seat was not given or no such
     /// transaction is open, X2 where it is another seat's, X9 as the index refuses the step: S3 while a search that looks
-    /// for the shape has seen its place already, S4 where fewer slots are free than the step wants, S5 where the index would
+    /// for the shape is done with its place, S4 where fewer slots are free than the step wants, S5 where the index would
     /// stand too high, S6 where its counter is at its end, S7 where the walk has made all its steps: then the transaction is
     /// ended; X12 where a growth is refused.
     pub fn advance(&mut self, seat: u32, number: u64) -> Result<Advance, Fault>

@@ -1,9 +1,12 @@
 use frame_keys::Frames;
+use node_arena::MAX_SLOTS;
 use plane::{Point, Shape};
-use search_tree::{Keeper, Step, Tending, Tree, TreeFault, Visit, Walk};
+use predicate_locks::MAX_RUNNING;
+use search_tree::{Keeper, MAX_STEPS, Step, Tending, Tree, TreeFault, Visit, Walk};
 use std::alloc::Allocator;
 use std::process::Abort;
 use std::test::Fail;
+use tree_theory::{NODE_SIZE, TOP_LEVEL};
 
 // Keeps the pair of one number alone.
 #[derive(Clone, Copy)]
@@ -336,4 +339,11 @@ fn no_install_at_the_counters_end(rt: HostRuntime) -> Result<(), Fail> {
     }
     assert!(rt; refused);
     Ok(())
+}
+
+#[test]
+fn limits_of_every_tree(rt: HostRuntime) {
+    assert_eq!(rt; (NODE_SIZE, TOP_LEVEL), (16, 31));
+    assert_eq!(rt; (MAX_SLOTS, MAX_RUNNING), (1_048_576, 16));
+    assert_eq!(rt; MAX_STEPS, 1_000_000);
 }

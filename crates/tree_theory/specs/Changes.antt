@@ -190,7 +190,7 @@ module _ {C : Class} where
 
   -- Splits.
 
-  -- a full node h splits: its new right node r takes a part, the number, the rightlink and the attached
+  -- a linked node h splits: its new right node r takes a part, the number, the rightlink and the attached
   -- searches, and is not linked yet; h is marked. Children that moved stand under r
   pub record IsSplit (t u : Tree C) (h r : Handle) : Type 0 where
     pub node : Node C

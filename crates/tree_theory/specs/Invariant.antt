@@ -89,7 +89,7 @@ module _ {C : Class} where
     -- numbers that are attached or run were given out
     pub attached_given : (h : Handle) (node : Node C) → t.look h ≡ Some node → (s : ℕ) → Contains node.attached s → s < t.next
     pub running_given : (s : ℕ) (search : Search C) → t.searches s ≡ Some search → s < t.next
-    -- memos stand between the search's beginning and the counter, nodes' numbers below the counter, and a
+    -- memos stand between the search's beginning and the counter, nodes' numbers at the counter at most, and a
     -- retired node's number below its stamp
     pub memo_counter : (s : ℕ) (search : Search C) → t.searches s ≡ Some search → (h : Handle) (memo : ℕ) → Contains search.stack (h, memo) → memo ≤ t.counter
     pub memo_begun : (s : ℕ) (search : Search C) → t.searches s ≡ Some search → (h : Handle) (memo : ℕ) → Contains search.stack (h, memo) → search.begun ≤ memo

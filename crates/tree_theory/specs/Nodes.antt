@@ -40,7 +40,7 @@ module _ (Key Item : Type 0) where
     Inner : List (Key × Handle) → PlainBody
 
   -- `seq` is the node's sequence number, `right` its rightlink, `attached` has the numbers of the searches
-  -- that have seen the node, in any order
+  -- that are done with the node, since they have seen it or have passed it over, in any order
   pub record PlainNode : Type 0 where
     pub level : ℕ
     pub body : PlainBody

@@ -3,13 +3,16 @@ use crate::worlds::{
     CLOSED, LIMITS, OPEN, STARTS, add, document, found, picture, placed, point, ready, seated,
     square, staged,
 };
-use features::Meter;
-use policy_text::print_document;
+use audit_trail::{FIRST_LIMIT, RECORD_LIMIT};
+use features::{FEATURE_LIMIT, Meter, SUBJECT_LIMIT};
+use plane::{LIMIT, LISTED_LIMIT};
+use policy_text::{ZONE_LIMIT, print_document};
 use std::alloc::Global;
 use std::process::Abort;
 use std::test::Fail;
 use transactions::{
-    Advance, Fault, Limits, Outcome, ROLLED_LIMIT, Starts, Step, TreeFault, Visit, World,
+    Advance, CHANGE_LIMIT, Fault, Limits, Outcome, ROLLED_LIMIT, SEARCH_LIMIT, SEAT_LIMIT,
+    STEP_LIMIT, Starts, Step, TRANSACTION_LIMIT, TreeFault, Visit, World,
 };
 
 /// The line of the first record of the worked search below.
@@ -393,4 +396,15 @@ fn the_last_count_of_the_index(rt: HostRuntime) -> Result<(), Fail> {
     let mut world = stepping(&rt, rt.alloc(), 1_000, u64::MAX);
     add_until_spent(&rt, &mut world);
     Ok(())
+}
+
+#[test]
+fn limits_of_every_world(rt: HostRuntime) {
+    assert_eq!(rt; (LIMIT, LISTED_LIMIT), (10_000_000, 64));
+    assert_eq!(rt; (SUBJECT_LIMIT, ZONE_LIMIT), (64, 64));
+    assert_eq!(rt; (FEATURE_LIMIT, RECORD_LIMIT), (100_000, 1_048_576));
+    assert_eq!(rt; (FIRST_LIMIT, ROLLED_LIMIT), (4_293_918_720, 4_293_918_719));
+    assert_eq!(rt; (SEAT_LIMIT, SEARCH_LIMIT), (1_024, 16));
+    assert_eq!(rt; (TRANSACTION_LIMIT, CHANGE_LIMIT), (64, 16));
+    assert_eq!(rt; STEP_LIMIT, 1_000_000);
 }

@@ -34,6 +34,7 @@ returns-clause-ok g c =
       next_is = rw c.in_ok-running.ensures refl;
       limit_is = refl;
       level = rw (given.has_value, c.in_ok-first.ensures) refl;
+      root_is = given.has_value ∙ ap Some c.in_ok-first.ensures;
       taken = let more = c.in_ok-root.ensures.counts.taken in omega (arith, more, none);
       generation_is = given.same_first ∙ rw c.starting_at-nodes.ensures.value refl;
     }
