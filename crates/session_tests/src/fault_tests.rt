@@ -2,12 +2,11 @@
 use crate::fakes::{
     CountingReader, FIRST_POINT, FIRST_REPLIES, FailingReader, FailingWriter, Failure, LongReader,
 };
-use crate::worlds::opened;
+use crate::worlds::{opened, replies};
 use refusing::Refusing;
 use sessions::{READ_LIMIT, ServeFault, run_script};
-use std::alloc::{AllocError, Global};
+use std::alloc::Global;
 use std::process::Abort;
-use std::test::Fail;
 use transactions::World;
 
 /// The replies to each number of whole lines of the worked script.
@@ -31,26 +30,22 @@ const LEFT: [&str; 6] = [
 ];
 
 /// A new run finds the world that so many lines have left, and no staged list.
-fn check_left(
-    rt: &impl Abort,
-    alloc: Global,
-    world: &mut World<Global>,
-    lines: usize,
-) -> Result<(), AllocError> {
-    let mut output = Vec::new(alloc);
-    let mut script = "n: HELLO north\nn: COMMIT\nn: SEARCH POINT (3 4)\n".as_bytes();
-    let end = run_script(alloc, alloc, world, &mut script, &mut output);
-    assert_eq!(rt; end, Ok(()));
+fn check_left(rt: &impl Abort, alloc: Global, world: &mut World<Global>, lines: usize) {
+    let output = replies(
+        rt,
+        alloc,
+        world,
+        "n: HELLO north\nn: COMMIT\nn: SEARCH POINT (3 4)\n",
+    );
     assert_eq!(rt;
         Some(output.as_slice()),
         LEFT.get(lines).map(|text| text.as_bytes()),
         "after {lines}"
     );
-    Ok(())
 }
 
 #[test]
-fn each_read_fails(rt: HostRuntime) -> Result<(), Fail> {
+fn each_read_fails(rt: HostRuntime) {
     // The last of these reads would tell that the input ends.
     let mut lines = 0;
     for at in 0..=FIRST_POINT.len() {
@@ -67,13 +62,12 @@ fn each_read_fails(rt: HostRuntime) -> Result<(), Fail> {
             REPLIES.get(lines).map(|text| text.as_bytes()),
             "at {at}"
         );
-        check_left(&rt, rt.alloc(), &mut world, lines)?;
+        check_left(&rt, rt.alloc(), &mut world, lines);
         if FIRST_POINT.as_bytes().get(at) == Some(&b'\n') {
             lines = lines.saturating_add(1);
         }
     }
     assert_eq!(rt; lines, 5);
-    Ok(())
 }
 
 /// How many lines of the worked script were answered when each line of its replies is written.
@@ -86,7 +80,7 @@ fn run_into(
     writer: &mut FailingWriter,
     end: Result<(), ServeFault>,
     lines: usize,
-) -> Result<(), AllocError> {
+) {
     let mut world = opened(rt, alloc, alloc);
     let ended = run_script(
         alloc,
@@ -96,11 +90,11 @@ fn run_into(
         writer,
     );
     assert_eq!(rt; ended, end);
-    check_left(rt, alloc, &mut world, lines)
+    check_left(rt, alloc, &mut world, lines);
 }
 
 #[test]
-fn each_write_fails(rt: HostRuntime) -> Result<(), Fail> {
+fn each_write_fails(rt: HostRuntime) {
     let mut written = 0;
     for (at, reply) in FIRST_REPLIES.split_inclusive('\n').enumerate() {
         for failure in [Failure::Error, Failure::Nothing] {
@@ -117,7 +111,7 @@ fn each_write_fails(rt: HostRuntime) -> Result<(), Fail> {
                 &mut writer,
                 Err(ServeFault::Write),
                 answered,
-            )?;
+            );
             assert_eq!(rt;
                 Some(writer.taken.as_slice()),
                 FIRST_REPLIES.as_bytes().get(..written),
@@ -127,11 +121,10 @@ fn each_write_fails(rt: HostRuntime) -> Result<(), Fail> {
         written = written.saturating_add(reply.len()).min(FIRST_REPLIES.len());
     }
     assert_eq!(rt; written, FIRST_REPLIES.len());
-    Ok(())
 }
 
 #[test]
-fn each_byte_fails(rt: HostRuntime) -> Result<(), Fail> {
+fn each_byte_fails(rt: HostRuntime) {
     let mut reply = 0;
     for (at, byte) in FIRST_REPLIES.bytes().enumerate() {
         let mut writer = FailingWriter {
@@ -147,7 +140,7 @@ fn each_byte_fails(rt: HostRuntime) -> Result<(), Fail> {
             &mut writer,
             Err(ServeFault::Write),
             answered,
-        )?;
+        );
         if byte == b'\n' {
             reply = reply.saturating_add(1);
         }
@@ -157,11 +150,10 @@ fn each_byte_fails(rt: HostRuntime) -> Result<(), Fail> {
             "at {at}"
         );
     }
-    Ok(())
 }
 
 #[test]
-fn writes_go_on(rt: HostRuntime) -> Result<(), Fail> {
+fn writes_go_on(rt: HostRuntime) {
     for (most, fails_at) in [(1_000, 0), (1, 0), (7, 0), (1_000, 2), (3, 20)] {
         let mut writer = FailingWriter {
             taken: Vec::new(rt.alloc()),
@@ -169,10 +161,9 @@ fn writes_go_on(rt: HostRuntime) -> Result<(), Fail> {
             fails_at,
             with: Failure::Interrupted,
         };
-        run_into(&rt, rt.alloc(), &mut writer, Ok(()), 5)?;
+        run_into(&rt, rt.alloc(), &mut writer, Ok(()), 5);
         assert_eq!(rt; writer.taken.as_slice(), FIRST_REPLIES.as_bytes());
     }
-    Ok(())
 }
 
 /// Runs an input of so many bytes, each given by a call of its own.
@@ -209,7 +200,7 @@ fn a_reader_that_does_not_end(rt: HostRuntime) {
 }
 
 #[test]
-fn buffers_refused(rt: HostRuntime) -> Result<(), Fail> {
+fn buffers_refused(rt: HostRuntime) {
     let memory = Refusing::new(rt.alloc(), 0);
     for at in 1..3 {
         let mut world = opened(&rt, &memory, rt.alloc());
@@ -221,5 +212,4 @@ fn buffers_refused(rt: HostRuntime) -> Result<(), Fail> {
         assert!(rt; matches!(end, Err(ServeFault::Memory(_))));
         assert_eq!(rt; (reader.len(), output.len()), (FIRST_POINT.len(), 0));
     }
-    Ok(())
 }

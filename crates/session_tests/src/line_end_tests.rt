@@ -1,7 +1,7 @@
 //! Session lines at the ends of counters and limits, and each line that takes memory of the world, its allocations
 //! refused in turn.
 use crate::fakes::{SEVENTEEN_ROWS, SIXTEEN, SIXTEEN_ROWS};
-use crate::worlds::{LIMITS, OPEN, ROADS, STARTS, document};
+use crate::worlds::{LIMITS, OPEN, ROADS, STARTS, check_over, document};
 use features::FEATURE_LIMIT;
 use refusing::Refusing;
 use sessions::{built_in_subjects, run_script};
@@ -11,10 +11,6 @@ use std::io::Read;
 use std::process::Abort;
 use std::test::Fail;
 use transactions::{Limits, ROLLED_LIMIT, STEP_LIMIT, Starts, World};
-
-const SEATS: &str = "n: HELLO north\ns: HELLO south\nc: HELLO chief\n";
-
-const HELLOS: &str = "n: hello north\ns: hello south\nc: hello chief\n";
 
 /// A world of the built-in subjects, in which everything is permitted and nobody has a seat.
 fn opened_at<A: Allocator + Copy>(
@@ -47,20 +43,8 @@ fn check_at(
     script: &str,
     expected: &str,
 ) -> Result<(), AllocError> {
-    let script = format!(in alloc; "{SEATS}{script}")?;
-    let expected = format!(in alloc; "{HELLOS}{expected}")?;
     let mut world = opened_at(rt, alloc, alloc, starts, limits);
-    let mut output = Vec::new(alloc);
-    let end = run_script(
-        alloc,
-        alloc,
-        &mut world,
-        &mut script.as_bytes(),
-        &mut output,
-    );
-    assert!(rt; end.is_ok());
-    assert_eq!(rt; output.as_slice(), expected.as_bytes());
-    Ok(())
+    check_over(rt, alloc, &mut world, script, expected)
 }
 
 /// One's own is permitted, all else is denied by default, and a denial behind it is not reached.

@@ -1,37 +1,15 @@
 //! Scripts of all kinds of lines.
 use crate::fakes::{FIRST_POINT, FIRST_REPLIES};
-use crate::worlds::{ROADS, opened};
+use crate::worlds::{ROADS, SQUARE, check, opened, serve_first};
 use refusing::Refusing;
-use sessions::{run_script, serve_world};
+use sessions::run_script;
 use std::alloc::{AllocError, Global};
 use std::process::Abort;
 use std::test::Fail;
 use transactions::World;
 
-const SEATS: &str = "n: HELLO north\ns: HELLO south\nc: HELLO chief\n";
-
-const HELLOS: &str = "n: hello north\ns: hello south\nc: hello chief\n";
-
 const LATE_DENIES: &str =
     r#"{"root":{"combine":"deny-overrides","of":[{"combine":"permit-overrides","policy":"soft","rules":[{"effect":"deny","rule":"early"},{"effect":"permit","rule":"grant"}]},{"combine":"deny-overrides","policy":"hard","rules":[{"effect":"deny","rule":"late"}]}],"set":"top"}}"#;
-
-/// These lines, behind three seats, are answered so.
-fn check(rt: &impl Abort, alloc: Global, script: &str, expected: &str) -> Result<(), AllocError> {
-    let script = format!(in alloc; "{SEATS}{script}")?;
-    let expected = format!(in alloc; "{HELLOS}{expected}")?;
-    let mut world = opened(rt, alloc, alloc);
-    let mut output = Vec::new(alloc);
-    let end = run_script(
-        alloc,
-        alloc,
-        &mut world,
-        &mut script.as_bytes(),
-        &mut output,
-    );
-    assert!(rt; end.is_ok());
-    assert_eq!(rt; output.as_slice(), expected.as_bytes());
-    Ok(())
-}
 
 #[test]
 fn first_deciding_rule(rt: HostRuntime) -> Result<(), Fail> {
@@ -108,9 +86,6 @@ fn lists_are_dropped(rt: HostRuntime) -> Result<(), Fail> {
     Ok(())
 }
 
-/// A square whose corner the added point is.
-const SQUARE: &str = "POLYGON ((0 0, 4 0, 4 4, 0 4, 0 0))";
-
 #[test]
 fn rolled_trails(rt: HostRuntime) -> Result<(), Fail> {
     let script = format!(in rt.alloc();
@@ -132,22 +107,12 @@ const UNLABELLED: &str =
     "HELLO north\nADD 1 mast POINT (3 4)\nCOMMIT\nSEARCH point(3 4)\nSEARCH POINT (3 5)\n\nBYE\n";
 
 #[test]
-fn without_labels(rt: HostRuntime) -> Result<(), Fail> {
-    let mut world = opened(&rt, rt.alloc(), rt.alloc());
-    let mut output = Vec::new(rt.alloc());
-    let end = serve_world(
-        rt.alloc(),
-        rt.alloc(),
-        &mut world,
-        &mut UNLABELLED.as_bytes(),
-        &mut output,
-    );
-    assert!(rt; end.is_ok());
+fn without_labels(rt: HostRuntime) {
+    let ran = serve_first(&rt, rt.alloc(), UNLABELLED);
     assert_eq!(rt;
-        output.as_slice(),
+        ran.output.as_slice(),
         b"hello north\nstaged\napplied 1\nrows 1\n1 1 north mast POINT (3 4)\nrows 0\nerror E2\nbye\n".as_slice()
     );
-    Ok(())
 }
 
 /// A run over the world that a run has left: it finds the point exactly where its commit was answered, and no staged list.

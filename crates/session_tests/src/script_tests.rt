@@ -1,36 +1,20 @@
+//! Worked scripts, lines and labels, limits, and what a script does to the index's slots.
 use crate::fakes::{FIRST_POINT, FIRST_REPLIES};
-use crate::worlds::opened;
-use sessions::{run_script, serve_world};
+use crate::worlds::{SQUARE, run_first, serve_first};
 use std::alloc::{AllocError, Global};
 use std::process::Abort;
 use std::test::Fail;
 
-/// What a script is answered from a fresh world.
-fn replies(rt: &impl Abort, alloc: Global, script: &str) -> Result<Vec<u8>, AllocError> {
-    let mut world = opened(rt, alloc, alloc);
-    let mut output = Vec::new(alloc);
-    let end = run_script(
-        alloc,
-        alloc,
-        &mut world,
-        &mut script.as_bytes(),
-        &mut output,
-    );
-    assert!(rt; end.is_ok(), "{script}");
-    Ok(output)
-}
-
 /// Each of these scripts is answered so.
-fn check_all(rt: &impl Abort, alloc: Global, cases: &[(&str, &str)]) -> Result<(), AllocError> {
+fn check_all(rt: &impl Abort, alloc: Global, cases: &[(&str, &str)]) {
     for (script, expected) in cases {
-        let output = replies(rt, alloc, script)?;
-        assert_eq!(rt; output.as_slice(), expected.as_bytes(), "{script}");
+        let ran = run_first(rt, alloc, script);
+        assert_eq!(rt; ran.output.as_slice(), expected.as_bytes(), "{script}");
     }
-    Ok(())
 }
 
 #[test]
-fn worked_scripts(rt: HostRuntime) -> Result<(), Fail> {
+fn worked_scripts(rt: HostRuntime) {
     let cases = [
         (FIRST_POINT, FIRST_REPLIES),
         ("x: SEARCH POINT (0 0)\n", "x: error E5\n"),
@@ -49,22 +33,15 @@ fn worked_scripts(rt: HostRuntime) -> Result<(), Fail> {
             "n: hello north\nn: error K5\nn: staged\nn: applied 1\nn: rows 1\nn: 1 1 north mast POINT (3 0)\nn: rows 0\n",
         ),
     ];
-    check_all(&rt, rt.alloc(), &cases)?;
-    Ok(())
+    check_all(&rt, rt.alloc(), &cases);
 }
-
-/// A square whose corner a point may touch.
-const SQUARE: &str = "POLYGON ((0 0, 4 0, 4 4, 0 4, 0 0))";
 
 #[test]
 fn shapes_of_every_kind(rt: HostRuntime) -> Result<(), Fail> {
-    let output = replies(
-        &rt,
-        rt.alloc(),
-        format!(in rt.alloc(); "n: HELLO north\nn: SEARCH {SQUARE}\n")?.as_str(),
-    )?;
+    let script = format!(in rt.alloc(); "n: HELLO north\nn: SEARCH {SQUARE}\n")?;
+    let ran = run_first(&rt, rt.alloc(), script.as_str());
     assert_eq!(rt;
-        output.as_slice(),
+        ran.output.as_slice(),
         b"n: hello north\nn: rows 0\n".as_slice()
     );
     let script = format!(in rt.alloc();
@@ -73,13 +50,13 @@ fn shapes_of_every_kind(rt: HostRuntime) -> Result<(), Fail> {
     let expected = format!(in rt.alloc();
         "n: hello north\nn: staged\nn: applied 1\nn: rows 1\nn: 1 1 north mast POINT (4 4)\nn: staged\nn: staged\nn: staged\nn: applied 2\nn: rows 3\nn: 1 1 north mast POINT (4 4)\nn: 2 2 north road LINESTRING (-1 3, 6 2)\nn: 4 2 north parcel {SQUARE}\nn: rows 2\nn: 2 2 north road LINESTRING (-1 3, 6 2)\nn: 3 2 north road LINESTRING (5 0, 9 9)\nn: error P7\nn: error P8\n"
     )?;
-    let output = replies(&rt, rt.alloc(), script.as_str())?;
-    assert_eq!(rt; output.as_slice(), expected.as_bytes());
+    let ran = run_first(&rt, rt.alloc(), script.as_str());
+    assert_eq!(rt; ran.output.as_slice(), expected.as_bytes());
     Ok(())
 }
 
 #[test]
-fn lines_and_labels(rt: HostRuntime) -> Result<(), Fail> {
+fn lines_and_labels(rt: HostRuntime) {
     let cases = [
         ("", ""),
         ("\n\r\n# a comment\n#\n", ""),
@@ -112,12 +89,11 @@ fn lines_and_labels(rt: HostRuntime) -> Result<(), Fail> {
             "n: hello north\nn: staged\nn: error E3\nn: error E3\nn: error E3\nn: staged\n",
         ),
     ];
-    check_all(&rt, rt.alloc(), &cases)?;
-    Ok(())
+    check_all(&rt, rt.alloc(), &cases);
 }
 
 #[test]
-fn staged_lists(rt: HostRuntime) -> Result<(), Fail> {
+fn staged_lists(rt: HostRuntime) {
     let cases = [
         // A list is of its session, and a later session of a label has none of it.
         (
@@ -139,8 +115,7 @@ fn staged_lists(rt: HostRuntime) -> Result<(), Fail> {
             "n: hello north\nn: staged\nn: staged\nn: staged\nn: applied 1\nn: rows 2\nn: 1 1 north a POINT (0 0)\nn: 3 1 north c POINT (0 0)\n",
         ),
     ];
-    check_all(&rt, rt.alloc(), &cases)?;
-    Ok(())
+    check_all(&rt, rt.alloc(), &cases);
 }
 
 /// A script of as many lines, each written by a function of its number.
@@ -166,17 +141,20 @@ fn limits(rt: HostRuntime) -> Result<(), Fail> {
         66,
         |script, number| write!(script, "s{number}: BYE\n"),
     )?;
-    let output = replies(&rt, rt.alloc(), labels.as_str())?;
-    assert!(rt; output.ends_with(b"s63: bye\n?: error E9\n?: error E9\n"));
+    let ran = run_first(&rt, rt.alloc(), labels.as_str());
+    assert!(rt;
+        ran.output
+            .ends_with(b"s63: bye\n?: error E9\n?: error E9\n")
+    );
     // 1,024 seats are given.
     let seats = numbered(
         rt.alloc(),
         1_026,
         |script, _| script.push_str("n: HELLO north\nn: BYE\n"),
     )?;
-    let output = replies(&rt, rt.alloc(), seats.as_str())?;
+    let ran = run_first(&rt, rt.alloc(), seats.as_str());
     assert!(rt;
-        output.ends_with(b"n: hello north\nn: bye\nn: error H2\nn: bye\nn: error H2\nn: bye\n")
+        ran.output.ends_with(b"n: hello north\nn: bye\nn: error H2\nn: bye\nn: error H2\nn: bye\n")
     );
     // A list has 16 changes at most.
     let changes = numbered(
@@ -185,8 +163,11 @@ fn limits(rt: HostRuntime) -> Result<(), Fail> {
         |script, number| write!(script, "n: ADD {number} a POINT (0 0)\n"),
     )?;
     let script = format!(in rt.alloc(); "n: HELLO north\n{changes}n: COMMIT\nn: COMMIT\n")?;
-    let output = replies(&rt, rt.alloc(), script.as_str())?;
-    assert!(rt; output.ends_with(b"n: staged\nn: error X6\nn: applied 1\nn: error E7\n"));
+    let ran = run_first(&rt, rt.alloc(), script.as_str());
+    assert!(rt;
+        ran.output
+            .ends_with(b"n: staged\nn: error X6\nn: applied 1\nn: error E7\n")
+    );
     Ok(())
 }
 
@@ -212,8 +193,8 @@ fn long_lines(rt: HostRuntime) -> Result<(), Fail> {
         let mut script = String::new(rt.alloc());
         push_long_line(&mut script, len)?;
         script.push_str(end)?;
-        let output = replies(&rt, rt.alloc(), script.as_str())?;
-        assert_eq!(rt; output.as_slice(), expected.as_bytes(), "{len}");
+        let ran = run_first(&rt, rt.alloc(), script.as_str());
+        assert_eq!(rt; ran.output.as_slice(), expected.as_bytes(), "{len}");
     }
     served_alone(&rt, rt.alloc(), 65_536, "error E2\nbye\n")?;
     served_alone(&rt, rt.alloc(), 65_537, "error E1\nbye\n")?;
@@ -230,11 +211,8 @@ fn served_alone(
     let mut text = String::new(alloc);
     push_long_line(&mut text, len)?;
     text.push_str("\nBYE\n")?;
-    let mut world = opened(rt, alloc, alloc);
-    let mut output = Vec::new(alloc);
-    let end = serve_world(alloc, alloc, &mut world, &mut text.as_bytes(), &mut output);
-    assert!(rt; end.is_ok());
-    assert_eq!(rt; output.as_slice(), expected.as_bytes(), "{len}");
+    let ran = serve_first(rt, alloc, text.as_str());
+    assert_eq!(rt; ran.output.as_slice(), expected.as_bytes(), "{len}");
     Ok(())
 }
 
@@ -256,35 +234,17 @@ fn rounds(alloc: Global, count: u64, label: &str) -> Result<String, AllocError> 
     Ok(lines)
 }
 
-/// How many slots the index has behind such lines of a script.
-fn slots_of_a_script(rt: &impl Abort, alloc: Global, lines: &str) -> u32 {
-    let mut world = opened(rt, alloc, alloc);
-    let mut output = Vec::new(alloc);
-    let end = run_script(alloc, alloc, &mut world, &mut lines.as_bytes(), &mut output);
-    assert!(rt; end.is_ok());
-    assert!(rt; output.ends_with(b"n: staged\nn: applied 200\n"));
-    world.slots()
-}
-
-/// How many it has behind the lines of a session by itself, which tends nothing.
-fn slots_of_a_session(rt: &impl Abort, alloc: Global, lines: &str) -> u32 {
-    let mut world = opened(rt, alloc, alloc);
-    let mut output = Vec::new(alloc);
-    let end = serve_world(alloc, alloc, &mut world, &mut lines.as_bytes(), &mut output);
-    assert!(rt; end.is_ok());
-    assert!(rt; output.ends_with(b"staged\napplied 200\n"));
-    world.slots()
-}
-
 /// A leaf holds sixteen pairs, so the 1,600 that are placed here take a hundred leaves where none is cleaned. A script
 /// tends one slot after each line, in turn, and so the index stays small.
 #[test]
 fn slots_are_tended(rt: HostRuntime) -> Result<(), Fail> {
     let labelled = rounds(rt.alloc(), 100, "n: ")?;
-    let tended = slots_of_a_script(&rt, rt.alloc(), labelled.as_str());
-    assert!(rt; tended < 20, "{tended}");
+    let tended = run_first(&rt, rt.alloc(), labelled.as_str());
+    assert!(rt; tended.output.ends_with(b"n: staged\nn: applied 200\n"));
+    assert!(rt; tended.slots < 20, "{}", tended.slots);
     let alone = rounds(rt.alloc(), 100, "")?;
-    let untended = slots_of_a_session(&rt, rt.alloc(), alone.as_str());
-    assert!(rt; untended > 100, "{untended}");
+    let untended = serve_first(&rt, rt.alloc(), alone.as_str());
+    assert!(rt; untended.output.ends_with(b"staged\napplied 200\n"));
+    assert!(rt; untended.slots > 100, "{}", untended.slots);
     Ok(())
 }

@@ -1,41 +1,12 @@
 //! Searches that go step by step: OPEN, STEP and FINISH of a script.
 use crate::fakes::{SEVENTEEN_ROWS, SIXTEEN};
-use crate::worlds::opened;
-use sessions::{run_script, serve_world};
+use crate::worlds::{check, opened, replies, run_first, serve_first};
 use std::alloc::{AllocError, Global};
 use std::process::Abort;
 use std::test::Fail;
-use transactions::World;
-
-const SEATS: &str = "n: HELLO north\ns: HELLO south\nc: HELLO chief\n";
-
-const HELLOS: &str = "n: hello north\ns: hello south\nc: hello chief\n";
 
 const NO_PARCEL: &str =
     r#"{"root":{"combine":"deny-overrides","policy":"p","rules":[{"effect":"deny","rule":"no-parcel","target":[[[{"class":"parcel"}]]]},{"effect":"permit","rule":"open"}]}}"#;
-
-/// What these lines are answered over a world.
-fn replies(
-    rt: &impl Abort,
-    alloc: Global,
-    world: &mut World<Global>,
-    script: &str,
-) -> Result<Vec<u8>, AllocError> {
-    let mut output = Vec::new(alloc);
-    let end = run_script(alloc, alloc, world, &mut script.as_bytes(), &mut output);
-    assert!(rt; end.is_ok());
-    Ok(output)
-}
-
-/// These lines, behind three seats, are answered so.
-fn check(rt: &impl Abort, alloc: Global, script: &str, expected: &str) -> Result<(), AllocError> {
-    let script = format!(in alloc; "{SEATS}{script}")?;
-    let expected = format!(in alloc; "{HELLOS}{expected}")?;
-    let mut world = opened(rt, alloc, alloc);
-    let output = replies(rt, alloc, &mut world, script.as_str())?;
-    assert_eq!(rt; output.as_slice(), expected.as_bytes());
-    Ok(())
-}
 
 #[test]
 fn finished_by_the_policy_in_force(rt: HostRuntime) -> Result<(), Fail> {
@@ -107,9 +78,8 @@ fn check_steps(
     let script = format!(in alloc;
         "{SIXTEEN}n: COMMIT\nn: OPEN POLYGON ((0 -1, 500 -1, 500 1, 0 1, 0 -1))\n{steps}"
     )?;
-    let mut world = opened(rt, alloc, alloc);
-    let output = replies(rt, alloc, &mut world, script.as_str())?;
-    assert!(rt; output.ends_with(expected.as_bytes()), "{steps}");
+    let ran = run_first(rt, alloc, script.as_str());
+    assert!(rt; ran.output.ends_with(expected.as_bytes()), "{steps}");
     Ok(())
 }
 
@@ -155,10 +125,9 @@ fn sixteen_searches(rt: HostRuntime) -> Result<(), Fail> {
     let script = format!(in rt.alloc();
         "{open}s16: OPEN POINT (0 0)\ns16: SEARCH POINT (0 0)\ns15: BYE\ns16: SEARCH POINT (0 0)\ns16: OPEN POINT (0 0)\n"
     )?;
-    let mut world = opened(&rt, rt.alloc(), rt.alloc());
-    let output = replies(&rt, rt.alloc(), &mut world, script.as_str())?;
+    let ran = run_first(&rt, rt.alloc(), script.as_str());
     assert!(rt;
-        output.ends_with(
+        ran.output.ends_with(
             b"s15: opened\ns16: error S2\ns16: error S2\ns15: bye\ns16: rows 0\ns16: opened\n"
         )
     );
@@ -170,27 +139,21 @@ fn dropped_at_the_end(rt: HostRuntime) -> Result<(), Fail> {
     let open = sixteen_open(rt.alloc())?;
     let mut world = opened(&rt, rt.alloc(), rt.alloc());
     for _ in 0..2 {
-        let output = replies(&rt, rt.alloc(), &mut world, open.as_str())?;
+        let output = replies(&rt, rt.alloc(), &mut world, open.as_str());
         assert!(rt; output.ends_with(b"s14: opened\ns15: opened\n"));
     }
     Ok(())
 }
 
 #[test]
-fn only_in_scripts(rt: HostRuntime) -> Result<(), Fail> {
-    let mut world = opened(&rt, rt.alloc(), rt.alloc());
-    let mut output = Vec::new(rt.alloc());
-    let end = serve_world(
+fn only_in_scripts(rt: HostRuntime) {
+    let ran = serve_first(
+        &rt,
         rt.alloc(),
-        rt.alloc(),
-        &mut world,
-        &mut b"OPEN\nHELLO north\nOPEN POINT (0 0)\nSTEP 1\nFINISH\n".as_slice(),
-        &mut output,
+        "OPEN\nHELLO north\nOPEN POINT (0 0)\nSTEP 1\nFINISH\n",
     );
-    assert!(rt; end.is_ok());
     assert_eq!(rt;
-        output.as_slice(),
+        ran.output.as_slice(),
         b"error E2\nhello north\nerror E2\nerror E2\nerror E2\n".as_slice()
     );
-    Ok(())
 }
