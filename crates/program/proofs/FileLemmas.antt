@@ -1,5 +1,5 @@
 -- Reading a file to its end.
-use Rattle.std.proofs.Common.{ℕ, List, [], ◌++◌, Option, Some, None, ap, ◌∙◌, sym, refl, append_assoc}
+use Rattle.std.proofs.Common.{ℕ, ◌+◌, ◌<◌, List, [], ◌++◌, length, Option, Some, None, IfSome, ap, ◌∙◌, sym, refl, append_assoc, length-append, arith}
 use Rattle.std.proofs.lemmas.List.{append-nil}
 use Rattle.std.specs.Io.KnownBytes.{Consumes, IsAtEnd}
 use Rattle.program.specs.ConfigFiles.{IsWhole}
@@ -22,3 +22,11 @@ taken-whole None b c xs h k e = tt
 taken-whole (Some zs) None c xs h k e = absurd h
 taken-whole (Some zs) (Some ws) None xs h k e = absurd k
 taken-whole (Some zs) (Some ws) (Some vs) xs h k e = sym (h ∙ ap (λ us. xs ++ us) (k ∙ e) ∙ append-nil xs)
+
+-- what was taken, and what a read gave beside it, is more than a file may have
+pub taken-too-much : (a b c : Option (List ℕ)) (xs ys : List ℕ) (most : ℕ) → Consumes a b xs → Consumes b c ys → most < length xs + length ys → IfSome a (λ text. most < length text)
+taken-too-much None b c xs ys most h k more = tt
+taken-too-much (Some zs) None c xs ys most h k more = absurd h
+taken-too-much (Some zs) (Some ws) None xs ys most h k more = absurd k
+taken-too-much (Some zs) (Some ws) (Some vs) xs ys most h k more =
+    omega (arith, more, ap length h, length-append xs ws, ap length k, length-append ys vs)

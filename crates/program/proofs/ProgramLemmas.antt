@@ -8,12 +8,12 @@ use Rattle.program.specs.CommandLine.{refusals}
 use Rattle.program.specs.declared.words.Asked.{Asked}
 use Rattle.program.specs.declared.words.Asked.TheVariants.{Script, Text}
 use Rattle.program.specs.declared.words.ScriptWords.{ScriptWords}
-use Rattle.program.specs.Ends.{TookFront, exit_status, fault_line}
+use Rattle.program.specs.Ends.{IsUnwritten, TookFront, exit_status, fault_line}
 use Rattle.program.specs.Programs.{Failed, IsRun}
 use Rattle.program.specs.RunFaults.{BrokeOff}
 use Rattle.program.specs.Runs.{Ran}
 use Rattle.program.specs.declared.faults.ProgramFault.{ProgramFault}
-use Rattle.program.specs.declared.faults.ProgramFault.TheVariants.{CannotWrite, NoMemory}
+use Rattle.program.specs.declared.faults.ProgramFault.TheVariants.{NoMemory}
 
 -- the name of the configuration's file, where one is asked for
 abbrev config_name : ScriptWords → Option (List ℕ)
@@ -41,12 +41,12 @@ module _ {O E : Type 0} (words : List Words) (held : List ℕ → Option (List �
 
   -- a run that showed help, or could not
   pub run_of_help : (asked : Asked) (help : Error) (end : Result (Unit {0}) ProgramFault) (status : ℕ) → IsAsked words asked → asked ≡ Text help → kind_of help ≡ DisplayHelp → status ≡ exit_status end
-      → IfErr end (λ fault. fault ≡ CannotWrite) → OnOk end (errors_after ≡ errors) → IfErr end Tells → Leaves status
+      → IfErr end (λ fault. IsUnwritten fault) → OnOk end (errors_after ≡ errors) → IfErr end Tells → Leaves status
   run_of_help asked help end status is_asked is kind status_is unwritten quiet tells = subst Leaves (sym status_is) (by end (subst (λ k. IsAmong k (refusals words)) kind (subst (IsAsked words) is is_asked)) unwritten quiet tells)
     where
-      by : (end : Result (Unit {0}) ProgramFault) → IsAmong DisplayHelp (refusals words) → IfErr end (λ fault. fault ≡ CannotWrite) → OnOk end (errors_after ≡ errors) → IfErr end Tells → Leaves (exit_status end)
+      by : (end : Result (Unit {0}) ProgramFault) → IsAmong DisplayHelp (refusals words) → IfErr end (λ fault. IsUnwritten fault) → OnOk end (errors_after ≡ errors) → IfErr end Tells → Leaves (exit_status end)
       by (Ok u) asked unwritten quiet tells = IsRun.helps asked quiet
-      by (Err fault) asked unwritten quiet tells = IsRun.fails CannotWrite (Failed.help asked) (subst Tells unwritten tells)
+      by (Err fault) asked unwritten quiet tells = IsRun.fails fault (Failed.help fault asked unwritten) tells
 
   -- a run that clap turned down
   pub run_of_mistake : (asked : Asked) (mistake : Error) → IsAsked words asked → asked ≡ Text mistake → (kind_of mistake ≡ DisplayHelp → ⊥) → output_after ≡ output → Leaves 2

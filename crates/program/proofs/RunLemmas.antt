@@ -1,5 +1,5 @@
 -- A configuration from a file, and a run by it.
-use Rattle.std.proofs.Common.{◌≡◌, ◌∙◌, ℕ, List, [], Option, None, Some, refl, sym, subst, IfErr, IsErrAnd, IfSome, OnOk, Result, Ok, Err}
+use Rattle.std.proofs.Common.{◌≡◌, ◌∙◌, ℕ, List, [], Option, None, Some, refl, sym, subst, IfErr, IfSome, OnOk, Result, Ok, Err}
 use Rattle.std.specs.Io.KnownBytes.{Appends, Keeps}
 use Rattle.sessions.specs.Scripts.{IsScriptText, LineTells, script}
 use Rattle.sessions.specs.States.{SessionState}
@@ -76,12 +76,7 @@ came c end world last sessions input left before mid after opens ran keeps =
 
 -- the fault by which it ended, as it is told
 pub of_run : (c : ConfigData) (fault : ServeFault) (input before after : Option (List ℕ)) → CameTo c (Err fault) input before after → IsOfRun c input before after (told_as fault)
-of_run c reasons.Read input before after h = (refl, h)
-of_run c reasons.Write input before after h = (Err reasons.Write, h)
+of_run c (reasons.Read failed) input before after h = (refl, h)
+of_run c (reasons.Write failed) input before after h = (Err (reasons.Write failed), h)
 of_run c reasons.TooManyTurns input before after h = (refl, h)
 of_run c (reasons.Memory refused) input before after h = (refl, h)
-
--- what left by `?` is the fault that was met
-pub left_by : (r : Result (Unit {0}) ProgramFault) (e : ProgramFault) (P : ProgramFault → Type 0) → IsErrAnd r (λ f. f ≡ e) → P e → IfErr r P
-left_by (Ok u) e P is told = tt
-left_by (Err f) e P is told = subst P (sym is) told

@@ -2,7 +2,7 @@
 use Rattle.std.proofs.Common.{◌≡◌, ℕ, List, ◌++◌, Option, Result, sym, subst, ap, ◌∙◌, append_assoc, codes}
 use Rattle.std.specs.Io.KnownBytes.{Appends}
 use Rattle.std.specs.Result.{IsErr}
-use Rattle.sessions.specs.Streams.{Took}
+use Rattle.byte_streams.specs.Written.{Took}
 use Rattle.sessions.proofs.WritingLemmas.{took_first, took_then}
 use Rattle.program.specs.Ends.{TookFront, fault_line, fault_name, fault_word}
 use Rattle.program.specs.declared.faults.ProgramFault.{ProgramFault}

@@ -1,5 +1,5 @@
 -- The file of a configuration, whose bytes may be known.
-use Rattle.std.specs.Prelude.{◌≡◌, ◌≤◌, ℕ, List, length, Option, IfSome, Result, Ok, Err}
+use Rattle.std.specs.Prelude.{◌≡◌, ◌<◌, ◌≤◌, ℕ, List, length, Option, IfSome, Result, Ok, Err}
 use Rattle.program.specs.ConfigFaults.{Fails}
 use Rattle.program.specs.Configs.{ConfigData, config_data, config_of}
 use Rattle.program.specs.declared.config_faults.ConfigFault.{ConfigFault}
@@ -7,17 +7,24 @@ use Rattle.program.specs.declared.config_faults.ConfigFault.TheVariants.{Memory}
 use Rattle.program.specs.declared.configs.Config.{Config}
 use Rattle.program.specs.declared.files.FileFault.{FileFault}
 use Rattle.program.specs.declared.files.FileFault.TheVariants as reasons
+use Rattle.program.specs.declared.files.ReadFault.{ReadFault}
+use Rattle.program.specs.declared.files.ReadFault.TheVariants.{TooLong}
 use Rattle.program.specs.declared.files.TheConstants.{CONFIG_LIMIT}
 
 -- all the bytes that a file had left, where they are known
 abbrev pub IsWhole : Option (List ℕ) → List ℕ → Type 0
 IsWhole left bytes = IfSome left (λ text. bytes ≡ text)
 
--- a file's bytes were not had: want of memory, or they cannot be read
-abbrev pub IsUnread : FileFault → Type 0
-IsUnread reasons.CannotRead = Unit {0}
-IsUnread (reasons.Config (Memory refused)) = Unit {0}
-IsUnread (reasons.Config _) = ⊥
+-- why a file of these bytes cannot be read: it is too long. That it was not opened, and that a read failed, may come of any
+abbrev pub IsReadFault : ReadFault → List ℕ → Type 0
+IsReadFault TooLong text = CONFIG_LIMIT < length text
+IsReadFault _ text = Unit {0}
+
+-- the bytes that a file had left were not had: want of memory, or they cannot be read
+abbrev pub IsUnread : Option (List ℕ) → FileFault → Type 0
+IsUnread left (reasons.CannotRead fault) = IfSome left (IsReadFault fault)
+IsUnread left (reasons.Config (Memory refused)) = Unit {0}
+IsUnread left (reasons.Config _) = ⊥
 
 -- a file of these bytes is not too long, and they spell this configuration
 abbrev pub IsConfigText : ConfigData → List ℕ → Type 0
@@ -28,8 +35,8 @@ abbrev pub IsConfigFault : ConfigFault → List ℕ → Type 0
 IsConfigFault (Memory refused) text = Unit {0}
 IsConfigFault fault text = (length text ≤ CONFIG_LIMIT) × Fails fault (config_of text)
 
--- What a file of these bytes gives. That it cannot be read may come of any.
+-- What a file of these bytes gives.
 abbrev pub FileGives : {A : Type 0} → Result (Config A) FileFault → List ℕ → Type 0
 FileGives (Ok config) text = IsConfigText (config_data config) text
-FileGives (Err reasons.CannotRead) text = Unit {0}
+FileGives (Err (reasons.CannotRead fault)) text = IsReadFault fault text
 FileGives (Err (reasons.Config fault)) text = IsConfigFault fault text

@@ -11,20 +11,20 @@ use Rattle.plain_world.specs.FaultCodes.{fault_code}
 
 -- how the program tells of the fault by which a run of lines ended: that a write failed has one name, whatever was written
 abbrev pub told_as : ServeFault → ProgramFault
-told_as reasons.Write = CannotWrite
+told_as (reasons.Write failed) = CannotWrite failed
 told_as fault = Run fault
 
 -- what is told of a fault: that a file cannot be read, with its name behind it, that something cannot be written, or a code
 abbrev pub fault_word : ProgramFault → List ℕ
-fault_word (CannotRead name) = codes "cannot read "
-fault_word CannotWrite = codes "cannot write"
+fault_word (CannotRead name fault) = codes "cannot read "
+fault_word (CannotWrite failed) = codes "cannot write"
 fault_word NoMemory = codes "V4"
 fault_word (Config fault) = config_code_of fault
 fault_word (World fault) = fault_code fault
 fault_word (Run fault) = serve_code_of fault
 
 abbrev pub fault_name : ProgramFault → List ℕ
-fault_name (CannotRead name) = name.now
+fault_name (CannotRead name fault) = name.now
 fault_name _ = []
 
 abbrev pub fault_text : ProgramFault → List ℕ
@@ -33,6 +33,11 @@ fault_text fault = fault_word fault ++ fault_name fault
 -- the one line on standard error
 abbrev pub fault_line : ProgramFault → List ℕ
 fault_line fault = codes "landmap: " ++ fault_text fault ++ codes "\n"
+
+-- it is told that something cannot be written
+abbrev pub IsUnwritten : ProgramFault → Type 0
+IsUnwritten (CannotWrite failed) = Unit {0}
+IsUnwritten _ = ⊥
 
 -- a writer took the front of these bytes, or all of them
 abbrev pub TookFront : Option (List ℕ) → Option (List ℕ) → List ℕ → Type 0

@@ -4,11 +4,11 @@ use Rattle.clap.specs.Words.{IsAmong, Text}
 use Rattle.clap.specs.declared.error.kind.ErrorKind.{ErrorKind}
 use Rattle.clap.specs.declared.error.kind.ErrorKind.TheVariants.{DisplayHelp}
 use Rattle.program.specs.CommandLine.{refusals, word_for}
-use Rattle.program.specs.Ends.{TookFront, fault_line}
+use Rattle.program.specs.Ends.{IsUnwritten, TookFront, fault_line}
 use Rattle.program.specs.RunFaults.{BrokeOff}
 use Rattle.program.specs.Runs.{Ran}
 use Rattle.program.specs.declared.faults.ProgramFault.{ProgramFault}
-use Rattle.program.specs.declared.faults.ProgramFault.TheVariants.{CannotWrite, NoMemory}
+use Rattle.program.specs.declared.faults.ProgramFault.TheVariants.{NoMemory}
 
 -- Why a run of the program with these words ended by a fault. Want of memory for the command line may come of any words.
 pub data Failed (words : List Text) (held : List ℕ → Option (List ℕ)) (before after : Option (List ℕ)) : ProgramFault → Type 0 where
@@ -16,7 +16,7 @@ pub data Failed (words : List Text) (held : List ℕ → Option (List ℕ)) (bef
   script : (name : List ℕ) (fault : ProgramFault) → refusals words ≡ [] → word_for (codes "FILE") words ≡ Some name
       → BrokeOff held (word_for (codes "config") words) name before after fault → Failed words held before after fault
   -- they ask for help, which could not be written
-  help : IsAmong DisplayHelp (refusals words) → Failed words held before after CannotWrite
+  help : (fault : ProgramFault) → IsAmong DisplayHelp (refusals words) → IsUnwritten fault → Failed words held before after fault
   unread : after ≡ before → Failed words held before after NoMemory
 
 -- What a run of the program with these words leaves, and its exit status: of the output the bytes that are known, of

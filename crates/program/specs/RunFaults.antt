@@ -1,5 +1,5 @@
 -- By which fault a run of a script may end, and what stands then: the first of those of the configuration, that the script
--- cannot be read, and those of the run. Want of memory, and that a file cannot be read, may come of any.
+-- cannot be read, and those of the run. Want of memory, and that a file is not opened or a read of it fails, may come of any.
 use Rattle.std.specs.Prelude.{◌≡◌, ℕ, List, [], Option, None, Some, IfSome, Result, Err}
 use Rattle.std.specs.Io.KnownBytes.{Keeps}
 use Rattle.plain_world.specs.States.{WorldData}
@@ -9,25 +9,27 @@ use Rattle.sessions.specs.Scripts.{LineTells, script}
 use Rattle.sessions.specs.States.{SessionState}
 use Rattle.sessions.specs.Streams.{Ran}
 use Rattle.sessions.specs.declared.streams.ServeFault.{ServeFault}
-use Rattle.program.specs.ConfigFiles.{IsConfigFault}
+use Rattle.program.specs.ConfigFiles.{IsConfigFault, IsReadFault}
 use Rattle.program.specs.Configs.{ConfigData}
 use Rattle.program.specs.Ends.{told_as}
 use Rattle.program.specs.Runs.{IsConfigOf, world_of}
 use Rattle.program.specs.declared.config_faults.ConfigFault.TheVariants.{Memory}
 use Rattle.program.specs.declared.faults.ProgramFault.{ProgramFault}
+use Rattle.program.specs.declared.files.ReadFault.TheVariants.{NotOpened}
 use Rattle.program.specs.declared.faults.ProgramFault.TheVariants.{CannotRead, CannotWrite, Config, World, Run}
 
--- it is told of the file of this name that it cannot be read
-abbrev pub IsUnreadable : List ℕ → ProgramFault → Type 0
-IsUnreadable name (CannotRead told) = told.now ≡ name
-IsUnreadable name _ = ⊥
+-- it is told of the file of this name that it was not opened
+abbrev pub IsUnopened : List ℕ → ProgramFault → Type 0
+IsUnopened name (CannotRead told (NotOpened closed)) = told.now ≡ name
+IsUnopened name _ = ⊥
 
 -- a fault of the configuration: the built-in one has none but want of memory
 abbrev pub IsOfConfig : (List ℕ → Option (List ℕ)) → Option (List ℕ) → ProgramFault → Type 0
 IsOfConfig held None (Config (Memory refused)) = Unit {0}
 IsOfConfig held None _ = ⊥
 IsOfConfig held (Some name) (Config fault) = IfSome (held name) (λ text. IsConfigFault fault text)
-IsOfConfig held (Some name) fault = IsUnreadable name fault
+IsOfConfig held (Some name) (CannotRead told fault) = (told.now ≡ name) × IfSome (held name) (IsReadFault fault)
+IsOfConfig held (Some name) _ = ⊥
 
 -- how far a run over the world that a configuration opens has come, when it ended so; a flush of the output followed
 pub record CameTo (config : ConfigData) (end : Result (Unit {0}) ServeFault) (input before after : Option (List ℕ)) : Type 0 where
@@ -47,7 +49,7 @@ IsMemory _ = ⊥
 -- fault of another kind.
 abbrev pub IsOfRun : ConfigData → Option (List ℕ) → Option (List ℕ) → Option (List ℕ) → ProgramFault → Type 0
 IsOfRun config input before after (World fault) = IsMemory fault × (after ≡ before)
-IsOfRun config input before after CannotWrite = (end : Result (Unit {0}) ServeFault) × CameTo config end input before after
+IsOfRun config input before after (CannotWrite failed) = (end : Result (Unit {0}) ServeFault) × CameTo config end input before after
 IsOfRun config input before after (Run fault) = (told_as fault ≡ Run fault) × CameTo config (Err fault) input before after
 IsOfRun config input before after _ = ⊥
 
@@ -56,7 +58,7 @@ pub data BrokeOff (held : List ℕ → Option (List ℕ)) (config : Option (List
   -- there was no configuration
   unconfigured : IsOfConfig held config fault → after ≡ before → BrokeOff held config script_name before after fault
   -- there was one, and the script could not be read
-  without_script : (configured : ConfigData) → IsConfigOf held config configured → IsUnreadable script_name fault → after ≡ before
+  without_script : (configured : ConfigData) → IsConfigOf held config configured → IsUnopened script_name fault → after ≡ before
       → BrokeOff held config script_name before after fault
   -- there were both
   in_run : (configured : ConfigData) → IsConfigOf held config configured → IsOfRun configured (held script_name) before after fault

@@ -3,6 +3,8 @@
 ghost use Rattle.std.specs.Prelude.{◌≡◌};
 
 use crate::config_faults::ConfigFault;
+use crate::files::ReadFault;
+use byte_streams::WriteFailed;
 use sessions::ServeFault;
 use std::fmt;
 use transactions::Fault;
@@ -10,11 +12,11 @@ use transactions::Fault;
 /// Why the program ends with status 1.
 #[derive(Debug, Drop)]
 pub enum ProgramFault<'a> {
-    /// A file cannot be opened, or is a folder; or the file of a configuration cannot be read, or is longer than
-    /// 16,777,216 bytes.
-    CannotRead(&'a str),
+    /// The file of this name cannot be opened, or is a folder; or that of a configuration cannot be read, or is longer
+    /// than 16,777,216 bytes.
+    CannotRead(&'a str, ReadFault),
     /// What the program has to say cannot be written.
-    CannotWrite,
+    CannotWrite(WriteFailed),
     /// There is no memory for the command line, or for the output's buffer. It is shown as V4.
     NoMemory,
     /// The configuration is none.
@@ -33,8 +35,8 @@ impl ProgramFault<'_> {
         ensures { result.now ≡ fault_word self.now }
     {
         match self {
-            ProgramFault::CannotRead(_) => "cannot read ",
-            ProgramFault::CannotWrite => "cannot write",
+            ProgramFault::CannotRead(..) => "cannot read ",
+            ProgramFault::CannotWrite(_) => "cannot write",
             ProgramFault::NoMemory => "V4",
             ProgramFault::Config(fault) => fault.code(),
             ProgramFault::World(fault) => fault.code(),
@@ -47,7 +49,7 @@ impl ProgramFault<'_> {
         ensures { result.now ≡ fault_name self.now }
     {
         match self {
-            ProgramFault::CannotRead(name) => name,
+            ProgramFault::CannotRead(name, _) => name,
             _ => "",
         }
     }
@@ -65,6 +67,17 @@ impl fmt::Display for ProgramFault<'_> {
     }
 }
 
+impl From<WriteFailed> for ProgramFault<'_> {
+    ghost use Rattle.std.specs.Prelude.{◌≡◌};
+    ghost use Rattle.program.specs.declared.faults.ProgramFault.TheVariants.{CannotWrite};
+
+    ghost from_gives = { λ failed fault. fault ≡ CannotWrite failed };
+
+    fn from(failed: WriteFailed) -> Self {
+        ProgramFault::CannotWrite(failed)
+    }
+}
+
 impl From<ServeFault> for ProgramFault<'_> {
     ghost use Rattle.std.specs.Prelude.{◌≡◌};
     ghost use Rattle.program.specs.Ends.{told_as};
@@ -73,7 +86,7 @@ impl From<ServeFault> for ProgramFault<'_> {
 
     fn from(end: ServeFault) -> Self {
         match end {
-            ServeFault::Write => ProgramFault::CannotWrite,
+            ServeFault::Write(failed) => ProgramFault::CannotWrite(failed),
             fault => ProgramFault::Run(fault),
         }
     }

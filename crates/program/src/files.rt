@@ -5,6 +5,7 @@ ghost use Rattle.program.specs.ConfigFiles.{FileGives, IsUnread, IsWhole};
 
 use crate::config_faults::ConfigFault;
 use crate::configs::{Config, read_config};
+use byte_streams::{NotOpened, ReadFailed, read_some};
 use memory::{Refused, try_extend};
 use std::alloc::{Allocator, Global};
 use std::io::Read;
@@ -15,13 +16,36 @@ pub const CONFIG_LIMIT: usize = 16_777_216;
 /// How many bytes are read at once.
 const CHUNK: usize = 4_096;
 
+/// Why a file cannot be read.
+#[derive(Debug, Drop, PartialEq, Eq)]
+pub enum ReadFault {
+    /// It was not opened, or is a folder.
+    NotOpened(NotOpened),
+    /// A read failed.
+    Failed(ReadFailed),
+    /// It is the file of a configuration, and longer than 16,777,216 bytes.
+    TooLong,
+}
+
 /// Why a file gives no configuration.
 #[derive(Debug, Drop, PartialEq, Eq)]
 pub enum FileFault {
-    /// A read failed, or the file is longer than 16,777,216 bytes.
-    CannotRead,
+    /// It cannot be read.
+    CannotRead(ReadFault),
     /// What stands in the file is none, or a growth was refused.
     Config(ConfigFault),
+}
+
+impl From<ReadFailed> for FileFault {
+    ghost use Rattle.std.specs.Prelude.{◌≡◌};
+    ghost use Rattle.program.specs.declared.files.ReadFault.TheVariants.{Failed};
+    ghost use Rattle.program.specs.declared.files.FileFault.TheVariants as reasons;
+
+    ghost from_gives = { λ failed fault. fault ≡ reasons.CannotRead (Failed failed) };
+
+    fn from(failed: ReadFailed) -> Self {
+        FileFault::CannotRead(ReadFault::Failed(failed))
+    }
 }
 
 impl From<Refused> for FileFault {
@@ -51,23 +75,21 @@ impl From<ConfigFault> for FileFault {
 fn whole_file<A: Allocator, R: Read>(alloc: A, file: &mut R) -> Result<Vec<u8, A>, FileFault>
     ensures whole { IfOk result (λ bytes. IsWhole (R.remaining file.old) bytes.items) }
     ensures fits { IfOk result (λ bytes. length bytes.items ≤ CONFIG_LIMIT) }
-    ensures unread { IfErr result (λ fault. IsUnread fault) }
+    ensures unread { IfErr result (IsUnread (R.remaining file.old)) }
 {
     let mut bytes = Vec::new(alloc);
     let mut chunk = [0; CHUNK];
     for _ in 0..=CONFIG_LIMIT {
-        let Ok(count) = file.read(&mut chunk) else {
-            return Err(FileFault::CannotRead);
-        };
+        let count = read_some(file, &mut chunk)?;
         if count == 0 {
             return Ok(bytes);
         }
         if count > CONFIG_LIMIT - bytes.len() {
-            return Err(FileFault::CannotRead);
+            return Err(FileFault::CannotRead(ReadFault::TooLong));
         }
         try_extend(&mut bytes, &chunk[..count])?;
     }
-    Err(FileFault::CannotRead)
+    Err(FileFault::CannotRead(ReadFault::TooLong))
 }
 
 /// Reads the configuration that stands in a file, which is held whole until it is read.

@@ -1,6 +1,7 @@
 //! The host's files.
 
 use crate::runs::Folder;
+use byte_streams::{NotOpened, open_file};
 use std::fs::File;
 
 /// The file system of the host.
@@ -24,11 +25,7 @@ impl Folder for HostFolder<'_> {
     // nothing is known of the host's files
     ghost holds = { λ folder name. None };
 
-    fn open_file(&self, name: &str) -> Option<File> {
-        let file = File::open(self.rt, name).ok()?;
-        match file.metadata() {
-            Ok(metadata) if !metadata.is_dir() => Some(file),
-            _ => None,
-        }
+    fn open_file(&self, name: &str) -> Result<File, NotOpened> {
+        open_file(self.rt, name)
     }
 }

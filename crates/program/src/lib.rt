@@ -17,7 +17,7 @@ pub use built_in::built_in_config;
 pub use config_faults::ConfigFault;
 pub use configs::{Config, read_config};
 pub use faults::ProgramFault;
-pub use files::{CONFIG_LIMIT, FileFault, read_config_file};
+pub use files::{CONFIG_LIMIT, FileFault, ReadFault, read_config_file};
 pub use hosts::HostFolder;
 pub use laws::{configurations_are_one, read_is_spelled};
 pub use runs::{Folder, run_file, run_named, run_program, status_of};

@@ -3,7 +3,7 @@
 ghost use Rattle.std.specs.Prelude.{◌≡◌, ◌↔◌, ℕ, List, Option, Some, OnOk, IfOk, IfErr, IfSome, IsTrue, map, option_map, string_bytes};
 ghost use Rattle.clap.specs.Words.{kind_of};
 ghost use Rattle.program.specs.Configs.{config_data};
-ghost use Rattle.program.specs.Ends.{TookFront, exit_status, fault_line};
+ghost use Rattle.program.specs.Ends.{IsUnwritten, TookFront, exit_status, fault_line};
 ghost use Rattle.program.specs.Programs.{IsRun};
 ghost use Rattle.program.specs.RunFaults.{BrokeOff, IsOfConfig, IsOfRun};
 ghost use Rattle.program.specs.Runs.{IsConfigOf, Ran, Served};
@@ -11,9 +11,10 @@ ghost use Rattle.program.specs.Runs.{IsConfigOf, Ran, Served};
 use crate::built_in::built_in_config;
 use crate::configs::Config;
 use crate::faults::ProgramFault;
-use crate::files::{FileFault, read_config_file};
+use crate::files::{FileFault, ReadFault, read_config_file};
 use crate::telling::tell;
 use crate::words::{Asked, ScriptWords, read_words};
+use byte_streams::{NotOpened, flush, write_shown};
 use clap::Error;
 use clap::error::ErrorKind;
 use sessions::run_script;
@@ -28,9 +29,9 @@ pub trait Folder {
     // what the file of a name reads, where that is known
     ghost holds: { Self → List ℕ → Option (List ℕ) };
 
-    /// The file of this name, for reading. `None` where it cannot be opened, or is a folder.
-    fn open_file(&self, name: &str) -> Option<Self::File>
-        ensures { IfSome result (λ file. Self.File.remaining file ≡ holds self.now name.now) };
+    /// The file of this name, for reading. An error where it cannot be opened, or is a folder.
+    fn open_file(&self, name: &str) -> Result<Self::File, NotOpened>
+        ensures { IfOk result (λ file. Self.File.remaining file ≡ holds self.now name.now) };
 }
 
 /// Runs the script of a file over the world that a configuration opens, and writes the replies.
@@ -51,9 +52,7 @@ pub fn run_file<'a, A: Allocator + Copy, R: Read, W: Write>(
         Err((_, fault)) => return Err(ProgramFault::World(fault)),
     };
     let end = run_script(alloc, heap, &mut world, file, output);
-    if output.flush().is_err() {
-        return Err(ProgramFault::CannotWrite);
-    }
+    flush(output)?;
     Ok(end?)
 }
 
@@ -67,12 +66,13 @@ fn named_config<'a, F: Folder>(
     ensures ok { IfOk result (λ config. IsConfigOf (F.holds folder.now) (Some name.now) (config_data config)) }
     ensures err { IfErr result (IsOfConfig (F.holds folder.now) (Some name.now)) }
 {
-    let Some(mut file) = folder.open_file(name) else {
-        return Err(ProgramFault::CannotRead(name));
+    let mut file = match folder.open_file(name) {
+        Ok(file) => file,
+        Err(closed) => return Err(ProgramFault::CannotRead(name, ReadFault::NotOpened(closed))),
     };
     match read_config_file(heap, heap, &mut file) {
         Ok(config) => Ok(config),
-        Err(FileFault::CannotRead) => Err(ProgramFault::CannotRead(name)),
+        Err(FileFault::CannotRead(fault)) => Err(ProgramFault::CannotRead(name, fault)),
         Err(FileFault::Config(fault)) => Err(ProgramFault::Config(fault)),
     }
 }
@@ -112,8 +112,12 @@ pub fn run_named<'a, F: Folder, W: Write>(
         Ok(config) => config,
         Err(fault) => return Err(fault),
     };
-    let Some(mut file) = folder.open_file(words.script) else {
-        return Err(ProgramFault::CannotRead(words.script));
+    let mut file = match folder.open_file(words.script) {
+        Ok(file) => file,
+        Err(closed) => {
+            let fault = ReadFault::NotOpened(closed);
+            return Err(ProgramFault::CannotRead(words.script, fault));
+        }
     };
     run_file(heap, heap, config, &mut file, output)
 }
@@ -127,11 +131,10 @@ fn is_help(text: &Error) -> bool
 
 /// Writes help to the output.
 fn show_help<'a, W: Write>(help: &Error, output: &mut W) -> Result<(), ProgramFault<'a>>
-    ensures { IfErr result (λ fault. fault ≡ ProgramFault.CannotWrite) }
+    ensures { IfErr result (λ fault. IsUnwritten fault) }
 {
-    if write!(output, "{help}").is_err() || output.flush().is_err() {
-        return Err(ProgramFault::CannotWrite);
-    }
+    write_shown(help, output)?;
+    flush(output)?;
     Ok(())
 }
 
@@ -173,7 +176,7 @@ pub fn run_program<F: Folder, O: Write, E: Write>(
         Ok(Asked::Script(files)) => end_run(&run_named(alloc, files, folder, output), errors),
         Ok(Asked::Text(help)) if is_help(&help) => { end_run(&show_help(&help, output), errors) }
         Ok(Asked::Text(mistake)) => {
-            let _ = write!(errors, "{mistake}");
+            let _ = write_shown(&mistake, errors);
             2
         }
         Err(fault) => end_run(&Err(fault), errors),

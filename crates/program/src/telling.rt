@@ -2,15 +2,14 @@
 
 ghost use Rattle.std.specs.Prelude.{◌++◌};
 ghost use Rattle.program.specs.Ends.{fault_line};
-ghost use Rattle.sessions.specs.Streams.{Took};
+ghost use Rattle.byte_streams.specs.Written.{Took};
 
 use crate::faults::ProgramFault;
-use sessions::write_whole;
-use std::io;
+use byte_streams::{WriteFailed, write_whole};
 use std::io::Write;
 
 /// Writes two texts, one behind the other.
-fn write_both<W: Write>(first: &[u8], second: &[u8], writer: &mut W) -> io::Result<()>
+fn write_both<W: Write>(first: &[u8], second: &[u8], writer: &mut W) -> Result<(), WriteFailed>
     ensures { Took result (W.contents writer.old) (W.contents writer.new) (first.now ++ second.now) }
 {
     write_whole(first, writer)?;
@@ -18,7 +17,7 @@ fn write_both<W: Write>(first: &[u8], second: &[u8], writer: &mut W) -> io::Resu
 }
 
 /// Writes the one line that tells of a fault. Where a write fails, its front is written.
-pub fn tell<E: Write>(fault: &ProgramFault<'_>, errors: &mut E) -> io::Result<()>
+pub fn tell<E: Write>(fault: &ProgramFault<'_>, errors: &mut E) -> Result<(), WriteFailed>
     ensures { Took result (E.contents errors.old) (E.contents errors.new) (fault_line fault.now) }
 {
     write_both(b"landmap: ", fault.word().as_bytes(), errors)?;

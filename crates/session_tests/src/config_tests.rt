@@ -1,7 +1,8 @@
 //! Configurations: what is read of a text and of a file, and the first fault of one that is none.
 use crate::fakes::LongReader;
 use program::{
-    CONFIG_LIMIT, Config, ConfigFault, FileFault, built_in_config, read_config, read_config_file,
+    CONFIG_LIMIT, Config, ConfigFault, FileFault, ReadFault, built_in_config, read_config,
+    read_config_file,
 };
 use refusing::Refusing;
 use std::alloc::{AllocError, Allocator, Global};
@@ -238,5 +239,5 @@ fn a_file_too_long(rt: HostRuntime) {
     let fits = file_of(rt.alloc(), CONFIG_LIMIT);
     assert!(rt; matches!(fits, Err(FileFault::Config(ConfigFault::NotJson))));
     let too_long = file_of(rt.alloc(), CONFIG_LIMIT + 1);
-    assert!(rt; matches!(too_long, Err(FileFault::CannotRead)));
+    assert!(rt; matches!(too_long, Err(FileFault::CannotRead(ReadFault::TooLong))));
 }

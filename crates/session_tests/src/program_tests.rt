@@ -2,6 +2,7 @@
 use crate::fakes::{
     CountingReader, FIRST_POINT, FIRST_REPLIES, FailingReader, FailingWriter, Failure, LongReader,
 };
+use byte_streams::{NotOpened, open_file};
 use program::{
     CONFIG_LIMIT, Folder, ProgramFault, built_in_config, run_file, run_program, status_of, tell,
 };
@@ -11,9 +12,19 @@ use std::io::Read;
 use std::process::Abort;
 use std::test::Fail;
 
+/// What the host tells of a file that is not there.
+fn absent<'a>(host: &HostRuntime) -> Result<FailingReader<'a>, NotOpened> {
+    open_file(host, "no/such/file")?;
+    Ok(FailingReader {
+        bytes: b"",
+        fails_at: 0,
+    })
+}
+
 /// A folder with one file, `a.map`, which reads this.
 #[derive(Drop)]
 struct Text<'a> {
+    host: &'a HostRuntime,
     bytes: &'a [u8],
     fails_at: u64,
 }
@@ -25,11 +36,11 @@ impl<'a> Folder for Text<'a> {
 
     ghost holds = { λ folder name. None };
 
-    fn open_file(&self, name: &str) -> Option<FailingReader<'a>> {
+    fn open_file(&self, name: &str) -> Result<FailingReader<'a>, NotOpened> {
         if name != "a.map" {
-            return None;
+            return absent(self.host);
         }
-        Some(FailingReader {
+        Ok(FailingReader {
             bytes: self.bytes,
             fails_at: self.fails_at,
         })
@@ -39,6 +50,7 @@ impl<'a> Folder for Text<'a> {
 /// A folder with two files, `a.json` and `a.map`.
 #[derive(Drop)]
 struct Two<'a> {
+    host: &'a HostRuntime,
     config: &'a [u8],
     script: &'a [u8],
 }
@@ -50,13 +62,13 @@ impl<'a> Folder for Two<'a> {
 
     ghost holds = { λ folder name. None };
 
-    fn open_file(&self, name: &str) -> Option<FailingReader<'a>> {
+    fn open_file(&self, name: &str) -> Result<FailingReader<'a>, NotOpened> {
         let bytes = match name {
             "a.json" => self.config,
             "a.map" => self.script,
-            _ => return None,
+            _ => return absent(self.host),
         };
-        Some(FailingReader { bytes, fails_at: 0 })
+        Ok(FailingReader { bytes, fails_at: 0 })
     }
 }
 
@@ -71,8 +83,8 @@ impl Folder for Endless {
 
     ghost holds = { λ folder name. None };
 
-    fn open_file(&self, _name: &str) -> Option<CountingReader> {
-        Some(CountingReader {
+    fn open_file(&self, _name: &str) -> Result<CountingReader, NotOpened> {
+        Ok(CountingReader {
             left: u64::MAX,
             calls: 0,
         })
@@ -121,6 +133,7 @@ fn check<F: Folder>(
 #[test]
 fn a_script_is_run(rt: HostRuntime) -> Result<(), Fail> {
     let folder = Text {
+        host: &rt,
         bytes: FIRST_POINT.as_bytes(),
         fails_at: 0,
     };
@@ -133,6 +146,7 @@ fn a_script_is_run(rt: HostRuntime) -> Result<(), Fail> {
         (FIRST_REPLIES, ""),
     )?;
     let folder = Text {
+        host: &rt,
         bytes: b"no label\n",
         fails_at: 0,
     };
@@ -168,46 +182,48 @@ const AS_BUILT_IN: &str =
 /// This script by this configuration is answered so.
 fn configured(
     rt: &impl Abort,
-    alloc: Global,
+    host: &HostRuntime,
     config: &str,
     script: &str,
     replies: &str,
 ) -> Result<(), AllocError> {
     let folder = Two {
+        host,
         config: config.as_bytes(),
         script: script.as_bytes(),
     };
     let words = ["script", "--config", "a.json", "a.map"];
-    check(rt, alloc, &words, &folder, 0, (replies, ""))
+    check(rt, host.alloc(), &words, &folder, 0, (replies, ""))
 }
 
 #[test]
 fn a_configuration_is_read(rt: HostRuntime) -> Result<(), Fail> {
     configured(
         &rt,
-        rt.alloc(),
+        &rt,
         BY_INES,
         OF_INES,
         "n: error H1\ni: hello ines\ni: denied none edition 1\n",
     )?;
-    configured(&rt, rt.alloc(), AS_BUILT_IN, FIRST_POINT, FIRST_REPLIES)?;
+    configured(&rt, &rt, AS_BUILT_IN, FIRST_POINT, FIRST_REPLIES)?;
     Ok(())
 }
 
 /// This configuration is none, and this is its code: the run ends with status 1, and nothing is answered.
 fn misconfigured(
     rt: &impl Abort,
-    alloc: Global,
+    host: &HostRuntime,
     config: &str,
     code: &str,
 ) -> Result<(), AllocError> {
     let folder = Two {
+        host,
         config: config.as_bytes(),
         script: OF_INES.as_bytes(),
     };
-    let line = format!(in alloc; "landmap: {code}\n")?;
+    let line = format!(in host.alloc(); "landmap: {code}\n")?;
     let words = ["script", "--config", "a.json", "a.map"];
-    check(rt, alloc, &words, &folder, 1, ("", line.as_str()))
+    check(rt, host.alloc(), &words, &folder, 1, ("", line.as_str()))
 }
 
 #[test]
@@ -226,10 +242,10 @@ fn a_configuration_at_fault(rt: HostRuntime) -> Result<(), Fail> {
         ),
     ];
     for (config, code) in cases {
-        misconfigured(&rt, rt.alloc(), config, code)?;
+        misconfigured(&rt, &rt, config, code)?;
     }
     let many = of_subjects(rt.alloc(), 65)?;
-    misconfigured(&rt, rt.alloc(), many.as_str(), "N2")?;
+    misconfigured(&rt, &rt, many.as_str(), "N2")?;
     Ok(())
 }
 
@@ -247,11 +263,16 @@ fn of_subjects(alloc: Global, count: u32) -> Result<String, AllocError> {
 }
 
 /// A configuration of one subject by these policies is none, and this is its code.
-fn ruled(rt: &impl Abort, alloc: Global, policies: &str, code: &str) -> Result<(), AllocError> {
-    let config = format!(in alloc;
+fn ruled(
+    rt: &impl Abort,
+    host: &HostRuntime,
+    policies: &str,
+    code: &str,
+) -> Result<(), AllocError> {
+    let config = format!(in host.alloc();
         r#"{{"subjects":[{{"name":"a","office":"b","role":"c"}}],"policies":{policies}}}"#
     )?;
-    misconfigured(rt, alloc, config.as_str(), code)
+    misconfigured(rt, host, config.as_str(), code)
 }
 
 /// A set in a set, and so on, so many deep.
@@ -302,7 +323,7 @@ fn policies_at_fault(rt: HostRuntime) -> Result<(), Fail> {
         ),
     ];
     for (policies, code) in cases {
-        ruled(&rt, rt.alloc(), policies, code)?;
+        ruled(&rt, &rt, policies, code)?;
     }
     Ok(())
 }
@@ -310,44 +331,50 @@ fn policies_at_fault(rt: HostRuntime) -> Result<(), Fail> {
 #[test]
 fn policies_too_large(rt: HostRuntime) -> Result<(), Fail> {
     let deep = nested(rt.alloc(), 9)?;
-    ruled(&rt, rt.alloc(), deep.as_str(), "D7")?;
+    ruled(&rt, &rt, deep.as_str(), "D7")?;
     let many = of_rules(rt.alloc(), 513)?;
-    ruled(&rt, rt.alloc(), many.as_str(), "D8")?;
+    ruled(&rt, &rt, many.as_str(), "D8")?;
     Ok(())
 }
 
 /// The words over the folder of two files, of which the configuration's is none, end with status 1 and this line.
-fn ends_with(rt: &impl Abort, alloc: Global, texts: &[&str], line: &str) -> Result<(), AllocError> {
+fn ends_with(
+    rt: &impl Abort,
+    host: &HostRuntime,
+    texts: &[&str],
+    line: &str,
+) -> Result<(), AllocError> {
     let folder = Two {
+        host,
         config: b"{}",
         script: OF_INES.as_bytes(),
     };
-    check(rt, alloc, texts, &folder, 1, ("", line))
+    check(rt, host.alloc(), texts, &folder, 1, ("", line))
 }
 
 #[test]
 fn files_are_opened_in_turn(rt: HostRuntime) -> Result<(), Fail> {
     ends_with(
         &rt,
-        rt.alloc(),
+        &rt,
         &["script", "--config", "b.json", "b.map"],
         "landmap: cannot read b.json\n",
     )?;
     ends_with(
         &rt,
-        rt.alloc(),
+        &rt,
         &["script", "--config", "a.json", "b.map"],
         "landmap: B2\n",
     )?;
     ends_with(
         &rt,
-        rt.alloc(),
+        &rt,
         &["script", "--config=a.json", "a.map"],
         "landmap: B2\n",
     )?;
     ends_with(
         &rt,
-        rt.alloc(),
+        &rt,
         &["script", "b.map"],
         "landmap: cannot read b.map\n",
     )?;
@@ -365,8 +392,8 @@ impl Folder for TooLong {
 
     ghost holds = { λ folder name. None };
 
-    fn open_file(&self, _name: &str) -> Option<LongReader> {
-        Some(LongReader {
+    fn open_file(&self, _name: &str) -> Result<LongReader, NotOpened> {
+        Ok(LongReader {
             left: CONFIG_LIMIT + 1,
         })
     }
@@ -388,6 +415,7 @@ fn a_configuration_too_long(rt: HostRuntime) -> Result<(), Fail> {
 #[test]
 fn a_read_fails(rt: HostRuntime) -> Result<(), Fail> {
     let folder = Text {
+        host: &rt,
         bytes: FIRST_POINT.as_bytes(),
         fails_at: 20,
     };
@@ -478,11 +506,13 @@ fn is_told(rt: &impl Abort, alloc: Global, fault: &ProgramFault<'_>, line: &str)
 /// The status of a run whose output, or whose standard error, fails so; and what it wrote to the other.
 fn with_output(
     rt: &impl Abort,
-    alloc: Global,
+    host: &HostRuntime,
     texts: &[&str],
     with: Failure,
 ) -> Result<(), AllocError> {
+    let alloc = host.alloc();
     let folder = Text {
+        host,
         bytes: FIRST_POINT.as_bytes(),
         fails_at: 0,
     };
@@ -498,19 +528,21 @@ fn with_output(
 #[test]
 fn the_output_fails(rt: HostRuntime) -> Result<(), Fail> {
     for with in [Failure::Error, Failure::Nothing, Failure::Flush] {
-        with_output(&rt, rt.alloc(), &["script", "a.map"], with)?;
-        with_output(&rt, rt.alloc(), &["--help"], with)?;
+        with_output(&rt, &rt, &["script", "a.map"], with)?;
+        with_output(&rt, &rt, &["--help"], with)?;
     }
     Ok(())
 }
 
 fn with_errors(
     rt: &impl Abort,
-    alloc: Global,
+    host: &HostRuntime,
     texts: &[&str],
     status: u8,
 ) -> Result<(), AllocError> {
+    let alloc = host.alloc();
     let folder = Text {
+        host,
         bytes: FIRST_POINT.as_bytes(),
         fails_at: 0,
     };
@@ -525,22 +557,24 @@ fn with_errors(
 
 #[test]
 fn standard_error_fails(rt: HostRuntime) -> Result<(), Fail> {
-    with_errors(&rt, rt.alloc(), &["script", "a.map"], 0)?;
-    with_errors(&rt, rt.alloc(), &["script", "b.map"], 1)?;
-    with_errors(&rt, rt.alloc(), &["run"], 2)?;
+    with_errors(&rt, &rt, &["script", "a.map"], 0)?;
+    with_errors(&rt, &rt, &["script", "b.map"], 1)?;
+    with_errors(&rt, &rt, &["run"], 2)?;
     Ok(())
 }
 
 /// The words are shown a text of clap's, which begins so, and has these parts, on the output or on standard error.
 fn shows(
     rt: &impl Abort,
-    alloc: Global,
+    host: &HostRuntime,
     texts: &[&str],
     status: u8,
     begins: &str,
     parts: &[&str],
 ) -> Result<(), AllocError> {
+    let alloc = host.alloc();
     let folder = Text {
+        host,
         bytes: FIRST_POINT.as_bytes(),
         fails_at: 0,
     };
@@ -577,7 +611,7 @@ fn has_parts(rt: &impl Abort, text: &[u8], parts: &[&str]) {
 fn help(rt: HostRuntime) -> Result<(), Fail> {
     shows(
         &rt,
-        rt.alloc(),
+        &rt,
         &["--help"],
         0,
         "A map feature server for land agencies",
@@ -592,7 +626,7 @@ fn help(rt: HostRuntime) -> Result<(), Fail> {
     )?;
     shows(
         &rt,
-        rt.alloc(),
+        &rt,
         &["script", "--help"],
         0,
         "Runs the session lines of a file, and writes the replies",
@@ -609,7 +643,7 @@ fn help(rt: HostRuntime) -> Result<(), Fail> {
     )?;
     shows(
         &rt,
-        rt.alloc(),
+        &rt,
         &["script", "-h"],
         0,
         "Runs the session lines of a file, and writes the replies\n\nUsage: landmap script [OPTIONS] <FILE>\n",
@@ -636,7 +670,7 @@ fn wrong_command_lines(rt: HostRuntime) -> Result<(), Fail> {
         ),
     ];
     for (texts, begins) in cases {
-        shows(&rt, rt.alloc(), texts, 2, begins, &[])?;
+        shows(&rt, &rt, texts, 2, begins, &[])?;
     }
     Ok(())
 }

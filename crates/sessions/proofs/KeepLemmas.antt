@@ -45,9 +45,9 @@ module _ {S : Type 0} (tell : List ℕ → S → S → List ℕ → Type 0) (Kep
 
   pub run_keeps : (r : Result (Unit {0}) ServeFault) (old new : S) (input left a b : Option (List ℕ)) → Ran tell r old new input left a b → Kept old new
   run_keeps (Ok u) old new input left a b run = lines_keep _ old new run.answered.said run.answered.told
-  run_keeps (Err Read) old new input left a b run = so_far_keeps old new input left a b run
+  run_keeps (Err (Read failed)) old new input left a b run = so_far_keeps old new input left a b run
   run_keeps (Err TooManyTurns) old new input left a b run = so_far_keeps old new input left a b run.0
-  run_keeps (Err Write) old new input left a b run =
+  run_keeps (Err (Write failed)) old new input left a b run =
       then old run.broken.mid new (lines_keep run.broken.firsts old run.broken.mid run.broken.said run.broken.told) (each run.broken.last run.broken.mid new run.broken.more run.broken.told_last)
   run_keeps (Err (Memory refused)) old new input left a b run = subst (λ (s : S). Kept old s) (sym run.0) (same old)
 

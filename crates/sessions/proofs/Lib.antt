@@ -11,4 +11,5 @@ pub mod LineLemmas
 pub mod WritingLemmas
 pub mod ScriptLemmas
 pub mod LentLemmas
+pub mod LeavingLemmas
 pub mod StreamLemmas

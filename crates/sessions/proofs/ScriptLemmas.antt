@@ -15,7 +15,8 @@ use Rattle.sessions.specs.States.{SessionState, desk}
 use Rattle.features.specs.declared.actors.Subject.{Subject}
 use Rattle.features.specs.declared.rows.Change.{Change}
 use Rattle.sessions.specs.Stepping.{AllDrop, Drops}
-use Rattle.sessions.specs.Streams.{OnMemory, Ran, Took}
+use Rattle.byte_streams.specs.Written.{Took}
+use Rattle.sessions.specs.Streams.{OnMemory, Ran}
 use Rattle.sessions.specs.declared.streams.ServeFault.{ServeFault}
 use Rattle.sessions.specs.declared.streams.ServeFault.TheVariants.{Memory}
 

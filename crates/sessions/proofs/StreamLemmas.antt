@@ -10,13 +10,18 @@ use Rattle.std.proofs.lemmas.List.Elements.{All-append}
 use Rattle.std.proofs.lemmas.List.Splits.{slice_split_at, slice_split_none, length-slice_split}
 use Rattle.std.specs.Io.KnownBytes.{Appends, Consumes, IsAtEnd, Keeps}
 use Rattle.std.specs.Option.{IfSome}
-use Rattle.std.specs.Result.{IsErr}
+use Rattle.std.specs.Result.{IsErr, IsErrAnd}
+use Rattle.byte_streams.specs.declared.failures.ReadFailed.{ReadFailed}
+use Rattle.byte_streams.specs.declared.failures.WriteFailed.{WriteFailed}
+use Rattle.sessions.proofs.LeavingLemmas.{left_by}
 use Rattle.sessions.specs.declared.streams.TheConstants.{HELD, LINE_LIMIT, READ_LIMIT}
 use Rattle.sessions.specs.declared.streams.ServeFault.{ServeFault}
 use Rattle.sessions.specs.declared.streams.ServeFault.TheVariants.{Read, Write, TooManyTurns, Memory}
 use Rattle.sessions.specs.Lines.{is_feed, is_too_long, ended, lines_of, whole_ended, whole_lines_of}
-use Rattle.sessions.specs.Streams.{LinesTell, Answered, Ran, Broken, RanSoFar, RanToEnd, RanToFault, IsLine, held_of, held_with, fed, ArePieces, Passed, PassedToFault, Passes, Took, TookLast}
-use Rattle.sessions.proofs.WritingLemmas.{appends_none, appends_then}
+use Rattle.sessions.specs.Streams.{LinesTell, Answered, Ran, Broken, RanSoFar, RanToEnd, RanToFault, IsLine, held_of, held_with, fed, ArePieces, Passed, PassedToFault, Passes, TookLast}
+use Rattle.byte_streams.specs.Written.{Took}
+use Rattle.byte_streams.proofs.WrittenLemmas.{appends_then}
+use Rattle.sessions.proofs.WritingLemmas.{appends_none}
 
 no_feed : (line : List ℕ) → IsLine line → All (λ b. is_feed b ≡ false) line
 no_feed line whole k d within = ne_eqb _ _ (whole k d within)
@@ -384,6 +389,14 @@ module _ {S : Type 0} (tell : List ℕ → S → S → List ℕ → Type 0) wher
     answered = rw (stands.passed.are.are, whole_lines_of-pieces stands.passed.pieces stands.passed.begun stands.passed.are.whole stands.passed.open_line) stands.passed.answered;
   }
 
+  -- a read failed, and the run is left with that
+  pub read_failed : (r : Result (Unit {0}) ServeFault) (failed : ReadFailed) (old new : S) (input left a b : Option (List ℕ)) → IsErrAnd r (λ fault. fault ≡ Read failed) → RanSoFar tell old new input left a b → Ran tell r old new input left a b
+  read_failed r failed old new input left a b is run = left_by r (Read failed) (λ (r : Result (Unit {0}) ServeFault). Ran tell r old new input left a b) is run
+
+  -- a write failed
+  pub write_failed : (r : Result (Unit {0}) ServeFault) (failed : WriteFailed) (old new : S) (input left a b : Option (List ℕ)) → IsErrAnd r (λ fault. fault ≡ Write failed) → RanToFault tell old new input a b → Ran tell r old new input left a b
+  write_failed r failed old new input left a b is run = left_by r (Write failed) (λ (r : Result (Unit {0}) ServeFault). Ran tell r old new input left a b) is run
+
   pub gave_up : (old new : S) (held : List ℕ) (turns : ℕ) (start left a b : Option (List ℕ)) → Standing old new held turns start left a b → READ_LIMIT ≤ turns
       → (run : RanSoFar tell old new start left a b) × (READ_LIMIT ≤ length run.text)
   unfolding ran_so_far
@@ -451,9 +464,9 @@ module _ {S T : Type 0} (see : S → T) (shown : List ℕ → S → S → List �
   pub ran_as : (r : Result (Unit {0}) ServeFault) (old new : S) (input left a b : Option (List ℕ)) → Ran shown r old new input left a b → Ran tell r (see old) (see new) input left a b
   unfolding so_far_as
   ran_as (Ok u) old new input left a b run = record { text = run.text; read = run.read; at_end = run.at_end; answered = answered_as old new _ a b run.answered }
-  ran_as (Err Read) old new input left a b run = so_far_as old new input left a b run
+  ran_as (Err (Read failed)) old new input left a b run = so_far_as old new input left a b run
   ran_as (Err TooManyTurns) old new input left a b run = (so_far_as old new input left a b run.0, run.1)
-  ran_as (Err Write) old new input left a b run = record {
+  ran_as (Err (Write failed)) old new input left a b run = record {
     lines = run.lines;
     others = run.others;
     are_first = run.are_first;

@@ -24,7 +24,8 @@ use Rattle.sessions.specs.declared.faults.Fault.TheVariants.{Shape}
 use Rattle.sessions.specs.Faults.{code_of}
 use Rattle.sessions.specs.Printed.{led, texts_text}
 use Rattle.std.specs.Result.{IsErr}
-use Rattle.sessions.specs.Streams.{Took}
+use Rattle.byte_streams.specs.Written.{Took}
+use Rattle.byte_streams.proofs.WrittenLemmas.{appends_then}
 
 -- no code is longer than three bytes
 shape_code_short : (fault : ShapeFault) → length (shape_code_of fault) ≤ 3
@@ -75,13 +76,6 @@ pub code_short : (fault : Fault) → length (code_of fault) ≤ 3
 code_short (Shape fault) = wkt_code_short fault
 code_short _ = lit≤ tt
 
--- two writes, one after the other
-pub appends_then : (a b c : Option (List ℕ)) (xs ys : List ℕ) → Appends a b xs → Appends b c ys → Appends a c (xs ++ ys)
-appends_then None b c xs ys first second = tt
-appends_then (Some a) None c xs ys first second = absurd first
-appends_then (Some a) (Some b) None xs ys first second = absurd second
-appends_then (Some a) (Some b) (Some c) xs ys first second = second ∙ ap (λ (zs : List ℕ). zs ++ ys) first ∙ append_assoc a xs ys
-
 pub appends_none : (a : Option (List ℕ)) → Appends a a []
 appends_none None = tt
 appends_none (Some a) = sym (append-nil a)
@@ -115,15 +109,6 @@ line_written r a b c lead text end first second = subst (λ (t : List ℕ). Took
 
 pub line_failed : {E : Type 0} (r : Result (Unit {0}) E) → IsErr r → (a b : Option (List ℕ)) (lead text end : List ℕ) → ((front : List ℕ) × (left : List ℕ) × (lead ≡ front ++ left) × Appends a b front) → Took r a b ((lead ++ text) ++ end)
 line_failed r failed a b lead text end first = subst (λ (t : List ℕ). Took r a b t) (sym (append_assoc lead text end)) (took_first r failed a b lead (text ++ end) first)
-
--- a call of the writer took more of what was left
-pub wrote_more : (all rest rest_then : List ℕ) (n : ℕ) (a b c : Option (List ℕ)) → ((f : List ℕ) × (all ≡ f ++ rest) × Appends a b f) → Appends b c (take n rest) → rest_then ≡ drop n rest
-    → ((f : List ℕ) × (all ≡ f ++ rest_then) × Appends a c f)
-wrote_more all rest rest_then n a b c so_far taken left = (
-  so_far.0 ++ take n rest,
-  so_far.1 ∙ ap (λ (t : List ℕ). so_far.0 ++ t) (sym (take-append-drop n rest) ∙ ap (λ (t : List ℕ). take n rest ++ t) (sym left)) ∙ sym (append_assoc so_far.0 (take n rest) rest_then),
-  appends_then a b c so_far.0 (take n rest) so_far.2 taken,
-)
 
 -- rows that are written, as far as a loop has come, and one that is not written in full
 pub rows_broken : {E : Type 0} (r : Result (Unit {0}) E) → IsErr r → (front one behind all : List ℕ) (a b c : Option (List ℕ)) → all ≡ front ++ (one ++ behind) → Appends a b front

@@ -22,7 +22,7 @@ code_of (Shape fault) = wkt_code_of fault
 
 -- the codes of the faults by which a run ends before its input does
 abbrev pub serve_code_of : ServeFault → List ℕ
-serve_code_of Read = codes "V1"
-serve_code_of Write = codes "V2"
+serve_code_of (Read failed) = codes "V1"
+serve_code_of (Write failed) = codes "V2"
 serve_code_of TooManyTurns = codes "V3"
 serve_code_of (Memory refused) = codes "V4"

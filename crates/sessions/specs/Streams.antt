@@ -2,7 +2,7 @@
 -- answered by these bytes, and leads from one state to another.
 use Rattle.std.specs.Prelude.{◌≡◌, ◌≢◌, ℕ, ◌≤◌, nat_lt, List, [], ◌∷◌, ◌++◌, length, map, take, Option, Result, Ok, Err, All, IfSome, if◌then◌else◌}
 use Rattle.std.specs.Io.BufRead.{strip_last}
-use Rattle.std.specs.Io.KnownBytes.{Appends, Consumes, IsAtEnd, Keeps}
+use Rattle.std.specs.Io.KnownBytes.{Appends, Consumes, IsAtEnd}
 use Rattle.std.specs.List.{flat_map}
 use Rattle.sessions.specs.declared.streams.ServeFault.{ServeFault}
 use Rattle.sessions.specs.declared.streams.ServeFault.TheVariants.{Read, Write, TooManyTurns, Memory}
@@ -14,16 +14,6 @@ abbrev pub LinesTell : {S : Type 0} → (List ℕ → S → S → List ℕ → T
 LinesTell tell old [] new text = (new ≡ old) × (text ≡ [])
 LinesTell {S = S} tell old (line ∷ lines) new text =
     (mid : S) × (said : List ℕ) × (more : List ℕ) × tell line old mid said × (text ≡ said ++ more) × LinesTell tell mid lines new more
-
--- what a writer took of these bytes: all of them, or, where a write failed, those at their front
-abbrev pub Took : {E : Type 0} → Result (Unit {0}) E → Option (List ℕ) → Option (List ℕ) → List ℕ → Type 0
-Took (Ok u) before after said = Appends before after said
-Took (Err e) before after said = (front : List ℕ) × (left : List ℕ) × (said ≡ front ++ left) × Appends before after front
-
--- a call took so many of these bytes, and, where it failed, none
-abbrev pub WriteTook : {E : Type 0} → Result ℕ E → Option (List ℕ) → Option (List ℕ) → List ℕ → Type 0
-WriteTook (Ok n) before after bytes = (n ≤ length bytes) × Appends before after (take n bytes)
-WriteTook (Err e) before after bytes = Keeps before after
 
 -- Lines were answered, and all of it was written.
 pub record Answered {S : Type 0} (tell : List ℕ → S → S → List ℕ → Type 0) (old : S) (lines : List (List ℕ)) (new : S) (before after : Option (List ℕ)) : Type 0 where
@@ -70,8 +60,8 @@ pub record RanToFault {S : Type 0} (tell : List ℕ → S → S → List ℕ →
 -- before and after. A run is given up only once as many bytes were read as it has reads.
 abbrev pub Ran : {S : Type 0} → (List ℕ → S → S → List ℕ → Type 0) → Result (Unit {0}) ServeFault → S → S → Option (List ℕ) → Option (List ℕ) → Option (List ℕ) → Option (List ℕ) → Type 0
 Ran tell (Ok u) old new input left before after = RanToEnd tell old new input left before after
-Ran tell (Err Read) old new input left before after = RanSoFar tell old new input left before after
-Ran tell (Err Write) old new input left before after = RanToFault tell old new input before after
+Ran tell (Err (Read failed)) old new input left before after = RanSoFar tell old new input left before after
+Ran tell (Err (Write failed)) old new input left before after = RanToFault tell old new input before after
 Ran tell (Err TooManyTurns) old new input left before after =
     (run : RanSoFar tell old new input left before after) × (READ_LIMIT ≤ length run.text)
 Ran tell (Err (Memory refused)) old new input left before after = (new ≡ old) × (left ≡ input) × (after ≡ before)

@@ -33,15 +33,13 @@ pub(crate) fn search<A: Allocator + Copy>(
 ) -> Result<Answer<A>, Fault>
     ensures { WhereAtRest world.old.plain world.new.plain (Searches seat window world.old.plain world.new.plain (reply_of Rows result)) }
 {
-    match world.open_search(seat, window) {
-        Err(fault) => Err(fault),
-        Ok(number) => match seek(world, seat, number) {
-            Ok(answer) => Ok(answer),
-            Err(fault) => {
-                let _ = world.drop_search(seat, number);
-                Err(fault)
-            }
-        },
+    let number = world.open_search(seat, window)?;
+    match seek(world, seat, number) {
+        Ok(answer) => Ok(answer),
+        Err(fault) => {
+            let _ = world.drop_search(seat, number);
+            Err(fault)
+        }
     }
 }
 
@@ -79,15 +77,13 @@ pub(crate) fn commit<A: Allocator + Copy>(
     requires few { length changes.now ≤ CHANGE_LIMIT }
     ensures { WhereAtRest world.old.plain world.new.plain (Commits seat changes.now world.old.plain world.new.plain (reply_of Ended result)) }
 {
-    match world.begin(seat) {
-        Err(fault) => Err(fault),
-        Ok(number) => match conclude(world, seat, number, changes) {
-            Ok(outcome) => Ok(outcome),
-            Err(fault) => {
-                let _ = world.abort(seat, number);
-                Err(fault)
-            }
-        },
+    let number = world.begin(seat)?;
+    match conclude(world, seat, number, changes) {
+        Ok(outcome) => Ok(outcome),
+        Err(fault) => {
+            let _ = world.abort(seat, number);
+            Err(fault)
+        }
     }
 }
 
@@ -102,13 +98,9 @@ fn conclude<A: Allocator + Copy>(
     requires few { length changes.now ≤ CHANGE_LIMIT }
     ensures { Concludes seat number changes.now world.old.plain world.new.plain (reply_of Ended result) }
 {
-    match stage_all(world, seat, number, changes) {
-        Err(fault) => Err(fault),
-        Ok(()) => match place_all(world, seat, number) {
-            Err(fault) => Err(fault),
-            Ok(()) => world.commit(seat, number),
-        },
-    }
+    stage_all(world, seat, number, changes)?;
+    place_all(world, seat, number)?;
+    world.commit(seat, number)
 }
 
 /// Stages each of the changes in a transaction.

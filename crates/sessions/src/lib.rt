@@ -27,4 +27,3 @@ pub use services::Service;
 pub use serving::{serve, serve_world};
 pub use solos::Solo;
 pub use streams::{LINE_LIMIT, READ_LIMIT, ServeFault};
-pub use writing::write_whole;

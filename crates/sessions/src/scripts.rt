@@ -9,7 +9,8 @@ ghost use Rattle.sessions.specs.Printed.{led, reply_text, said_text};
 ghost use Rattle.sessions.specs.Replies.{line as said_in_line, said_view};
 ghost use Rattle.sessions.specs.Services.{Serves, solo_subject};
 ghost use Rattle.sessions.specs.Stepping.{AllDrop, Drops};
-ghost use Rattle.sessions.specs.Streams.{OnMemory, Ran, Took};
+ghost use Rattle.byte_streams.specs.Written.{Took};
+ghost use Rattle.sessions.specs.Streams.{OnMemory, Ran};
 ghost use Rattle.sessions.specs.States.{IsIdle, SessionState};
 ghost use Rattle.plain_world.specs.States.{WorldData};
 ghost use Rattle.sessions.specs.declared.scripts.TheConstants.{LABEL_LIMIT};
@@ -24,11 +25,11 @@ use crate::stepping::{
 };
 use crate::streams::{LINE_LIMIT, LineDesk, ServeFault, run_lines};
 use crate::writing::{write_line, write_said};
+use byte_streams::WriteFailed;
 use features::Name;
 use memory::{Refused, vec_with_room};
 use plane::Shape;
 use std::alloc::{Allocator, Global};
-use std::io;
 use std::io::{Read, Write};
 use std::marker::Model;
 use transactions::World;
@@ -360,7 +361,7 @@ impl<A: Allocator + Copy> Table<A> {
         world: &mut World<A>,
         line: &[u8],
         writer: &mut W,
-    ) -> io::Result<()>
+    ) -> Result<(), WriteFailed>
         ensures { (said : List ℕ) × Took result (W.contents writer.old) (W.contents writer.new) said
             × LineTells line.now (script world.old.plain self.old.sessions.items) (script world.new.plain self.new.sessions.items) said }
     {
@@ -392,7 +393,7 @@ fn slot_behind(slot: u32, slots: u32) -> u32
 }
 
 /// Answers a fault of the line itself, which belongs to no session.
-fn refuse<W: Write>(fault: Fault, writer: &mut W) -> io::Result<()>
+fn refuse<W: Write>(fault: Fault, writer: &mut W) -> Result<(), WriteFailed>
     ensures { Took result (W.contents writer.old) (W.contents writer.new) (led (codes "?") (reply_text (Reply.Error fault))) }
 {
     write_line(b"?", &Reply::Error(fault), writer)
@@ -405,7 +406,7 @@ fn take_labelled<A: Allocator + Copy, W: Write>(
     label: Name,
     text: &[u8],
     writer: &mut W,
-) -> io::Result<()>
+) -> Result<(), WriteFailed>
     ensures { (said : List ℕ) × Took result (W.contents writer.old) (W.contents writer.new) said
         × LabelTells label text.now (script world.old.plain table.old.sessions.items) (script world.new.plain table.new.sessions.items) said }
 {
@@ -431,7 +432,7 @@ impl<A: Allocator + Copy> LineDesk for Table<A> {
         world: &mut World<A>,
         line: &[u8],
         writer: &mut W,
-    ) -> io::Result<()> {
+    ) -> Result<(), WriteFailed> {
         let end = self.take(world, line, writer);
         self.tend(world);
         end

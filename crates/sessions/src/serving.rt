@@ -7,7 +7,8 @@ ghost use Rattle.sessions.specs.Replies.{SaidData};
 ghost use Rattle.sessions.specs.Services.{Call, Serves, solo_subject};
 ghost use Rattle.sessions.specs.Serving.{Calls, IsServedText, LineTells};
 ghost use Rattle.sessions.specs.States.{IsIdle, desk, solo};
-ghost use Rattle.sessions.specs.Streams.{OnMemory, Ran, Took};
+ghost use Rattle.byte_streams.specs.Written.{Took};
+ghost use Rattle.sessions.specs.Streams.{OnMemory, Ran};
 
 use crate::desks::{Staged, answer};
 use crate::faults::Fault;
@@ -16,8 +17,8 @@ use crate::services::Service;
 use crate::solos::Solo;
 use crate::streams::{LINE_LIMIT, LineDesk, ServeFault, run_lines};
 use crate::writing::{write_line, write_said};
+use byte_streams::WriteFailed;
 use std::alloc::{Allocator, Global};
-use std::io;
 use std::io::{Read, Write};
 use std::marker::PhantomData;
 use transactions::World;
@@ -44,7 +45,7 @@ impl<S: Service> LineDesk for Alone<S> {
         service: &mut S,
         line: &[u8],
         writer: &mut W,
-    ) -> io::Result<()> {
+    ) -> Result<(), WriteFailed> {
         if line.len() > LINE_LIMIT {
             return write_line(b"", &Reply::Error(Fault::LineTooLong), writer);
         }

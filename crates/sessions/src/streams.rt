@@ -2,13 +2,15 @@
 ghost use Rattle.std.specs.Prelude.{◌≡◌, ◌≢◌, ℕ, ◌≤◌, ◌++◌, ◌∷◌, [], List, true, All, OnOk, IfOk, IfErr, length, vec_len, vec_capacity};
 ghost use Rattle.std.specs.Io.BufRead.{strip_last};
 ghost use Rattle.sessions.specs.Lines.{is_too_long, lines_of};
-ghost use Rattle.sessions.specs.Streams.{Answered, Broken, IsLine, OnMemory, Passes, Ran, Took, TookLast, held_of, held_with};
+ghost use Rattle.byte_streams.specs.Written.{Took};
+ghost use Rattle.sessions.specs.Streams.{Answered, Broken, IsLine, OnMemory, Passes, Ran, TookLast, held_of, held_with};
 ghost use Rattle.sessions.specs.declared.streams.TheConstants.{HELD};
 
+use byte_streams::{ReadFailed, WriteFailed, read_some};
 use memory::{Refused, vec_with_room};
 use std::alloc::Allocator;
+use std::fmt;
 use std::io::{Read, Write};
-use std::{fmt, io};
 
 /// How many bytes a line has at most, without its end.
 pub const LINE_LIMIT: usize = 65_536;
@@ -27,9 +29,9 @@ const CHUNK: usize = 4_096;
 #[derive(Debug, Drop, PartialEq, Eq)]
 pub enum ServeFault {
     /// V1: a read failed.
-    Read,
+    Read(ReadFailed),
     /// V2: a write failed.
-    Write,
+    Write(WriteFailed),
     /// V3: the input did not end in as many reads as a run has.
     TooManyTurns,
     /// V4: the buffers were refused, before anything was read.
@@ -44,8 +46,8 @@ impl ServeFault {
         ensures { result.now ≡ serve_code_of self.now }
     {
         match self {
-            ServeFault::Read => "V1",
-            ServeFault::Write => "V2",
+            ServeFault::Read(_) => "V1",
+            ServeFault::Write(_) => "V2",
             ServeFault::TooManyTurns => "V3",
             ServeFault::Memory(_) => "V4",
         }
@@ -60,6 +62,26 @@ impl fmt::Display for ServeFault {
 
     fn fmt<W: fmt::Write>(&self, f: &mut fmt::Formatter<W>) -> fmt::Result {
         f.write_str(self.code())
+    }
+}
+
+impl From<ReadFailed> for ServeFault {
+    ghost use Rattle.sessions.specs.declared.streams.ServeFault.TheVariants as reasons;
+
+    ghost from_gives = { λ failed fault. fault ≡ reasons.Read failed };
+
+    fn from(failed: ReadFailed) -> ServeFault {
+        ServeFault::Read(failed)
+    }
+}
+
+impl From<WriteFailed> for ServeFault {
+    ghost use Rattle.sessions.specs.declared.streams.ServeFault.TheVariants as reasons;
+
+    ghost from_gives = { λ failed fault. fault ≡ reasons.Write failed };
+
+    fn from(failed: WriteFailed) -> ServeFault {
+        ServeFault::Write(failed)
     }
 }
 
@@ -87,7 +109,7 @@ pub(crate) trait LineDesk {
         world: &mut Self::World,
         line: &[u8],
         writer: &mut W,
-    ) -> io::Result<()>
+    ) -> Result<(), WriteFailed>
         ensures { (said : List ℕ) × Took result (W.contents writer.old) (W.contents writer.new) said
             × tells line.now (world.old, self.old) (world.new, self.new) said };
 
@@ -139,7 +161,7 @@ fn take_byte<D: LineDesk, A: Allocator, W: Write>(
     held: &mut Held<A>,
     byte: u8,
     writer: &mut W,
-) -> io::Result<()>
+) -> Result<(), WriteFailed>
     ensures { (begun : List ℕ) → IsLine begun → held.old.bytes.items ≡ held_of begun → Passes D.tells result (begun ++ byte ∷ []) (world.old, desk.old) (world.new, desk.new)
         held.new.bytes.items (W.contents writer.old) (W.contents writer.new) }
 {
@@ -159,7 +181,7 @@ fn take_bytes<D: LineDesk, A: Allocator, W: Write>(
     held: &mut Held<A>,
     bytes: &[u8],
     writer: &mut W,
-) -> io::Result<()>
+) -> Result<(), WriteFailed>
     ensures { (begun : List ℕ) → IsLine begun → held.old.bytes.items ≡ held_of begun → Passes D.tells result (begun ++ bytes.now) (world.old, desk.old) (world.new, desk.new)
         held.new.bytes.items (W.contents writer.old) (W.contents writer.new) }
 {
@@ -175,7 +197,7 @@ fn end<D: LineDesk, A: Allocator, W: Write>(
     world: &mut D::World,
     held: &Held<A>,
     writer: &mut W,
-) -> io::Result<()>
+) -> Result<(), WriteFailed>
     ensures { (begun : List ℕ) → IsLine begun → held.now.bytes.items ≡ held_of begun → TookLast D.tells result (lines_of begun) (world.old, desk.old) (world.new, desk.new)
         (W.contents writer.old) (W.contents writer.new) }
 {
@@ -202,18 +224,12 @@ pub(crate) fn run_lines<D: LineDesk, A: Allocator, R: Read, W: Write>(
     let mut held = Held::new(alloc)?;
     let mut chunk = [0; CHUNK];
     for _ in 0..READ_LIMIT {
-        let Ok(count) = reader.read(&mut chunk) else {
-            return Err(ServeFault::Read);
-        };
+        let count = read_some(reader, &mut chunk)?;
         if count == 0 {
-            let Ok(()) = end(desk, world, &held, writer) else {
-                return Err(ServeFault::Write);
-            };
+            end(desk, world, &held, writer)?;
             return Ok(());
         }
-        let Ok(()) = take_bytes(desk, world, &mut held, &chunk[..count], writer) else {
-            return Err(ServeFault::Write);
-        };
+        take_bytes(desk, world, &mut held, &chunk[..count], writer)?;
     }
     Err(ServeFault::TooManyTurns)
 }

@@ -3,17 +3,17 @@
 ghost use Rattle.std.specs.Prelude.{◌≡◌, ◌+◌, ◌≤◌, ◌++◌, codes, decimal, length, map, string_bytes};
 ghost use Rattle.std.specs.List.{flat_map};
 ghost use Rattle.arrayvec.specs.ArrayVec.{array_vec_len};
-ghost use Rattle.sessions.specs.Streams.{Took, WriteTook};
+ghost use Rattle.byte_streams.specs.Written.{Took};
 ghost use Rattle.sessions.specs.Printed.{lead_text, led, reply_text, row_text, rows_text, rule_text, said_text, texts_text};
 ghost use Rattle.sessions.specs.Replies.{said_view};
 
 use crate::replies::{Reply, Said};
 use arrayvec::ArrayVec;
+use byte_streams::{WriteFailed, write_whole};
 use features::{Feature, Name};
 use itoa::Buffer;
 use std::alloc::Allocator;
-use std::io;
-use std::io::{ErrorKind, Write};
+use std::io::Write;
 use wkt::shape_text;
 
 /// The longest line of a reply has 510 bytes: a label, a row's two numbers, its two names and a polygon's text.
@@ -210,7 +210,7 @@ fn push_number_field(line: &mut Line, number: u64)
 }
 
 /// Writes a line with its end, by one call of the writer.
-fn finish<W: Write>(mut line: Line, writer: &mut W) -> io::Result<()>
+fn finish<W: Write>(mut line: Line, writer: &mut W) -> Result<(), WriteFailed>
     requires { array_vec_len line ≤ 511 }
     ensures { Took result (W.contents writer.old) (W.contents writer.new) (line.items ++ codes "\n") }
 {
@@ -218,41 +218,12 @@ fn finish<W: Write>(mut line: Line, writer: &mut W) -> io::Result<()>
     write_whole(line.as_slice(), writer)
 }
 
-/// One call of the writer, and how many of the bytes it took: none where it was interrupted.
-fn write_some<W: Write>(bytes: &[u8], writer: &mut W) -> io::Result<usize>
-    ensures { WriteTook result (W.contents writer.old) (W.contents writer.new) bytes.now }
-{
-    match writer.write(bytes) {
-        Ok(0) => Err(ErrorKind::WriteZero.into()),
-        Ok(count) => Ok(count),
-        Err(error) if error.kind() == ErrorKind::Interrupted => Ok(0),
-        Err(error) => Err(error),
-    }
-}
-
-/// Writes all these bytes, by as many calls as the writer wants; one that is interrupted is made again. It is
-/// `Write::write_all`, and says beside what the writer took where a call fails: the bytes' front. An error is the
-/// writer's, or that it takes no more.
-pub fn write_whole<W: Write>(bytes: &[u8], writer: &mut W) -> io::Result<()>
-    ensures { Took result (W.contents writer.old) (W.contents writer.new) bytes.now }
-{
-    let mut rest = bytes;
-    for _ in 0..u64::MAX {
-        if rest.is_empty() {
-            return Ok(());
-        }
-        let count = write_some(rest, writer)?;
-        rest = rest.split_at(count).1;
-    }
-    Err(ErrorKind::TimedOut.into())
-}
-
 /// Writes what a line is answered, each line of it led by the session's label. Takes no memory. An error is the writer's.
 pub(crate) fn write_said<A: Allocator, W: Write>(
     lead: &[u8],
     said: &Said<A>,
     writer: &mut W,
-) -> io::Result<()>
+) -> Result<(), WriteFailed>
     requires { length lead.now ≤ LEAD_LIMIT }
     ensures { Took result (W.contents writer.old) (W.contents writer.new) (said_text lead.now (said_view said.now)) }
 {
@@ -264,7 +235,11 @@ pub(crate) fn write_said<A: Allocator, W: Write>(
 }
 
 /// Writes a reply of one line.
-pub(crate) fn write_line<W: Write>(lead: &[u8], reply: &Reply, writer: &mut W) -> io::Result<()>
+pub(crate) fn write_line<W: Write>(
+    lead: &[u8],
+    reply: &Reply,
+    writer: &mut W,
+) -> Result<(), WriteFailed>
     requires { length lead.now ≤ LEAD_LIMIT }
     ensures { Took result (W.contents writer.old) (W.contents writer.new) (led lead.now (reply_text reply.now)) }
 {
@@ -274,7 +249,12 @@ pub(crate) fn write_line<W: Write>(lead: &[u8], reply: &Reply, writer: &mut W) -
 }
 
 /// Writes how many lines come behind this one.
-fn write_count<W: Write>(lead: &[u8], word: &[u8], count: u64, writer: &mut W) -> io::Result<()>
+fn write_count<W: Write>(
+    lead: &[u8],
+    word: &[u8],
+    count: u64,
+    writer: &mut W,
+) -> Result<(), WriteFailed>
     requires lead { length lead.now ≤ LEAD_LIMIT }
     requires word { length word.now ≤ 14 }
     ensures { Took result (W.contents writer.old) (W.contents writer.new) (led lead.now (word.now ++ decimal count)) }
@@ -285,7 +265,7 @@ fn write_count<W: Write>(lead: &[u8], word: &[u8], count: u64, writer: &mut W) -
 }
 
 /// Writes rows, and before them how many they are.
-fn write_rows<W: Write>(lead: &[u8], rows: &[Feature], writer: &mut W) -> io::Result<()>
+fn write_rows<W: Write>(lead: &[u8], rows: &[Feature], writer: &mut W) -> Result<(), WriteFailed>
     requires { length lead.now ≤ LEAD_LIMIT }
     ensures { Took result (W.contents writer.old) (W.contents writer.new) (rows_text lead.now rows.now) }
 {
@@ -298,7 +278,7 @@ fn write_texts<A: Allocator, W: Write>(
     lead: &[u8],
     texts: &[String<A>],
     writer: &mut W,
-) -> io::Result<()>
+) -> Result<(), WriteFailed>
     requires { length lead.now ≤ LEAD_LIMIT }
     ensures { Took result (W.contents writer.old) (W.contents writer.new) (texts_text lead.now (map string_bytes texts.now)) }
 {
@@ -311,7 +291,7 @@ fn write_each_text<A: Allocator, W: Write>(
     lead: &[u8],
     texts: &[String<A>],
     writer: &mut W,
-) -> io::Result<()>
+) -> Result<(), WriteFailed>
     requires lead { length lead.now ≤ LEAD_LIMIT }
     ensures { Took result (W.contents writer.old) (W.contents writer.new) (flat_map (λ text. led lead.now (string_bytes text)) texts.now) }
 {
@@ -322,7 +302,7 @@ fn write_each_text<A: Allocator, W: Write>(
 }
 
 /// Writes a line of any length: what leads it, the text, and its end, each by a call of its own.
-fn write_text<W: Write>(lead: &[u8], text: &[u8], writer: &mut W) -> io::Result<()>
+fn write_text<W: Write>(lead: &[u8], text: &[u8], writer: &mut W) -> Result<(), WriteFailed>
     requires { length lead.now ≤ LEAD_LIMIT }
     ensures { Took result (W.contents writer.old) (W.contents writer.new) (led lead.now text.now) }
 {
@@ -332,7 +312,7 @@ fn write_text<W: Write>(lead: &[u8], text: &[u8], writer: &mut W) -> io::Result<
 }
 
 /// Writes a text, and then the end of its line.
-fn write_ended<W: Write>(text: &[u8], writer: &mut W) -> io::Result<()>
+fn write_ended<W: Write>(text: &[u8], writer: &mut W) -> Result<(), WriteFailed>
     ensures { Took result (W.contents writer.old) (W.contents writer.new) (text.now ++ codes "\n") }
 {
     write_whole(text, writer)?;
@@ -340,7 +320,7 @@ fn write_ended<W: Write>(text: &[u8], writer: &mut W) -> io::Result<()>
 }
 
 /// Writes a line for each row.
-fn write_each<W: Write>(lead: &[u8], rows: &[Feature], writer: &mut W) -> io::Result<()>
+fn write_each<W: Write>(lead: &[u8], rows: &[Feature], writer: &mut W) -> Result<(), WriteFailed>
     requires lead { length lead.now ≤ LEAD_LIMIT }
     ensures { Took result (W.contents writer.old) (W.contents writer.new) (flat_map (λ row. led lead.now (row_text row)) rows.now) }
 {
@@ -351,7 +331,7 @@ fn write_each<W: Write>(lead: &[u8], rows: &[Feature], writer: &mut W) -> io::Re
 }
 
 /// Writes the line of a feature.
-fn write_row<W: Write>(lead: &[u8], feature: &Feature, writer: &mut W) -> io::Result<()>
+fn write_row<W: Write>(lead: &[u8], feature: &Feature, writer: &mut W) -> Result<(), WriteFailed>
     requires { length lead.now ≤ LEAD_LIMIT }
     ensures { Took result (W.contents writer.old) (W.contents writer.new) (led lead.now (row_text feature.now)) }
 {

@@ -7,4 +7,5 @@ abbrev pub invariant-loop : goal.invariant-loop
 invariant-loop g l = record {
   taken : Consumes (g.R.Read.remaining l.fn.file) (g.R.Read.remaining l.file) l.bytes.items;
   fits : length l.bytes.items ≤ CONFIG_LIMIT;
+  enough : l.counter ≤ length l.bytes.items;
 }

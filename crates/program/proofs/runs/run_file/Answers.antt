@@ -1,5 +1,6 @@
-use Rattle.std.proofs.Common.{Err}
-use Rattle.program.proofs.RunLemmas.{came, left_by, of_run, served}
+use Rattle.std.proofs.Common.{Err, IfErr}
+use Rattle.sessions.proofs.LeavingLemmas.{left_by}
+use Rattle.program.proofs.RunLemmas.{came, of_run, served}
 use Rattle.program.specs.Configs.{config_data}
 use Rattle.program.specs.RunFaults.{IsOfRun}
 use Rattle.program.proofs.runs.run_file.Goals as goal
@@ -9,12 +10,23 @@ returns-in_err-end-clause-err g c =
     let opened = config_data c.args.config in
     let script = g.R.Read.remaining c.args.file.now in
     let before = g.W.Write.contents c.args.output.now in
-    let after = g.W.Write.contents c.flush.new.self in
+    let after = g.W.Write.contents c.flush.new.writer in
     let fault = c.in_err-end.field-0.0 in
     let ran = c.in_err-end.ensures.ran in
-    let far = came opened (Err fault) c.in-Ok.world.plain ran.1 ran.0 script (g.R.Read.remaining c.run_script-end.new.reader) before (g.W.Write.contents c.run_script-end.new.writer) after c.in-Ok.ensures.ok ran.2 c.flush.ensures.bytes in
-    left_by c.from_residual.result _ (IsOfRun opened script before after) c.from_residual.ensures.1 (of_run opened fault script before after far)
+    let far = came opened (Err fault) c.in-Ok.world.plain ran.1 ran.0 script (g.R.Read.remaining c.run_script-end.new.reader) before (g.W.Write.contents c.run_script-end.new.writer) after c.in-Ok.ensures.ok ran.2 c.flush.ensures in
+    left_by c.from_residual-in_err-end.result _ (λ r. IfErr r (IsOfRun opened script before after)) c.from_residual-in_err-end.ensures.1 (of_run opened fault script before after far)
+
+pub returns-in_err-flush-clause-err : goal.returns-in_err-flush-clause-err
+returns-in_err-flush-clause-err g c =
+    let opened = config_data c.args.config in
+    let script = g.R.Read.remaining c.args.file.now in
+    let before = g.W.Write.contents c.args.output.now in
+    let after = g.W.Write.contents c.flush.new.writer in
+    let end = c.run_script-end.result in
+    let ran = c.run_script-end.ensures.ran in
+    let far = came opened end c.in-Ok.world.plain ran.1 ran.0 script (g.R.Read.remaining c.run_script-end.new.reader) before (g.W.Write.contents c.run_script-end.new.writer) after c.in-Ok.ensures.ok ran.2 c.flush.ensures in
+    left_by c.from_residual.result _ (λ r. IfErr r (IsOfRun opened script before after)) c.from_residual.ensures.1 (end, far)
 
 pub returns-clause-served : goal.returns-clause-served
 returns-clause-served g c =
-    served (config_data c.args.config) (g.R.Read.remaining c.args.file.now) (g.W.Write.contents c.args.output.now) (g.W.Write.contents c.run_script-end.new.writer) (g.W.Write.contents c.flush.new.self) c.in-Ok.world.plain c.run_script-end.new.world.plain c.in-Ok.ensures.ok c.in_ok-end.ensures.script_text c.flush.ensures.bytes
+    served (config_data c.args.config) (g.R.Read.remaining c.args.file.now) (g.W.Write.contents c.args.output.now) (g.W.Write.contents c.run_script-end.new.writer) (g.W.Write.contents c.flush.new.writer) c.in-Ok.world.plain c.run_script-end.new.world.plain c.in-Ok.ensures.ok c.in_ok-end.ensures.script_text c.flush.ensures

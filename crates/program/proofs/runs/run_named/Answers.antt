@@ -3,5 +3,5 @@ use Rattle.program.specs.Configs.{config_data}
 use Rattle.program.specs.RunFaults.{BrokeOff}
 use Rattle.program.proofs.runs.run_named.Goals as goal
 
-pub returns-in_default-clause-err : goal.returns-in_default-clause-err
-returns-in_default-clause-err g c = BrokeOff.without_script (config_data c.in-Ok.config) c.in-Ok.ensures.ok refl refl
+pub returns-in-Err-open_file-clause-err : goal.returns-in-Err-open_file-clause-err
+returns-in-Err-open_file-clause-err g c = BrokeOff.without_script (config_data c.in-Ok.config) c.in-Ok.ensures.ok refl refl

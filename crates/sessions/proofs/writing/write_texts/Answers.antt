@@ -1,7 +1,7 @@
 use Rattle.std.proofs.Common.{◌++◌, codes, decimal, length, string_bytes, subst}
 use Rattle.std.specs.List.{flat_map}
 use Rattle.sessions.specs.Printed.{led}
-use Rattle.sessions.specs.Streams.{Took}
+use Rattle.byte_streams.specs.Written.{Took}
 use Rattle.sessions.proofs.WritingLemmas.{texts_joined, took_first, took_then}
 use Rattle.sessions.proofs.writing.write_texts.Goals as goal
 

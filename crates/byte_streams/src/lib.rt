@@ -1,0 +1,12 @@
+//! Readers, writers and files as the program uses them, with one answer for each that only a real failure makes.
+#![tactic(auto)]
+
+mod failures;
+mod files;
+mod reading;
+mod writing;
+
+pub use failures::{NotOpened, ReadFailed, WriteFailed};
+pub use files::open_file;
+pub use reading::read_some;
+pub use writing::{flush, write_shown, write_whole};
