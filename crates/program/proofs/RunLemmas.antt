@@ -1,5 +1,5 @@
 -- A configuration from a file, and a run by it.
-use Rattle.std.proofs.Common.{◌≡◌, ◌∙◌, ℕ, List, [], Option, None, Some, refl, sym, subst, IfErr, IfSome, OnOk, Result, Ok, Err}
+use Rattle.std.proofs.Common.{◌≡◌, ◌∙◌, ℕ, List, [], Option, None, Some, refl, subst, IfErr, IfSome, OnOk, Result, Ok, Err}
 use Rattle.std.specs.Io.KnownBytes.{Appends, Keeps}
 use Rattle.sessions.specs.Scripts.{IsScriptText, LineTells, script}
 use Rattle.sessions.specs.States.{SessionState}

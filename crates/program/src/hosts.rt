@@ -1,5 +1,7 @@
 //! The host's files.
 
+ghost use Rattle.std.specs.Prelude.{◌≡◌};
+
 use crate::runs::Folder;
 use byte_streams::{NotOpened, open_file};
 use std::fs::File;
@@ -12,7 +14,9 @@ pub struct HostFolder<'a> {
 
 impl<'a> HostFolder<'a> {
     /// The folder that the program was started in.
-    pub fn of(rt: &'a HostRuntime) -> Self {
+    pub fn of(rt: &'a HostRuntime) -> Self
+        ensures { result.rt.now ≡ rt.now }
+    {
         HostFolder { rt }
     }
 }
