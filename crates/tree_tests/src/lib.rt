@@ -12,4 +12,6 @@ mod search_tree_refusals;
 #[cfg(test)]
 mod search_tree_runs;
 #[cfg(test)]
+mod search_tree_splits;
+#[cfg(test)]
 mod search_tree_tests;

@@ -1,8 +1,9 @@
 //! Each allocation of a tree's calls refused in turn.
+use crate::search_tree_tests::{KeepOne, place_until_split};
 use frame_keys::Frames;
 use plane::{Point, Shape};
 use refusing::Refusing;
-use search_tree::{Tree, TreeFault, Visit, Walk};
+use search_tree::{Step, Tending, Tree, TreeFault, Visit, Walk};
 use std::alloc::Allocator;
 use std::process::Abort;
 use std::test::Fail;
@@ -14,12 +15,15 @@ fn pin(rt: &impl Abort, x: i32, y: i32) -> Shape {
     made.unwrap()
 }
 
-// A band along the line across, from one height to another.
-fn band(rt: &impl Abort, low: i32, high: i32) -> Shape {
+// So many pairs have inner nodes that split.
+const MANY: u64 = 250;
+
+// The rectangle from the line's beginning to a place across, from one height to another.
+fn window(rt: &impl Abort, right: i32, low: i32, high: i32) -> Shape {
     let made = Shape::polygon(&[
         Point { x: 0, y: low },
-        Point { x: 100, y: low },
-        Point { x: 100, y: high },
+        Point { x: right, y: low },
+        Point { x: right, y: high },
         Point { x: 0, y: high },
         Point { x: 0, y: low },
     ]);
@@ -27,14 +31,19 @@ fn band(rt: &impl Abort, low: i32, high: i32) -> Shape {
     made.unwrap()
 }
 
-// Advances a walk once. Where that is refused it is for want of memory, nothing is found that was not there before, and the same step is made where there is memory.
+// A band along the whole line, from one height to another.
+fn band(rt: &impl Abort, low: i32, high: i32) -> Shape {
+    window(rt, 300, low, high)
+}
+
+// Advances a walk once. Where that is refused it is for want of memory, the walk stands where it stood, the same pairs are there and no slot more is used, and the same step is made where there is memory.
 fn step<B: Allocator>(
     rt: &impl Abort,
     memory: &Refusing<B>,
     tree: &mut Tree<Frames, &Refusing<B>>,
     walk: &mut Walk<Shape>,
 ) {
-    let (slot, refused) = (walk.slot(), memory.has_refused());
+    let (slot, slots, refused) = (walk.slot(), tree.slots(), memory.has_refused());
     let Err(fault) = tree.advance(walk) else {
         assert!(rt;
             memory.has_refused() == refused,
@@ -44,6 +53,7 @@ fn step<B: Allocator>(
     };
     assert_eq!(rt; fault.code(), "S8");
     assert!(rt; memory.has_refused() && !walk.placed() && walk.slot() == slot);
+    assert_eq!(rt; tree.slots(), slots);
     memory.refuse(0);
     let before = walk.key().saturating_sub(1);
     assert!(rt; finds(rt, tree, before), "contents changed");
@@ -305,6 +315,165 @@ fn each_allocation_of_descents_refused(rt: HostRuntime) -> Result<(), Fail> {
     for at in 1..20 {
         if !descend_refused(&rt, &memory, at) {
             assert!(rt; at > 1, "nothing was refused");
+            return Ok(());
+        }
+    }
+    panic!(rt; "each allocation was refused");
+}
+
+// One allocation that is refused in each step of a kind, and what comes of it in a tree with two searches: one for the pairs from 1 to 8, which is ready, and one for all pairs, which has seen the root alone.
+#[derive(Clone, Copy, Debug)]
+struct Trial {
+    at: u64,
+    near: u64,
+    far: u64,
+    // How often a split, which takes one slot, and a growth of the root, which takes two, was refused.
+    splits: u32,
+    growths: u32,
+}
+
+// Opens the two searches.
+fn begin<A: Allocator + Copy>(rt: &impl Abort, tree: &mut Tree<Frames, A>, at: u64) -> Trial {
+    let near = tree.open_search(window(rt, 8, -1, 1));
+    let far = tree.open_search(band(rt, -1, 1));
+    assert!(rt; near.is_ok() && far.is_ok());
+    let (near, far) = (near.unwrap(), far.unwrap());
+    see_all(rt, tree, near);
+    assert!(rt; tree.visit(far) == Ok(Visit::More));
+    Trial {
+        at,
+        near,
+        far,
+        splits: 0,
+        growths: 0,
+    }
+}
+
+// Advances a walk once, where the trial's allocation is refused; the answer, and whether that came about. A refusal changes neither the walk, nor the pairs, nor the slots used, nor what the two searches have found, and the step is made where there is memory.
+fn refused_step<B: Allocator>(
+    rt: &impl Abort,
+    memory: &Refusing<B>,
+    tree: &mut Tree<Frames, &Refusing<B>>,
+    walk: &mut Walk<Shape>,
+    trial: &Trial,
+) -> (Step, bool) {
+    let (slot, slots) = (walk.slot(), tree.slots());
+    memory.refuse(trial.at);
+    let mut answer = tree.advance(walk);
+    let refused = memory.has_refused();
+    memory.refuse(0);
+    assert_eq!(rt; answer.is_err(), refused);
+    if let Err(fault) = answer {
+        assert_eq!(rt; fault.code(), "S8");
+        assert!(rt; !walk.placed() && walk.slot() == slot && tree.slots() == slots);
+        assert!(rt; finds(rt, tree, walk.key().saturating_sub(1)));
+        assert!(rt; is_whole(tree.found(trial.near), 8) && tree.found(trial.far).is_empty());
+        answer = tree.advance(walk);
+    }
+    assert!(rt; answer.is_ok());
+    (answer.unwrap(), refused)
+}
+
+// Advances a walk whose last step parted a node as above. Where this one parts a node too, that is an inner one: the parent of the other, which is full. Whether it does.
+fn part_above<B: Allocator>(
+    rt: &impl Abort,
+    memory: &Refusing<B>,
+    tree: &mut Tree<Frames, &Refusing<B>>,
+    walk: &mut Walk<Shape>,
+    trial: &mut Trial,
+) -> bool {
+    let before = tree.slots();
+    let (step, refused) = refused_step(rt, memory, tree, walk, trial);
+    if refused {
+        assert!(rt; step == Step::Split);
+        match tree.slots().saturating_sub(before) {
+            1 => trial.splits = trial.splits.saturating_add(1),
+            2 => trial.growths = trial.growths.saturating_add(1),
+            _ => panic!(rt; "a split takes one slot, and a growth two"),
+        }
+    }
+    step == Step::Split
+}
+
+// Advances a walk until its pair is placed, as above wherever its last step parted a node.
+fn place_refused<B: Allocator>(
+    rt: &impl Abort,
+    memory: &Refusing<B>,
+    tree: &mut Tree<Frames, &Refusing<B>>,
+    walk: &mut Walk<Shape>,
+    trial: &mut Trial,
+) {
+    let mut parted = false;
+    for _ in 0..100 {
+        if walk.placed() {
+            return;
+        }
+        parted = if parted {
+            part_above(rt, memory, tree, walk, trial)
+        } else {
+            let answer = tree.advance(walk);
+            assert!(rt; answer.is_ok());
+            answer == Ok(Step::Split)
+        };
+    }
+    panic!(rt; "a walk makes more than 100 steps");
+}
+
+// Places so many pairs that a full root with nodes below it grows, and inner nodes split, where allocation number `at` of each such step is refused.
+fn rise_refused<B: Allocator>(rt: &impl Abort, memory: &Refusing<B>, at: u64) -> Trial {
+    let mut tree = filled(rt, memory, 40);
+    let mut trial = begin(rt, &mut tree, at);
+    let mut x: i32 = 41;
+    for key in 41..=MANY {
+        let mut walk = tree.start_walk(key, pin(rt, x, 0));
+        place_refused(rt, memory, &mut tree, &mut walk, &mut trial);
+        x = x.saturating_add(1);
+    }
+    see_all(rt, &mut tree, trial.far);
+    assert!(rt; is_whole(tree.found(trial.far), MANY));
+    trial
+}
+
+#[test]
+fn each_allocation_of_inner_splits_refused(rt: HostRuntime) -> Result<(), Fail> {
+    let memory = Refusing::new(rt.alloc(), 0);
+    for at in 1..20 {
+        let trial = rise_refused(&rt, &memory, at);
+        // A split takes memory for the keys and for the children of one node, a growth for those of two.
+        assert!(rt; 2 < at || 0 < trial.splits, "no split was refused");
+        assert!(rt; 4 < at || 0 < trial.growths, "no growth was refused");
+        if trial.splits == 0 && trial.growths == 0 {
+            return Ok(());
+        }
+    }
+    panic!(rt; "each allocation was refused");
+}
+
+// A walk leads searches for what lies above the line to a leaf that was left marked, and to its right node. Allocation number `at` is refused; whether that came about.
+fn join_marked_refused<B: Allocator>(rt: &impl Abort, memory: &Refusing<B>, at: u64) -> bool {
+    let mut tree = filled(rt, memory, 40);
+    let last = place_until_split(rt, &mut tree);
+    look_above(rt, &mut tree, 12);
+    let trial = begin(rt, &mut tree, at);
+    let x = i32::try_from(last).unwrap_or(0);
+    let mut walk = tree.start_walk(last.saturating_add(1), pin(rt, x, 10));
+    let (step, refused) = refused_step(rt, memory, &mut tree, &mut walk, &trial);
+    assert!(rt; step == Step::Moved);
+    // The leaf was marked: its right node gets its entry only now.
+    let tended = tree.tend(walk.slot(), &KeepOne { key: 0 });
+    assert!(rt; tended == Ok(Tending::Installed), "the leaf is not marked");
+    finish(rt, memory, &mut tree, &mut walk);
+    assert!(rt; finds(rt, &mut tree, walk.key()));
+    refused
+}
+
+#[test]
+fn each_allocation_of_joins_refused(rt: HostRuntime) -> Result<(), Fail> {
+    let memory = Refusing::new(rt.alloc(), 0);
+    for at in 1..20 {
+        if !join_marked_refused(&rt, &memory, at) {
+            // The right node and the leaf want memory, each for the searches that join it.
+            assert!(rt; at > 2, "nothing was refused");
             return Ok(());
         }
     }

@@ -42,13 +42,13 @@ impl<I> Keeper<I> for KeepFrom {
 
 // Numbers that look like chance, from a linear congruence.
 #[derive(Drop)]
-struct Dice {
-    state: u64,
+pub(crate) struct Dice {
+    pub(crate) state: u64,
 }
 
 impl Dice {
     // A number below this one, or 0 where that is 0.
-    fn below(&mut self, sides: u32) -> u32 {
+    pub(crate) fn below(&mut self, sides: u32) -> u32 {
         self.state = self
             .state
             .wrapping_mul(6_364_136_223_846_793_005)
@@ -129,9 +129,13 @@ struct Look {
     ready: bool,
 }
 
-// How often things came about.
+// How often things came about, and how many searches ran and walks were under way at the same time.
 #[derive(Clone, Copy, Debug)]
 struct Tally {
+    searches: usize,
+    walks: usize,
+    installed: u32,
+    completed: u32,
     ready: u32,
     closed: u32,
     held: u32,
@@ -149,6 +153,10 @@ fn count(number: &mut u32) {
 }
 
 const NOTHING: Tally = Tally {
+    searches: 0,
+    walks: 0,
+    installed: 0,
+    completed: 0,
     ready: 0,
     closed: 0,
     held: 0,
@@ -250,6 +258,7 @@ fn try_open(rt: &impl Abort, dice: &mut Dice, plain: &mut Plain, tree: &mut Tree
         ready: false,
     };
     assert!(rt; plain.looks.push(look).is_ok());
+    plain.tally.searches = plain.tally.searches.max(plain.looks.len());
 }
 
 fn try_visit(rt: &impl Abort, dice: &mut Dice, plain: &mut Plain, tree: &mut Tree<Frames, Global>) {
@@ -300,6 +309,7 @@ fn try_start(rt: &impl Abort, dice: &mut Dice, plain: &mut Plain, tree: &Tree<Fr
         seen: 0,
     };
     assert!(rt; plain.pairs.push(pair).is_ok() && plain.walks.push(walk).is_ok());
+    plain.tally.walks = plain.tally.walks.max(plain.walks.len());
 }
 
 // A pair is in the tree from now on. No search that is ready looks for it.
@@ -352,7 +362,8 @@ fn try_advance(
         }
         Ok(Step::Split) => count(&mut plain.tally.split),
         Ok(Step::Restarted) => count(&mut plain.tally.restarted),
-        Ok(_) => {}
+        Ok(Step::Installed) => count(&mut plain.tally.installed),
+        Ok(Step::Moved) => {}
         Err(TreeFault::Held(search)) => {
             check_held(rt, plain, key, search);
             count(&mut plain.tally.held);
@@ -443,7 +454,8 @@ fn tend_slot(
         Tending::Cleaned => note_cleaned(rt, plain, tree),
         Tending::Retired => count(&mut plain.tally.retired),
         Tending::Freed => count(&mut plain.tally.freed),
-        Tending::Installed | Tending::Idle => {}
+        Tending::Installed => count(&mut plain.tally.completed),
+        Tending::Idle => {}
     }
     done
 }
@@ -561,11 +573,16 @@ fn beside_a_list_of_pairs(rt: HostRuntime) -> Result<(), Fail> {
     Ok(())
 }
 
-// Enough has happened.
+// Enough has happened: at some time as many searches ran and as many walks were under way as may, and right nodes got their entries from walks (installed) and from tending (completed).
 fn check_tally(rt: &impl Abort, tally: &Tally) {
     let searched = tally.ready > 100 && tally.closed > 100;
     let walked = tally.placed > 1_000 && tally.split > 50;
     let hindered = tally.held > 500 && tally.restarted > 10;
     let tended = tally.cleaned > 100 && tally.retired > 20 && tally.freed > 20;
-    assert!(rt; searched && walked && hindered && tended, "{tally:?}");
+    let crowded = tally.searches == SEARCHES && tally.walks == WALKS;
+    let linked = tally.installed > 50 && tally.completed > 20;
+    assert!(rt;
+        searched && walked && hindered && tended && crowded && linked,
+        "{tally:?}"
+    );
 }

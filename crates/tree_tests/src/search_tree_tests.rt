@@ -10,8 +10,8 @@ use tree_theory::{NODE_SIZE, TOP_LEVEL};
 
 // Keeps the pair of one number alone.
 #[derive(Clone, Copy)]
-struct KeepOne {
-    key: u64,
+pub(crate) struct KeepOne {
+    pub(crate) key: u64,
 }
 
 impl<I> Keeper<I> for KeepOne {
@@ -159,8 +159,11 @@ fn begun<A: Allocator + Copy>(rt: &impl Abort, tree: &mut Tree<Frames, A>) -> u6
     search
 }
 
-// Advances walks of rising numbers from 41 on, until one answers Split. The last number that was placed.
-fn place_until_split<A: Allocator + Copy>(rt: &impl Abort, tree: &mut Tree<Frames, A>) -> u64 {
+// Advances walks of rising numbers from 41 on, until one answers Split, and gives that one up. The last number that was placed.
+pub(crate) fn place_until_split<A: Allocator + Copy>(
+    rt: &impl Abort,
+    tree: &mut Tree<Frames, A>,
+) -> u64 {
     let mut x: i32 = 41;
     for key in 41..=200 {
         let mut walk = tree.start_walk(key, pin(rt, x, 0));
@@ -229,15 +232,17 @@ fn retire_and_free_leaves<A: Allocator + Copy>(rt: &impl Abort, tree: &mut Tree<
     fill(rt, tree, 41, 120, 1);
     let keeper = KeepOne { key: 120 };
     let mut retired: u32 = 0;
+    let mut settled = false;
     for _ in 0..100 {
         let round = tend_all(rt, tree, &keeper);
         retired = retired.saturating_add(round.retired);
         assert!(rt; round.freed == 0);
         if round.idle == tree.slots() {
+            settled = true;
             break;
         }
     }
-    assert!(rt; 0 < retired);
+    assert!(rt; settled && 0 < retired);
     see_all(rt, tree, search);
     assert!(rt; has_found(tree, search, 120, 120));
     tree.close_search(search);
@@ -315,30 +320,40 @@ fn walks_make_their_steps_and_no_more(rt: HostRuntime) -> Result<(), Fail> {
     Ok(())
 }
 
+// Advances a walk until its pair is placed, or a step is refused. The step that it made last.
+fn last_step<A: Allocator + Copy>(
+    tree: &mut Tree<Frames, A>,
+    walk: &mut Walk<Shape>,
+) -> Option<Step> {
+    let mut last = None;
+    for _ in 0..20 {
+        match tree.advance(walk) {
+            Ok(Step::Placed) => return Some(Step::Placed),
+            Ok(step) => last = Some(step),
+            Err(_) => break,
+        }
+    }
+    last
+}
+
 #[test]
 fn no_install_at_the_counters_end(rt: HostRuntime) -> Result<(), Fail> {
     let made = Tree::starting_at(rt.alloc(), 0, u64::MAX, 1, 1_000);
     assert!(rt; made.is_ok());
     let mut tree: Tree<Frames, _> = made.unwrap();
-    let mut refused = false;
     for key in 1..=64 {
         let mut walk = tree.start_walk(key, pin(&rt, 5, 0));
-        for _ in 0..20 {
-            if walk.placed() {
-                break;
-            }
-            if let Err(fault) = tree.advance(&mut walk) {
-                assert!(rt; fault == TreeFault::Spent);
-                refused = true;
-                break;
-            }
+        let last = last_step(&mut tree, &mut walk);
+        if walk.placed() {
+            continue;
         }
-        if refused {
-            break;
-        }
+        // The root, the two leaves below it since it has grown, and the right node of one of them, whose entry is refused.
+        assert_eq!(rt; (last, tree.slots()), (Some(Step::Split), 4));
+        assert!(rt; tree.advance(&mut walk) == Err(TreeFault::Spent));
+        assert!(rt; tree.advance(&mut walk) == Err(TreeFault::Spent));
+        return Ok(());
     }
-    assert!(rt; refused);
-    Ok(())
+    panic!(rt; "no install is refused");
 }
 
 #[test]

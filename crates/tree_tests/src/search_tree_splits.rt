@@ -1,0 +1,107 @@
+//! How well nodes are split: how many of them a search visits.
+use crate::search_tree_runs::Dice;
+use frame_keys::Frames;
+use plane::{Point, Shape};
+use search_tree::{Tree, Visit};
+use std::alloc::{Allocator, Global};
+use std::process::Abort;
+use std::test::Fail;
+
+// The square begins here, and is so wide and high. A window is a tenth of that: of the points about one in a hundred lies in it.
+const LOW: i32 = -10_000_000;
+
+const WIDTH: u32 = 20_000_000;
+
+const SIDE: i32 = 2_000_000;
+
+// A window whose lower left corner is nearer than this to the square's lies within the square.
+const ROOM: u32 = 18_000_001;
+
+const POINTS: u64 = 1_000;
+
+const WINDOWS: u32 = 100;
+
+// A coordinate above the lowest, by less than this.
+fn coordinate(dice: &mut Dice, room: u32) -> i32 {
+    LOW.saturating_add(i32::try_from(dice.below(room)).unwrap_or(0))
+}
+
+// A point of the square, nearer than this to its lower left corner along both axes.
+fn place(dice: &mut Dice, room: u32) -> Point {
+    let x = coordinate(dice, room);
+    let y = coordinate(dice, room);
+    Point { x, y }
+}
+
+// Places points spread over the square.
+fn spread<A: Allocator + Copy>(rt: &impl Abort, dice: &mut Dice, tree: &mut Tree<Frames, A>) {
+    for key in 0..POINTS {
+        let point = Shape::point(place(dice, WIDTH));
+        assert!(rt; point.is_ok());
+        let mut walk = tree.start_walk(key, point.unwrap());
+        for _ in 0..100 {
+            if walk.placed() {
+                break;
+            }
+            assert!(rt; tree.advance(&mut walk).is_ok());
+        }
+        assert!(rt; walk.placed());
+    }
+}
+
+// Searches by a window somewhere in the square. How many nodes that visits, and how many points it finds.
+fn search<A: Allocator + Copy>(
+    rt: &impl Abort,
+    dice: &mut Dice,
+    tree: &mut Tree<Frames, A>,
+) -> (u32, usize) {
+    let low = place(dice, ROOM);
+    let (right, top) = (low.x.saturating_add(SIDE), low.y.saturating_add(SIDE));
+    let window = Shape::polygon(&[
+        low,
+        Point { x: right, y: low.y },
+        Point { x: right, y: top },
+        Point { x: low.x, y: top },
+        low,
+    ]);
+    assert!(rt; window.is_ok());
+    let opened = tree.open_search(window.unwrap());
+    assert!(rt; opened.is_ok());
+    let search = opened.unwrap();
+    let visited = visits(rt, tree, search);
+    let found = tree.found(search).len();
+    tree.close_search(search);
+    (visited, found)
+}
+
+// Visits until the search is ready, one node at a time. How many visits that takes.
+fn visits<A: Allocator + Copy>(rt: &impl Abort, tree: &mut Tree<Frames, A>, search: u64) -> u32 {
+    for visit in 1..=1_000 {
+        let answer = tree.visit(search);
+        assert!(rt; answer.is_ok());
+        if answer == Ok(Visit::Ready) {
+            return visit;
+        }
+    }
+    panic!(rt; "a search makes more than 1,000 steps");
+}
+
+#[test]
+fn few_nodes_are_visited(rt: HostRuntime) -> Result<(), Fail> {
+    let made = Tree::new(rt.alloc());
+    assert!(rt; made.is_ok());
+    let mut tree: Tree<Frames, Global> = made.unwrap();
+    let mut dice = Dice { state: 7 };
+    spread(&rt, &mut dice, &mut tree);
+    let mut visited: u32 = 0;
+    let mut found: usize = 0;
+    for _ in 0..WINDOWS {
+        let (more, many) = search(&rt, &mut dice, &mut tree);
+        visited = visited.saturating_add(more);
+        found = found.saturating_add(many);
+    }
+    // About ten a window, and at most six nodes.
+    assert!(rt; 900 <= found && found <= 1_100, "{found} are found");
+    assert!(rt; visited <= 600, "{visited} nodes are visited");
+    Ok(())
+}
