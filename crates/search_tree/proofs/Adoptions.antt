@@ -4,7 +4,7 @@ use Rattle.std.proofs.lemmas.List.Elements.{Contains-append_left, Contains-push,
 use Rattle.std.specs.Option.{option_map}
 use Rattle.node_arena.specs.Slots.{Slots, IsGiven, CountsGiven, value_at}
 use Rattle.node_arena.specs.declared.handle.Handle.{Handle}
-use Rattle.tree_theory.proofs.ListLemmas.{handle_cases, child_cases, nothing_in}
+use Rattle.tree_theory.proofs.ListLemmas.{handle_cases, child_cases}
 use Rattle.tree_theory.specs.Nodes.{PlainNode, place_under, under}
 use Rattle.tree_theory.specs.declared.place.Place.{Place}
 use Rattle.tree_theory.specs.declared.place.Place.TheVariants.{Root, Linked, Unlinked, Retired}
@@ -23,9 +23,6 @@ module _ {Key Item : Type 0} where
   pub under_twice : (parent other : Handle) (o : Option (PlainNode Key Item)) → option_map (under parent) (option_map (under other) o) ≡ option_map (under parent) o
   under_twice parent other None = refl
   under_twice parent other (Some node) = ap (λ place. Some (record node { place = place })) (place_twice parent other node.place)
-
-  pub adopted_none : (s : Slots (PlainNode Key Item)) (parent : Handle) → HasAdopted s s [] parent
-  adopted_none s parent = record { adopted = λ h has. absurd (nothing_in h has); others = λ h not. refl; counts = record { values = refl; taken = refl; slots = refl }; places = refl }
 
   pub adopted_one : (old mid new : Slots (PlainNode Key Item)) (children : List Handle) (child parent : Handle) → HasAdopted old mid children parent → IsChanged mid new child (under parent) → new.places ≡ mid.places → HasAdopted old new (children ++ child ∷ []) parent
   adopted_one old mid new children child parent before changed places =

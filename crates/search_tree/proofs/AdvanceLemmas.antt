@@ -6,6 +6,7 @@ use Rattle.node_arena.specs.Slots.{taken_count}
 use Rattle.node_arena.specs.declared.TheConstants.{MAX_SLOTS}
 use Rattle.node_arena.specs.declared.handle.Handle.{Handle}
 use Rattle.predicate_locks.specs.Searches.{last_number}
+use Rattle.search_tree.specs.Calls.{IsUntouched}
 use Rattle.search_tree.specs.Cases.{Answers, Change, TakesStep, Wants}
 use Rattle.search_tree.specs.Cases.Answers.{counter_ends, no_memory, no_memory_to_grow, no_slot, no_slots, top_level}
 use Rattle.search_tree.specs.Cases.Change.{Linking, Parting, Growing}
@@ -52,16 +53,16 @@ module _ (C : Class) (t u : PlainTree C.Key C.Query C.Item) (at now : Handle) wh
       let both : ◌≡◌ {A = Result T TreeFault} (Err (Memory refused)) (Err TooHigh) = ap (λ (f : TreeFault). Err f) (sym is) ∙ e in
       absurd (cc (both))
 
-  pub not_parted : (T : Type 0) (full : Handle) (fault : TreeFault) → (fault ≡ Full) ⊎ (fault ≡ Memory refused) → ◌≡◌ {A = Result T TreeFault} (Err fault) (Err Full) ↔ (MAX_SLOTS < taken_count t.nodes + 1) → (◌≡◌ {A = Result T TreeFault} (Err fault) (Err Full) → u ≡ t) → Answers C t u at now (Parting full) (Err fault)
-  not_parted T full fault is slots same = elim is [
+  pub not_parted : (T : Type 0) (full : Handle) (fault : TreeFault) → (fault ≡ Full) ⊎ (fault ≡ Memory refused) → ◌≡◌ {A = Result T TreeFault} (Err fault) (Err Full) ↔ (MAX_SLOTS < taken_count t.nodes + 1) → (◌≡◌ {A = Result T TreeFault} (Err fault) (Err Full) → u ≡ t) → IsUntouched C t u → Answers C t u at now (Parting full) (Err fault)
+  not_parted T full fault is slots same untouched = elim is [
     | inl none_left ↦
         let e = ap (λ (f : TreeFault). Err f) none_left in
         subst (λ f. Answers C t u at now (Parting full) (Err f)) (sym none_left) (no_slot (slots.0 e) (same e))
-    | inr no_room ↦ subst (λ f. Answers C t u at now (Parting full) (Err f)) (sym no_room) (no_memory (fits T 1 fault no_room slots))
+    | inr no_room ↦ subst (λ f. Answers C t u at now (Parting full) (Err f)) (sym no_room) (no_memory (fits T 1 fault no_room slots) untouched)
   ]
 
-  pub not_grown : (T : Type 0) (fault : TreeFault) → (fault ≡ TooHigh) ⊎ (fault ≡ Full) ⊎ (fault ≡ Memory refused) → ◌≡◌ {A = Result T TreeFault} (Err fault) (Err TooHigh) ↔ ((taken_count t.nodes + 2 ≤ MAX_SLOTS) × (root_level t ≡ TOP_LEVEL)) → ◌≡◌ {A = Result T TreeFault} (Err fault) (Err Full) ↔ (MAX_SLOTS < taken_count t.nodes + 2) → (◌≡◌ {A = Result T TreeFault} (Err fault) (Err Full) ⊎ ◌≡◌ {A = Result T TreeFault} (Err fault) (Err TooHigh) → u ≡ t) → Answers C t u at now Growing (Err fault)
-  not_grown T fault is high slots same = elim is [
+  pub not_grown : (T : Type 0) (fault : TreeFault) → (fault ≡ TooHigh) ⊎ (fault ≡ Full) ⊎ (fault ≡ Memory refused) → ◌≡◌ {A = Result T TreeFault} (Err fault) (Err TooHigh) ↔ ((taken_count t.nodes + 2 ≤ MAX_SLOTS) × (root_level t ≡ TOP_LEVEL)) → ◌≡◌ {A = Result T TreeFault} (Err fault) (Err Full) ↔ (MAX_SLOTS < taken_count t.nodes + 2) → (◌≡◌ {A = Result T TreeFault} (Err fault) (Err Full) ⊎ ◌≡◌ {A = Result T TreeFault} (Err fault) (Err TooHigh) → u ≡ t) → IsUntouched C t u → Answers C t u at now Growing (Err fault)
+  not_grown T fault is high slots same untouched = elim is [
     | inl top ↦
         let e = ap (λ (f : TreeFault). Err f) top in
         let at_top = high.0 e in
@@ -72,6 +73,6 @@ module _ (C : Class) (t u : PlainTree C.Key C.Query C.Item) (at now : Handle) wh
           subst (λ f. Answers C t u at now Growing (Err f)) (sym none_left) (no_slots (slots.0 e) (same (inl e)))
       | inr no_room ↦
           let enough = fits T 2 fault no_room slots in
-          subst (λ f. Answers C t u at now Growing (Err f)) (sym no_room) (no_memory_to_grow enough (λ top. lower T fault no_room (high.1 (enough, top))))
+          subst (λ f. Answers C t u at now Growing (Err f)) (sym no_room) (no_memory_to_grow enough (λ top. lower T fault no_room (high.1 (enough, top))) untouched)
     ]
   ]

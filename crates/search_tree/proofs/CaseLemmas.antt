@@ -56,9 +56,6 @@ module _ (C : Class) (t : PlainTree C.Key C.Query C.Item) where
   pub unmarked : (at : Handle) (node : Node C) → value_at t.nodes at ≡ Some node → ((parent : Handle) → node.place ≡ Linked parent true → ⊥) → (level : ℕ) → IsMarkedFrom C t level at → ⊥
   unmarked at node is apart level from = apart from.parent (subst (λ (n : Node C). n.place ≡ Linked from.parent true) (some_one from.is is) from.linked)
 
-  pub marked_under : (at parent : Handle) (node : Node C) → value_at t.nodes at ≡ Some node → node.place ≡ Linked parent true → IsMarkedUnder t.nodes at parent
-  marked_under at parent node is linked = record { node = node; is = is; linked = linked }
-
   pub is_change : (level : ℕ) (room : Room C.Key) → TOP_LEVEL < level → LooksFrom C t level room → IsChange room
   is_change level (Install entry) high looks = tt
   is_change level (Split at) high looks = tt

@@ -14,13 +14,13 @@ use Rattle.tree_theory.specs.Nodes.{PlainNode, Node, Search, entries_of, is_mark
 use Rattle.tree_theory.specs.Walks.{Done}
 use Rattle.tree_theory.specs.declared.place.Place.{Place}
 use Rattle.tree_theory.specs.declared.place.Place.TheVariants.{Unlinked}
-use Rattle.search_tree.specs.Arenas.{IsChanged}
+use Rattle.search_tree.specs.Arenas.{AreSame, IsChanged}
 use Rattle.search_tree.specs.Calls.{IsAlike}
 use Rattle.search_tree.specs.Trees.{PlainProgress, PlainTree, IsSound, progress_at, tree_of}
-use Rattle.search_tree.specs.Walks.{HasMore, MoreAttached, MayJoinAll, HasJoined, MayJoinBelow, HasJoinedBelow, marked_right}
+use Rattle.search_tree.specs.Walks.{HasMore, MoreAttached, MayJoinAll, HasJoined, HasJoinedInPart, MayJoinBelow, HasJoinedBelow, marked_right}
 use Rattle.search_tree.proofs.Kept.{filter_from, all_join}
 use Rattle.search_tree.proofs.TendSteps.{some_one}
-use Rattle.search_tree.proofs.WalkSteps.{joined_sound, joined_call}
+use Rattle.search_tree.proofs.WalkSteps.{joined_sound, joined_call, same_call}
 
 -- a node that is not linked has no mark
 no_mark : (place : Place) (left : Handle) → place ≡ Unlinked left → IsTrue (is_marked place) → ⊥
@@ -174,13 +174,23 @@ module _ (C : Class) (t : PlainTree C.Key C.Query C.Item) where
   abbrev with_nodes : Slots (Node C) → PlainTree C.Key C.Query C.Item
   with_nodes nodes = record t { nodes = nodes }
 
-  -- who has joined a node has seen it
+  -- who has joined a node is done with it
   joined_done : (nodes : Slots (Node C)) (at : Handle) (searches : List ℕ) (n : Node C) → value_at t.nodes at ≡ Some n → IsChanged t.nodes nodes at (λ n. record n { attached = filter (does_run t.running) (with_numbers searches n.attached) }) → (s : ℕ) → Contains searches s → does_run t.running s ≡ true → Done (tree_of C (with_nodes nodes)) s at
   joined_done nodes at searches n is changed s has runs =
       record {
         node = record n { attached = filter (does_run t.running) (with_numbers searches n.attached) };
         is = rw (changed.here, is) refl;
         attached = all_join C t searches n.attached s has runs;
+      }
+
+  -- nobody is joined
+  pub joined_none : (nodes : Slots (Node C)) (child : Handle) (searches : List ℕ) → AreSame t.nodes nodes → IsSound C t → HasJoinedInPart C t (with_nodes nodes) child searches
+  joined_none nodes child searches same sound =
+      record {
+        only_nodes = refl;
+        more = record { forth = λ h node is. (node, same.each h ∙ is, record { same = refl; only = λ s has. inl has }) };
+        alike = same_call C t nodes same sound;
+        others = λ h beyond. same.each h;
       }
 
   -- what the child's entry says stays
@@ -212,6 +222,16 @@ module _ (C : Class) (t : PlainTree C.Key C.Query C.Item) where
     first_more : MoreAttached C searches t.nodes one
     first_more = more_from C t.running searches t.nodes one right first
 
+    -- the child wants memory where its right node is joined already
+    pub joined_in_part : AreSame one two → HasJoinedInPart C t (with_nodes two) child searches
+    joined_in_part same =
+        record {
+          only_nodes = refl;
+          more = record { forth = λ h node is. let there = first_more.forth h node is in (there.0, same.each h ∙ there.1, there.2) };
+          alike = alike_both C t (with_nodes one) (with_nodes two) first_alike (same_call C (with_nodes one) two same first_sound);
+          others = λ h beyond. same.each h ∙ first.others h (λ e. beyond (leads ∙ ap Some (sym e)));
+        }
+
     may_second : MayJoinAll C (with_nodes one) child searches
     may_second =
         let there = first_more.forth child parts.node parts.is in
@@ -223,7 +243,7 @@ module _ (C : Class) (t : PlainTree C.Key C.Query C.Item) where
     pub second_sound : IsChanged one two child (λ n. record n { attached = filter (does_run t.running) (with_numbers searches n.attached) }) → IsSound C (with_nodes two)
     second_sound second = joined_sound C (with_nodes one) two laws child searches may_second second first_sound
 
-    -- who has joined the right node has seen it after the child is joined too
+    -- who has joined the right node is done with it after the child is joined too
     right_done : IsChanged one two child (λ n. record n { attached = filter (does_run t.running) (with_numbers searches n.attached) }) → ((s : ℕ) → Contains searches s → Done (tree_of C (with_nodes two)) s child) → (s : ℕ) → Contains searches s → Done (tree_of C (with_nodes two)) s right
     right_done second child_done s has =
         let before = joined_done one right searches may_first.node may_first.is first s has (ap is_some (may.each s has).runs) in

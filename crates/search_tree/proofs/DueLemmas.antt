@@ -1,5 +1,5 @@
 -- What tending finds due at nodes is due there, and what it does not find is not.
-use Rattle.std.proofs.Common.{◌≡◌, ◌↔◌, ◌⊎◌, ℕ, zero, suc, ◌+◌, ◌<◌, ◌≤◌, arith, Bool, true, false, List, [], ◌∷◌, Contains, IsTrue, IsSome, IfNone, length, map, slice_get, Option, None, Some, refl, ap, sym, subst, ◌∙◌, ⊎_elim}
+use Rattle.std.proofs.Common.{◌≡◌, ◌↔◌, ℕ, zero, suc, ◌+◌, ◌<◌, ◌≤◌, arith, Bool, true, false, List, [], ◌∷◌, Contains, IsTrue, IfNone, length, map, slice_get, Option, None, Some, refl, ap, sym, subst, ◌∙◌, ⊎_elim}
 use Rattle.std.proofs.lemmas.Bool.{cases_lt}
 use Rattle.std.proofs.lemmas.List.{length-map}
 use Rattle.std.proofs.lemmas.Option.{slice_get_within}
@@ -10,7 +10,6 @@ use Rattle.search_tree.proofs.NeedLemmas.{at_rest}
 use Rattle.search_tree.proofs.TendSteps.{some_one}
 use Rattle.search_tree.specs.Dues.{LacksEntry, IsUnneeded, HasUnkept, NothingDue}
 use Rattle.search_tree.specs.Needs.{stamp_at}
-use Rattle.search_tree.specs.Tends.{MayFree}
 use Rattle.search_tree.specs.Trees.{PlainTree, IsInner, IsSound}
 use Rattle.tree_theory.proofs.ListLemmas.{nothing_in, in_cases, map_in, got_in}
 use Rattle.tree_theory.specs.KeyClasses.{Class}

@@ -16,13 +16,13 @@ use Rattle.tree_theory.specs.Nodes.{PlainBody, PlainNode, Body, Node, children_o
 use Rattle.tree_theory.specs.declared.TheConstants.{NODE_SIZE, TOP_LEVEL}
 use Rattle.tree_theory.specs.declared.place.Place.TheVariants.{Root}
 use Rattle.search_tree.specs.Arenas.{AreSame, Holds}
-use Rattle.search_tree.specs.Calls.{IsAlike}
+use Rattle.search_tree.specs.Calls.{IsUntouched}
 use Rattle.search_tree.specs.Splitting.{HasGrown, HasMoreNodes, HasPutBelow, IsFullRoot, IsLower, IsPutOver, MayGrow, MayRise, below}
 use Rattle.search_tree.specs.Trees.{PlainTree, IsSound, level_of, tree_of}
 use Rattle.search_tree.specs.declared.fault.TreeFault.{TreeFault}
 use Rattle.search_tree.proofs.SplitSteps.{nothing_there, more_after}
 use Rattle.search_tree.proofs.TendSteps.{some_one}
-use Rattle.search_tree.proofs.WalkSteps.{same_sound, same_call}
+use Rattle.search_tree.proofs.WalkSteps.{same_sound, untouched_call}
 
 -- where a change leaves nothing, nothing was
 map_nothing : {T : Type 0} (f : T → T) (o : Option T) → option_map f o ≡ None → o ≡ None
@@ -284,6 +284,6 @@ module _ (C : Class) (t : PlainTree C.Key C.Query C.Item) where
     grown_call_ok (Ok done) grown sound = grown_call grown sound grown.low
     grown_call_ok (Err fault) grown sound = tt
 
-    pub grown_call_err : {R : Type 0} (result : Result R TreeFault) → OnErr result (AreSame t.nodes nodes) → IsSound C t → OnErr result (IsAlike C t higher)
+    pub grown_call_err : {R : Type 0} (result : Result R TreeFault) → OnErr result (AreSame t.nodes nodes) → IsSound C t → OnErr result (IsUntouched C t higher)
     grown_call_err (Ok done) same sound = tt
-    grown_call_err (Err fault) same sound = same_call C t nodes same sound
+    grown_call_err (Err fault) same sound = untouched_call C t nodes same sound

@@ -1,17 +1,13 @@
 -- What tending finds at nodes is what its steps need.
-use Rattle.std.proofs.Common.{◌≡◌, ◌↔◌, ℕ, ◌<◌, Bool, true, false, List, [], ◌∷◌, length, map, slice_get, slice_index_or, Option, None, Some, refl, sym, subst, ◌∙◌}
-use Rattle.std.proofs.lemmas.Bool.{false≢true}
+use Rattle.std.proofs.Common.{◌≡◌, ℕ, ◌<◌, true, false, List, [], ◌∷◌, length, map, slice_get, slice_index_or, Option, None, Some, refl, sym, subst, ◌∙◌}
 use Rattle.std.proofs.lemmas.Option.{get_or_from_slice_get}
 use Rattle.node_arena.specs.Slots.{value_at}
 use Rattle.node_arena.specs.declared.handle.Handle.{Handle}
 use Rattle.predicate_locks.specs.Searches.{AllBegunSince}
 use Rattle.search_tree.proofs.ListEnds.{both_at}
-use Rattle.search_tree.proofs.TendSteps.{some_one}
 use Rattle.search_tree.specs.Needs.{stamp_at, stamp_in}
 use Rattle.search_tree.specs.Tends.{MayClean, MayFree, MayInstall, MayRetire}
 use Rattle.search_tree.specs.Trees.{PlainTree, IsInner, IsLeaf, IsSound}
-use Rattle.search_tree.specs.declared.needs.Due.{Due}
-use Rattle.search_tree.specs.declared.needs.Due.TheVariants.{Nothing, Free}
 use Rattle.tree_theory.specs.Changes.{IsKeyFor}
 use Rattle.tree_theory.specs.KeyClasses.{Class}
 use Rattle.tree_theory.specs.Nodes.{Body, Node, PlainNode, children_of, entries_of, size_of}

@@ -1,5 +1,5 @@
 -- Searches begin and end.
-use Rattle.std.proofs.Common.{◌≡◌, ◌≢◌, ℕ, ◌==◌, true, false, not, List, [], ◌∷◌, ◌++◌, ◌+◌, length, length-append, filter, slice_index_or, Option, Some, None, is_some, refl, sym, ap, subst, ◌∙◌, inl, inr}
+use Rattle.std.proofs.Common.{◌≡◌, ◌≢◌, ℕ, ◌==◌, true, false, not, [], ◌∷◌, ◌++◌, ◌+◌, length, length-append, filter, slice_index_or, Option, Some, None, is_some, refl, sym, ap, subst, ◌∙◌, inl, inr}
 use Rattle.std.proofs.lemmas.Bool.{cases_eq}
 use Rattle.predicate_locks.specs.Searches.{Searches as RunningSearches, search_at, does_run, IsEntered, IsLeft}
 use Rattle.predicate_locks.specs.declared.running.RunningSearch.{RunningSearch}
@@ -12,7 +12,7 @@ use Rattle.std.specs.Option.{option_map}
 use Rattle.search_tree.specs.Calls.{IsOpen, IsShut, found_in, found_of}
 use Rattle.search_tree.specs.Trees.{PlainProgress, PlainTree, IsFirstOf, IsSound, search_of, progress_at, search_in, seen, steps_of, tree_of}
 use Rattle.search_tree.proofs.ListEnds.{read_any}
-use Rattle.search_tree.proofs.ProgressLemmas.{first_read, pushed_here, pushed_other, filtered_here, filtered_other}
+use Rattle.search_tree.proofs.ProgressLemmas.{first_read, pushed_here, pushed_other, filtered_here, filtered_none, filtered_other}
 
 none_of : {T : Type 0} (o : Option T) → is_some o ≡ false → o ≡ None
 none_of None e = refl
@@ -110,9 +110,24 @@ module _ (C : Class) (t : PlainTree C.Key C.Query C.Item) where
       go None e = let no : false ≡ true = sym (ap (λ o. is_some (option_map seen (search_of o (progress_at number t.progress)))) e) ∙ has in absurd (cc)
       go (Some run) e = ap is_some e
 
+  -- a search that callers do not see does not run
+  unseen_rests : (number : ℕ) → IsSound C t → search_in t number ≡ None → does_run t.running number ≡ false
+  unseen_rests number sound none = by (search_at t.running number) (progress_at number t.progress) (sound.progress_of_each number) none
+    where
+      by : (o : Option (RunningSearch C.Query)) (way : Option (PlainProgress C.Item)) → is_some way ≡ is_some o → option_map seen (search_of o way) ≡ None → is_some o ≡ false
+      by None way each none = refl
+      by (Some run) None each none = sym each
+      by (Some run) (Some p) each none = absurd (cc (none))
+
+  nothing_closed : (running : RunningSearches C.Query) (number : ℕ) → IsSound C t → (does_run t.running number ≡ false → running ≡ t.running) → search_in t number ≡ None → without running number ≡ t
+  nothing_closed running number sound same none =
+      let rests = unseen_rests number sound none in
+      let progress = filtered_none number t.progress (none_of (progress_at number t.progress) (sound.progress_of_each number ∙ rests)) in
+      rw (same rests, progress) refl
+
   pub closed_call : {running : RunningSearches C.Query} {number : ℕ} → IsSound C t → IsLeft t.running running number
-      → (does_run t.running number ≡ true → length running.running + 1 ≡ length t.running.running) → IsShut C t (without running number) number
-  closed_call {running = running} {number = number} sound left fewer =
+      → (does_run t.running number ≡ true → length running.running + 1 ≡ length t.running.running) → (does_run t.running number ≡ false → running ≡ t.running) → IsShut C t (without running number) number
+  closed_call {running = running} {number = number} sound left fewer same =
       record {
         gone = rw left.gone refl;
         others = λ x apart. rw (left.others x apart, filtered_other number x t.progress apart) refl;
@@ -123,6 +138,7 @@ module _ (C : Class) (t : PlainTree C.Key C.Query C.Item) where
         others_begun = λ x apart. ap (option_map (λ (run : RunningSearch C.Query). run.begun)) (left.others x apart);
         others_steps = λ x apart. ap steps_of (filtered_other number x t.progress apart);
         step = closed_step left;
+        nothing = λ none. nothing_closed running number sound same none;
       }
 
   -- what a search has found stands in its progress

@@ -29,9 +29,6 @@ module _ {Key : Type 0} (growth second_growth : Key → Key → ℕ) (keys : Lis
     pub least_is : least ≡ penalties_of growth second_growth held key
     pub no_more : (other : Key) (place : ℕ) → place < n → slice_get keys place ≡ Some other → IsNoMore least (penalties_of growth second_growth other key)
 
-  pub best_of_none : (best : ℕ) (held : Key) → slice_get keys best ≡ Some held → IsBestOf best (penalties_of growth second_growth held key) 0
-  best_of_none best held is = record { held = held; is = is; least_is = refl; no_more = λ other place below there. absurd (omega (arith, below)) }
-
   one_more : (n place : ℕ) → place < n + 1 → (place < n) ⊎ (place ≡ n)
   one_more n place below = elim (cases_eq place n) [ inl here ↦ inr here | inr apart ↦ inl (omega (arith, below, apart)) ]
 

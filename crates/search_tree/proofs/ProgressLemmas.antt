@@ -65,6 +65,13 @@ module _ {Item : Type 0} where
     | inr other ↦ rw (ne_eqb p.number number other) (later number p _ other ∙ filtered_here number rest)
   ]
 
+  pub filtered_none : (number : ℕ) (ps : List (PlainProgress Item)) → progress_at number ps ≡ None → filter (λ p. not (p.number == number)) ps ≡ ps
+  filtered_none number [] none = refl
+  filtered_none number (p ∷ rest) none = elim (cases_eq p.number number) [
+    | inl same ↦ let found = here number p rest same in absurd (cc (found, none))
+    | inr other ↦ rw (ne_eqb p.number number other) (ap (λ (ps : List (PlainProgress Item)). p ∷ ps) (filtered_none number rest (sym (later number p rest other) ∙ none)))
+  ]
+
   pub filtered_other : (number other : ℕ) (ps : List (PlainProgress Item)) → other ≢ number → progress_at other (filter (λ p. not (p.number == number)) ps) ≡ progress_at other ps
   filtered_other number other [] apart = refl
   filtered_other number other (p ∷ rest) apart = elim (cases_eq p.number number) [

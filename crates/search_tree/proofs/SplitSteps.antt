@@ -12,12 +12,11 @@ use Rattle.tree_theory.specs.KeyClasses.{Class}
 use Rattle.tree_theory.specs.Nodes.{PlainBody, PlainNode, Node, children_of, under}
 use Rattle.tree_theory.specs.declared.place.Place.TheVariants.{Linked}
 use Rattle.search_tree.specs.Arenas.{IsChanged, AreSame}
-use Rattle.search_tree.specs.Calls.{IsAlike}
+use Rattle.search_tree.specs.Calls.{IsUntouched}
 use Rattle.search_tree.specs.Splitting.{HasMoreNodes, HasSplit, IsPutOver, MoreTaken, left_of, right_of}
 use Rattle.search_tree.specs.Trees.{PlainTree, IsSound, level_of, tree_of}
-use Rattle.search_tree.specs.Walks.{marked_right}
 use Rattle.search_tree.specs.declared.fault.TreeFault.{TreeFault}
-use Rattle.search_tree.proofs.WalkSteps.{same_sound, same_call}
+use Rattle.search_tree.proofs.WalkSteps.{same_sound, untouched_call}
 
 -- where nothing stands, no node does
 pub nothing_there : {T : Type 0} {o : Option T} {x : T} → o ≡ Some x → o ≡ None → ⊥
@@ -169,10 +168,6 @@ module _ (C : Class) (t : PlainTree C.Key C.Query C.Item) (nodes : Slots (Node C
   split_call_ok (Ok right) split sound = split_call right split sound
   split_call_ok (Err fault) split sound = tt
 
-  pub split_call_err : (result : Result Handle TreeFault) → OnErr result (AreSame t.nodes nodes) → IsSound C t → OnErr result (IsAlike C t parted)
+  pub split_call_err : (result : Result Handle TreeFault) → OnErr result (AreSame t.nodes nodes) → IsSound C t → OnErr result (IsUntouched C t parted)
   split_call_err (Ok right) same sound = tt
-  split_call_err (Err fault) same sound = same_call C t nodes same sound
-
-  pub split_leads : (result : Result Handle TreeFault) → IfOk result (HasSplit t.nodes nodes at) → IfOk result (λ right. marked_right (value_at nodes at) ≡ Some right)
-  split_leads (Ok right) split = rw split.left_now refl
-  split_leads (Err fault) split = tt
+  split_call_err (Err fault) same sound = untouched_call C t nodes same sound

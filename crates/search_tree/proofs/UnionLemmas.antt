@@ -17,9 +17,6 @@ module _ (C : Class) where
     pub covers : (key : C.Key) → Contains seen key → C.Covers union key
     pub least : (cover : C.Key) → ((key : C.Key) → Contains keys key → C.Covers cover key) → C.Covers cover union
 
-  pub union_first : (keys : List C.Key) (first : C.Key) → Contains keys first → IsUnionUpTo keys [] first
-  union_first keys first has = record { covers = λ key is_in. absurd (nothing_in key is_in); least = λ cover all. all first has }
-
   pub union_next : Laws C → (keys seen : List C.Key) (union next : C.Key) → Contains keys next → IsUnionUpTo keys seen union → IsUnionUpTo keys (seen ++ next ∷ []) (C.united union next)
   union_next laws keys seen union next has before =
       record {

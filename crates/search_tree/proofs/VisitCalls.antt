@@ -8,7 +8,7 @@ use Rattle.tree_theory.specs.KeyClasses.{Class, Laws}
 use Rattle.tree_theory.specs.Nodes.{Node}
 use Rattle.predicate_locks.specs.Searches.{last_number}
 use Rattle.search_tree.specs.Calls.{IsFurther, IsOverrun, IsReadyIn, IsUnderWay, MayStep}
-use Rattle.search_tree.specs.Trees.{PlainProgress, PlainTree, IsFirstOf, IsSound, search_in, search_of, steps_in, steps_of, seen, is_empty, progress_at}
+use Rattle.search_tree.specs.Trees.{PlainProgress, PlainTree, IsFirstOf, IsSound, search_in, steps_in, steps_of, is_empty, progress_at}
 use Rattle.search_tree.specs.Visits.{HasVisited}
 use Rattle.search_tree.proofs.ListEnds.{read_any, read_self}
 use Rattle.search_tree.proofs.ProgressLemmas.{first_read}
@@ -71,13 +71,6 @@ module _ (C : Class) (t : PlainTree C.Key C.Query C.Item) (search at : ℕ) wher
       (subst (λ z. HasVisited C z t.counter t.running t.nodes nodes p q) (query_is (search_at t.running search) runs.run query runs.is_run told) visited)
 
   -- how a search stands
-  pub is_gone : progress_at search t.progress ≡ None → search_in t search ≡ None
-  is_gone none = by (search_at t.running search)
-    where
-      by : (o : Option (RunningSearch C.Query)) → option_map seen (search_of o (progress_at search t.progress)) ≡ None
-      by None = refl
-      by (Some run) = rw none refl
-
   pub now_ready : (p : PlainProgress C.Item) → IsSound C t → IsFirstOf search t.progress at → slice_index_or t.progress at p ≡ p → is_empty p.stack ≡ true → IsReadyIn t search
   now_ready p sound first reads empty = let runs = runs_at p sound first reads in rw (runs.seen_is, empty) refl
 

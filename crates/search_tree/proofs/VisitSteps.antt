@@ -14,7 +14,7 @@ use Rattle.tree_theory.proofs.Steps.{step_keeps}
 use Rattle.tree_theory.specs.KeyClasses.{Class, Laws}
 use Rattle.tree_theory.specs.Nodes.{Node}
 use Rattle.search_tree.specs.Arenas.{AreSame, IsChanged}
-use Rattle.search_tree.specs.Calls.{IsAlike, IsFurther}
+use Rattle.search_tree.specs.Calls.{IsAlike, IsFurther, IsUntouched}
 use Rattle.search_tree.specs.Trees.{PlainProgress, PlainTree, IsFirstOf, IsSound, SameButRoom, search_of, search_in, steps_in, steps_of, progress_at, seen, is_empty, tree_of, level_of}
 use Rattle.search_tree.specs.Visits.{HasVisited}
 use Rattle.search_tree.proofs.ProgressLemmas.{first_read, set_here, set_other}
@@ -66,8 +66,8 @@ module _ (C : Class) (t : PlainTree C.Key C.Query C.Item) (at search : ℕ) wher
         progress_of_each = each_still p q first reads number sound;
       }
 
-  pub roomier_call : (p q : PlainProgress C.Item) (nodes : Slots (Node C)) → IsFirstOf search t.progress at → ((d : PlainProgress C.Item) → slice_index_or t.progress at d ≡ p) → AreSame t.nodes nodes → SameButRoom p q → IsSound C t → IsAlike C t (changed nodes q)
-  roomier_call p q nodes first reads same_nodes same sound =
+  roomier_alike : (p q : PlainProgress C.Item) (nodes : Slots (Node C)) → IsFirstOf search t.progress at → ((d : PlainProgress C.Item) → slice_index_or t.progress at d ≡ p) → AreSame t.nodes nodes → SameButRoom p q → IsSound C t → IsAlike C t (changed nodes q)
+  roomier_alike p q nodes first reads same_nodes same sound =
       let step = same_tree C (tree_of C t) (tree_of C (changed nodes q)) sound.invariant same_nodes.each refl refl refl (same_searches p q nodes first reads same) in
       record {
         searches = λ s. ap (option_map seen) (same_searches p q nodes first reads same s);
@@ -80,6 +80,15 @@ module _ (C : Class) (t : PlainTree C.Key C.Query C.Item) (at search : ℕ) wher
         running = refl;
         contents = λ xs. contents_closed step;
         counts = record { counter = refl; limit = refl; level = ap level_of (same_nodes.each t.root); taken = same_nodes.counts.taken; slots = same_nodes.counts.slots };
+      }
+
+  pub roomier_call : (p q : PlainProgress C.Item) (nodes : Slots (Node C)) → IsFirstOf search t.progress at → ((d : PlainProgress C.Item) → slice_index_or t.progress at d ≡ p) → AreSame t.nodes nodes → SameButRoom p q → IsSound C t → IsUntouched C t (changed nodes q)
+  roomier_call p q nodes first reads same_nodes same sound =
+      record {
+        alike = roomier_alike p q nodes first reads same_nodes same sound;
+        root = refl;
+        nodes = record { look = same_nodes.each };
+        searches = record { search = same_searches p q nodes first reads same };
       }
 
   pub not_empty : {T : Type 0} (xs : List T) (x : T) → is_empty (xs ++ x ∷ []) ≡ false

@@ -19,7 +19,7 @@ use Rattle.tree_theory.specs.Nodes.{Node, Search, entries_of, pairs_of, size_of}
 use Rattle.tree_theory.specs.Nodes.PlainBody.{Leaf, Inner}
 use Rattle.search_tree.specs.Advances.{HasPlacedBehindNone}
 use Rattle.search_tree.specs.Arenas.{IsChanged, AreSame, Holds}
-use Rattle.search_tree.specs.Calls.{IsAlike}
+use Rattle.search_tree.specs.Calls.{IsAlike, IsUntouched}
 use Rattle.search_tree.specs.Trees.{PlainTree, SeenSearch, IsSound, IsInner, level_of, search_in, search_of, seen, progress_at, tree_of}
 use Rattle.search_tree.specs.Walks.{MayPlace, HasEnlarged, HasPlaced, MayJoinAll, HasJoined, MayEnlarge}
 use Rattle.search_tree.proofs.Complete.{nothing_left}
@@ -137,6 +137,15 @@ module _ (C : Class) (t : PlainTree C.Key C.Query C.Item) (nodes : Slots (Node C
         running = refl;
         contents = λ xs. contents_closed (same_step same sound);
         counts = record { counter = refl; limit = refl; level = ap level_of (same.each t.root); taken = same.counts.taken; slots = same.counts.slots };
+      }
+
+  pub untouched_call : AreSame t.nodes nodes → IsSound C t → IsUntouched C t now
+  untouched_call same sound =
+      record {
+        alike = same_call same sound;
+        root = refl;
+        nodes = record { look = same.each };
+        searches = record { search = λ s. refl };
       }
 
   enlarged_step : (p : Handle) (place : ℕ) (old key : C.Key) (child : Handle) → MayEnlarge C t p place old key child → IsChanged t.nodes nodes p (λ n. record n { body = Inner (slice_set (entries_of n.body) place (C.united old key, child)) }) → IsEnlarged (tree_of C t) (tree_of C now) p key

@@ -11,7 +11,7 @@ use Rattle.search_tree.specs.declared.fault.TreeFault.TheVariants.{NoSearch, Ove
 use Rattle.search_tree.specs.Trees.{PlainProgress, PlainTree, IsFirstOf, is_empty, SeenSearch, search_in, steps_in, tree_of, root_level}
 use Rattle.node_arena.specs.Slots.{taken_count, slot_count}
 use Rattle.node_arena.specs.declared.handle.Handle.{Handle}
-use Rattle.tree_theory.specs.Changes.{IsOpened, IsClosed, IsVisited, IsVisitedGone}
+use Rattle.tree_theory.specs.Changes.{IsOpened, IsClosed, IsVisited, IsVisitedGone, SameNodes, SameSearches}
 use Rattle.tree_theory.specs.Contents.{InContents, IsContents}
 use Rattle.tree_theory.specs.KeyClasses.{Class}
 use Rattle.tree_theory.specs.declared.TheConstants.{NODE_SIZE}
@@ -58,7 +58,7 @@ module _ (C : Class) where
     pub others_steps : (other : ℕ) → other ≢ search → steps_in u other ≡ steps_in t other
     pub step : IsOpened (tree_of C t) (tree_of C u) query
 
-  -- no search runs under the number. Nothing else changes, the nodes included
+  -- No search runs under the number. Nothing else changes, the nodes included, and where none ran nothing at all
   pub record IsShut (t u : PlainTree C.Key C.Query C.Item) (search : ℕ) : Type 0 where
     pub gone : search_in u search ≡ None
     pub others : (other : ℕ) → other ≢ search → search_in u other ≡ search_in t other
@@ -69,6 +69,7 @@ module _ (C : Class) where
     pub others_begun : (other : ℕ) → other ≢ search → begun_in u other ≡ begun_in t other
     pub others_steps : (other : ℕ) → other ≢ search → steps_in u other ≡ steps_in t other
     pub step : IsClosed (tree_of C t) (tree_of C u) search
+    pub nothing : search_in t search ≡ None → u ≡ t
 
   -- where the search is ready, it has found every pair of the tree that it looks for
   abbrev pub IsComplete : PlainTree C.Key C.Query C.Item → ℕ → List (ℕ × C.Item) → Type 0
@@ -83,6 +84,14 @@ module _ (C : Class) where
     pub running : u.running ≡ t.running
     pub contents : SameContents t u
     pub counts : SameCounts t u
+
+  -- The tree is as it was, but for the memory that it has at hand: the same to all who call, and no node has changed,
+  -- nor what any search has before it
+  pub record IsUntouched (t u : PlainTree C.Key C.Query C.Item) : Type 0 where
+    pub alike : IsAlike t u
+    pub root : u.root ≡ t.root
+    pub nodes : SameNodes (tree_of C t) (tree_of C u)
+    pub searches : SameSearches (tree_of C t) (tree_of C u)
 
   -- the search takes the last node from its stack, with its memo, and sees it or finds it gone, as the theory has it
   pub record SeesNode (t u : PlainTree C.Key C.Query C.Item) (search : ℕ) : Type 0 where
@@ -138,4 +147,4 @@ pub data IsVisit (C : Class) (t u : PlainTree C.Key C.Query C.Item) (search : �
   was_ready : IsReadyIn t search → u ≡ t → IsVisit C t u search (Ok Ready)
   overruns : IsOverrun t search → IsShut C t u search → IsVisit C t u search (Err Overrun)
   goes_on : (visit : Visit) → IsUnderWay t search → IsFurther C t u search (is_ready visit) → IsVisit C t u search (Ok visit)
-  wants_memory : (refusal : Refused) → IsUnderWay t search → IsAlike C t u → IsVisit C t u search (Err (Memory refusal))
+  wants_memory : (refusal : Refused) → IsUnderWay t search → IsUntouched C t u → IsVisit C t u search (Err (Memory refusal))

@@ -1,5 +1,5 @@
 -- What is due at a node, and which of it tending does: the first case that holds.
-use Rattle.std.specs.Prelude.{◌≡◌, ◌⊎◌, ◌<◌, ℕ, true, false, List, [], Contains, Some, Result, Ok, Err}
+use Rattle.std.specs.Prelude.{◌≡◌, ◌⊎◌, ◌<◌, ℕ, true, false, [], Contains, Some, Result, Ok, Err}
 use Rattle.node_arena.specs.Slots.{value_at}
 use Rattle.node_arena.specs.declared.handle.Handle.{Handle}
 use Rattle.search_tree.specs.Tends.{MayFree}

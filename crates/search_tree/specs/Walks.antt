@@ -65,7 +65,7 @@ pub record MoreAttached (C : Class) (searches : List ℕ) (old new : Slots (Node
   pub forth : (h : Handle) (node : Node C) → value_at old h ≡ Some node → (now : Node C) × (value_at new h ≡ Some now) × HasMore searches node now
 
 module _ (C : Class) (t : PlainTree C.Key C.Query C.Item) where
-  -- a leaf with room may take the pair: its entry covers the item, and no search that has seen it looks for the item
+  -- a leaf with room may take the pair: its entry covers the item, and no search that is done with it looks for the item
   pub record MayPlace (at : Handle) (pair : ℕ × C.Item) : Type 0 where
     pub node : Node C
     pub is : value_at t.nodes at ≡ Some node
@@ -133,14 +133,22 @@ module _ (C : Class) (t : PlainTree C.Key C.Query C.Item) where
     pub beside : (right : Handle) → marked_right (value_at t.nodes child) ≡ Some right → (s : ℕ) → Contains searches s → Done (tree_of C u) s right
     pub others : (h : Handle) → h ≢ child → marked_right (value_at t.nodes child) ≢ Some h → value_at u.nodes h ≡ value_at t.nodes h
 
+  -- Memory was wanted before that was done: at most the right node of a marked child has them attached. Of it nothing
+  -- else changes but who is attached, and no other node changes
+  pub record HasJoinedInPart (u : PlainTree C.Key C.Query C.Item) (child : Handle) (searches : List ℕ) : Type 0 where
+    pub only_nodes : u ≡ record t { nodes = u.nodes }
+    pub more : MoreAttached C searches t.nodes u.nodes
+    pub alike : IsAlike C t u
+    pub others : (h : Handle) → marked_right (value_at t.nodes child) ≢ Some h → value_at u.nodes h ≡ value_at t.nodes h
+
   -- the entry of p that has this key and names the child has the union of the key with another one
   pub record HasEnlarged (u : PlainTree C.Key C.Query C.Item) (p : Handle) (old key : C.Key) (child : Handle) : Type 0 where
     pub step : IsEnlarged (tree_of C t) (tree_of C u) p key
     pub old_is : step.old ≡ old
     pub child_is : step.child ≡ child
 
--- The searches that have seen the node and that the entry's wider key leads on, but not the old one, are attached to
--- the child, and where it is marked to its right node. Then the entry has the union of its key with the item's.
+-- The searches that are done with the node and that the entry's wider key leads on, but not the old one, are attached
+-- to the child, and where it is marked to its right node. Then the entry has the union of its key with the item's.
 pub record HasDescended (C : Class) (t u : PlainTree C.Key C.Query C.Item) (at child : Handle) (old key : C.Key) : Type 0 where
   pub node : Node C
   pub is : value_at t.nodes at ≡ Some node
@@ -149,3 +157,11 @@ pub record HasDescended (C : Class) (t u : PlainTree C.Key C.Query C.Item) (at c
   pub mid : PlainTree C.Key C.Query C.Item
   pub joined : HasJoinedBelow C t mid child led
   pub enlarged : HasEnlarged C mid u at old key child
+
+-- memory was wanted before these searches were all attached, and the entry is as it was
+pub record HasBegunDescent (C : Class) (t u : PlainTree C.Key C.Query C.Item) (at child : Handle) (old key : C.Key) : Type 0 where
+  pub node : Node C
+  pub is : value_at t.nodes at ≡ Some node
+  pub led : List ℕ
+  pub are_led : AreLed C t.running old (C.united old key) node.attached led
+  pub joined : HasJoinedInPart C t u child led

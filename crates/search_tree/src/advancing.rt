@@ -27,7 +27,7 @@ pub(crate) struct Arrival {
 impl<C: KeyClass, A: Allocator + Copy> Tree<C, A> {
     /// One step of a walk. Placed is answered where its pair is in the tree then: no search that is ready looks for it. Where other nodes have to be parted or to get their entries first, one of them is, and the answer is Split or Installed.
     ///
-    /// A walk whose pair is placed is answered Placed again, and makes no step. S7 where it has made all its steps. S3 where a search that is done with the leaf (it has seen it, or has passed it over), and so would miss the pair, looks for it: the walk goes on once that search is closed. S4 where fewer slots are free than a split or the root's growth wants, else S5 where the root would stand too high, S6 where the counter is at its end, S8 where there is no memory. A step that is refused is not counted, and changes nothing; only where there is no memory, nothing that callers see.
+    /// A walk whose pair is placed is answered Placed again, and makes no step. S7 where it has made all its steps. S3 where a search that is done with the leaf (it has seen it, or has passed it over), and so would miss the pair, looks for it: the walk goes on once that search is closed. S4 where fewer slots are free than a split or the root's growth wants, else S5 where the root would stand too high, S6 where the counter is at its end, S8 where there is no memory. A step that is refused is not counted, and changes nothing; only where there is no memory, nothing but the memory at hand and who is attached to a right node.
     pub fn advance(&mut self, walk: &mut Walk<C::Item>) -> Result<Step, TreeFault>
         ensures step { IsAdvance (class_of C.covered C.may_match C.is_match C.key_with C.united) self.old self.new walk.old walk.new result }
         ensures first { MayWalk self.old.limit walk.old → TakesStep (class_of C.covered C.may_match C.is_match C.key_with C.united) self.old self.new walk.old.at walk.new.at C.growth C.second_growth (walk.old.key, walk.old.item) result }
@@ -38,13 +38,9 @@ impl<C: KeyClass, A: Allocator + Copy> Tree<C, A> {
         if self.step_limit() <= walk.steps() {
             return Err(TreeFault::Overrun);
         }
-        match self.make_step(walk.at(), walk.key(), walk.item()) {
-            Ok(arrival) => {
-                walk.count(arrival.step, arrival.at);
-                Ok(arrival.step)
-            }
-            Err(fault) => Err(fault),
-        }
+        let arrival = self.make_step(walk.at(), walk.key(), walk.item())?;
+        walk.count(arrival.step, arrival.at);
+        Ok(arrival.step)
     }
 
     // Does what is next for a walk of this pair that stands here.
@@ -60,13 +56,13 @@ impl<C: KeyClass, A: Allocator + Copy> Tree<C, A> {
                 step: Step::Moved,
                 at: parent,
             }),
-            Next::Descend(way) => match self.descend(&way, C::key_of(item)) {
-                Ok(()) => Ok(Arrival {
+            Next::Descend(way) => {
+                self.descend(&way, C::key_of(item))?;
+                Ok(Arrival {
                     step: Step::Moved,
                     at: way.child,
-                }),
-                Err(refused) => Err(TreeFault::Memory(refused)),
-            },
+                })
+            }
             Next::Hold(number) => Err(TreeFault::Held(number)),
             Next::Place => {
                 self.place(at, key, item);
@@ -100,30 +96,28 @@ impl<C: KeyClass, A: Allocator + Copy> Tree<C, A> {
         ensures made { Makes (class_of C.covered C.may_match C.is_match C.key_with C.united) self.old self.new at (place_in at result) room.now (answer_in result) }
     {
         match room {
-            Room::Install(entry) => match self.next_count() {
-                Ok(seq) => {
-                    self.install(entry, seq);
-                    Ok(Arrival {
-                        step: Step::Installed,
-                        at,
-                    })
-                }
-                Err(fault) => Err(fault),
-            },
-            Room::Split(node) => match self.split(*node) {
-                Ok(right) => Ok(Arrival {
+            Room::Install(entry) => {
+                let seq = self.next_count()?;
+                self.install(entry, seq);
+                Ok(Arrival {
+                    step: Step::Installed,
+                    at,
+                })
+            }
+            Room::Split(node) => {
+                let right = self.split(*node)?;
+                Ok(Arrival {
                     step: Step::Split,
                     at: right,
-                }),
-                Err(fault) => Err(fault),
-            },
-            Room::Grow => match self.grow() {
-                Ok(()) => Ok(Arrival {
+                })
+            }
+            Room::Grow => {
+                self.grow()?;
+                Ok(Arrival {
                     step: Step::Split,
                     at,
-                }),
-                Err(fault) => Err(fault),
-            },
+                })
+            }
             Room::Behind(_) | Room::Nothing => unreachable!(),
         }
     }

@@ -1,10 +1,9 @@
 //! What a walk reads before it goes down: the searches that a wider key leads to a child, and the child's right node.
 
-ghost use Rattle.std.specs.Prelude.{◌≡◌, ◌≤◌, false, IsTrue, OnOk, OnErr, length};
+ghost use Rattle.std.specs.Prelude.{◌≡◌, ◌≤◌, false, IsTrue, length};
 ghost use Rattle.node_arena.specs.Slots.{value_at};
-ghost use Rattle.predicate_locks.specs.declared.TheConstants.{MAX_ROOM, MAX_RUNNING};
-ghost use Rattle.search_tree.specs.Calls.{IsAlike};
-ghost use Rattle.search_tree.specs.Walks.{AreLed, MayJoinBelow, marked_right as right_of_marked};
+ghost use Rattle.predicate_locks.specs.declared.TheConstants.{MAX_RUNNING};
+ghost use Rattle.search_tree.specs.Walks.{AreLed, marked_right as right_of_marked};
 ghost use Rattle.tree_theory.specs.KeyClasses.{class_of};
 ghost use Rattle.tree_theory.specs.Nodes.{is_marked as has_mark};
 

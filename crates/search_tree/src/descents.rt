@@ -2,9 +2,9 @@
 
 ghost use Rattle.std.specs.Prelude.{◌≡◌, ◌≤◌, Some, OnOk, OnErr, length};
 ghost use Rattle.node_arena.specs.Slots.{value_at};
-ghost use Rattle.predicate_locks.specs.declared.TheConstants.{MAX_ROOM, MAX_RUNNING};
+ghost use Rattle.predicate_locks.specs.declared.TheConstants.{MAX_RUNNING};
 ghost use Rattle.search_tree.specs.Calls.{IsAlike};
-ghost use Rattle.search_tree.specs.Walks.{AreLed, HasDescended, MayDescend};
+ghost use Rattle.search_tree.specs.Walks.{AreLed, HasBegunDescent, HasDescended, MayDescend};
 ghost use Rattle.tree_theory.specs.KeyClasses.{class_of};
 ghost use Rattle.tree_theory.specs.Nodes.{PlainNode};
 
@@ -27,11 +27,12 @@ pub(crate) struct WayDown<K> {
 }
 
 impl<C: KeyClass, A: Allocator + Copy> Tree<C, A> {
-    // Makes the key of an entry its union with an item's key. Before, the searches that have seen the parent and that only the union leads on join the child. Where there is no memory some of them may have joined the child's right node; no caller can tell.
+    // Makes the key of an entry its union with an item's key. Before, the searches that are done with the parent and that only the union leads on join the child. Where there is no memory they may have joined the child's right node, and nothing else has changed.
     pub(crate) fn descend(&mut self, way: &WayDown<C::Key>, key: C::Key) -> Result<(), Refused>
         requires { MayDescend (class_of C.covered C.may_match C.is_match C.key_with C.united) self.old way.now key }
         ensures ok { OnOk result (IsAlike (class_of C.covered C.may_match C.is_match C.key_with C.united) self.old self.new) }
         ensures step { OnOk result (HasDescended (class_of C.covered C.may_match C.is_match C.key_with C.united) self.old self.new way.now.parent way.now.child way.now.key key) }
+        ensures begun { OnErr result (HasBegunDescent (class_of C.covered C.may_match C.is_match C.key_with C.united) self.old self.new way.now.parent way.now.child way.now.key key) }
         ensures err { OnErr result (IsAlike (class_of C.covered C.may_match C.is_match C.key_with C.united) self.old self.new) }
     {
         let led = self.led_by(way, C::union(way.key, key));
@@ -40,7 +41,7 @@ impl<C: KeyClass, A: Allocator + Copy> Tree<C, A> {
         Ok(())
     }
 
-    // The searches that have seen the parent, and that the wider key would lead on to the child.
+    // The searches that are done with the parent, and that the wider key would lead on to the child.
     fn led_by(&self, way: &WayDown<C::Key>, wider: C::Key) -> ArrayVec<u64, MAX_RUNNING>
         ensures led { (node : PlainNode C.Key C.Item) → value_at self.now.nodes way.now.parent ≡ Some node → AreLed (class_of C.covered C.may_match C.is_match C.key_with C.united) self.now.running way.now.key wider node.attached result.items }
         ensures few { length result.items ≤ MAX_RUNNING }

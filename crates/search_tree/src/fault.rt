@@ -1,9 +1,11 @@
 //! Why a tree refuses a step.
 
 ghost use Rattle.std.specs.Prelude.{◌≡◌, Some};
+ghost use Rattle.memory.specs.Refused.{refused};
 ghost use Rattle.search_tree.specs.Faults.{code_of};
 
 use memory::Refused;
+use predicate_locks::LockFault;
 use std::fmt;
 
 /// Why a tree refuses a step. A refused step is not counted, and changes nothing that callers see; S7 alone ends its own search, and
@@ -63,4 +65,14 @@ impl fmt::Display for TreeFault {
     fn fmt<W: fmt::Write>(&self, f: &mut fmt::Formatter<W>) -> fmt::Result {
         f.write_str(self.code())
     }
+}
+
+/// What was refused where `predicate_locks` found no memory, which is all that it refuses here.
+pub(crate) fn refusal_in(fault: LockFault) -> Refused
+    requires { fault ≡ LockFault.Memory refused }
+{
+    let LockFault::Memory(refusal) = fault else {
+        unreachable!();
+    };
+    refusal
 }

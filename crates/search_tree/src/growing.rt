@@ -6,7 +6,7 @@ ghost use Rattle.node_arena.specs.Slots.{value_at, taken_count, HasRoomFor};
 ghost use Rattle.node_arena.specs.declared.TheConstants.{MAX_SLOTS};
 ghost use Rattle.search_tree.specs.Arenas.{AreSame};
 ghost use Rattle.search_tree.specs.Bodies.{plain_body};
-ghost use Rattle.search_tree.specs.Calls.{IsAlike};
+ghost use Rattle.search_tree.specs.Calls.{IsUntouched};
 ghost use Rattle.search_tree.specs.Splitting.{HasGrown, HasMoreNodes, HasPutBelow, IsFullRoot, IsLower, MayGrow, MayRise, below};
 ghost use Rattle.search_tree.specs.Trees.{level_of, root_level};
 ghost use Rattle.tree_theory.specs.KeyClasses.{class_of};
@@ -37,7 +37,7 @@ struct Lower<K, I, A: Allocator> {
 impl<C: KeyClass, A: Allocator + Copy> Tree<C, A> {
     // Gives the full root two new nodes, which have a part each of what it had and the searches attached to it. It has their entries, one level higher.
     //
-    // S4 where fewer than two slots more can be taken, else S5 where the root stands at the highest level, and then nothing has changed. Else S8 where there is no memory, and then nothing has changed but the room.
+    // S4 where fewer than two slots more can be taken, else S5 where the root stands at the highest level, and then nothing has changed. Else S8 where there is no memory, and then nothing has changed but the memory at hand.
     pub(crate) fn grow(&mut self) -> Result<(), TreeFault>
         requires { MayGrow (class_of C.covered C.may_match C.is_match C.key_with C.united) self.old }
         ensures ok { OnOk result (HasMoreNodes (class_of C.covered C.may_match C.is_match C.key_with C.united) self.old self.new 2 1) }
@@ -46,7 +46,7 @@ impl<C: KeyClass, A: Allocator + Copy> Tree<C, A> {
         ensures too_high { (result ≡ Err TreeFault.TooHigh) ↔ ((taken_count self.old.nodes + 2 ≤ MAX_SLOTS) × (root_level self.old ≡ TOP_LEVEL)) }
         ensures untouched { (result ≡ Err TreeFault.Full) ⊎ (result ≡ Err TreeFault.TooHigh) → self.new ≡ self.old }
         ensures faults { IfErr result (λ fault. (fault ≡ TreeFault.TooHigh) ⊎ (fault ≡ TreeFault.Full) ⊎ (fault ≡ TreeFault.Memory refused)) }
-        ensures err { OnErr result (IsAlike (class_of C.covered C.may_match C.is_match C.key_with C.united) self.old self.new) }
+        ensures err { OnErr result (IsUntouched (class_of C.covered C.may_match C.is_match C.key_with C.united) self.old self.new) }
     {
         grow_in::<C, A>(&mut self.nodes, self.alloc, self.root, self.counter)
     }
@@ -73,13 +73,9 @@ fn grow_in<C: KeyClass, A: Allocator + Copy>(
     if level_at(nodes, root) == TOP_LEVEL {
         return Err(TreeFault::TooHigh);
     }
-    if let Err(fault) = make_slots(nodes, 2) {
-        return Err(fault);
-    }
-    match grow_root::<C, A>(nodes, alloc, root, seq) {
-        Ok(()) => Ok(()),
-        Err(refused) => Err(TreeFault::Memory(refused)),
-    }
+    make_slots(nodes, 2)?;
+    grow_root::<C, A>(nodes, alloc, root, seq)?;
+    Ok(())
 }
 
 // The level of a node, and 0 where none stands there.

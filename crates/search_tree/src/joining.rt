@@ -4,7 +4,7 @@ ghost use Rattle.std.specs.Prelude.{◌≡◌, ◌≤◌, Some, OnOk, OnErr, len
 ghost use Rattle.node_arena.specs.Slots.{value_at};
 ghost use Rattle.predicate_locks.specs.declared.TheConstants.{MAX_ROOM};
 ghost use Rattle.search_tree.specs.Calls.{IsAlike};
-ghost use Rattle.search_tree.specs.Walks.{MayJoinAll, HasEnlarged, HasJoined, MayJoinBelow, HasJoinedBelow, MayEnlarge, marked_right as right_of_marked};
+ghost use Rattle.search_tree.specs.Walks.{MayJoinAll, HasEnlarged, HasJoined, HasJoinedInPart, MayJoinBelow, HasJoinedBelow, MayEnlarge, marked_right as right_of_marked};
 ghost use Rattle.tree_theory.specs.KeyClasses.{class_of};
 
 use crate::descending::marked_right;
@@ -21,18 +21,18 @@ impl<C: KeyClass, A: Allocator + Copy> Tree<C, A> {
         requires may { MayJoinAll (class_of C.covered C.may_match C.is_match C.key_with C.united) self.old at searches.now }
         requires few { length searches.now ≤ MAX_ROOM }
         ensures ok { OnOk result (HasJoined (class_of C.covered C.may_match C.is_match C.key_with C.united) self.old self.new at searches.now) }
-        ensures err { OnErr result (IsAlike (class_of C.covered C.may_match C.is_match C.key_with C.united) self.old self.new) }
+        ensures err { OnErr result (HasJoinedInPart (class_of C.covered C.may_match C.is_match C.key_with C.united) self.old self.new at searches.now) }
     {
         attach_all(&mut self.nodes, &self.running, at, searches)?;
         Ok(())
     }
 
-    // Attaches searches to a child whose entry does not lead them on, and to its right node first where the child is marked. Where there is no memory the right node may have got them already; no caller can tell.
+    // Attaches searches to a child whose entry does not lead them on, and to its right node first where the child is marked. Where there is no memory the right node may have got them already.
     pub(crate) fn join_below(&mut self, child: Handle, searches: &[u64]) -> Result<(), Refused>
         requires may { MayJoinBelow (class_of C.covered C.may_match C.is_match C.key_with C.united) self.old child searches.now }
         requires few { length searches.now ≤ MAX_ROOM }
         ensures ok { OnOk result (HasJoinedBelow (class_of C.covered C.may_match C.is_match C.key_with C.united) self.old self.new child searches.now) }
-        ensures err { OnErr result (IsAlike (class_of C.covered C.may_match C.is_match C.key_with C.united) self.old self.new) }
+        ensures err { OnErr result (HasJoinedInPart (class_of C.covered C.may_match C.is_match C.key_with C.united) self.old self.new child searches.now) }
     {
         match marked_right(&self.nodes, child) {
             Some(right) => self.join_both(child, right, searches),
@@ -46,7 +46,7 @@ impl<C: KeyClass, A: Allocator + Copy> Tree<C, A> {
         requires leads { right_of_marked (value_at self.old.nodes child) ≡ Some right }
         requires few { length searches.now ≤ MAX_ROOM }
         ensures ok { OnOk result (HasJoinedBelow (class_of C.covered C.may_match C.is_match C.key_with C.united) self.old self.new child searches.now) }
-        ensures err { OnErr result (IsAlike (class_of C.covered C.may_match C.is_match C.key_with C.united) self.old self.new) }
+        ensures err { OnErr result (HasJoinedInPart (class_of C.covered C.may_match C.is_match C.key_with C.united) self.old self.new child searches.now) }
     {
         attach_all(&mut self.nodes, &self.running, right, searches)?;
         attach_all(&mut self.nodes, &self.running, child, searches)?;

@@ -1,6 +1,6 @@
 //! What tending finds to do at a node. Nothing here changes anything.
 
-ghost use Rattle.std.specs.Prelude.{◌≡◌, ◌↔◌, ◌<◌, ℕ, false, List, [], None, Some, Contains, IsTrue, IsSome, IfSome, IfNone, slice_get};
+ghost use Rattle.std.specs.Prelude.{◌≡◌, ◌↔◌, ◌<◌, ℕ, false, [], None, Some, IsTrue, IsSome, IfSome, IfNone, slice_get};
 ghost use Rattle.tree_theory.specs.Nodes.PlainBody.{Leaf};
 ghost use Rattle.node_arena.specs.declared.handle.Handle.{Handle};
 ghost use Rattle.node_arena.specs.Slots.{value_at};

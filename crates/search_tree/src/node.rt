@@ -1,6 +1,6 @@
 //! A node of the tree.
 
-ghost use Rattle.std.specs.Prelude.{◌≡◌, ◌↔◌, ◌∷◌, ◌++◌, ◌+◌, ◌<◌, ◌≤◌, [], ℕ, None, Some, false, IsTrue, IsSome, IfOk, OnOk, OnErr, filter, length, map, slice_get, slice_set, remove};
+ghost use Rattle.std.specs.Prelude.{◌≡◌, ◌∷◌, ◌++◌, ◌+◌, ◌<◌, ◌≤◌, [], None, Some, false, IsTrue, IfOk, OnOk, OnErr, filter, length, map, slice_get, slice_set, remove};
 ghost use Rattle.node_arena.specs.declared.handle.Handle.{Handle};
 ghost use Rattle.predicate_locks.specs.Numbers.{with_number, with_numbers};
 ghost use Rattle.predicate_locks.specs.Searches.{does_run};
@@ -13,10 +13,11 @@ ghost use Rattle.search_tree.specs.Splitting.{below, left_of, right_of};
 ghost use Rattle.search_tree.specs.Trees.{IsLeaf, IsInner, first_leaf};
 
 use crate::entries::{Entries, Pairs};
+use crate::fault::refusal_in;
 use crate::keeper::Keeper;
 use memory::Refused;
 use node_arena::Handle;
-use predicate_locks::{Attached, LockFault, Running};
+use predicate_locks::{Attached, Running};
 use std::alloc::Allocator;
 use std::marker::Model;
 use tree_theory::{NODE_SIZE, Place};
@@ -104,7 +105,7 @@ impl<K: Copy, I: Copy, A: Allocator> TreeNode<K, I, A> {
         self.place
     }
 
-    /// The searches that have seen it.
+    /// The searches that are done with it: they have seen it, or have passed it over.
     pub fn attached(&self) -> &Attached<A>
         ensures { result.now.numbers ≡ self.now.attached }
     {
@@ -328,8 +329,7 @@ impl<K: Copy, I: Copy, A: Allocator> TreeNode<K, I, A> {
                 self.attached.prune(running);
                 Ok(())
             }
-            Err(LockFault::Memory(refused)) => Err(refused),
-            Err(_) => unreachable!(),
+            Err(fault) => Err(refusal_in(fault)),
         }
     }
 
@@ -350,8 +350,7 @@ impl<K: Copy, I: Copy, A: Allocator> TreeNode<K, I, A> {
                 self.attached.prune(running);
                 Ok(())
             }
-            Err(LockFault::Memory(refused)) => Err(refused),
-            Err(_) => unreachable!(),
+            Err(fault) => Err(refusal_in(fault)),
         }
     }
 }
@@ -374,7 +373,6 @@ fn same_numbers<A: Allocator + Copy>(attached: &Attached<A>) -> Result<Attached<
 {
     match attached.copy() {
         Ok(copy) => Ok(copy),
-        Err(LockFault::Memory(refused)) => Err(refused),
-        Err(_) => unreachable!(),
+        Err(fault) => Err(refusal_in(fault)),
     }
 }

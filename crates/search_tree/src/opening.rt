@@ -1,6 +1,6 @@
 //! Searches begin and end.
 
-ghost use Rattle.std.specs.Prelude.{◌≡◌, ◌≢◌, ◌↔◌, ◌⊎◌, ◌<◌, ◌+◌, ◌==◌, ℕ, [], true, false, not, filter, length, None, Some, Err, is_some, IfOk, IfErr, IfSome, IfNone, OnErr};
+ghost use Rattle.std.specs.Prelude.{◌≡◌, ◌≢◌, ◌↔◌, ◌⊎◌, ◌<◌, ◌+◌, ◌==◌, [], not, filter, length, None, Some, Err, IfOk, IfErr, IfSome, IfNone, OnErr};
 ghost use Rattle.memory.specs.Refused.{refused};
 ghost use Rattle.predicate_locks.specs.Searches.{last_number};
 ghost use Rattle.predicate_locks.specs.declared.TheConstants.{MAX_RUNNING};
@@ -45,7 +45,7 @@ impl<C: KeyClass, A: Allocator + Copy> Tree<C, A> {
 }
 
 impl<C: KeyClass, A: Allocator> Tree<C, A> {
-    /// Ends a search. Where none runs under the number nothing happens.
+    /// Ends a search. Where none runs under the number nothing changes.
     pub fn close_search(&mut self, search: u64)
         ensures { IsShut (class_of C.covered C.may_match C.is_match C.key_with C.united) self.old self.new search }
     {

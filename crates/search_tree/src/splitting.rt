@@ -6,25 +6,26 @@ ghost use Rattle.node_arena.specs.Slots.{value_at, taken_count, HasRoomFor, IsGi
 ghost use Rattle.node_arena.specs.declared.TheConstants.{MAX_SLOTS, MOST_RESERVED};
 ghost use Rattle.node_arena.specs.declared.handle.Handle.{Handle};
 ghost use Rattle.search_tree.specs.Arenas.{AreSame};
-ghost use Rattle.search_tree.specs.Calls.{IsAlike};
+ghost use Rattle.search_tree.specs.Calls.{IsUntouched};
 ghost use Rattle.search_tree.specs.Splitting.{HasMoreNodes, HasSplit, IsFullLinked, IsPutOver, MaySplit, MoreTaken};
 ghost use Rattle.search_tree.specs.Walks.{marked_right as right_of_marked};
 ghost use Rattle.tree_theory.specs.KeyClasses.{class_of};
 
 use crate::fault::TreeFault;
 use crate::halves::{Halves, shared_out};
+use crate::needs::parent_of;
 use crate::node::TreeNode;
 use crate::setters::{Nodes, adopt, leave_left};
 use crate::tree::Tree;
 use memory::{Refused, copied};
 use node_arena::{Arena, ArenaFault, Handle};
 use std::alloc::Allocator;
-use tree_theory::{KeyClass, Place};
+use tree_theory::KeyClass;
 
 impl<C: KeyClass, A: Allocator + Copy> Tree<C, A> {
     // Splits a full node that is linked and not marked, and answers its new right node. The right node has a part of what the node had, its number, its rightlink and its attached searches; no entry names it yet. The node is marked, and leads to it.
     //
-    // S4 where no slot more can be taken, and then nothing has changed. S8 where there is no memory, and then nothing has changed but the room.
+    // S4 where no slot more can be taken, and then nothing has changed. S8 where there is no memory, and then nothing has changed but the memory at hand.
     pub(crate) fn split(&mut self, at: Handle) -> Result<Handle, TreeFault>
         requires { MaySplit (class_of C.covered C.may_match C.is_match C.key_with C.united) self.old at }
         ensures ok { OnOk result (HasMoreNodes (class_of C.covered C.may_match C.is_match C.key_with C.united) self.old self.new 1 0) }
@@ -33,7 +34,7 @@ impl<C: KeyClass, A: Allocator + Copy> Tree<C, A> {
         ensures full { (result ≡ Err TreeFault.Full) ↔ (MAX_SLOTS < taken_count self.old.nodes + 1) }
         ensures faults { IfErr result (λ fault. (fault ≡ TreeFault.Full) ⊎ (fault ≡ TreeFault.Memory refused)) }
         ensures untouched { result ≡ Err TreeFault.Full → self.new ≡ self.old }
-        ensures err { OnErr result (IsAlike (class_of C.covered C.may_match C.is_match C.key_with C.united) self.old self.new) }
+        ensures err { OnErr result (IsUntouched (class_of C.covered C.may_match C.is_match C.key_with C.united) self.old self.new) }
     {
         split_in::<C, A>(&mut self.nodes, self.alloc, at)
     }
@@ -52,13 +53,9 @@ fn split_in<C: KeyClass, A: Allocator + Copy>(
     ensures untouched { result ≡ Err TreeFault.Full → nodes.new ≡ nodes.old }
     ensures err { OnErr result (AreSame nodes.old nodes.new) }
 {
-    if let Err(fault) = make_slots(nodes, 1) {
-        return Err(fault);
-    }
-    match split_node::<C, A>(nodes, alloc, at) {
-        Ok(right) => Ok(right),
-        Err(refused) => Err(TreeFault::Memory(refused)),
-    }
+    make_slots(nodes, 1)?;
+    let right = split_node::<C, A>(nodes, alloc, at)?;
+    Ok(right)
 }
 
 // Makes room for so many more nodes. S4 where fewer than so many more slots can be taken, S8 where there is no memory for them.
@@ -95,24 +92,15 @@ fn split_node<C: KeyClass, A: Allocator + Copy>(
     let Some(node) = nodes.get(at) else {
         unreachable!();
     };
-    let parent = parent_of(node.place());
+    let Some(parent) = parent_of(node.place(), false) else {
+        unreachable!();
+    };
     let Halves { left, right } = shared_out::<C, A>(node, alloc)?;
     let right = node.right_half(at, right)?;
     let moved = copied(alloc, right.children())?;
     let right = put_over(nodes, right, &moved);
     leave_left(nodes, at, parent, right, left);
     Ok(right)
-}
-
-// The parent of what is linked.
-fn parent_of(place: Place) -> Handle
-    requires { (parent : Handle) × (place ≡ Place.Linked parent false) }
-    ensures { place ≡ Place.Linked result false }
-{
-    let Place::Linked { parent, .. } = place else {
-        unreachable!();
-    };
-    parent
 }
 
 // Puts a node in over these children, where there is room for one node more.

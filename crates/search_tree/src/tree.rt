@@ -6,17 +6,17 @@ ghost use Rattle.node_arena.specs.Slots.{slot_count, taken_count, IsGiven, Count
 ghost use Rattle.search_tree.specs.Trees.{IsFirst};
 ghost use Rattle.tree_theory.specs.KeyClasses.{class_of};
 
-use crate::fault::TreeFault;
+use crate::fault::{TreeFault, refusal_in};
 use crate::node::TreeNode;
 use crate::progress::Progress;
 use memory::Refused;
 use node_arena::{Arena, ArenaFault, Handle};
-use predicate_locks::{LockFault, Running};
+use predicate_locks::Running;
 use std::alloc::Allocator;
 use std::marker::Model;
 use tree_theory::KeyClass;
 
-/// How many steps a search or a walk makes at most.
+/// The highest limit of the steps that a search or a walk makes, and that of a tree which is told no other.
 pub const MAX_STEPS: u64 = 1_000_000;
 
 /// An index of items under keys of the class `C`, in which searches and walks go on at the same time, step by step.
@@ -30,7 +30,7 @@ pub struct Tree<C: KeyClass, A: Allocator> {
     pub(crate) running: Running<C::Query, A>,
     // How far each running search has come.
     pub(crate) progress: Vec<Progress<C::Item, A>, A>,
-    // How many steps a search or a walk makes at most.
+    // How many steps each of its searches and walks makes at most: no more than `MAX_STEPS`.
     pub(crate) limit: u64,
 }
 
@@ -112,8 +112,7 @@ fn no_searches<Q: Copy, A: Allocator>(alloc: A, first: u64) -> Result<Running<Q,
 {
     match Running::new(alloc, first) {
         Ok(running) => Ok(running),
-        Err(LockFault::Memory(refused)) => Err(refused),
-        Err(_) => unreachable!(),
+        Err(fault) => Err(refusal_in(fault)),
     }
 }
 

@@ -3,7 +3,7 @@
 ghost use Rattle.std.specs.Prelude.{◌≡◌, ◌≢◌, ◌++◌, ◌+◌, ◌<◌, ◌≤◌, [], IfOk, OnOk, OnErr, length};
 ghost use Rattle.predicate_locks.specs.Searches.{last_number};
 ghost use Rattle.search_tree.specs.Arenas.{AreSame};
-ghost use Rattle.search_tree.specs.Calls.{IsAlike, IsFurther, IsVisit, MayStep, is_ready};
+ghost use Rattle.search_tree.specs.Calls.{IsFurther, IsUntouched, IsVisit, MayStep, is_ready};
 ghost use Rattle.search_tree.specs.States.{IsState};
 ghost use Rattle.search_tree.specs.Trees.{HasVisitRoom, SameButRoom, is_empty};
 ghost use Rattle.search_tree.specs.Visits.{HasChildren, HasMatching, HasSeen, HasVisited};
@@ -39,7 +39,7 @@ pub(crate) enum State {
 impl<C: KeyClass, A: Allocator + Copy> Tree<C, A> {
     /// One step of a search: it sees one node. Ready is answered where it has then seen all there is; from then on until it is closed, `found` has every pair of the tree whose item matches its query.
     ///
-    /// S1 where no search runs under the number. A search that is ready is answered Ready again, and makes no step. S7 where it has made all its steps: then it ends. S8 where there is no memory; then nothing has changed that callers see.
+    /// S1 where no search runs under the number. A search that is ready is answered Ready again, and makes no step. S7 where it has made all its steps: then it ends. S8 where there is no memory; then nothing has changed, the search's stack and the nodes included, but the memory at hand.
     pub fn visit(&mut self, search: u64) -> Result<Visit, TreeFault>
         ensures { IsVisit (class_of C.covered C.may_match C.is_match C.key_with C.united) self.old self.new search result }
     {
@@ -50,10 +50,10 @@ impl<C: KeyClass, A: Allocator + Copy> Tree<C, A> {
                 self.close_search(search);
                 Err(TreeFault::Overrun)
             }
-            State::Waits(at) => match self.visit_at(at, search) {
-                Ok(visit) => Ok(visit),
-                Err(refused) => Err(TreeFault::Memory(refused)),
-            },
+            State::Waits(at) => {
+                let visit = self.visit_at(at, search)?;
+                Ok(visit)
+            }
         }
     }
 
@@ -75,7 +75,7 @@ impl<C: KeyClass, A: Allocator + Copy> Tree<C, A> {
         State::Waits(at)
     }
 
-    // How many steps a search makes at most.
+    // How many steps each search, and each walk, makes at most.
     pub(crate) fn step_limit(&self) -> u64
         ensures { result ≡ self.now.limit }
     {
@@ -86,7 +86,7 @@ impl<C: KeyClass, A: Allocator + Copy> Tree<C, A> {
     fn visit_at(&mut self, at: usize, search: u64) -> Result<Visit, Refused>
         requires { MayStep self.old search at }
         ensures ok { IfOk result (λ visit. IsFurther (class_of C.covered C.may_match C.is_match C.key_with C.united) self.old self.new search (is_ready visit)) }
-        ensures err { OnErr result (IsAlike (class_of C.covered C.may_match C.is_match C.key_with C.united) self.old self.new) }
+        ensures err { OnErr result (IsUntouched (class_of C.covered C.may_match C.is_match C.key_with C.united) self.old self.new) }
     {
         let Some(query) = self.running.query(search) else {
             unreachable!();

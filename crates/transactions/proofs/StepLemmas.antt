@@ -71,7 +71,7 @@ module _ (w : WorldData) (t u : Index) (number : ℕ) (s : Search) where
     after_visit _ (overruns over shut) = (waiting over.waits, over, serves_shut w t u number s h way is shut)
     after_visit _ (goes_on visits.More under further) = serves_more w t u number s h is further
     after_visit _ (goes_on visits.Ready under further) = let after = serves_ready w t u number s h is further in (λ r. apart r after.0, λ u. after.1)
-    after_visit _ (wants_memory refusal under alike) = (waiting under.waits, serves_alike w t u h alike.contents alike.searches alike.running alike.counts.limit)
+    after_visit _ (wants_memory refusal under untouched) = let alike = untouched.alike in (waiting under.waits, serves_alike w t u h alike.contents alike.searches alike.running alike.counts.limit)
 
 -- what happens at a visit, where the search is admitted
 pub visit_happens : (seat number : ℕ) (w new : WorldData) (s : Search) (reply : Reply) → may_go_on seat number w ≡ Ok s → Visits s w new reply → Happens (VisitNext seat number) w new reply

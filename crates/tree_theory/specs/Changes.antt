@@ -172,8 +172,8 @@ module _ {C : Class} where
     pub searches : SameSearches t u
     pub clock : SameClock t u
 
-  -- the key of an entry of p becomes its union with another key. Each search that has seen p and that the
-  -- union is consistent with has seen the child, or was led to it by the old key
+  -- the key of an entry of p becomes its union with another key. Each search that is done with p and that the
+  -- union is consistent with is done with the child, or was led to it by the old key
   pub record IsEnlarged (t u : Tree C) (p : Handle) (key : C.Key) : Type 0 where
     pub node : Node C
     pub entries : List (C.Key × Handle)

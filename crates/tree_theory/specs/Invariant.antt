@@ -78,10 +78,10 @@ module _ {C : Class} where
     pub cover : (p : Handle) (parent : Node C) → t.look p ≡ Some parent → (key : C.Key) (c : Handle) → Contains (entries_of parent.body) (key, c) → (node : Node C) → t.look c ≡ Some node → CoversBody C key node.body
     pub cover_marked : (p : Handle) (parent : Node C) → t.look p ≡ Some parent → (key : C.Key) (c : Handle) → Contains (entries_of parent.body) (key, c) → (node : Node C) → t.look c ≡ Some node → IsTrue (is_marked node.place) → (r : Handle) (right : Node C) → node.right ≡ Some r → t.look r ≡ Some right → CoversBody C key right.body
 
-  -- what a running search has seen or will come to, and the clock
+  -- what a running search is done with or will come to, and the clock
   pub record Searches (t : Tree C) : Type 0 where
     pub search_root : (s : ℕ) (search : Search C) → t.searches s ≡ Some search → Owed t s search t.root
-    -- where it has seen a node, the children of consistent entries are done or owed, and so is the right
+    -- where it is done with a node, the children of consistent entries are done or owed, and so is the right
     -- node of a marked one; it has found what matches
     pub search_child : (s : ℕ) (search : Search C) → t.searches s ≡ Some search → (p : Handle) (node : Node C) → t.look p ≡ Some node → Contains node.attached s → (key : C.Key) (c : Handle) → Contains (entries_of node.body) (key, c) → C.Consistent key search.query → Owed t s search c
     pub search_mark : (s : ℕ) (search : Search C) → t.searches s ≡ Some search → (l : Handle) (node : Node C) → t.look l ≡ Some node → Contains node.attached s → IsTrue (is_marked node.place) → (r : Handle) → node.right ≡ Some r → Owed t s search r

@@ -24,12 +24,13 @@ module _ {C : Class} where
     pub on_stack : Contains stack (from, memo)
     pub leads : Leads t memo last from
 
-  -- the search with this number is attached to the node: it has seen what the node has
+  -- the search with this number is attached to the node: it is done with it, since it has seen what the node has, or
+  -- has nothing to look for there that it has not found or will come to
   pub record Done (t : Tree C) (s : ℕ) (h : Handle) : Type 0 where
     pub node : Node C
     pub is : t.look h ≡ Some node
     pub attached : Contains node.attached s
 
-  -- the search has seen the node, or will come to it
+  -- the search is done with the node, or will come to it
   abbrev pub Owed : Tree C → ℕ → Search C → Handle → Type 0
   Owed t s search h = Done t s h ⊎ StackLeads t search.stack h

@@ -1,5 +1,6 @@
 use Rattle.std.proofs.Common.{refl, sym, ◌∙◌, arith}
 use Rattle.std.proofs.lemmas.Bool.{false≢true}
+use Rattle.std.proofs.lemmas.Result.{err_from_is_err_and}
 use Rattle.search_tree.specs.Advances.IsAdvance.{was_placed, overruns, goes_on, is_refused}
 use Rattle.search_tree.proofs.tree.Tree.advance.Goals as goal
 
@@ -20,18 +21,16 @@ returns-then-step_limit-steps-clause-first g c = λ may.
     let left = may.left in
     absurd (omega (arith, c.step_limit.ensures, c.steps.ensures, spent, left))
 
-pub returns-in-Ok-clause-step : goal.returns-in-Ok-clause-step
-returns-in-Ok-clause-step g c =
+pub returns-clause-step : goal.returns-clause-step
+returns-clause-step g c =
     let left = c.if-step_limit-steps.false in
-    goes_on c.in-Ok.arrival.step (record { waits = sym c.placed.ensures ∙ c.if-placed.false; left = omega (arith, c.step_limit.ensures, c.steps.ensures, left) }) c.count.ensures.step (rw (c.key.ensures, c.item.ensures) at c.in-Ok.ensures.ok)
+    goes_on c.in_ok-arrival.arrival.step (record { waits = sym c.placed.ensures ∙ c.if-placed.false; left = omega (arith, c.step_limit.ensures, c.steps.ensures, left) }) c.count.ensures.step (rw (c.key.ensures, c.item.ensures) at c.in_ok-arrival.ensures.ok)
 
-pub returns-in-Ok-clause-first : goal.returns-in-Ok-clause-first
-returns-in-Ok-clause-first g c = λ may. rw c.count.ensures.at (rw (c.at.ensures, c.key.ensures, c.item.ensures) at c.in-Ok.ensures.first)
+pub returns-clause-first : goal.returns-clause-first
+returns-clause-first g c = λ may. rw c.count.ensures.at (rw (c.at.ensures, c.key.ensures, c.item.ensures) at c.in_ok-arrival.ensures.first)
 
-pub returns-in-Err-clause-step : goal.returns-in-Err-clause-step
-returns-in-Err-clause-step g c =
+pub returns-in_err-arrival-clause-step : goal.returns-in_err-arrival-clause-step
+returns-in_err-arrival-clause-step g c =
     let left = c.if-step_limit-steps.false in
-    is_refused c.in-Err.fault (record { waits = sym c.placed.ensures ∙ c.if-placed.false; left = omega (arith, c.step_limit.ensures, c.steps.ensures, left) }) (rw c.item.ensures at c.in-Err.ensures.err) c.in-Err.ensures.alike refl
-
-pub returns-in-Err-clause-first : goal.returns-in-Err-clause-first
-returns-in-Err-clause-first g c = λ may. rw (c.at.ensures, c.key.ensures, c.item.ensures) at c.in-Err.ensures.first
+    let p = err_from_is_err_and c.from_residual.result c.from_residual.ensures.1 in
+    rw (p.1, p.2) (is_refused c.in_err-arrival.field-0.0 (record { waits = sym c.placed.ensures ∙ c.if-placed.false; left = omega (arith, c.step_limit.ensures, c.steps.ensures, left) }) (rw c.item.ensures at c.in_err-arrival.ensures.err) c.in_err-arrival.ensures.alike refl)

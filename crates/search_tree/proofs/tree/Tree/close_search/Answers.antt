@@ -6,4 +6,4 @@ pub invariant_of-self : goal.invariant_of-self
 invariant_of-self g c = rw c.drop_progress.ensures (closed_sound _ _ c.self.invariant c.leave.ensures.left)
 
 pub returns : goal.returns
-returns g c = rw (← c.self.view_is, c.drop_progress.ensures) (closed_call _ _ c.self.invariant c.leave.ensures.left (λ ran. c.leave.ensures.count (c.leave.ensures.ran ∙ ran)))
+returns g c = rw (← c.self.view_is, c.drop_progress.ensures) (closed_call _ _ c.self.invariant c.leave.ensures.left (λ ran. c.leave.ensures.count (c.leave.ensures.ran ∙ ran)) (λ rests. c.leave.ensures.none (c.leave.ensures.ran ∙ rests)))

@@ -1,13 +1,14 @@
 use Rattle.tree_theory.specs.KeyClasses.{Laws, class_of}
+use Rattle.search_tree.proofs.DescentLemmas.{joined_none}
 use Rattle.search_tree.proofs.VisitCalls.{on_err}
-use Rattle.search_tree.proofs.WalkSteps.{joined_sound, joined_call, same_sound, same_call}
+use Rattle.search_tree.proofs.WalkSteps.{joined_sound, joined_call, same_sound}
 use Rattle.search_tree.proofs.tree.Tree.join.Goals as goal
 
 pub invariant_of-self : goal.invariant_of-self
 invariant_of-self g c = same_sound _ _ _ c.in_err-attach_all.ensures.err c.self.invariant
 
 pub returns-in_err-attach_all-clause-err : goal.returns-in_err-attach_all-clause-err
-returns-in_err-attach_all-clause-err g c = rw (← c.self.view_is) (on_err c.from_residual.result _ (same_call _ _ _ c.in_err-attach_all.ensures.err c.self.invariant))
+returns-in_err-attach_all-clause-err g c = rw (← c.self.view_is) (on_err c.from_residual.result _ (joined_none _ _ _ c.args.at c.args.searches.now c.in_err-attach_all.ensures.err c.self.invariant))
 
 pub invariant_of-self-2 : goal.invariant_of-self-2
 invariant_of-self-2 g c =

@@ -1,4 +1,5 @@
 use Rattle.std.proofs.Common.{refl}
+use Rattle.std.proofs.lemmas.Result.{err_from_is_err_and}
 use Rattle.tree_theory.specs.KeyClasses.{class_of}
 use Rattle.search_tree.specs.Cases.TakesStep.{begins_anew, climbs, descends, is_held, places, wants_memory}
 use Rattle.search_tree.proofs.AdvanceLemmas.{if_ok, makes_room}
@@ -13,11 +14,13 @@ returns-in-Restart-clause-first g c = rw c.restart.ensures.step (begins_anew c.i
 pub returns-in-Climb-clause-first : goal.returns-in-Climb-clause-first
 returns-in-Climb-clause-first g c = climbs c.in-Climb.ensures.first refl
 
-pub returns-in-Ok-clause-first : goal.returns-in-Ok-clause-first
-returns-in-Ok-clause-first g c = descends c.in-Descend.ensures.first.1 (rw (c.in-Descend.ensures.first.0, c.key_of.ensures) at c.in-Ok.ensures.step)
+pub returns-in_ok-descend-in-Descend-clause-first : goal.returns-in_ok-descend-in-Descend-clause-first
+returns-in_ok-descend-in-Descend-clause-first g c = descends c.in-Descend.ensures.first.1 (rw (c.in-Descend.ensures.first.0, c.key_of.ensures) at c.in_ok-descend-in-Descend.ensures.step)
 
-pub returns-in-Err-clause-first : goal.returns-in-Err-clause-first
-returns-in-Err-clause-first g c = wants_memory c.in-Descend.ensures.first.1
+pub returns-in_err-descend-in-Descend-clause-first : goal.returns-in_err-descend-in-Descend-clause-first
+returns-in_err-descend-in-Descend-clause-first g c =
+    let p = err_from_is_err_and c.from_residual.result c.from_residual.ensures.1 in
+    rw (p.1, p.2) (wants_memory c.in-Descend.ensures.first.1 (rw (c.in-Descend.ensures.first.0, c.key_of.ensures) at c.in_err-descend-in-Descend.ensures.begun))
 
 pub returns-in-Hold-clause-first : goal.returns-in-Hold-clause-first
 returns-in-Hold-clause-first g c = is_held c.in-Hold.ensures.first.1 c.in-Hold.ensures.first.2 refl
