@@ -16,12 +16,11 @@ ghost use Rattle.plain_world.specs.Staging.{next_placement, staged_in, with_step
 use crate::denials::denial_for;
 use crate::faults::Fault;
 use crate::outcomes::Outcome;
-use crate::searching::want_of;
 use crate::staging::{Transaction, end, place_in, stage_in, staged_in};
 use crate::worlds::PlainWorld;
 use audit_trail::{Deed, Judgement, Record, Refusal, judge};
 use combining::Question;
-use features::{Change, StoreFault, Subject};
+use features::{Change, Subject};
 use memory::{GrowVec, Refused, copied};
 use plane::Shape;
 use std::alloc::Allocator;
@@ -120,18 +119,12 @@ impl<A: Allocator + Copy> PlainWorld<A> {
         requires below { length self.old.trail < self.old.limits.records }
         ensures { UnlessMemory self.old self.new (reply_of Ended result) (TurnsAway seat number subject changes.items (judgements.Refused refusal.now question.now) self.old self.new (reply_of Ended result)) }
     {
-        let entry = turned_away(seat, subject, changes, refusal);
-        match self.trail.prepare(entry) {
-            Err(fault) => Err(Fault::Memory(want_of(fault))),
-            Ok(shared) => match denial_for(&self.decider, &refusal.cause, question) {
-                Err(want) => Err(Fault::Memory(want)),
-                Ok(denial) => {
-                    self.trail.put(shared);
-                    end(&mut self.transactions, number);
-                    Ok(Outcome::Refused(*refusal, denial))
-                }
-            },
-        }
+        let told = turned_away(seat, subject, changes, refusal);
+        let entry = self.trail.prepare(told)?;
+        let denial = denial_for(&self.decider, &refusal.cause, question)?;
+        self.trail.put(entry);
+        end(&mut self.transactions, number);
+        Ok(Outcome::Refused(*refusal, denial))
     }
 
     /// Applies a transaction's list as a whole, and ends it.
@@ -156,20 +149,13 @@ impl<A: Allocator + Copy> PlainWorld<A> {
         }
         let version = self.version + 1;
         let office = subject.office;
-        let entry = applied(self.alloc, seat, subject, version, changes.as_slice())?;
-        match self.trail.prepare(entry) {
-            Err(fault) => Err(Fault::Memory(want_of(fault))),
-            Ok(shared) => match self.store.apply(version, office, changes.as_slice()) {
-                Err(StoreFault::Full) => Err(Fault::StoreFull),
-                Err(StoreFault::Memory(refusal)) => Err(Fault::Memory(refusal)),
-                Ok(()) => {
-                    self.version = version;
-                    self.trail.put(shared);
-                    end(&mut self.transactions, number);
-                    Ok(Outcome::Applied(version))
-                }
-            },
-        }
+        let told = applied(self.alloc, seat, subject, version, changes.as_slice())?;
+        let entry = self.trail.prepare(told)?;
+        self.store.apply(version, office, changes.as_slice())?;
+        self.version = version;
+        self.trail.put(entry);
+        end(&mut self.transactions, number);
+        Ok(Outcome::Applied(version))
     }
 }
 
