@@ -1,6 +1,9 @@
 //! Where a world's numbers start, and its limits.
 
-/// Where the numbers of a world start. In a world that `open` gives, searches and editions start at 1, all else at 0.
+use audit_trail::RECORD_LIMIT;
+use features::FEATURE_LIMIT;
+
+/// Where the numbers of a world start.
 #[derive(Clone, Copy, Debug, PartialEq, Eq)]
 pub struct Starts {
     /// The generation at which each slot of the index starts.
@@ -17,6 +20,18 @@ pub struct Starts {
     pub rolled: u32,
 }
 
+impl Starts {
+    /// Of a world with nothing before it: searches and editions start at 1, all else at 0.
+    pub const FIRST: Starts = Starts {
+        generation: 0,
+        counter: 0,
+        search: 1,
+        version: 0,
+        edition: 1,
+        rolled: 0,
+    };
+}
+
 /// The limits of a world.
 #[derive(Clone, Copy, Debug, PartialEq, Eq)]
 pub struct Limits {
@@ -26,6 +41,15 @@ pub struct Limits {
     pub records: u32,
     /// The features.
     pub features: u32,
+}
+
+impl Limits {
+    /// The greatest that a world may have.
+    pub const GREATEST: Limits = Limits {
+        steps: STEP_LIMIT,
+        records: RECORD_LIMIT,
+        features: FEATURE_LIMIT as u32,
+    };
 }
 
 /// How many seats are given in the life of a world.
