@@ -1,7 +1,8 @@
 //! Where a world's numbers start, and its limits.
 
-use audit_trail::RECORD_LIMIT;
+use audit_trail::{FIRST_LIMIT, RECORD_LIMIT};
 use features::FEATURE_LIMIT;
+use search_tree::MAX_STEPS;
 
 /// Where the numbers of a world start.
 #[derive(Clone, Copy, Debug, PartialEq, Eq)]
@@ -65,7 +66,7 @@ pub const TRANSACTION_LIMIT: usize = 64;
 pub const CHANGE_LIMIT: usize = 16;
 
 /// How many steps a search or a walk makes at most.
-pub const STEP_LIMIT: u32 = 1_000_000;
+pub const STEP_LIMIT: u32 = MAX_STEPS as u32;
 
 /// How many records may be rolled out in the life of a world, so that each number fits.
-pub const ROLLED_LIMIT: u32 = 4_293_918_719;
+pub const ROLLED_LIMIT: u32 = FIRST_LIMIT - 1;
