@@ -1,5 +1,6 @@
 -- What is accepted can be applied.
 use Rattle.std.proofs.Common.{◌≡◌, ◌≢◌, ℕ, ◌+◌, List, [], ◌∷◌, ◌++◌, Option, None, Some, IsSome, MatchOption, refl, sym}
+use Rattle.std.specs.Option.{option_or}
 use Rattle.features.specs.declared.actors.Subject.{Subject}
 use Rattle.features.specs.declared.rows.Change.{Change}
 use Rattle.features.specs.declared.rows.Change.TheVariants.{Add, Reshape, Delete}
@@ -9,9 +10,9 @@ use Rattle.features.specs.Rows.{feature_with}
 use Rattle.policy_text.specs.Documents.{DocumentData}
 use Rattle.audit_trail.specs.declared.causes.Objection.{Objection}
 use Rattle.audit_trail.specs.declared.causes.Judgement.TheVariants.{Accepted}
-use Rattle.audit_trail.specs.Judging.{in_use, or_else, refused_for, Objects, JudgedFrom, AreDistinct}
+use Rattle.audit_trail.specs.Judging.{in_use, refused_for, Objects, JudgedFrom, AreDistinct}
 
-nothing_later : (first later : Option Objection) → None ≡ or_else first later → later ≡ None
+nothing_later : (first later : Option Objection) → None ≡ option_or first later → later ≡ None
 nothing_later None later e = sym e
 nothing_later (Some o) later e = absurd cc
 

@@ -1,5 +1,6 @@
 -- Lists of changes are judged in one way; what is accepted can be applied; denials are founded.
 use Rattle.std.proofs.Common.{◌≡◌, ℕ, ◌+◌, ◌==◌, Bool, true, false, if◌then◌else◌, List, [], ◌∷◌, Option, None, Some, MatchOption, refl, sym, ap, subst, ◌∙◌}
+use Rattle.std.specs.Option.{option_or}
 use Rattle.features.specs.declared.actors.Subject.{Subject}
 use Rattle.features.specs.declared.rows.Change.{Change}
 use Rattle.features.specs.declared.rows.Change.TheVariants.{Add, Reshape, Delete}
@@ -15,7 +16,7 @@ use Rattle.decision.proofs.RulingLemmas.{Rules-one}
 use Rattle.audit_trail.specs.declared.causes.Cause.TheVariants.{Stale}
 use Rattle.audit_trail.specs.declared.causes.Objection.{Objection}
 use Rattle.audit_trail.specs.declared.causes.Judgement.{Judgement}
-use Rattle.audit_trail.specs.Judging.{denial, DenialOf, in_use, stale, or_else, refused_for, Objects, JudgedFrom, IsFounded, IsFoundedJudgement}
+use Rattle.audit_trail.specs.Judging.{denial, DenialOf, in_use, stale, refused_for, Objects, JudgedFrom, IsFounded, IsFoundedJudgement}
 
 -- a question is denied in one way
 DenialOf-one : (document : DocumentData) (question : Question) (a b : Option Objection) → DenialOf document question a → DenialOf document question b → a ≡ b
@@ -25,16 +26,16 @@ DenialOf-one document question a b first second =
 -- one thing stands against a change first
 pub Objects-one : (document : DocumentData) (subject : Subject) (change : Change) (present : Option Feature) (a b : Option Objection) → Objects document subject change present a → Objects document subject change present b → a ≡ b
 Objects-one document subject (Add id class shape) present a b first second =
-    first.2 ∙ ap (λ (denied : Option Objection). or_else denied (in_use present)) (DenialOf-one document _ first.0 second.0 first.1 second.1) ∙ sym second.2
+    first.2 ∙ ap (λ (denied : Option Objection). option_or denied (in_use present)) (DenialOf-one document _ first.0 second.0 first.1 second.1) ∙ sym second.2
 Objects-one document subject (Reshape id seen shape) None a b first second = first ∙ sym second
 Objects-one document subject (Reshape id seen shape) (Some feature) a b first second =
     first.4
-    ∙ ap (λ (denied : Option Objection). or_else denied (or_else first.1 (stale seen feature))) (DenialOf-one document _ first.0 second.0 first.2 second.2)
-    ∙ ap (λ (denied : Option Objection). or_else second.0 (or_else denied (stale seen feature))) (DenialOf-one document _ first.1 second.1 first.3 second.3)
+    ∙ ap (λ (denied : Option Objection). option_or denied (option_or first.1 (stale seen feature))) (DenialOf-one document _ first.0 second.0 first.2 second.2)
+    ∙ ap (λ (denied : Option Objection). option_or second.0 (option_or denied (stale seen feature))) (DenialOf-one document _ first.1 second.1 first.3 second.3)
     ∙ sym second.4
 Objects-one document subject (Delete id seen) None a b first second = first ∙ sym second
 Objects-one document subject (Delete id seen) (Some feature) a b first second =
-    first.2 ∙ ap (λ (denied : Option Objection). or_else denied (stale seen feature)) (DenialOf-one document _ first.0 second.0 first.1 second.1) ∙ sym second.2
+    first.2 ∙ ap (λ (denied : Option Objection). option_or denied (stale seen feature)) (DenialOf-one document _ first.0 second.0 first.1 second.1) ∙ sym second.2
 
 same_end : {P Q : Type 0} (number : ℕ) (a b : Judgement) → (P → Q → a ≡ b) → (o p : Option Objection) → o ≡ p
     → MatchOption o P (λ x. a ≡ refused_for number x) → MatchOption p Q (λ x. b ≡ refused_for number x) → a ≡ b
@@ -64,9 +65,9 @@ denial_founded document question NoneApplied rules = rules
 DenialOf_founded : (document : DocumentData) (question : Question) (o : Option Objection) → DenialOf document question o → IsFoundedObjection document o
 DenialOf_founded document question o h = subst (IsFoundedObjection document) (sym h.2) (denial_founded document question h.0 h.1)
 
-or_else_founded : (document : DocumentData) (first later : Option Objection) → IsFoundedObjection document first → IsFoundedObjection document later → IsFoundedObjection document (or_else first later)
-or_else_founded document None later h k = k
-or_else_founded document (Some o) later h k = h
+option_or_founded : (document : DocumentData) (first later : Option Objection) → IsFoundedObjection document first → IsFoundedObjection document later → IsFoundedObjection document (option_or first later)
+option_or_founded document None later h k = k
+option_or_founded document (Some o) later h k = h
 
 in_use_founded : (document : DocumentData) (present : Option Feature) → IsFoundedObjection document (in_use present)
 in_use_founded document None = tt
@@ -81,15 +82,15 @@ stale_founded document seen feature = go (seen == feature.version)
 
 pub Objects_founded : (document : DocumentData) (subject : Subject) (change : Change) (present : Option Feature) (o : Option Objection) → Objects document subject change present o → IsFoundedObjection document o
 Objects_founded document subject (Add id class shape) present o h =
-    subst (IsFoundedObjection document) (sym h.2) (or_else_founded document h.0 _ (DenialOf_founded document _ h.0 h.1) (in_use_founded document present))
+    subst (IsFoundedObjection document) (sym h.2) (option_or_founded document h.0 _ (DenialOf_founded document _ h.0 h.1) (in_use_founded document present))
 Objects_founded document subject (Reshape id seen shape) None o h = subst (IsFoundedObjection document) (sym h) refl
 Objects_founded document subject (Reshape id seen shape) (Some feature) o h =
     subst (IsFoundedObjection document) (sym h.4)
-    (or_else_founded document h.0 _ (DenialOf_founded document _ h.0 h.2)
-    (or_else_founded document h.1 _ (DenialOf_founded document _ h.1 h.3) (stale_founded document seen feature)))
+    (option_or_founded document h.0 _ (DenialOf_founded document _ h.0 h.2)
+    (option_or_founded document h.1 _ (DenialOf_founded document _ h.1 h.3) (stale_founded document seen feature)))
 Objects_founded document subject (Delete id seen) None o h = subst (IsFoundedObjection document) (sym h) refl
 Objects_founded document subject (Delete id seen) (Some feature) o h =
-    subst (IsFoundedObjection document) (sym h.2) (or_else_founded document h.0 _ (DenialOf_founded document _ h.0 h.1) (stale_founded document seen feature))
+    subst (IsFoundedObjection document) (sym h.2) (option_or_founded document h.0 _ (DenialOf_founded document _ h.0 h.1) (stale_founded document seen feature))
 
 founded_end : {P : Type 0} (document : DocumentData) (number : ℕ) (judgement : Judgement) → (P → IsFoundedJudgement document judgement) → (o : Option Objection)
     → IsFoundedObjection document o → MatchOption o P (λ x. judgement ≡ refused_for number x) → IsFoundedJudgement document judgement

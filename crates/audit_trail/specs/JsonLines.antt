@@ -4,6 +4,8 @@ use Rattle.serde_json.specs.Data.{Data, unsigned, null, number, string, array, o
 use Rattle.serde_json.specs.View.{items_of}
 use Rattle.serde_json.specs.Written.{compact_text}
 use Rattle.wkt.specs.Printing.{printed}
+use Rattle.plane.specs.declared.point.Point.{Point}
+use Rattle.features.specs.declared.actors.Subject.{Subject}
 use Rattle.features.specs.declared.rows.Change.{Change}
 use Rattle.features.specs.declared.rows.Change.TheVariants.{Add, Reshape, Delete}
 use Rattle.policy_text.specs.Documents.{IsDocument}
@@ -59,9 +61,12 @@ cause_fields Absent = (codes "cause", string (codes "absent")) ∷ []
 cause_fields (Stale current) = (codes "cause", string (codes "stale")) ∷ (codes "current", numeral current) ∷ []
 
 -- the versions of an answer's rows are not told
-abbrev pub deed_fields : DeedData → Fields
-deed_fields (answered subject window ids versions) =
+abbrev pub answer_fields : Subject → List Point → List ℕ → Fields
+answer_fields subject window ids =
     (codes "kind", string (codes "answered")) ∷ (codes "subject", string subject.name) ∷ (codes "window", string (printed window)) ∷ (codes "ids", numbers_data ids) ∷ []
+
+abbrev pub deed_fields : DeedData → Fields
+deed_fields (answered subject window ids versions) = answer_fields subject window ids
 deed_fields (applied subject version changes) =
     (codes "kind", string (codes "applied")) ∷ (codes "subject", string subject.name) ∷ (codes "version", numeral version) ∷ (codes "changes", changes_data changes) ∷ []
 deed_fields (turned_away subject changes refusal) =

@@ -1,5 +1,6 @@
 -- Which change of a list fails first, and why.
 use Rattle.std.specs.Prelude.{◌≡◌, ℕ, ◌+◌, ◌==◌, List, [], ◌∷◌, Option, None, Some, MatchOption, if◌then◌else◌}
+use Rattle.std.specs.Option.{option_or}
 use Rattle.plane.specs.declared.point.Point.{Point}
 use Rattle.features.specs.declared.actors.Action.TheVariants as actions
 use Rattle.features.specs.declared.actors.Subject.{Subject}
@@ -48,26 +49,22 @@ stale seen feature = if seen == feature.version then None else Some (record { ca
 abbrev pub absent : Option Objection
 absent = Some (record { cause = Absent; question = None })
 
-abbrev pub or_else : Option Objection → Option Objection → Option Objection
-or_else None later = later
-or_else (Some objection) later = Some objection
-
 -- What stands against a change, first things first, where the feature of its id is this one or absent. The question's owner
 -- is the subject's office where a feature is added, and the feature's office otherwise; its class is then the feature's.
 abbrev pub Objects : DocumentData → Subject → Change → Option Feature → Option Objection → Type 0
 Objects document subject (Add id class shape) present objection =
     (denied : Option Objection) × DenialOf document (question_on_new subject class shape) denied
-    × (objection ≡ or_else denied (in_use present))
+    × (objection ≡ option_or denied (in_use present))
 Objects document subject (Reshape id seen shape) None objection = objection ≡ absent
 Objects document subject (Reshape id seen shape) (Some feature) objection =
     (denied denied_new : Option Objection)
     × DenialOf document (question_on subject actions.Reshape feature feature.shape) denied
     × DenialOf document (question_on subject actions.Reshape feature shape) denied_new
-    × (objection ≡ or_else denied (or_else denied_new (stale seen feature)))
+    × (objection ≡ option_or denied (option_or denied_new (stale seen feature)))
 Objects document subject (Delete id seen) None objection = objection ≡ absent
 Objects document subject (Delete id seen) (Some feature) objection =
     (denied : Option Objection) × DenialOf document (question_on subject actions.Delete feature feature.shape) denied
-    × (objection ≡ or_else denied (stale seen feature))
+    × (objection ≡ option_or denied (stale seen feature))
 
 -- a list is refused for what stands against its change of this number
 abbrev pub refused_for : ℕ → Objection → Judgement

@@ -24,7 +24,7 @@ pub struct Refusal {
 
 /// What stands against a change: the cause, and for a denial the question that was denied.
 #[derive(Clone, Copy, Debug, PartialEq, Eq)]
-pub struct Objection {
+pub(crate) struct Objection {
     pub cause: Cause,
     pub question: Option<Question>,
 }

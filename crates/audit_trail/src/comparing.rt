@@ -2,10 +2,12 @@
 
 ghost use Rattle.std.specs.Prelude.{◌≡◌, ◌↔◌, IsTrue};
 ghost use Rattle.audit_trail.specs.Equality.{same_rule, same_cause, same_refusal, same_search, same_rows, same_list, same_deed};
+ghost use Rattle.audit_trail.specs.Records.{answered, applied, turned_away, governed};
 ghost use Rattle.audit_trail.specs.Views.{deed_view};
 
 use crate::causes::{Cause, Refusal};
 use crate::records::{Deed, Record};
+use decision::Decider;
 use features::{Change, Subject, same_changes};
 use plane::Shape;
 use std::alloc::Allocator;
@@ -44,47 +46,92 @@ fn same_deed<A: Allocator>(first: &Deed<A>, second: &Deed<A>) -> bool
             window,
             ids,
             versions,
-        } => match second {
-            Deed::Answered {
-                subject: other,
-                window: place,
-                ids: others,
-                versions: more,
-            } => same_search(subject, window, other, place)
-                && same_rows(ids, versions, others, more),
-            _ => false,
-        },
+        } => is_answer(second, subject, window, ids, versions),
         Deed::Applied {
             subject,
             version,
             changes,
-        } => match second {
-            Deed::Applied {
-                subject: other,
-                version: number,
-                changes: others,
-            } => same_list(subject, changes, other, others) && version == number,
-            _ => false,
-        },
+        } => is_applied_list(second, subject, *version, changes),
         Deed::Refused {
             subject,
             changes,
             refusal,
-        } => match second {
-            Deed::Refused {
-                subject: other,
-                changes: others,
-                refusal: why,
-            } => same_list(subject, changes, other, others) && same_refusal(refusal, why),
-            _ => false,
-        },
-        Deed::Governed { edition, decider } => match second {
-            Deed::Governed {
-                edition: number,
-                decider: other,
-            } => edition == number && **decider == **other,
-            _ => false,
-        },
+        } => is_refused_list(second, subject, changes, refusal),
+        Deed::Governed { edition, decider } => is_governing(second, *edition, decider),
+    }
+}
+
+/// Whether a deed is this answer to a search.
+fn is_answer<A: Allocator>(
+    deed: &Deed<A>,
+    subject: &Subject,
+    window: &Shape,
+    ids: &[u64],
+    versions: &[u64],
+) -> bool
+    ensures { result ≡ same_deed (answered subject.now window.now ids.now versions.now) (deed_view deed.now) }
+{
+    match deed {
+        Deed::Answered {
+            subject: other,
+            window: place,
+            ids: others,
+            versions: more,
+        } => {
+            same_search(subject, window, other, place) && same_rows(ids, versions, others, more)
+        }
+        _ => false,
+    }
+}
+
+/// Whether a deed is that this list was applied as this version.
+fn is_applied_list<A: Allocator>(
+    deed: &Deed<A>,
+    subject: &Subject,
+    version: u64,
+    changes: &[Change],
+) -> bool
+    ensures { result ≡ same_deed (applied subject.now version changes.now) (deed_view deed.now) }
+{
+    match deed {
+        Deed::Applied {
+            subject: other,
+            version: number,
+            changes: others,
+        } => same_list(subject, changes, other, others) && version == *number,
+        _ => false,
+    }
+}
+
+/// Whether a deed is that this list was turned away for this.
+fn is_refused_list<A: Allocator>(
+    deed: &Deed<A>,
+    subject: &Subject,
+    changes: &[Change],
+    refusal: &Refusal,
+) -> bool
+    ensures { result ≡ same_deed (turned_away subject.now changes.now refusal.now) (deed_view deed.now) }
+{
+    match deed {
+        Deed::Refused {
+            subject: other,
+            changes: others,
+            refusal: why,
+        } => same_list(subject, changes, other, others) && same_refusal(refusal, why),
+        _ => false,
+    }
+}
+
+/// Whether a deed is that this decider's document was put in force as this edition.
+fn is_governing<A: Allocator>(deed: &Deed<A>, edition: u64, decider: &Decider) -> bool
+    ensures { result ≡ same_deed (governed edition decider.now) (deed_view deed.now) }
+{
+    match deed {
+        Deed::Governed {
+            edition: number,
+            decider: other,
+        } => edition == *number && *decider == **other,
+        _ => false,
     }
 }
 

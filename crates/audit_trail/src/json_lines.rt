@@ -6,14 +6,15 @@ ghost use Rattle.memory.specs.Refused.{refused};
 ghost use Rattle.serde_json.specs.Data.{string, put as with_member};
 ghost use Rattle.serde_json.specs.View.{view, members_view};
 ghost use Rattle.wkt.specs.Printing.{printed};
-ghost use Rattle.audit_trail.specs.JsonLines.{with_fields, numeral, change_fields, change_data, changes_data, numbers_data, rule_data, cause_fields, deed_fields, line_of, line_text, lines_from, IsDocumented};
-ghost use Rattle.audit_trail.specs.Records.{record_at};
+ghost use Rattle.audit_trail.specs.JsonLines.{with_fields, numeral, change_fields, change_data, changes_data, numbers_data, rule_data, cause_fields, answer_fields, deed_fields, line_of, line_text, lines_from, IsDocumented};
+ghost use Rattle.audit_trail.specs.Records.{record_at, applied, turned_away, governed};
 ghost use Rattle.audit_trail.specs.Views.{deed_view};
 
 use crate::causes::{Cause, Refusal};
 use crate::records::{Deed, Record};
 use crate::trails::{FIRST_LIMIT, RECORD_LIMIT, Trail, TrailFault};
-use features::{Change, Name};
+use decision::Decider;
+use features::{Change, Name, Subject};
 use memory::{GrowVec, Refused, json_string, json_text, put_member, text};
 use plane::Shape;
 use policy_text::document_value;
@@ -103,43 +104,83 @@ fn put_deed<A: Allocator>(
             window,
             ids,
             ..
-        } => {
-            put_text(members, heap, "kind", "answered")?;
-            put_name(members, heap, "subject", &subject.name)?;
-            put_shape(members, heap, "window", window)?;
-            put_member(members, heap, "ids", numbers_value(heap, ids)?)
-        }
+        } => put_answer(members, heap, subject, window, ids),
         Deed::Applied {
             subject,
             version,
             changes,
-        } => {
-            put_text(members, heap, "kind", "applied")?;
-            put_name(members, heap, "subject", &subject.name)?;
-            put_member(members, heap, "version", Value::from(*version))?;
-            put_member(members, heap, "changes", changes_value(heap, changes)?)
-        }
+        } => put_applied_list(members, heap, subject, *version, changes),
         Deed::Refused {
             subject,
             changes,
             refusal,
-        } => {
-            put_text(members, heap, "kind", "refused")?;
-            put_name(members, heap, "subject", &subject.name)?;
-            put_member(members, heap, "changes", changes_value(heap, changes)?)?;
-            put_refusal(members, heap, refusal)
-        }
-        Deed::Governed { edition, decider } => {
-            put_text(members, heap, "kind", "governed")?;
-            put_member(members, heap, "edition", Value::from(*edition))?;
-            put_member(
-                members,
-                heap,
-                "document",
-                document_value(heap, decider.document())?,
-            )
-        }
+        } => put_refused_list(members, heap, subject, changes, refusal),
+        Deed::Governed { edition, decider } => put_governing(members, heap, *edition, decider),
     }
+}
+
+/// Puts what a search was answered: the ids of the rows, and not their versions.
+fn put_answer(
+    members: &mut Map<String, Value>,
+    heap: Global,
+    subject: &Subject,
+    window: &Shape,
+    ids: &[u64],
+) -> Result<(), Refused>
+    ensures { OnOk result (members_view members.new.entries ≡ with_fields (members_view members.old.entries) (answer_fields subject.now window.now ids.now)) }
+{
+    put_text(members, heap, "kind", "answered")?;
+    put_name(members, heap, "subject", &subject.name)?;
+    put_shape(members, heap, "window", window)?;
+    put_member(members, heap, "ids", numbers_value(heap, ids)?)
+}
+
+/// Puts which list was applied, and as which version.
+fn put_applied_list(
+    members: &mut Map<String, Value>,
+    heap: Global,
+    subject: &Subject,
+    version: u64,
+    changes: &[Change],
+) -> Result<(), Refused>
+    ensures { OnOk result (members_view members.new.entries ≡ with_fields (members_view members.old.entries) (deed_fields (applied subject.now version changes.now))) }
+{
+    put_text(members, heap, "kind", "applied")?;
+    put_name(members, heap, "subject", &subject.name)?;
+    put_member(members, heap, "version", Value::from(version))?;
+    put_member(members, heap, "changes", changes_value(heap, changes)?)
+}
+
+/// Puts which list was turned away, and why.
+fn put_refused_list(
+    members: &mut Map<String, Value>,
+    heap: Global,
+    subject: &Subject,
+    changes: &[Change],
+    refusal: &Refusal,
+) -> Result<(), Refused>
+    ensures { OnOk result (members_view members.new.entries ≡ with_fields (members_view members.old.entries) (deed_fields (turned_away subject.now changes.now refusal.now))) }
+{
+    put_text(members, heap, "kind", "refused")?;
+    put_name(members, heap, "subject", &subject.name)?;
+    put_member(members, heap, "changes", changes_value(heap, changes)?)?;
+    put_refusal(members, heap, refusal)
+}
+
+/// Puts which document was put in force, and as which edition.
+fn put_governing(
+    members: &mut Map<String, Value>,
+    heap: Global,
+    edition: u64,
+    decider: &Decider,
+) -> Result<(), Refused>
+    ensures fields { OnOk result (members_view members.new.entries ≡ with_fields (members_view members.old.entries) (deed_fields (governed edition decider.now))) }
+    ensures documented { OnOk result (IsDocumented (governed edition decider.now)) }
+{
+    put_text(members, heap, "kind", "governed")?;
+    put_member(members, heap, "edition", Value::from(edition))?;
+    let document = document_value(heap, decider.document())?;
+    put_member(members, heap, "document", document)
 }
 
 /// Puts which change fails, and why.

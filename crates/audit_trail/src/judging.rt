@@ -4,7 +4,7 @@ ghost use Rattle.std.specs.Prelude.{◌≡◌};
 ghost use Rattle.features.specs.Rows.{feature_with};
 ghost use Rattle.features.specs.Changes.{change_id};
 ghost use Rattle.audit_trail.specs.Listing.{question_on};
-ghost use Rattle.audit_trail.specs.Judging.{question_on_new, stale, or_else, DenialOf, Objects, JudgedFrom, IsFoundedJudgement};
+ghost use Rattle.audit_trail.specs.Judging.{question_on_new, stale, DenialOf, Objects, JudgedFrom, IsFoundedJudgement};
 
 use crate::causes::{Cause, Judgement, Objection, Refusal};
 use combining::Question;
@@ -84,17 +84,17 @@ fn objection_where_present(
     match change {
         Change::Add { class, shape, .. } => {
             let denied = denial(decider, &question_on_new(subject, class, shape));
-            or_else(denied, Some(in_use()))
+            denied.or(Some(in_use()))
         }
         Change::Reshape { version, shape, .. } => {
             let before = question_on(subject, Action::Reshape, feature, &feature.shape);
             let after = question_on(subject, Action::Reshape, feature, shape);
-            let later = or_else(denial(decider, &after), stale(*version, feature));
-            or_else(denial(decider, &before), later)
+            let later = denial(decider, &after).or(stale(*version, feature));
+            denial(decider, &before).or(later)
         }
         Change::Delete { version, .. } => {
             let question = question_on(subject, Action::Delete, feature, &feature.shape);
-            or_else(denial(decider, &question), stale(*version, feature))
+            denial(decider, &question).or(stale(*version, feature))
         }
     }
 }
@@ -171,14 +171,4 @@ fn stale(seen: u64, feature: &Feature) -> Option<Objection>
         cause: Cause::Stale(feature.version),
         question: None,
     })
-}
-
-/// The first objection, or the later one where there is no first.
-fn or_else(first: Option<Objection>, later: Option<Objection>) -> Option<Objection>
-    ensures { result ≡ or_else first later }
-{
-    match first {
-        Some(objection) => Some(objection),
-        None => later,
-    }
 }

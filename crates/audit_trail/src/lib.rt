@@ -9,7 +9,7 @@ mod laws;
 mod records;
 mod trails;
 
-pub use causes::{Cause, Judgement, Objection, Refusal};
+pub use causes::{Cause, Judgement, Refusal};
 pub use judging::judge;
 pub use laws::{answers_are_one, listings_are_shown_and_sorted, trails_join};
 pub use records::{Deed, Record};

@@ -150,25 +150,16 @@ impl<A: Allocator + Copy> Trail<A> {
         }
     }
 
-    /// Makes a record ready to be put at the end, and the room for it. `Full` exactly where the trail has as many
-    /// records as it may have, else `Memory` where a growth is refused.
-    pub fn prepare(&mut self, entry: Record<A>) -> Result<Arc<Record<A>, A>, TrailFault>
+    /// Makes a record ready to be put at the end of a trail that has fewer records than it may have, and the room for it.
+    pub fn prepare(&mut self, entry: Record<A>) -> Result<Arc<Record<A>, A>, Refused>
+        requires { length self.old.records < RECORD_LIMIT }
         ensures first { self.new.first ≡ self.old.first }
         ensures records { self.new.records ≡ self.old.records }
         ensures room { OnOk result (1 ≤ self.new.room) }
         ensures entry { IfOk result (λ shared. arc_value shared ≡ entry) }
-        ensures below { OnOk result (length self.old.records < RECORD_LIMIT) }
-        ensures full { (result ≡ Err TrailFault.Full) ↔ (RECORD_LIMIT ≤ length self.old.records) }
-        ensures memory { OnErr result (length self.old.records < RECORD_LIMIT → result ≡ Err (TrailFault.Memory refused)) }
     {
-        if self.len() >= RECORD_LIMIT {
-            return Err(TrailFault::Full);
-        }
         self.records.make_place()?;
-        match shared(self.alloc, entry) {
-            Ok(made) => Ok(made),
-            Err(failed) => Err(TrailFault::Memory(failed.refusal)),
-        }
+        Ok(shared(self.alloc, entry)?)
     }
 
     /// Puts a record at the end, for which there is room.

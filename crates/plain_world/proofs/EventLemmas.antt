@@ -1,5 +1,5 @@
 -- Events that are admitted, and do what they say.
-use Rattle.std.proofs.Common.{◌≡◌, ◌≢◌, ℕ, ◌+◌, ◌<◌, ◌==◌, nat_lt, Bool, true, false, List, length, Result, Ok, refl, subst, sym, arith}
+use Rattle.std.proofs.Common.{◌≡◌, ◌≢◌, ℕ, ◌+◌, ◌<◌, ◌==◌, nat_lt, Bool, true, false, List, length, Result, Ok, Err, IsErrAnd, refl, subst, sym, arith}
 use Rattle.std.specs.Bool.{MatchBool}
 use Rattle.std.proofs.lemmas.Bool.Decides.{nat_tests}
 use Rattle.features.specs.declared.actors.Subject.{Subject}
@@ -12,12 +12,18 @@ use Rattle.plain_world.specs.declared.faults.Fault.{Fault}
 use Rattle.plain_world.specs.declared.faults.Fault.TheVariants as faults
 use Rattle.plain_world.specs.declared.outcomes.Outcome.TheVariants as outcomes
 use Rattle.plain_world.specs.Admitting.{LAST}
-use Rattle.plain_world.specs.Events.{Reply, Ended, Refused, If, UnlessMemory, is_memory, Applies, Commits, recorded, without_transaction}
+use Rattle.plain_world.specs.Events.{Reply, Ended, Refused, reply_of, If, UnlessMemory, is_memory, Applies, Commits, recorded, without_transaction}
 use Rattle.plain_world.specs.Staging.{staged_in}
 use Rattle.plain_world.specs.States.{WorldData}
 
 pub admitted : {T : Type 0} (may : Result T Fault) (x : T) (old new : WorldData) (reply : Reply) (Does : T → Type 0) → may ≡ Ok x → Does x → If may old new reply Does
 admitted may x old new reply Does e h = subst (λ (r : Result _ Fault). If r old new reply Does) (sym e) h
+
+-- a refusal that is handed on
+pub handed_on : {T : Type 0} (gives : T → Reply) (result : Result T Fault) (fault : Fault) (old new : WorldData) (Does : Type 0) → IsErrAnd result (λ f. f ≡ fault)
+    → UnlessMemory old new (Refused fault) Does → UnlessMemory old new (reply_of gives result) Does
+handed_on gives (Ok x) fault old new Does h same = absurd h
+handed_on gives (Err f) fault old new Does h same = subst (λ (g : Fault). UnlessMemory old new (Refused g) Does) (sym h) same
 
 -- a list that is accepted, where more features would stand than may
 pub too_many : (seat number : ℕ) (subject : Subject) (changes : List Change) (old : WorldData) (count : ℕ) → old.state.version ≢ LAST → old.limits.features < count → count ≡ length (after (old.state.version + 1) subject.office changes old.state.features)

@@ -1,5 +1,5 @@
 -- Look-ups of the ids that were found: what they list is what the whole store lists.
-use Rattle.std.proofs.Common.{◌≡◌, ◌⊎◌, ℕ, zero, suc, ◌+◌, ◌<◌, ◌≤◌, List, [], ◌∷◌, map, length, All, AllPairs, Contains, slice_index_or, Option, Some, None, refl, sym, ap, subst, ◌∙◌, inl, inr, arith}
+use Rattle.std.proofs.Common.{◌≡◌, ◌⊎◌, ℕ, zero, suc, ◌<◌, List, [], ◌∷◌, map, length, All, AllPairs, Contains, slice_index_or, Option, Some, None, refl, sym, ap, subst, ◌∙◌, inl, inr, arith}
 use Rattle.std.specs.List.{cons_option, filter_map}
 use Rattle.std.specs.List.Sorted.{IsStrictlyIncreasing}
 use Rattle.std.proofs.lemmas.Bool.{cases_lt}
@@ -13,7 +13,7 @@ use Rattle.features.specs.declared.rows.Feature.{Feature}
 use Rattle.features.specs.Places.{IsLess, AreRising}
 use Rattle.features.specs.Rows.{feature_with, IsBelowAll, IsSortedById}
 use Rattle.policy_text.specs.Documents.{DocumentData}
-use Rattle.audit_trail.specs.Listing.{IsShown, IsListed}
+use Rattle.audit_trail.specs.Listing.{IsListed}
 use Rattle.plain_world.specs.Finding.{NamesAll, FindsAll}
 
 -- Ids that rise, by recursion.

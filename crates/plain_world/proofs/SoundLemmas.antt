@@ -1,8 +1,8 @@
 -- A sound world stays sound when a seat is given, and when a record is added.
-use Rattle.std.proofs.Common.{◌≡◌, ℕ, ◌<◌, ◌≤◌, List, [], ◌∷◌, ◌++◌, length, arith, length-append, ap, sym, subst, ◌∙◌}
+use Rattle.std.proofs.Common.{◌<◌, List, [], ◌∷◌, ◌++◌, length, arith, length-append, ap, sym, subst, ◌∙◌}
 use Rattle.features.specs.declared.actors.Subject.{Subject}
 use Rattle.audit_trail.proofs.LegalLemmas.{replay-append, legal-append, legal_seated}
-use Rattle.audit_trail.specs.Legal.{after_deed, replay, IsLegalDeed, IsLegal}
+use Rattle.audit_trail.specs.Legal.{after_deed, IsLegalDeed}
 use Rattle.audit_trail.specs.Records.{PlainState, RecordData}
 use Rattle.plain_world.specs.declared.settings.Limits.{Limits}
 use Rattle.plain_world.specs.declared.settings.TheConstants.{SEAT_LIMIT}

@@ -1,15 +1,16 @@
 -- Whether an event is admitted: its refusals, first things first.
-use Rattle.std.specs.Prelude.{ℕ, ◌+◌, ◌-◌, ◌==◌, nat_le, nat_lt, Bool, List, [], ◌∷◌, length, Option, None, Some, Result, Ok, Err, if◌then◌else◌}
+use Rattle.std.specs.Prelude.{ℕ, ◌+◌, ◌==◌, nat_le, nat_lt, Bool, List, [], ◌∷◌, length, Option, None, Some, Result, Ok, Err, if◌then◌else◌}
 use Rattle.features.specs.declared.actors.Subject.{Subject}
 use Rattle.features.specs.declared.rows.Change.{Change}
 use Rattle.features.specs.Changes.{change_id}
 use Rattle.features.specs.Subjects.{subject_named}
 use Rattle.audit_trail.specs.Legal.{subject_of}
+use Rattle.audit_trail.specs.declared.trails.TheConstants.{FIRST_LIMIT}
 use Rattle.plain_world.specs.declared.faults.Fault.{Fault}
 use Rattle.plain_world.specs.declared.faults.Fault.TheVariants.{NoSuch, NotYours, NotReady, NotPlaced, NamedTwice, TooManyChanges, NotSteward, Spent, Tree, TrailFull, NoSubject, NoPlace, TooMany}
 use Rattle.search_tree.specs.declared.fault.TreeFault.TheVariants as tree
 use Rattle.plain_world.specs.declared.searches.Search.{Search}
-use Rattle.plain_world.specs.declared.settings.TheConstants.{SEAT_LIMIT, SEARCH_LIMIT, TRANSACTION_LIMIT, CHANGE_LIMIT, ROLLED_LIMIT}
+use Rattle.plain_world.specs.declared.settings.TheConstants.{SEAT_LIMIT, SEARCH_LIMIT, TRANSACTION_LIMIT, CHANGE_LIMIT}
 use Rattle.plain_world.specs.Staging.{TransactionData, transaction_with, placements, names}
 use Rattle.plain_world.specs.States.{WorldData}
 
@@ -150,11 +151,11 @@ may_govern seat w =
     and_then (edition_left w) (λ _.
     and_then (may_record w) (λ _. Ok subject))))
 
--- how many records were rolled out, and how many are there, in all
-abbrev pub record_count : WorldData → ℕ
-record_count w = (w.first - 1) + length w.trail
+-- the number that the first record of the next trail would have
+abbrev pub next_first : WorldData → ℕ
+next_first w = w.first + length w.trail
 
 abbrev pub may_roll : ℕ → WorldData → Result (Unit {0}) Fault
 may_roll seat w =
     and_then (subject_at seat w) (λ subject.
-    and_then (stewarded subject) (λ _. refused_if (nat_lt ROLLED_LIMIT (record_count w)) Spent))
+    and_then (stewarded subject) (λ _. refused_if (nat_lt FIRST_LIMIT (next_first w)) Spent))

@@ -1,5 +1,5 @@
 -- What an event makes of a world, and what it answers.
-use Rattle.std.specs.Prelude.{◌≡◌, ℕ, ◌+◌, ◌==◌, Bool, true, false, not, List, [], ◌∷◌, ◌++◌, map, filter, length, nat_lt, Option, None, Some, MatchOption, Result, Ok, Err, if◌then◌else◌}
+use Rattle.std.specs.Prelude.{◌≡◌, ℕ, ◌+◌, ◌==◌, Bool, true, false, not, List, [], ◌∷◌, ◌++◌, map, filter, length, nat_lt, Some, MatchOption, Result, Ok, Err, if◌then◌else◌}
 use Rattle.std.specs.Bool.{MatchBool}
 use Rattle.plane.specs.declared.point.Point.{Point}
 use Rattle.plane.specs.Rows.{Meet}
@@ -14,10 +14,9 @@ use Rattle.audit_trail.specs.declared.causes.Judgement.TheVariants as judgements
 use Rattle.audit_trail.specs.Judging.{Judged}
 use Rattle.audit_trail.specs.Legal.{after_deed}
 use Rattle.audit_trail.specs.Listing.{Listed}
-use Rattle.audit_trail.specs.Records.{PlainState, DeedData, answered, applied, turned_away, governed, RecordData}
+use Rattle.audit_trail.specs.Records.{DeedData, answered, applied, turned_away, governed}
 use Rattle.plain_world.specs.declared.faults.Fault.{Fault}
 use Rattle.plain_world.specs.declared.faults.Fault.TheVariants as faults
-use Rattle.search_tree.specs.declared.fault.TreeFault.{TreeFault}
 use Rattle.search_tree.specs.declared.fault.TreeFault.TheVariants as tree
 use Rattle.plain_world.specs.declared.outcomes.Outcome.{Outcome}
 use Rattle.plain_world.specs.declared.outcomes.Outcome.TheVariants as outcomes

@@ -1,4 +1,5 @@
 pub mod FaultCodes
+pub mod StoreFaults
 pub mod Staging
 pub mod Answers
 pub mod States

@@ -1,8 +1,7 @@
 -- The plain state of a whole world.
-use Rattle.std.specs.Prelude.{◌≡◌, ◌≢◌, ℕ, ◌<◌, ◌≤◌, ◌+◌, List, [], length, All, AllPairs}
+use Rattle.std.specs.Prelude.{◌≡◌, ℕ, ◌≤◌, ◌+◌, List, [], length}
 use Rattle.features.specs.declared.actors.Subject.{Subject}
 use Rattle.decision.specs.Deciders.{DeciderData}
-use Rattle.audit_trail.specs.Judging.{AreDistinct}
 use Rattle.audit_trail.specs.Legal.{replay, IsLegal}
 use Rattle.audit_trail.specs.Records.{PlainState, RecordData}
 use Rattle.audit_trail.specs.declared.trails.TheConstants.{RECORD_LIMIT}
@@ -10,8 +9,8 @@ use Rattle.features.specs.declared.tables.TheConstants.{FEATURE_LIMIT}
 use Rattle.plain_world.specs.declared.searches.Search.{Search}
 use Rattle.plain_world.specs.declared.settings.Limits.{Limits}
 use Rattle.plain_world.specs.declared.settings.Starts.{Starts}
-use Rattle.plain_world.specs.declared.settings.TheConstants.{SEAT_LIMIT, SEARCH_LIMIT, TRANSACTION_LIMIT, CHANGE_LIMIT}
-use Rattle.plain_world.specs.Staging.{TransactionData, placements}
+use Rattle.plain_world.specs.declared.settings.TheConstants.{SEAT_LIMIT}
+use Rattle.plain_world.specs.Staging.{TransactionData}
 
 pub record WorldData : Type 0 where
   -- what it was opened with

@@ -8,7 +8,7 @@ ghost use Rattle.plain_world.specs.Staging.{TransactionData, transaction_with};
 
 use crate::faults::Fault;
 use crate::searches::Search;
-use crate::settings::{CHANGE_LIMIT, ROLLED_LIMIT, SEARCH_LIMIT, SEAT_LIMIT, TRANSACTION_LIMIT};
+use crate::settings::{CHANGE_LIMIT, SEARCH_LIMIT, SEAT_LIMIT, TRANSACTION_LIMIT};
 use crate::staging::{Transaction, names, placement_count, transaction_in};
 use crate::worlds::PlainWorld;
 use audit_trail::FIRST_LIMIT;
@@ -214,8 +214,8 @@ impl<A: Allocator> PlainWorld<A> {
     {
         let subject = self.subject_at(seat)?;
         stewarded(&subject)?;
-        let rolled = self.trail.first().saturating_sub(1);
-        if rolled as u64 + self.trail.len() as u64 > ROLLED_LIMIT as u64 {
+        let next = self.trail.first() as u64 + self.trail.len() as u64;
+        if next > FIRST_LIMIT as u64 {
             return Err(Fault::Spent);
         }
         Ok(())

@@ -16,12 +16,11 @@ ghost use Rattle.plain_world.specs.Staging.{next_placement, staged_in, with_step
 use crate::denials::denial_for;
 use crate::faults::Fault;
 use crate::outcomes::Outcome;
-use crate::searching::want_of;
 use crate::staging::{Transaction, end, place_in, stage_in, staged_in};
 use crate::worlds::PlainWorld;
 use audit_trail::{Deed, Judgement, Record, Refusal, judge};
 use combining::Question;
-use features::{Change, StoreFault, Subject};
+use features::{Change, Subject};
 use memory::{GrowVec, Refused, copied};
 use plane::Shape;
 use std::alloc::Allocator;
@@ -89,8 +88,10 @@ impl<A: Allocator + Copy> PlainWorld<A> {
 
     /// Commits a transaction's list, all or none of it, and ends it. X1 where the seat was not given or no such
     /// transaction is open, X2 where it is another seat's, X4 where a shape is not placed, X10 where the trail is full,
-    /// X12 where a growth is refused; of a list that is accepted then X8 where the version is at its end, and X11 where
-    /// more features would stand than may. A list that fails is answered with its first failing change.
+    /// X12 where there is no memory for a copy of the list. Then the list is judged on the world as it is. Of one that is
+    /// accepted X8 where the version is at its end, X11 where more features would stand than may, and behind these X12
+    /// where there is no memory for its record or for the features that it adds. One that fails is answered with its first
+    /// failing change, or X12 where there is none for its record or its denial.
     pub fn commit(&mut self, seat: u32, number: u64) -> Result<Outcome, Fault>
         ensures { Happens (Commit seat number) self.old self.new (reply_of Ended result) }
     {
@@ -120,18 +121,12 @@ impl<A: Allocator + Copy> PlainWorld<A> {
         requires below { length self.old.trail < self.old.limits.records }
         ensures { UnlessMemory self.old self.new (reply_of Ended result) (TurnsAway seat number subject changes.items (judgements.Refused refusal.now question.now) self.old self.new (reply_of Ended result)) }
     {
-        let entry = turned_away(seat, subject, changes, refusal);
-        match self.trail.prepare(entry) {
-            Err(fault) => Err(Fault::Memory(want_of(fault))),
-            Ok(shared) => match denial_for(&self.decider, &refusal.cause, question) {
-                Err(want) => Err(Fault::Memory(want)),
-                Ok(denial) => {
-                    self.trail.put(shared);
-                    end(&mut self.transactions, number);
-                    Ok(Outcome::Refused(*refusal, denial))
-                }
-            },
-        }
+        let told = turned_away(seat, subject, changes, refusal);
+        let entry = self.trail.prepare(told)?;
+        let denial = denial_for(&self.decider, &refusal.cause, question)?;
+        self.trail.put(entry);
+        end(&mut self.transactions, number);
+        Ok(Outcome::Refused(*refusal, denial))
     }
 
     /// Applies a transaction's list as a whole, and ends it.
@@ -156,20 +151,13 @@ impl<A: Allocator + Copy> PlainWorld<A> {
         }
         let version = self.version + 1;
         let office = subject.office;
-        let entry = applied(self.alloc, seat, subject, version, changes.as_slice())?;
-        match self.trail.prepare(entry) {
-            Err(fault) => Err(Fault::Memory(want_of(fault))),
-            Ok(shared) => match self.store.apply(version, office, changes.as_slice()) {
-                Err(StoreFault::Full) => Err(Fault::StoreFull),
-                Err(StoreFault::Memory(refusal)) => Err(Fault::Memory(refusal)),
-                Ok(()) => {
-                    self.version = version;
-                    self.trail.put(shared);
-                    end(&mut self.transactions, number);
-                    Ok(Outcome::Applied(version))
-                }
-            },
-        }
+        let told = applied(self.alloc, seat, subject, version, changes.as_slice())?;
+        let entry = self.trail.prepare(told)?;
+        self.store.apply(version, office, changes.as_slice())?;
+        self.version = version;
+        self.trail.put(entry);
+        end(&mut self.transactions, number);
+        Ok(Outcome::Applied(version))
     }
 }
 

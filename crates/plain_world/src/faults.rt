@@ -2,6 +2,7 @@
 
 ghost use Rattle.std.specs.Prelude.{◌≡◌};
 
+use features::StoreFault;
 use memory::Refused;
 use search_tree::TreeFault;
 use std::fmt;
@@ -88,5 +89,19 @@ impl From<Refused> for Fault {
 
     fn from(refused: Refused) -> Self {
         Fault::Memory(refused)
+    }
+}
+
+impl From<StoreFault> for Fault {
+    ghost use Rattle.std.specs.Prelude.{◌≡◌};
+    ghost use Rattle.plain_world.specs.StoreFaults.{fault_of_store};
+
+    ghost from_gives = { λ refusal fault. fault ≡ fault_of_store refusal };
+
+    fn from(refusal: StoreFault) -> Self {
+        match refusal {
+            StoreFault::Full => Fault::StoreFull,
+            StoreFault::Memory(refused) => Fault::Memory(refused),
+        }
     }
 }

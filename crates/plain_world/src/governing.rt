@@ -5,7 +5,6 @@ ghost use Rattle.std.specs.Arc.{arc_value};
 ghost use Rattle.plain_world.specs.Events.{Happens, Govern, Number, reply_of, reply_handing};
 
 use crate::faults::Fault;
-use crate::searching::want_of;
 use crate::worlds::{PlainWorld, made_decider};
 use audit_trail::{Deed, Record};
 use decision::Decider;
@@ -25,21 +24,17 @@ impl<A: Allocator + Copy> PlainWorld<A> {
         self.may_govern(seat)?;
         let kept = another(&decider)?;
         let edition = decider.edition();
-        let entry = Record::new(
+        let told = Record::new(
             seat,
             Deed::Governed {
                 edition,
                 decider: kept,
             },
         );
-        match self.trail.prepare(entry) {
-            Ok(shared) => {
-                self.trail.put(shared);
-                self.decider = decider;
-                Ok(edition)
-            }
-            Err(fault) => Err(Fault::Memory(want_of(fault))),
-        }
+        let entry = self.trail.prepare(told)?;
+        self.trail.put(entry);
+        self.decider = decider;
+        Ok(edition)
     }
 
     /// Puts a copy of a document in force.

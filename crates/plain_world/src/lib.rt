@@ -36,6 +36,5 @@ pub use settings::{
     CHANGE_LIMIT, Limits, ROLLED_LIMIT, SEARCH_LIMIT, SEAT_LIMIT, STEP_LIMIT, Starts,
     TRANSACTION_LIMIT,
 };
-pub use staging::Transaction;
 pub use steps::Advance;
 pub use worlds::{Base, PlainWorld};

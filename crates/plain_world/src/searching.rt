@@ -1,7 +1,6 @@
 //! Seats and searches.
 
 ghost use Rattle.std.specs.Prelude.{◌≡◌, ◌≤◌, ◌<◌, ◌+◌, ◌++◌, [], ◌∷◌, false, length, IfOk, OnErr, IsTrue, Some};
-ghost use Rattle.memory.specs.Refused.{refused};
 ghost use Rattle.audit_trail.specs.Listing.{Listed};
 ghost use Rattle.plain_world.specs.declared.searches.Search.{Search};
 ghost use Rattle.plain_world.specs.Admitting.{may_finish, search_with};
@@ -14,7 +13,6 @@ use crate::listing::{answered, ids_found, listed};
 use crate::searches::Search;
 use crate::settings::SEARCH_LIMIT;
 use crate::worlds::PlainWorld;
-use audit_trail::TrailFault;
 use features::{Action, Meter, Name, Subject};
 use memory::{GrowVec, Refused, another};
 use plane::Shape;
@@ -95,15 +93,11 @@ impl<A: Allocator + Copy> PlainWorld<A> {
     {
         let (subject, running) = self.may_finish(seat, number)?;
         let answer = self.answer(subject, running.window, found, meter)?;
-        let entry = answered(self.alloc, seat, &answer)?;
-        match self.trail.prepare(entry) {
-            Ok(shared) => {
-                self.trail.put(shared);
-                self.searches.forget(running.number);
-                Ok(answer)
-            }
-            Err(fault) => Err(Fault::Memory(want_of(fault))),
-        }
+        let told = answered(self.alloc, seat, &answer)?;
+        let entry = self.trail.prepare(told)?;
+        self.trail.put(entry);
+        self.searches.forget(running.number);
+        Ok(answer)
     }
 
     /// What a subject is answered for a window, for which these pairs were found.
@@ -132,16 +126,5 @@ impl<A: Allocator + Copy> PlainWorld<A> {
         )?;
         let decider = another(&self.decider)?;
         Ok(Answer::new(subject, window, decider, rows))
-    }
-}
-
-/// The refusal for which a trail that is not full takes no record.
-pub(crate) fn want_of(fault: TrailFault) -> Refused
-    requires { fault ≡ TrailFault.Memory refused }
-{
-    match fault {
-        TrailFault::Memory(refusal) => refusal,
-        TrailFault::Full => unreachable!(),
-        TrailFault::NoRecord => unreachable!(),
     }
 }

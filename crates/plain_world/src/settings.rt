@@ -1,6 +1,10 @@
 //! Where a world's numbers start, and its limits.
 
-/// Where the numbers of a world start. In a world that `open` gives, searches and editions start at 1, all else at 0.
+use audit_trail::{FIRST_LIMIT, RECORD_LIMIT};
+use features::FEATURE_LIMIT;
+use search_tree::MAX_STEPS;
+
+/// Where the numbers of a world start.
 #[derive(Clone, Copy, Debug, PartialEq, Eq)]
 pub struct Starts {
     /// The generation at which each slot of the index starts.
@@ -17,6 +21,18 @@ pub struct Starts {
     pub rolled: u32,
 }
 
+impl Starts {
+    /// Of a world with nothing before it: searches and editions start at 1, all else at 0.
+    pub const FIRST: Starts = Starts {
+        generation: 0,
+        counter: 0,
+        search: 1,
+        version: 0,
+        edition: 1,
+        rolled: 0,
+    };
+}
+
 /// The limits of a world.
 #[derive(Clone, Copy, Debug, PartialEq, Eq)]
 pub struct Limits {
@@ -26,6 +42,15 @@ pub struct Limits {
     pub records: u32,
     /// The features.
     pub features: u32,
+}
+
+impl Limits {
+    /// The greatest that a world may have.
+    pub const GREATEST: Limits = Limits {
+        steps: STEP_LIMIT,
+        records: RECORD_LIMIT,
+        features: FEATURE_LIMIT as u32,
+    };
 }
 
 /// How many seats are given in the life of a world.
@@ -41,7 +66,7 @@ pub const TRANSACTION_LIMIT: usize = 64;
 pub const CHANGE_LIMIT: usize = 16;
 
 /// How many steps a search or a walk makes at most.
-pub const STEP_LIMIT: u32 = 1_000_000;
+pub const STEP_LIMIT: u32 = MAX_STEPS as u32;
 
 /// How many records may be rolled out in the life of a world, so that each number fits.
-pub const ROLLED_LIMIT: u32 = 4_293_918_719;
+pub const ROLLED_LIMIT: u32 = FIRST_LIMIT - 1;

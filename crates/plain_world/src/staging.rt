@@ -17,7 +17,7 @@ use std::marker::Model;
 /// An open transaction: the seat that opened it, the changes that it has staged, and how many of the shapes that they bring
 /// are placed in the index. No two changes name one feature, and there is room for all that it may stage.
 #[derive(Drop)]
-pub struct Transaction<A: Allocator> {
+pub(crate) struct Transaction<A: Allocator> {
     number: u64,
     seat: u32,
     changes: Vec<Change, A>,

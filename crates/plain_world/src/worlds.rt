@@ -134,37 +134,9 @@ impl<A: Allocator> PlainWorld<A> {
 }
 
 impl<A: Allocator + Copy> PlainWorld<A> {
-    /// A world with no features and no seats, by a document of the first edition. X12 where a growth is refused: then
-    /// the document is handed back.
-    pub fn open(
-        alloc: A,
-        heap: Global,
-        subjects: Subjects,
-        document: Document<Global>,
-    ) -> Result<Self, (Document<Global>, Fault)>
-        ensures ok { IfOk result (λ w. w ≡ opened subjects (record { document = document; edition = 1 })
-            (record { generation = 0; counter = 0; search = 1; version = 0; edition = 1; rolled = 0 })
-            (record { steps = STEP_LIMIT; records = RECORD_LIMIT; features = FEATURE_LIMIT })) }
-        ensures err { IfErr result (λ e. e ≡ (document, Fault.Memory refused)) }
-    {
-        let starts = Starts {
-            generation: 0,
-            counter: 0,
-            search: 1,
-            version: 0,
-            edition: 1,
-            rolled: 0,
-        };
-        let limits = Limits {
-            steps: STEP_LIMIT,
-            records: RECORD_LIMIT,
-            features: FEATURE_LIMIT as u32,
-        };
-        PlainWorld::open_at(alloc, heap, subjects, document, starts, limits)
-    }
-
-    /// The same, where the numbers start elsewhere and the limits are other ones, for tests of what comes at their ends. No
-    /// limit is above the one that `open` sets, and no more than `ROLLED_LIMIT` records were rolled out before.
+    /// A world with no features and no seats, by a document, with its numbers starting here and with these limits. None of
+    /// these is above that of `Limits::GREATEST`, and no more than `ROLLED_LIMIT` records were rolled out before. X12 where
+    /// a growth is refused: then the document is handed back.
     pub fn open_at(
         alloc: A,
         heap: Global,

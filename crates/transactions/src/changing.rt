@@ -90,8 +90,10 @@ impl<A: Allocator + Copy> World<A> {
 
     /// Commits a transaction's list, all or none of it, and ends it. X1 where the seat was not given or no such
     /// transaction is open, X2 where it is another seat's, X4 where a shape is not placed, X10 where the trail is full,
-    /// X12 where a growth is refused; of a list that is accepted then X8 where the version is at its end, and X11 where
-    /// more features would stand than may. A list that fails is answered with its first failing change.
+    /// X12 where there is no memory for a copy of the list. Then the list is judged on the world as it is. Of one that is
+    /// accepted X8 where the version is at its end, X11 where more features would stand than may, and behind these X12
+    /// where there is no memory for its record or for the features that it adds. One that fails is answered with its first
+    /// failing change, or X12 where there is none for its record or its denial.
     pub fn commit(&mut self, seat: u32, number: u64) -> Result<Outcome, Fault>
         ensures happens { Happens (Commit seat number) self.old.plain self.new.plain (reply_of Ended result) }
         ensures index { self.new.index ≡ self.old.index }

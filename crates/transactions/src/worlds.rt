@@ -142,24 +142,18 @@ impl<A: Allocator + Copy> World<A> {
         ensures walks { IfOk result (λ w. w.walks ≡ []) }
         ensures err { IfErr result (λ e. e ≡ (document, Fault.Memory refused)) }
     {
-        let starts = Starts {
-            generation: 0,
-            counter: 0,
-            search: 1,
-            version: 0,
-            edition: 1,
-            rolled: 0,
-        };
-        let limits = Limits {
-            steps: STEP_LIMIT,
-            records: RECORD_LIMIT,
-            features: FEATURE_LIMIT as u32,
-        };
-        World::open_at(alloc, heap, subjects, document, starts, limits)
+        World::open_at(
+            alloc,
+            heap,
+            subjects,
+            document,
+            Starts::FIRST,
+            Limits::GREATEST,
+        )
     }
 
     /// The same, where the numbers start elsewhere and the limits are other ones, for tests of what comes at their ends. No
-    /// limit is above the one that `open` sets, and no more than `ROLLED_LIMIT` records were rolled out before.
+    /// limit is above that of `Limits::GREATEST`, and no more than `ROLLED_LIMIT` records were rolled out before.
     pub fn open_at(
         alloc: A,
         heap: Global,

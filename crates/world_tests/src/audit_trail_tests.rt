@@ -1,4 +1,6 @@
-use audit_trail::{Cause, Deed, Judgement, Record, Refusal, Trail, TrailFault, judge};
+use audit_trail::{
+    Cause, Deed, Judgement, RECORD_LIMIT, Record, Refusal, Trail, TrailFault, judge,
+};
 use decision::Decider;
 use features::{Change, Name, Store, Subject};
 use plane::{Point, Shape};
@@ -335,6 +337,7 @@ fn numbers_of_records(rt: HostRuntime) -> Result<(), Fail> {
     }
     assert_eq!(rt; trail.len(), 3);
     let entry = Record::new(44, refused(&rt, heap, Cause::Absent)?);
+    assert!(rt; trail.len() < RECORD_LIMIT);
     let prepared = trail.prepare(entry);
     assert!(rt; prepared.is_ok() && trail.len() == 3);
     trail.put(prepared.unwrap());

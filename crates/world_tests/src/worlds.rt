@@ -19,14 +19,7 @@ pub const CLOSED: &str =
     r#"{"root":{"combine":"first-applicable","policy":"p","rules":[{"effect":"deny","rule":"closed"}]}}"#;
 
 /// Where the numbers of a world start that `open` gives.
-pub const STARTS: Starts = Starts {
-    generation: 0,
-    counter: 0,
-    search: 1,
-    version: 0,
-    edition: 1,
-    rolled: 0,
-};
+pub const STARTS: Starts = Starts::FIRST;
 
 /// Limits that no test reaches.
 pub const LIMITS: Limits = Limits {

@@ -1,4 +1,4 @@
-use Rattle.std.proofs.Common.{◌≡◌, ◌∙◌, sym, ap}
+use Rattle.std.proofs.Common.{◌∙◌, sym, ap}
 use Rattle.plain_world.specs.Admitting.{may_commit}
 use Rattle.plain_world.specs.Staging.{staged_in}
 use Rattle.plain_world.proofs.EventLemmas.{admitted, commits_accepted}

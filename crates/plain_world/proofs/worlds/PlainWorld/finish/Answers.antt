@@ -1,6 +1,6 @@
-use Rattle.std.proofs.Common.{◌≡◌, Some, sym, ap, ◌∙◌, refl, Ok, subst}
+use Rattle.std.proofs.Common.{◌≡◌, sym, ap, ◌∙◌, refl}
 use Rattle.plain_world.specs.Answers.{AnswerData}
-use Rattle.plain_world.specs.Events.{Rows, Finishes, If, UnlessMemory}
+use Rattle.plain_world.specs.Events.{Rows}
 use Rattle.plain_world.specs.Admitting.{may_finish}
 use Rattle.plain_world.proofs.AdmittedLemmas.{finisher}
 use Rattle.plain_world.proofs.EventLemmas.{admitted}
@@ -12,19 +12,19 @@ answer-requires g c =
     let who = finisher c.args.seat c.args.number c.args.self.now (c.in_ok-subject.subject, c.in_ok-subject.running) (sym c.may_finish.ensures.value ∙ c.in_ok-subject.was) in
     c.requires.found c.in_ok-subject.running who.running who.ready
 
-pub invariant_of-self : goal.invariant_of-self
-invariant_of-self g c =
+pub invariant_of-self-2 : goal.invariant_of-self-2
+invariant_of-self-2 g c =
     let seated = rw (← c.self.view_is) at c.in_ok-subject.ensures.seated in
     let below = rw (← c.self.view_is) at c.in_ok-subject.ensures.below in
     let listed = rw (← c.self.view_is) at c.in_ok-answer.ensures.told.0 in
     let told = c.in_ok-answer.ensures.told.1 in
     let es : c.in_ok-answer.answer.subject ≡ c.in_ok-subject.subject = ap (λ (a : AnswerData). a.subject) told in
     let ew : c.in_ok-answer.answer.window ≡ c.in_ok-subject.running.window = ap (λ (a : AnswerData). a.window) told in
-    rw (c.put.ensures.records, c.in-Ok.ensures.records, c.in-Ok.ensures.entry, c.in_ok-entry.ensures, es, ew)
+    rw (c.put.ensures.records, c.in_ok-entry.ensures.records, c.in_ok-entry.ensures.entry, c.in_ok-told.ensures, es, ew)
     (keeps_added _ _ _ _ _ _ c.self.invariant below (seated, (c.in_ok-answer.answer.rows, listed, refl, refl)))
 
-pub returns-in-Ok-clause-happens : goal.returns-in-Ok-clause-happens
-returns-in-Ok-clause-happens g c =
+pub returns-clause-happens : goal.returns-clause-happens
+returns-clause-happens g c =
     let e = sym c.may_finish.ensures.value ∙ c.in_ok-subject.was in
     let told = c.in_ok-answer.ensures.told.1 in
     let es : c.in_ok-answer.answer.subject ≡ c.in_ok-subject.subject = ap (λ (a : AnswerData). a.subject) told in
@@ -33,5 +33,5 @@ returns-in-Ok-clause-happens g c =
       c.in_ok-answer.answer.rows,
       c.in_ok-answer.ensures.told.0,
       ap Rows told,
-      rw (← c.self.view_is, c.put.ensures.records, c.in-Ok.ensures.records, c.in-Ok.ensures.entry, c.in_ok-entry.ensures, c.put.ensures.first, c.in-Ok.ensures.first, c.forget.ensures, es, ew) refl,
+      rw (← c.self.view_is, c.put.ensures.records, c.in_ok-entry.ensures.records, c.in_ok-entry.ensures.entry, c.in_ok-told.ensures, c.put.ensures.first, c.in_ok-entry.ensures.first, c.forget.ensures, es, ew) refl,
     )

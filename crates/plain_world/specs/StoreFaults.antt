@@ -1,0 +1,9 @@
+-- As what fault a world tells that its store refuses a call.
+use Rattle.features.specs.declared.stores.StoreFault.{StoreFault}
+use Rattle.features.specs.declared.stores.StoreFault.TheVariants as store
+use Rattle.plain_world.specs.declared.faults.Fault.{Fault}
+use Rattle.plain_world.specs.declared.faults.Fault.TheVariants.{StoreFull, Memory}
+
+abbrev pub fault_of_store : StoreFault → Fault
+fault_of_store store.Full = StoreFull
+fault_of_store (store.Memory refused) = Memory refused
