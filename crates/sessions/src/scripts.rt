@@ -4,7 +4,7 @@ ghost use Rattle.std.specs.Prelude.{◌≡◌, ◌≤◌, ◌<◌, ◌+◌, ◌+
 ghost use Rattle.std.specs.Io.KnownBytes.{Appends};
 ghost use Rattle.std.specs.List.{prefix_len};
 ghost use Rattle.sessions.specs.Desks.{Answers};
-ghost use Rattle.sessions.specs.Scripts.{IsScriptText, LabelTells, LineTells, ObeysStep, SessionAnswers, TakesPlain, TakesStep, desk_of, fresh, is_not_colon, is_skipped, keeps_seat, parts_of, place, script, with_label};
+ghost use Rattle.sessions.specs.Scripts.{IsScriptText, LabelTells, LineTells, Ends, ObeysStep, Opens, SessionAnswers, Steps, TakesPlain, TakesStep, desk_of, fresh, is_not_colon, is_skipped, keeps_seat, parts_of, place, script, with_label};
 ghost use Rattle.sessions.specs.Printed.{led, reply_text, said_text};
 ghost use Rattle.sessions.specs.Replies.{line as said_in_line, said_view};
 ghost use Rattle.sessions.specs.Services.{Serves, solo_subject};
@@ -148,13 +148,13 @@ impl Session {
         let Some(seat) = self.seat else {
             return Said::Line(Reply::Error(Fault::BeforeHello));
         };
-        match read_step_command(self.search.is_some(), verb, rest) {
+        match read_step_command(self.search, verb, rest) {
             Err(fault) => Said::Line(Reply::Error(fault)),
             Ok(command) => self.obey_step(world, seat, command),
         }
     }
 
-    /// Does what a command asks of a search that goes step by step.
+    /// Does what a command asks of a search that goes step by step: its call, and what the session has open afterwards.
     fn obey_step<A: Allocator + Copy>(
         &mut self,
         world: &mut World<A>,
@@ -166,60 +166,70 @@ impl Session {
     {
         match command {
             StepCommand::Open(window) => Said::Line(self.open(world, seat, window)),
-            StepCommand::Step(count) => Said::Line(self.step(world, seat, count)),
-            StepCommand::Finish => self.finish(world, seat),
+            StepCommand::Step { search, count } => {
+                Said::Line(self.step(world, seat, search, count))
+            }
+            StepCommand::Finish { search } => self.finish(world, seat, search),
         }
     }
 
     /// Opens a search.
     fn open<A: Allocator + Copy>(&mut self, world: &mut World<A>, seat: u32, window: Shape) -> Reply
         ensures label { self.new.label ≡ self.old.label }
-        ensures obeys { ObeysStep seat (StepCommand.Open window) self.old world.old.plain self.new world.new.plain (said_in_line result) }
+        ensures opens { Opens seat window self.old world.old.plain self.new world.new.plain (said_in_line result) }
     {
-        if self.search.is_some() {
-            return Reply::Error(Fault::OutOfTurn);
-        }
         match world.open_search(seat, window) {
             Ok(number) => {
                 self.search = Some(number);
                 Reply::Opened
             }
-            Err(fault) => fault_reply(fault),
+            Err(fault) => {
+                self.search = None;
+                fault_reply(fault)
+            }
         }
     }
 
     /// Lets the open search go on. One that the index gives up is open no more.
-    fn step<A: Allocator + Copy>(&mut self, world: &mut World<A>, seat: u32, count: u32) -> Reply
+    fn step<A: Allocator + Copy>(
+        &mut self,
+        world: &mut World<A>,
+        seat: u32,
+        search: u64,
+        count: u32,
+    ) -> Reply
         ensures label { self.new.label ≡ self.old.label }
-        ensures obeys { ObeysStep seat (StepCommand.Step count) self.old world.old.plain self.new world.new.plain (said_in_line result) }
+        ensures steps { Steps seat search count self.old world.old.plain self.new world.new.plain (said_in_line result) }
     {
-        let Some(number) = self.search else {
-            return Reply::Error(Fault::OutOfTurn);
-        };
-        match go_on(world, seat, number, count) {
-            Ok(visit) => visit_reply(visit),
+        match go_on(world, seat, search, count) {
+            Ok(visit) => {
+                self.search = Some(search);
+                visit_reply(visit)
+            }
             Err(fault) => {
-                self.search = left_open(&fault, number);
+                self.search = left_open(&fault, search);
                 fault_reply(fault)
             }
         }
     }
 
     /// Finishes the open search. After a fault it stays open, unless the index has given it up.
-    fn finish<A: Allocator + Copy>(&mut self, world: &mut World<A>, seat: u32) -> Said<A>
+    fn finish<A: Allocator + Copy>(
+        &mut self,
+        world: &mut World<A>,
+        seat: u32,
+        search: u64,
+    ) -> Said<A>
         ensures label { self.new.label ≡ self.old.label }
-        ensures obeys { ObeysStep seat StepCommand.Finish self.old world.old.plain self.new world.new.plain (said_view result) }
+        ensures ends { Ends seat search self.old world.old.plain self.new world.new.plain (said_view result) }
     {
-        let Some(number) = self.search else {
-            return Said::Line(Reply::Error(Fault::OutOfTurn));
-        };
-        match finish_open(world, seat, number) {
+        match finish_open(world, seat, search) {
             Ok(answer) => {
                 self.search = None;
                 Said::Rows(answer)
             }
             Err(fault) => {
-                self.search = left_open(&fault, number);
+                self.search = left_open(&fault, search);
                 Said::Line(fault_reply(fault))
             }
         }
