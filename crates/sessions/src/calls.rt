@@ -16,13 +16,14 @@ use plane::Shape;
 use policy_text::Document;
 use std::alloc::{Allocator, Global};
 use std::sync::Arc;
-use transactions::{Advance, Answer, Fault, Outcome, Rolled, STEP_LIMIT, TreeFault, Visit, World};
+use transactions::{Advance, Answer, CHANGE_LIMIT, Fault, Outcome, Rolled, STEP_LIMIT, TreeFault, Visit, World};
 
 /// How many steps a search is waited for, which is overrun before.
 const SEARCH_STEPS: u32 = STEP_LIMIT + 1;
 
-/// How many steps the walks of a list are waited for: 16 walks, each of which is overrun before.
-const WALK_STEPS: u32 = 16_000_017;
+/// How many steps the walks of a list are waited for: one for each change, each of which is overrun
+/// before, and the step that finds all placed.
+const WALK_STEPS: u32 = CHANGE_LIMIT as u32 * (STEP_LIMIT + 1) + 1;
 
 /// Searches from the beginning to the end. X1 where the seat was not given; S2 where 16 searches run, S6 where the numbers of
 /// searches are at their end, S7 where the index gives the search up; X10 where the trail is full; X12 where a growth is refused.
