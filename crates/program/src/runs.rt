@@ -87,10 +87,7 @@ fn asked_config<'a, F: Folder>(
     ensures err { IfErr result (IsOfConfig (F.holds folder.now) (option_map (λ name. name.now) name.entry)) }
 {
     let Some(name) = name else {
-        return match built_in_config(heap, heap) {
-            Ok(config) => Ok(config),
-            Err(fault) => Err(ProgramFault::Config(fault)),
-        };
+        return built_in_config(heap, heap).map_err(ProgramFault::Config);
     };
     named_config(heap, name, folder)
 }
@@ -108,10 +105,7 @@ pub fn run_named<'a, F: Folder, W: Write>(
     ensures ran { OnOk result (Ran (F.holds folder.now) (option_map (λ name. name.now) words.entry.config) words.entry.script.now (W.contents output.old) (W.contents output.new)) }
     ensures err { IfErr result (BrokeOff (F.holds folder.now) (option_map (λ name. name.now) words.entry.config) words.entry.script.now (W.contents output.old) (W.contents output.new)) }
 {
-    let config = match asked_config(heap, words.config, folder) {
-        Ok(config) => config,
-        Err(fault) => return Err(fault),
-    };
+    let config = asked_config(heap, words.config, folder)?;
     let mut file = match folder.open_file(words.script) {
         Ok(file) => file,
         Err(closed) => {

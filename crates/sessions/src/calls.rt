@@ -53,13 +53,12 @@ pub(crate) fn seek<A: Allocator + Copy>(
     ensures { Seeks seat number world.old.plain world.new.plain (reply_of Rows result) }
 {
     for _ in 0..SEARCH_STEPS {
-        match world.visit(seat, number) {
-            Ok(Visit::More) => {}
-            Ok(Visit::Ready) => {
+        match world.visit(seat, number)? {
+            Visit::More => {}
+            Visit::Ready => {
                 let mut meter = Meter::new();
                 return world.finish(seat, number, &mut meter);
             }
-            Err(fault) => return Err(fault),
         }
     }
     Err(Fault::Tree(TreeFault::Overrun))
@@ -116,9 +115,7 @@ fn stage_all<A: Allocator>(
     ensures { Stages seat number changes.now world.old.plain world.new.plain result }
 {
     for change in changes {
-        if let Err(fault) = world.stage(seat, number, *change) {
-            return Err(fault);
-        }
+        world.stage(seat, number, *change)?;
     }
     Ok(())
 }
@@ -128,10 +125,9 @@ fn place_all<A: Allocator + Copy>(world: &mut World<A>, seat: u32, number: u64) 
     ensures { Places seat number world.old.plain world.new.plain result }
 {
     for _ in 0..WALK_STEPS {
-        match world.advance(seat, number) {
-            Ok(Advance::AllPlaced) => return Ok(()),
-            Ok(Advance::Walked(_)) => {}
-            Err(fault) => return Err(fault),
+        match world.advance(seat, number)? {
+            Advance::AllPlaced => return Ok(()),
+            Advance::Walked(_) => {}
         }
     }
     Err(Fault::Tree(TreeFault::Overrun))
@@ -147,10 +143,9 @@ pub(crate) fn govern<A: Allocator + Copy>(
 ) -> Result<u64, Fault>
     ensures { WhereAtRest world.old.plain world.new.plain (Happens (Govern seat document) world.old.plain world.new.plain (reply_of Number result)) }
 {
-    match world.govern(heap, seat, document) {
-        Ok(edition) => Ok(edition),
-        Err((_, fault)) => Err(fault),
-    }
+    world
+        .govern(heap, seat, document)
+        .map_err(|(_, fault)| fault)
 }
 
 /// Takes the trail out. X1 where the seat was not given, X7 where its subject is no steward, X8 where the numbers of the

@@ -260,10 +260,7 @@ fn as_name(word: &[u8]) -> Result<Name, Fault>
 pub(crate) fn as_shape(text: &[u8]) -> Result<Shape, Fault>
     ensures { result ≡ shape_at text.now }
 {
-    match read_shape(text) {
-        Ok(shape) => Ok(shape),
-        Err(fault) => Err(Fault::Shape(fault)),
-    }
+    read_shape(text).map_err(Fault::Shape)
 }
 
 /// Nothing but spaces is left.

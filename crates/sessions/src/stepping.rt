@@ -53,13 +53,9 @@ fn step_verb_named(word: &[u8]) -> Option<StepVerb>
 pub(crate) fn read_step_verb(text: &[u8]) -> Option<(StepVerb, &[u8])>
     ensures { option_map (λ r. (r.0, r.1.now)) result ≡ step_verb_at text.now }
 {
-    match next_word(text) {
-        None => None,
-        Some((word, rest)) => match step_verb_named(word) {
-            None => None,
-            Some(verb) => Some((verb, rest)),
-        },
-    }
+    let (word, rest) = next_word(text)?;
+    let verb = step_verb_named(word)?;
+    Some((verb, rest))
 }
 
 /// What is asked of a session with this open search, or without one. Faults in this order: `OutOfTurn` for OPEN beside an open
@@ -120,10 +116,9 @@ pub(crate) fn go_on<A: Allocator + Copy>(
     ensures index { VisitsOn (may_go_on seat number world.old.plain) number steps world.old.index world.new.index result }
 {
     for _ in 0..steps {
-        match world.visit(seat, number) {
-            Ok(Visit::More) => {}
-            Ok(Visit::Ready) => return Ok(Visit::Ready),
-            Err(fault) => return Err(fault),
+        match world.visit(seat, number)? {
+            Visit::More => {}
+            Visit::Ready => return Ok(Visit::Ready),
         }
     }
     Ok(Visit::More)
