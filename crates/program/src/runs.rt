@@ -6,7 +6,7 @@ ghost use Rattle.program.specs.Configs.{config_data};
 ghost use Rattle.program.specs.Ends.{IsUnwritten, TookFront, exit_status, fault_line};
 ghost use Rattle.program.specs.Programs.{IsRun};
 ghost use Rattle.program.specs.RunFaults.{BrokeOff, IsOfConfig, IsOfRun};
-ghost use Rattle.program.specs.Runs.{IsConfigOf, Ran, Served};
+ghost use Rattle.program.specs.Runs.{IsConfigOf, RanScript, Served};
 
 use crate::built_in::built_in_config;
 use crate::configs::Config;
@@ -102,7 +102,7 @@ pub fn run_named<'a, F: Folder, W: Write>(
     folder: &F,
     output: &mut W,
 ) -> Result<(), ProgramFault<'a>>
-    ensures ran { OnOk result (Ran (F.holds folder.now) (option_map (λ name. name.now) words.entry.config) words.entry.script.now (W.contents output.old) (W.contents output.new)) }
+    ensures ran { OnOk result (RanScript (F.holds folder.now) (option_map (λ name. name.now) words.entry.config) words.entry.script.now (W.contents output.old) (W.contents output.new)) }
     ensures err { IfErr result (BrokeOff (F.holds folder.now) (option_map (λ name. name.now) words.entry.config) words.entry.script.now (W.contents output.old) (W.contents output.new)) }
 {
     let config = asked_config(heap, words.config, folder)?;

@@ -9,7 +9,7 @@ ghost use Rattle.plain_world.specs.declared.settings.TheConstants.{CHANGE_LIMIT}
 ghost use Rattle.sessions.specs.Services.{Searches, Commits};
 ghost use Rattle.sessions.specs.States.{WhereAtRest};
 ghost use Rattle.sessions.specs.Stepping.{Seeks};
-ghost use Rattle.sessions.specs.Steps.{Concludes, Places, Stages};
+ghost use Rattle.sessions.specs.UnderWay.{Concludes, Places, Stages};
 
 use features::{Change, Meter};
 use plane::Shape;
