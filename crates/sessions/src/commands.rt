@@ -13,7 +13,7 @@ use wkt::read_shape;
 
 /// What a line asks of its session. POLICY is none of these: its document takes all the rest of the line.
 #[derive(Clone, Copy, Debug, PartialEq, Eq)]
-pub enum Command {
+pub(crate) enum Command {
     /// HELLO: to begin, as the subject of this name.
     Hello(Name),
     /// SEARCH: the features that meet this window.
@@ -34,7 +34,7 @@ pub enum Command {
 
 /// What EXPLAIN asks: may the session's subject do this with a feature of this office and class, at this shape?
 #[derive(Clone, Copy, Debug, PartialEq, Eq)]
-pub struct Asking {
+pub(crate) struct Asking {
     /// What would be done.
     pub action: Action,
     /// The office whose feature it is.
