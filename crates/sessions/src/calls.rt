@@ -16,7 +16,9 @@ use plane::Shape;
 use policy_text::Document;
 use std::alloc::{Allocator, Global};
 use std::sync::Arc;
-use transactions::{Advance, Answer, CHANGE_LIMIT, Fault, Outcome, Rolled, STEP_LIMIT, TreeFault, Visit, World};
+use transactions::{
+    Advance, Answer, CHANGE_LIMIT, Fault, Outcome, Rolled, STEP_LIMIT, TreeFault, Visit, World,
+};
 
 /// How many steps a search is waited for, which is overrun before.
 const SEARCH_STEPS: u32 = STEP_LIMIT + 1;
