@@ -116,12 +116,12 @@ plain_moves text old new old_world new_world said h = go (keeps_seat old.seat ne
 -- ---- lines of a search that goes step by step
 
 -- a command of a session with this open search, or without one
-IsOfOpen : Option ℕ → StepCommand → Type 0
+abbrev IsOfOpen : Option ℕ → StepCommand → Type 0
 IsOfOpen search (commands.Open window) = search ≡ None
 IsOfOpen search (commands.Step number count) = search ≡ Some number
 IsOfOpen search (commands.Finish number) = search ≡ Some number
 
-AsksOpen : Option ℕ → Result StepCommand Fault → Type 0
+abbrev AsksOpen : Option ℕ → Result StepCommand Fault → Type 0
 AsksOpen search (Ok command) = IsOfOpen search command
 AsksOpen search (Err fault) = Unit {0}
 
