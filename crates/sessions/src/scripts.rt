@@ -48,7 +48,7 @@ fn is_to_skip(line: &[u8]) -> bool
 }
 
 /// How many bytes stand before the first colon.
-#[tactic(auto, using(crate::proofs::WordLemmas::prefix_fits))]
+#[tactic(auto, using(wkt::proofs::DigitsLemmas::prefix_fits))]
 fn label_len(line: &[u8]) -> usize
     ensures value { result ≡ prefix_len is_not_colon line.now }
     ensures fits { result ≤ length line.now }
