@@ -145,9 +145,10 @@ pub(crate) fn govern<A: Allocator + Copy>(
 ) -> Result<u64, Fault>
     ensures { WhereAtRest world.old.plain world.new.plain (Happens (Govern seat document) world.old.plain world.new.plain (reply_of Number result)) }
 {
-    world
-        .govern(heap, seat, document)
-        .map_err(|(_, fault)| fault)
+    match world.govern(heap, seat, document) {
+        Ok(edition) => Ok(edition),
+        Err((_, fault)) => Err(fault),
+    }
 }
 
 /// Takes the trail out. X1 where the seat was not given, X7 where its subject is no steward, X8 where the numbers of the
