@@ -11,7 +11,6 @@ ghost use Rattle.sessions.specs.Stepping.{Drops};
 use crate::desks::{Staged, answer};
 use crate::faults::Fault;
 use crate::replies::{Reply, Said, fault_reply, visit_reply};
-use crate::services::Service;
 use crate::solos::Solo;
 use crate::stepping::{
     StepCommand, StepVerb, finish_open, go_on, left_open, read_step_command, read_step_verb,
