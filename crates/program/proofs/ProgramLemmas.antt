@@ -11,7 +11,7 @@ use Rattle.program.specs.declared.words.ScriptWords.{ScriptWords}
 use Rattle.program.specs.Ends.{IsUnwritten, TookFront, exit_status, fault_line}
 use Rattle.program.specs.Programs.{Failed, IsRun}
 use Rattle.program.specs.RunFaults.{BrokeOff}
-use Rattle.program.specs.Runs.{Ran}
+use Rattle.program.specs.Runs.{RanScript}
 use Rattle.program.specs.declared.faults.ProgramFault.{ProgramFault}
 use Rattle.program.specs.declared.faults.ProgramFault.TheVariants.{NoMemory}
 
@@ -29,13 +29,13 @@ module _ {O E : Type 0} (words : List Words) (held : List ℕ → Option (List �
 
   -- a run that served the script that the words ask for, or ended by a fault
   pub run_of_script : (asked : Asked) (files : ScriptWords) (end : Result (Unit {0}) ProgramFault) (status : ℕ) → IsAsked words asked → asked ≡ Script files → status ≡ exit_status end
-      → OnOk end (Ran held (config_name files) files.script.now (written output) (written output_after))
+      → OnOk end (RanScript held (config_name files) files.script.now (written output) (written output_after))
       → IfErr end (BrokeOff held (config_name files) files.script.now (written output) (written output_after)) → OnOk end (errors_after ≡ errors) → IfErr end Tells → Leaves status
   run_of_script asked files end status is_asked is status_is ran broke_off quiet tells = subst Leaves (sym status_is) (by end (subst (IsAsked words) is is_asked) ran broke_off quiet tells)
     where
-      by : (end : Result (Unit {0}) ProgramFault) → IsAsked words (Script files) → OnOk end (Ran held (config_name files) files.script.now (written output) (written output_after))
+      by : (end : Result (Unit {0}) ProgramFault) → IsAsked words (Script files) → OnOk end (RanScript held (config_name files) files.script.now (written output) (written output_after))
           → IfErr end (BrokeOff held (config_name files) files.script.now (written output) (written output_after)) → OnOk end (errors_after ≡ errors) → IfErr end Tells → Leaves (exit_status end)
-      by (Ok u) asked ran broke_off quiet tells = IsRun.serves files.script.now asked.0 asked.1 (subst (λ c. Ran held c files.script.now (written output) (written output_after)) (sym asked.2) ran) quiet
+      by (Ok u) asked ran broke_off quiet tells = IsRun.serves files.script.now asked.0 asked.1 (subst (λ c. RanScript held c files.script.now (written output) (written output_after)) (sym asked.2) ran) quiet
       by (Err fault) asked ran broke_off quiet tells =
           IsRun.fails fault (Failed.script files.script.now fault asked.0 asked.1 (subst (λ c. BrokeOff held c files.script.now (written output) (written output_after) fault) (sym asked.2) broke_off)) tells
 

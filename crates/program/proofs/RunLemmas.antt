@@ -11,7 +11,7 @@ use Rattle.program.specs.ConfigFiles.{FileGives, IsConfigFault, IsConfigText}
 use Rattle.program.specs.Configs.{ConfigData, config_data}
 use Rattle.program.specs.Ends.{told_as}
 use Rattle.program.specs.RunFaults.{BrokeOff, CameTo, IsOfRun}
-use Rattle.program.specs.Runs.{IsConfigOf, Ran, Served, world_of}
+use Rattle.program.specs.Runs.{IsConfigOf, RanScript, Served, world_of}
 use Rattle.program.specs.declared.config_faults.ConfigFault.{ConfigFault}
 use Rattle.program.specs.declared.configs.Config.{Config}
 use Rattle.program.specs.declared.faults.ProgramFault.{ProgramFault}
@@ -29,7 +29,7 @@ misconfigured known text fault same h = subst (λ known. IfSome known (λ text. 
 module _ (held : List ℕ → Option (List ℕ)) (config : Option (List ℕ)) (name : List ℕ) (c : ConfigData) (known before after : Option (List ℕ)) where
   -- a run by a configuration served the script of a file
   pub ran : (result : Result (Unit {0}) ProgramFault) → IsConfigOf held config c → known ≡ held name → OnOk result (IfSome known (λ text. Served c text before after)) →
-      OnOk result (Ran held config name before after)
+      OnOk result (RanScript held config name before after)
   ran (Ok u) is_config same served =
       record { configured = c; is_config = is_config; served = subst (λ known. IfSome known (λ text. Served c text before after)) same served }
   ran (Err e) is_config same served = tt

@@ -6,7 +6,7 @@ use Rattle.clap.specs.declared.error.kind.ErrorKind.TheVariants.{DisplayHelp}
 use Rattle.program.specs.CommandLine.{refusals, word_for}
 use Rattle.program.specs.Ends.{IsUnwritten, TookFront, fault_line}
 use Rattle.program.specs.RunFaults.{BrokeOff}
-use Rattle.program.specs.Runs.{Ran}
+use Rattle.program.specs.Runs.{RanScript}
 use Rattle.program.specs.declared.faults.ProgramFault.{ProgramFault}
 use Rattle.program.specs.declared.faults.ProgramFault.TheVariants.{NoMemory}
 
@@ -25,7 +25,7 @@ pub data Failed (words : List Text) (held : List ℕ → Option (List ℕ)) (bef
 pub data IsRun {O E : Type 0} (words : List Text) (held : List ℕ → Option (List ℕ)) (written : O → Option (List ℕ)) (output output_after : O) (told : E → Option (List ℕ)) (errors errors_after : E) : ℕ → Type 0 where
   -- they ask for a script, which is served
   serves : (script : List ℕ) → refusals words ≡ [] → word_for (codes "FILE") words ≡ Some script
-      → Ran held (word_for (codes "config") words) script (written output) (written output_after)
+      → RanScript held (word_for (codes "config") words) script (written output) (written output_after)
       → errors_after ≡ errors → IsRun words held written output output_after told errors errors_after 0
   -- they ask for help
   helps : IsAmong DisplayHelp (refusals words) → errors_after ≡ errors → IsRun words held written output output_after told errors errors_after 0

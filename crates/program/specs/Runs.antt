@@ -31,7 +31,7 @@ IsConfigOf held None config = config ≡ built_in_config
 IsConfigOf held (Some name) config = IfSome (held name) (λ text. IsConfigText config text)
 
 -- the configuration is the one that was asked for, and the script of the file of this name is served
-pub record Ran (held : List ℕ → Option (List ℕ)) (config : Option (List ℕ)) (script : List ℕ) (before after : Option (List ℕ)) : Type 0 where
+pub record RanScript (held : List ℕ → Option (List ℕ)) (config : Option (List ℕ)) (script : List ℕ) (before after : Option (List ℕ)) : Type 0 where
   pub configured : ConfigData
   pub is_config : IsConfigOf held config configured
   pub served : IfSome (held script) (λ text. Served configured text before after)

@@ -6,7 +6,7 @@ ghost use Rattle.program.specs.Configs.{config_data};
 ghost use Rattle.program.specs.Ends.{IsUnwritten, TookFront, exit_status, fault_line};
 ghost use Rattle.program.specs.Programs.{IsRun};
 ghost use Rattle.program.specs.RunFaults.{BrokeOff, IsOfConfig, IsOfRun};
-ghost use Rattle.program.specs.Runs.{IsConfigOf, Ran, Served};
+ghost use Rattle.program.specs.Runs.{IsConfigOf, RanScript, Served};
 
 use crate::built_in::built_in_config;
 use crate::configs::Config;
@@ -87,10 +87,7 @@ fn asked_config<'a, F: Folder>(
     ensures err { IfErr result (IsOfConfig (F.holds folder.now) (option_map (λ name. name.now) name.entry)) }
 {
     let Some(name) = name else {
-        return match built_in_config(heap, heap) {
-            Ok(config) => Ok(config),
-            Err(fault) => Err(ProgramFault::Config(fault)),
-        };
+        return built_in_config(heap, heap).map_err(ProgramFault::Config);
     };
     named_config(heap, name, folder)
 }
@@ -105,13 +102,10 @@ pub fn run_named<'a, F: Folder, W: Write>(
     folder: &F,
     output: &mut W,
 ) -> Result<(), ProgramFault<'a>>
-    ensures ran { OnOk result (Ran (F.holds folder.now) (option_map (λ name. name.now) words.entry.config) words.entry.script.now (W.contents output.old) (W.contents output.new)) }
+    ensures ran { OnOk result (RanScript (F.holds folder.now) (option_map (λ name. name.now) words.entry.config) words.entry.script.now (W.contents output.old) (W.contents output.new)) }
     ensures err { IfErr result (BrokeOff (F.holds folder.now) (option_map (λ name. name.now) words.entry.config) words.entry.script.now (W.contents output.old) (W.contents output.new)) }
 {
-    let config = match asked_config(heap, words.config, folder) {
-        Ok(config) => config,
-        Err(fault) => return Err(fault),
-    };
+    let config = asked_config(heap, words.config, folder)?;
     let mut file = match folder.open_file(words.script) {
         Ok(file) => file,
         Err(closed) => {

@@ -22,7 +22,8 @@ const EXAMPLES: &str = "Examples:
   landmap script day.map
   landmap script --config agency.json day.map
 
-`landmap script --help` has the lines of a script and the codes of faults.
+`landmap script --help` has the lines of a script, and the codes by which a run
+ends.
 
 Exit status:
   0  what was asked is done
@@ -46,7 +47,9 @@ skipped. The commands are
 
 A configuration gives the subjects, and the policies that are in force until a
 steward replaces them. Without one the subjects are north, south and chief, who
-is the steward, and everything is permitted.";
+is the steward, and everything is permitted.
+
+docs/SESSIONS.md tells what each reply and each `error CODE` means.";
 
 const SCRIPT_EXAMPLES: &str = r#"Examples:
   A file first.map of these lines

@@ -2,6 +2,8 @@
 #![tactic(auto)]
 
 #[cfg(test)]
+mod alone_tests;
+#[cfg(test)]
 mod config_tests;
 #[cfg(test)]
 mod fakes;

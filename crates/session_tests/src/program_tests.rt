@@ -618,7 +618,7 @@ fn help(rt: HostRuntime) -> Result<(), Fail> {
         &[
             "\n  landmap script day.map\n",
             "\n  landmap script --config agency.json day.map\n",
-            "`landmap script --help`",
+            "\n`landmap script --help` has the lines of a script, and the codes by which a run\nends.\n",
             "\nExit status:\n  0  ",
             "\n  1  a file cannot be read, the configuration is faulty, or the run broke off;\n     one line on standard error says which\n",
             "\n  2  the command line is wrong",
@@ -632,6 +632,7 @@ fn help(rt: HostRuntime) -> Result<(), Fail> {
         "Runs the session lines of a file, and writes the replies",
         &[
             "\n  HELLO name, SEARCH shape, ADD id class shape, RESHAPE id version shape,\n",
+            "\ndocs/SESSIONS.md tells what each reply and each `error CODE` means.\n",
             "\n    n: SEARCH POINT (3 4)\n",
             "\n    n: 1 1 north mast POINT (3 4)\n",
             "\n  `landmap script --config agency.json first.map` writes the same",

@@ -1,5 +1,5 @@
 //! Worked scripts, lines and labels, limits, and what a script does to the index's slots.
-use crate::fakes::{FIRST_POINT, FIRST_REPLIES};
+use crate::fakes::{FIRST_POINT, FIRST_REPLIES, THREE_REPLIES, THREE_SHAPES};
 use crate::worlds::{SQUARE, run_first, serve_first};
 use std::alloc::{AllocError, Global};
 use std::process::Abort;
@@ -17,6 +17,7 @@ fn check_all(rt: &impl Abort, alloc: Global, cases: &[(&str, &str)]) {
 fn worked_scripts(rt: HostRuntime) {
     let cases = [
         (FIRST_POINT, FIRST_REPLIES),
+        (THREE_SHAPES, THREE_REPLIES),
         ("x: SEARCH POINT (0 0)\n", "x: error E5\n"),
         ("x: HELLO nobody\n", "x: error H1\n"),
         (

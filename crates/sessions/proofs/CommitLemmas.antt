@@ -27,7 +27,7 @@ use Rattle.plain_world.specs.Staging.{TransactionData, placements, with_step, st
 use Rattle.plain_world.specs.States.{WorldData}
 use Rattle.sessions.specs.Services.{Brings, Commits, EndsAs, HoldsList, NoReadySeeksAny, holder, is_full, is_unplaced, may_conclude}
 use Rattle.sessions.specs.States.{IsAtRest, begun}
-use Rattle.sessions.specs.Steps.{Concludes, ConcludesAll, IsStuck, NoReadySeeksFirst, Stands, closed, under}
+use Rattle.sessions.specs.UnderWay.{Concludes, ConcludesAll, IsStuck, NoReadySeeksFirst, Stands, closed, under}
 use Rattle.sessions.proofs.SearchLemmas.{IsFree, same_number, want_is, does, refuses, done, turned, rests_same}
 
 -- ---- a world at rest

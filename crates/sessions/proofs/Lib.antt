@@ -1,4 +1,3 @@
-pub mod WordLemmas
 pub mod SearchLemmas
 pub mod CommitLemmas
 pub mod PolicyLemmas

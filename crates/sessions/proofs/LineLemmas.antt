@@ -1,6 +1,6 @@
 -- What a line of a script leaves of the searches that run: a world at rest is at rest afterwards, and each search that runs is one
 -- that a session of the script has open.
-use Rattle.std.proofs.Common.{◌≡◌, ◌⊎◌, ℕ, ◌+◌, ◌<◌, ◌≤◌, ◌==◌, Bool, true, false, nat_eq, nat_lt, List, [], ◌∷◌, ◌++◌, length, slice_set, slice_index_or, Option, None, Some, MatchOption, is_some, Result, Ok, Err, MatchResult, if◌then◌else◌, refl, sym, ap, subst, ◌∙◌, inl, inr, arith, length-append}
+use Rattle.std.proofs.Common.{◌≡◌, ◌⊎◌, ℕ, ◌+◌, ◌<◌, ◌≤◌, ◌==◌, Bool, true, false, nat_eq, nat_lt, List, [], ◌∷◌, ◌++◌, length, slice_set, slice_index_or, Option, None, Some, MatchOption, Result, Ok, Err, MatchResult, if◌then◌else◌, refl, sym, ap, subst, ◌∙◌, inl, inr, arith, length-append}
 use Rattle.std.specs.Bool.{MatchBool}
 use Rattle.std.specs.Cmp.Lexicographic.{pointwise}
 use Rattle.std.proofs.lemmas.Bool.Decides.{nat_tests}
@@ -20,13 +20,15 @@ use Rattle.plain_world.specs.States.{WorldData}
 use Rattle.plain_world.proofs.RefusalLemmas.{leaves}
 use Rattle.plain_world.proofs.RunLemmas.{given_ok}
 use Rattle.sessions.specs.declared.faults.Fault.{Fault}
-use Rattle.sessions.specs.declared.faults.Fault.TheVariants.{BeforeHello, LineTooLong, NoLabel, OutOfTurn}
+use Rattle.sessions.specs.declared.faults.Fault.TheVariants.{BeforeHello, LineTooLong, NoLabel}
 use Rattle.sessions.specs.declared.replies.Reply.{Reply}
 use Rattle.sessions.specs.declared.replies.Reply.TheVariants.{Error}
 use Rattle.sessions.specs.declared.scripts.TheConstants.{LABEL_LIMIT}
 use Rattle.sessions.specs.declared.stepping.StepCommand.{StepCommand}
 use Rattle.sessions.specs.declared.stepping.StepCommand.TheVariants as commands
 use Rattle.sessions.specs.declared.stepping.StepVerb.{StepVerb}
+use Rattle.sessions.specs.declared.stepping.StepVerb.TheVariants as verbs
+use Rattle.sessions.specs.Commands.{◌>>=◌, end_at, shape_at}
 use Rattle.sessions.specs.declared.streams.ServeFault.{ServeFault}
 use Rattle.sessions.specs.Lines.{is_too_long}
 use Rattle.sessions.specs.Printed.{reply_text}
@@ -34,7 +36,7 @@ use Rattle.sessions.specs.Replies.{SaidData}
 use Rattle.sessions.specs.Scripts.{Script, Ends, IsRefused, LabelTells, LineTells, ObeysStep, OnlyTells, Opens, SessionAnswers, SessionTells, Steps, TakesPlain, TakesStep, desk_of, fresh, is_skipped, keeps_seat, parts_of, place, script, with_label}
 use Rattle.sessions.specs.Services.{Serves, is_overrun, solo_subject}
 use Rattle.sessions.specs.States.{IsAtRest, IsIdle, SessionState, desk, solo}
-use Rattle.sessions.specs.Stepping.{AllDrop, Drops, FindsMore, Finishes, GoesOn, Seeks, finished_as, left_open, opened_as, step_command_at, step_verb_at, stepped_as}
+use Rattle.sessions.specs.Stepping.{AllDrop, Drops, FindsMore, Finishes, GoesOn, Seeks, count_at, finished_as, left_open, opened_as, step_command_at, step_verb_at, stepped_as}
 use Rattle.sessions.specs.Streams.{Ran}
 use Rattle.sessions.proofs.DeskLemmas.{line_keeps}
 use Rattle.sessions.proofs.HeldLemmas.{AllStay, AreGone, AreHeld, Goes, all_dropped, all_stay, drop_goes, drop_gone, drop_rests, drops_goes, drops_gone, drops_rest, event_rests, finish_goes, finish_gone, finish_rests, goes_same, goes_then, gone_stay, held_more, held_push, held_pushed, held_set, overrun_gone, set_has, visit_goes, visit_rests}
@@ -113,6 +115,31 @@ plain_moves text old new old_world new_world said h = go (keeps_seat old.seat ne
 
 -- ---- lines of a search that goes step by step
 
+-- a command of a session with this open search, or without one
+abbrev IsOfOpen : Option ℕ → StepCommand → Type 0
+IsOfOpen search (commands.Open window) = search ≡ None
+IsOfOpen search (commands.Step number count) = search ≡ Some number
+IsOfOpen search (commands.Finish number) = search ≡ Some number
+
+abbrev AsksOpen : Option ℕ → Result StepCommand Fault → Type 0
+AsksOpen search (Ok command) = IsOfOpen search command
+AsksOpen search (Err fault) = Unit {0}
+
+-- what is read before may have a fault of its own
+read_first : {A : Type 0} (search : Option ℕ) (r : Result A Fault) (f : A → Result StepCommand Fault) → ((x : A) → AsksOpen search (f x)) → AsksOpen search (r >>= f)
+read_first search (Ok x) f h = h x
+read_first search (Err fault) f h = tt
+
+-- what is asked is of the search that is open
+asks_open : (search : Option ℕ) (verb : StepVerb) (text : List ℕ) → AsksOpen search (step_command_at search verb text)
+unfolding step_command_at
+asks_open None verbs.Open text = read_first None (shape_at text) (λ window. Ok (commands.Open window)) (λ window. refl)
+asks_open None verbs.Step text = tt
+asks_open None verbs.Finish text = tt
+asks_open (Some search) verbs.Open text = tt
+asks_open (Some search) verbs.Step text = read_first (Some search) (count_at text) (λ count. Ok (commands.Step search count)) (λ count. refl)
+asks_open (Some search) verbs.Finish text = read_first (Some search) (end_at text) (λ u. Ok (commands.Finish search)) (λ u. refl)
+
 module _ (seat : ℕ) (old new : SessionState) (old_world new_world : WorldData) (seated : old.seat ≡ Some seat) where
   open_moves : (window : List Point) (said : SaidData) → old.search ≡ None → Opens seat window old old_world new new_world said → Moves old new old_world new_world
   open_moves window said none h = go h.0 h.1 h.2
@@ -153,7 +180,7 @@ module _ (seat : ℕ) (old new : SessionState) (old_world new_world : WorldData)
     visit_moves reply h stay =
         moves_goes old new old_world new_world (visit_rests seat number old_world new_world reply h) (visit_goes seat number old_world new_world reply h) (λ xs still held. stay)
 
-    step_moves : (count : ℕ) (said : SaidData) → Steps seat count number old old_world new new_world said → Moves old new old_world new_world
+    step_moves : (count : ℕ) (said : SaidData) → Steps seat number count old old_world new new_world said → Moves old new old_world new_world
     step_moves count said h = go h.0 h.1 h.2
       where
         from_here : (reply : EventReply) (before : ℕ) (mid : WorldData) → FindsMore seat number before old_world mid → Happens (VisitNext seat number) mid new_world reply → Happens (VisitNext seat number) old_world new_world reply
@@ -230,36 +257,24 @@ module _ (seat : ℕ) (old new : SessionState) (old_world new_world : WorldData)
             cases (inl stays) = stays_open fault h stays e
             cases (inr over) = over_so (subst (λ (f : WorldFault). Finishes seat number old_world new_world (Refused f)) over h)
 
-  obeys_moves : (command : StepCommand) (said : SaidData) → ObeysStep seat command old old_world new new_world said → Moves old new old_world new_world
-  obeys_moves (commands.Open window) said h = go old.search refl h
-    where
-      go : (o : Option ℕ) → old.search ≡ o → MatchOption o (Opens seat window old old_world new new_world said) (λ number. OnlyTells (Error OutOfTurn) old old_world new new_world said) → Moves old new old_world new_world
-      go None e h = open_moves window said e h
-      go (Some number) e h = tells_moves (Error OutOfTurn) old new old_world new_world said h
-  obeys_moves (commands.Step count) said h = go old.search refl h
-    where
-      go : (o : Option ℕ) → old.search ≡ o → MatchOption o (OnlyTells (Error OutOfTurn) old old_world new new_world said) (λ number. Steps seat count number old old_world new new_world said) → Moves old new old_world new_world
-      go None e h = tells_moves (Error OutOfTurn) old new old_world new_world said h
-      go (Some number) e h = step_moves number e count said h
-  obeys_moves commands.Finish said h = go old.search refl h
-    where
-      go : (o : Option ℕ) → old.search ≡ o → MatchOption o (OnlyTells (Error OutOfTurn) old old_world new new_world said) (λ number. Ends seat number old old_world new new_world said) → Moves old new old_world new_world
-      go None e h = tells_moves (Error OutOfTurn) old new old_world new_world said h
-      go (Some number) e h = end_moves number e said h
+  obeys_moves : (command : StepCommand) (said : SaidData) → IsOfOpen old.search command → ObeysStep seat command old old_world new new_world said → Moves old new old_world new_world
+  obeys_moves (commands.Open window) said is h = open_moves window said is h
+  obeys_moves (commands.Step search count) said is h = step_moves search is count said h
+  obeys_moves (commands.Finish search) said is h = end_moves search is said h
 
 takes_moves : (verb : StepVerb) (text : List ℕ) (old new : SessionState) (old_world new_world : WorldData) (said : SaidData) → TakesStep verb text old old_world new new_world said → Moves old new old_world new_world
 takes_moves verb text old new old_world new_world said h = go old.seat refl h
   where
-    read : (seat : ℕ) → old.seat ≡ Some seat → (r : Result StepCommand Fault)
+    read : (seat : ℕ) → old.seat ≡ Some seat → (r : Result StepCommand Fault) → AsksOpen old.search r
         → MatchResult r (λ command. ObeysStep seat command old old_world new new_world said) (λ fault. OnlyTells (Error fault) old old_world new new_world said) → Moves old new old_world new_world
-    read seat seated (Ok command) h = obeys_moves seat old new old_world new_world seated command said h
-    read seat seated (Err fault) h = tells_moves (Error fault) old new old_world new_world said h
+    read seat seated (Ok command) is h = obeys_moves seat old new old_world new_world seated command said is h
+    read seat seated (Err fault) is h = tells_moves (Error fault) old new old_world new_world said h
 
     go : (o : Option ℕ) → old.seat ≡ o → MatchOption o (OnlyTells (Error BeforeHello) old old_world new new_world said)
-        (λ seat. MatchResult (step_command_at (is_some old.search) verb text) (λ command. ObeysStep seat command old old_world new new_world said) (λ fault. OnlyTells (Error fault) old old_world new new_world said))
+        (λ seat. MatchResult (step_command_at old.search verb text) (λ command. ObeysStep seat command old old_world new new_world said) (λ fault. OnlyTells (Error fault) old old_world new new_world said))
         → Moves old new old_world new_world
     go None e h = tells_moves (Error BeforeHello) old new old_world new_world said h
-    go (Some seat) e h = read seat e (step_command_at (is_some old.search) verb text) h
+    go (Some seat) e h = read seat e (step_command_at old.search verb text) (asks_open old.search verb text) h
 
 session_moves : (text : List ℕ) (old new : SessionState) (old_world new_world : WorldData) (said : SaidData) → SessionAnswers text old old_world new new_world said → Moves old new old_world new_world
 session_moves text old new old_world new_world said h = go (step_verb_at text) h.1

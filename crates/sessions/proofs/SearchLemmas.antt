@@ -22,7 +22,7 @@ use Rattle.plain_world.specs.States.{WorldData}
 use Rattle.sessions.specs.Services.{Searches, ListsRows, is_full, is_overrun, may_search}
 use Rattle.sessions.specs.States.{IsAtRest, searched}
 use Rattle.sessions.specs.Stepping.{Seeks}
-use Rattle.sessions.specs.Steps.{searching}
+use Rattle.sessions.specs.UnderWay.{searching}
 
 pub same_number : (n : ℕ) → (n == n) ≡ true
 same_number n = eq-eqb n n refl

@@ -4,7 +4,7 @@ pub mod Commands
 pub mod Replies
 pub mod States
 pub mod Services
-pub mod Steps
+pub mod UnderWay
 pub mod Stepping
 pub mod Desks
 pub mod Printed

@@ -1,5 +1,5 @@
 -- The script text: what a list of lines is answered, over one plain state.
-use Rattle.std.specs.Prelude.{◌≡◌, ℕ, ◌+◌, ◌==◌, Bool, true, false, not, take, drop, nat_eq, nat_lt, List, [], ◌∷◌, ◌++◌, codes, length, slice_index_or, slice_set, Option, None, Some, MatchOption, is_some, Result, MatchResult, if◌then◌else◌}
+use Rattle.std.specs.Prelude.{◌≡◌, ℕ, ◌+◌, ◌==◌, Bool, true, false, not, take, drop, nat_eq, nat_lt, List, [], ◌∷◌, ◌++◌, codes, length, slice_index_or, slice_set, Option, None, Some, MatchOption, Result, MatchResult, if◌then◌else◌}
 use Rattle.std.specs.Bool.{MatchBool}
 use Rattle.std.specs.Cmp.Lexicographic.{pointwise}
 use Rattle.std.specs.List.{prefix_len}
@@ -9,7 +9,7 @@ use Rattle.plain_world.specs.declared.faults.Fault.{Fault as WorldFault}
 use Rattle.search_tree.specs.declared.answers.Visit.{Visit}
 use Rattle.plain_world.specs.Answers.{AnswerData}
 use Rattle.plain_world.specs.Events.{OpenSearch, Happens, Number, Rows, reply_of}
-use Rattle.sessions.specs.declared.faults.Fault.TheVariants.{BeforeHello, LineTooLong, NoLabel, OutOfTurn}
+use Rattle.sessions.specs.declared.faults.Fault.TheVariants.{BeforeHello, LineTooLong, NoLabel}
 use Rattle.sessions.specs.declared.replies.Reply.{Reply}
 use Rattle.sessions.specs.declared.replies.Reply.TheVariants.{Error, Opened}
 use Rattle.sessions.specs.declared.stepping.StepCommand.{StepCommand}
@@ -92,30 +92,27 @@ Opens seat window old old_world new new_world said =
 
 -- STEP, of the search that is open
 abbrev pub Steps : ℕ → ℕ → ℕ → SessionState → WorldData → SessionState → WorldData → SaidData → Type 0
-Steps seat count number old old_world new new_world said =
-    (end : Result Visit WorldFault) × GoesOn seat number count old_world new_world end
-    × (new ≡ record old { search = stepped_as end number }) × (said ≡ told (λ visit. line (visit_reply visit)) end)
+Steps seat search count old old_world new new_world said =
+    (end : Result Visit WorldFault) × GoesOn seat search count old_world new_world end
+    × (new ≡ record old { search = stepped_as end search }) × (said ≡ told (λ visit. line (visit_reply visit)) end)
 
 -- FINISH, of the search that is open
 abbrev pub Ends : ℕ → ℕ → SessionState → WorldData → SessionState → WorldData → SaidData → Type 0
-Ends seat number old old_world new new_world said =
-    (end : Result AnswerData WorldFault) × Finishes seat number old_world new_world (reply_of Rows end)
-    × (new ≡ record old { search = finished_as end number }) × (said ≡ told rows end)
+Ends seat search old old_world new new_world said =
+    (end : Result AnswerData WorldFault) × Finishes seat search old_world new_world (reply_of Rows end)
+    × (new ≡ record old { search = finished_as end search }) × (said ≡ told rows end)
 
 -- what a command of a search that goes step by step makes of a session with this seat, and what is said
 abbrev pub ObeysStep : ℕ → StepCommand → SessionState → WorldData → SessionState → WorldData → SaidData → Type 0
-ObeysStep seat (commands.Open window) old old_world new new_world said =
-    MatchOption old.search (Opens seat window old old_world new new_world said) (λ number. OnlyTells (Error OutOfTurn) old old_world new new_world said)
-ObeysStep seat (commands.Step count) old old_world new new_world said =
-    MatchOption old.search (OnlyTells (Error OutOfTurn) old old_world new new_world said) (λ number. Steps seat count number old old_world new new_world said)
-ObeysStep seat commands.Finish old old_world new new_world said =
-    MatchOption old.search (OnlyTells (Error OutOfTurn) old old_world new new_world said) (λ number. Ends seat number old old_world new new_world said)
+ObeysStep seat (commands.Open window) old old_world new new_world said = Opens seat window old old_world new new_world said
+ObeysStep seat (commands.Step search count) old old_world new new_world said = Steps seat search count old old_world new new_world said
+ObeysStep seat (commands.Finish search) old old_world new new_world said = Ends seat search old old_world new new_world said
 
 -- a line whose command is of a search that goes step by step
 abbrev pub TakesStep : StepVerb → List ℕ → SessionState → WorldData → SessionState → WorldData → SaidData → Type 0
 TakesStep verb text old old_world new new_world said =
     MatchOption old.seat (OnlyTells (Error BeforeHello) old old_world new new_world said) (λ seat.
-    MatchResult (step_command_at (is_some old.search) verb text)
+    MatchResult (step_command_at old.search verb text)
     (λ command. ObeysStep seat command old old_world new new_world said)
     (λ fault. OnlyTells (Error fault) old old_world new new_world said))
 

@@ -46,33 +46,26 @@ of_word (Some word) = with_rest word.1 (step_verb_of word.0)
 unfoldable pub step_verb_at : List ℕ → Option (StepVerb × List ℕ)
 step_verb_at text = of_word (next_word text)
 
--- one search of a session is open at a time
-abbrev pub step_allowed : Bool → StepVerb → Result (Unit {0}) Fault
-step_allowed has_search verbs.Open = if has_search then Err OutOfTurn else Ok tt
-step_allowed has_search verbs.Step = if has_search then Ok tt else Err OutOfTurn
-step_allowed has_search verbs.Finish = if has_search then Ok tt else Err OutOfTurn
-
 -- how many steps are asked for: 1 to 1,000,000
 abbrev pub step_count : ℕ → Result ℕ Fault
 step_count number = if nat_le 1 number && nat_le number STEP_LIMIT then Ok number else Err Number
 
-unfoldable pub step_at : List ℕ → Result StepCommand Fault
-step_at text = do
+-- the words of STEP
+unfoldable pub count_at : List ℕ → Result ℕ Fault
+count_at text = do
   word ← word_at text
   number ← or_fault Number (number_of word.0)
   count ← step_count number
   _ ← end_at word.1
-  Ok (commands.Step count)
+  Ok count
 
--- the words of a command, from left to right
-unfoldable pub step_arguments_at : StepVerb → List ℕ → Result StepCommand Fault
-step_arguments_at verbs.Open text = shape_at text >>= λ shape. Ok (commands.Open shape)
-step_arguments_at verbs.Step text = step_at text
-step_arguments_at verbs.Finish text = end_at text >>= λ _. Ok commands.Finish
-
--- what is asked of a session that has a search open or not
-unfoldable pub step_command_at : Bool → StepVerb → List ℕ → Result StepCommand Fault
-step_command_at has_search verb text = step_allowed has_search verb >>= λ _. step_arguments_at verb text
+-- what is asked of a session with this open search, or without one: OPEN comes where none is open, STEP and FINISH are of the
+-- one that is
+unfoldable pub step_command_at : Option ℕ → StepVerb → List ℕ → Result StepCommand Fault
+step_command_at None verbs.Open text = shape_at text >>= λ window. Ok (commands.Open window)
+step_command_at (Some search) verbs.Step text = count_at text >>= λ count. Ok (commands.Step search count)
+step_command_at (Some search) verbs.Finish text = end_at text >>= λ _. Ok (commands.Finish search)
+step_command_at search verb text = Err OutOfTurn
 
 -- What the events make of it.
 

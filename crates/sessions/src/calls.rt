@@ -9,20 +9,23 @@ ghost use Rattle.plain_world.specs.declared.settings.TheConstants.{CHANGE_LIMIT}
 ghost use Rattle.sessions.specs.Services.{Searches, Commits};
 ghost use Rattle.sessions.specs.States.{WhereAtRest};
 ghost use Rattle.sessions.specs.Stepping.{Seeks};
-ghost use Rattle.sessions.specs.Steps.{Concludes, Places, Stages};
+ghost use Rattle.sessions.specs.UnderWay.{Concludes, Places, Stages};
 
 use features::{Change, Meter};
 use plane::Shape;
 use policy_text::Document;
 use std::alloc::{Allocator, Global};
 use std::sync::Arc;
-use transactions::{Advance, Answer, Fault, Outcome, Rolled, STEP_LIMIT, TreeFault, Visit, World};
+use transactions::{
+    Advance, Answer, CHANGE_LIMIT, Fault, Outcome, Rolled, STEP_LIMIT, TreeFault, Visit, World,
+};
 
 /// How many steps a search is waited for, which is overrun before.
 const SEARCH_STEPS: u32 = STEP_LIMIT + 1;
 
-/// How many steps the walks of a list are waited for: 16 walks, each of which is overrun before.
-const WALK_STEPS: u32 = 16_000_017;
+/// How many steps the walks of a list are waited for: one for each change, each of which is overrun
+/// before, and the step that finds all placed.
+const WALK_STEPS: u32 = CHANGE_LIMIT as u32 * (STEP_LIMIT + 1) + 1;
 
 /// Searches from the beginning to the end. X1 where the seat was not given; S2 where 16 searches run, S6 where the numbers of
 /// searches are at their end, S7 where the index gives the search up; X10 where the trail is full; X12 where a growth is refused.
@@ -52,13 +55,12 @@ pub(crate) fn seek<A: Allocator + Copy>(
     ensures { Seeks seat number world.old.plain world.new.plain (reply_of Rows result) }
 {
     for _ in 0..SEARCH_STEPS {
-        match world.visit(seat, number) {
-            Ok(Visit::More) => {}
-            Ok(Visit::Ready) => {
+        match world.visit(seat, number)? {
+            Visit::More => {}
+            Visit::Ready => {
                 let mut meter = Meter::new();
                 return world.finish(seat, number, &mut meter);
             }
-            Err(fault) => return Err(fault),
         }
     }
     Err(Fault::Tree(TreeFault::Overrun))
@@ -115,9 +117,7 @@ fn stage_all<A: Allocator>(
     ensures { Stages seat number changes.now world.old.plain world.new.plain result }
 {
     for change in changes {
-        if let Err(fault) = world.stage(seat, number, *change) {
-            return Err(fault);
-        }
+        world.stage(seat, number, *change)?;
     }
     Ok(())
 }
@@ -127,10 +127,9 @@ fn place_all<A: Allocator + Copy>(world: &mut World<A>, seat: u32, number: u64) 
     ensures { Places seat number world.old.plain world.new.plain result }
 {
     for _ in 0..WALK_STEPS {
-        match world.advance(seat, number) {
-            Ok(Advance::AllPlaced) => return Ok(()),
-            Ok(Advance::Walked(_)) => {}
-            Err(fault) => return Err(fault),
+        match world.advance(seat, number)? {
+            Advance::AllPlaced => return Ok(()),
+            Advance::Walked(_) => {}
         }
     }
     Err(Fault::Tree(TreeFault::Overrun))

@@ -13,7 +13,7 @@ use wkt::read_shape;
 
 /// What a line asks of its session. POLICY is none of these: its document takes all the rest of the line.
 #[derive(Clone, Copy, Debug, PartialEq, Eq)]
-pub enum Command {
+pub(crate) enum Command {
     /// HELLO: to begin, as the subject of this name.
     Hello(Name),
     /// SEARCH: the features that meet this window.
@@ -34,7 +34,7 @@ pub enum Command {
 
 /// What EXPLAIN asks: may the session's subject do this with a feature of this office and class, at this shape?
 #[derive(Clone, Copy, Debug, PartialEq, Eq)]
-pub struct Asking {
+pub(crate) struct Asking {
     /// What would be done.
     pub action: Action,
     /// The office whose feature it is.
@@ -260,10 +260,7 @@ fn as_name(word: &[u8]) -> Result<Name, Fault>
 pub(crate) fn as_shape(text: &[u8]) -> Result<Shape, Fault>
     ensures { result ≡ shape_at text.now }
 {
-    match read_shape(text) {
-        Ok(shape) => Ok(shape),
-        Err(fault) => Err(Fault::Shape(fault)),
-    }
+    read_shape(text).map_err(Fault::Shape)
 }
 
 /// Nothing but spaces is left.

@@ -9,6 +9,7 @@ mod faults;
 mod laws;
 mod lists;
 mod replies;
+mod script_sessions;
 mod scripts;
 mod services;
 mod serving;

@@ -1,258 +1,31 @@
-//! Scripts: lines of many sessions, each led by the label of its session.
-ghost use Rattle.std.specs.Bool.{MatchBool};
+//! Scripts: lines of many sessions, each led by the label of its session, and the table of these sessions.
 ghost use Rattle.std.specs.Prelude.{◌≡◌, ◌≤◌, ◌<◌, ◌+◌, ◌++◌, [], List, None, OnOk, IfOk, IfErr, IfSome, codes, length, nat_lt, option_map, slice_set, slice_index_or, vec_len, vec_capacity, if◌then◌else◌, ℕ};
 ghost use Rattle.std.specs.Io.KnownBytes.{Appends};
 ghost use Rattle.std.specs.List.{prefix_len};
-ghost use Rattle.sessions.specs.Desks.{Answers};
-ghost use Rattle.sessions.specs.Scripts.{IsScriptText, LabelTells, LineTells, ObeysStep, SessionAnswers, TakesPlain, TakesStep, desk_of, fresh, is_not_colon, is_skipped, keeps_seat, parts_of, place, script, with_label};
-ghost use Rattle.sessions.specs.Printed.{led, reply_text, said_text};
-ghost use Rattle.sessions.specs.Replies.{line as said_in_line, said_view};
-ghost use Rattle.sessions.specs.Services.{Serves, solo_subject};
-ghost use Rattle.sessions.specs.Stepping.{AllDrop, Drops};
+ghost use Rattle.sessions.specs.Scripts.{IsScriptText, LabelTells, LineTells, SessionAnswers, is_not_colon, is_skipped, parts_of, place, script, with_label};
+ghost use Rattle.sessions.specs.Printed.{led, reply_text};
+ghost use Rattle.sessions.specs.Replies.{said_view};
+ghost use Rattle.sessions.specs.Stepping.{AllDrop};
 ghost use Rattle.byte_streams.specs.Written.{Took};
 ghost use Rattle.sessions.specs.Streams.{OnMemory, Ran};
 ghost use Rattle.sessions.specs.States.{IsIdle, SessionState};
 ghost use Rattle.plain_world.specs.States.{WorldData};
 ghost use Rattle.sessions.specs.declared.scripts.TheConstants.{LABEL_LIMIT};
 
-use crate::desks::{Staged, answer};
 use crate::faults::Fault;
-use crate::replies::{Reply, Said, fault_reply, visit_reply};
-use crate::services::Service;
-use crate::solos::Solo;
-use crate::stepping::{
-    StepCommand, StepVerb, finish_open, go_on, left_open, read_step_command, read_step_verb,
-};
+use crate::replies::{Reply, Said};
+use crate::script_sessions::Session;
 use crate::streams::{LINE_LIMIT, LineDesk, ServeFault, run_lines};
 use crate::writing::{write_line, write_said};
 use byte_streams::WriteFailed;
 use features::Name;
 use memory::{Refused, vec_with_room};
-use plane::Shape;
 use std::alloc::{Allocator, Global};
 use std::io::{Read, Write};
-use std::marker::Model;
 use transactions::World;
 
 /// How many labels a script has at most.
 pub const LABEL_LIMIT: usize = 64;
-
-/// A session of a script. A contract sees its label, its seat, its open search and the changes that it has staged.
-#[derive(Debug, Drop)]
-struct Session {
-    label: Name,
-    seat: Option<u32>,
-    search: Option<u64>,
-    staged: Staged,
-}
-
-impl Model for Session {
-    ghost use Rattle.sessions.specs.States.{SessionState};
-
-    ghost Value = { SessionState };
-
-    ghost view = { λ s. record { label = s.label; seat = s.seat; search = s.search; staged = s.staged } };
-}
-
-impl Session {
-    /// A session that has not begun.
-    fn new(label: Name) -> Self
-        ensures { result ≡ fresh label }
-    {
-        Session {
-            label,
-            seat: None,
-            search: None,
-            staged: Staged::new(),
-        }
-    }
-
-    /// The label that stands for the session.
-    fn label(&self) -> Name
-        ensures { result ≡ self.now.label }
-    {
-        self.label
-    }
-
-    /// Answers a line of the session, without its label.
-    fn answer<A: Allocator + Copy>(
-        &mut self,
-        world: &mut World<A>,
-        heap: Global,
-        text: &[u8],
-    ) -> Said<A>
-        ensures { SessionAnswers text.now self.old world.old.plain self.new world.new.plain (said_view result) }
-    {
-        match read_step_verb(text) {
-            None => self.take_plain(world, heap, text),
-            Some((verb, rest)) => self.take_step(world, verb, rest),
-        }
-    }
-
-    /// Answers a line that a session by itself knows too. The open search ends with the session.
-    fn take_plain<A: Allocator + Copy>(
-        &mut self,
-        world: &mut World<A>,
-        heap: Global,
-        text: &[u8],
-    ) -> Said<A>
-        ensures label { self.new.label ≡ self.old.label }
-        ensures takes { TakesPlain text.now self.old world.old.plain self.new world.new.plain (said_view result) }
-    {
-        let seat = self.seat;
-        let said = self.be_served(world, heap, text);
-        self.settle(world, seat);
-        said
-    }
-
-    /// Gives the open search up, where the session has lost the seat that it had.
-    fn settle<A: Allocator + Copy>(&mut self, world: &mut World<A>, before: Option<u32>)
-        ensures kept { self.new ≡ record self.old { search = self.new.search } }
-        ensures settles { MatchBool (keeps_seat before self.old.seat) ((self.new.search ≡ self.old.search) × (world.new.plain ≡ world.old.plain))
-            ((self.new.search ≡ None) × Drops before self.old.search world.old.plain world.new.plain) }
-    {
-        if keeps_seat(before, self.seat) {
-            return;
-        }
-        drop_open(world, before, self.search);
-        self.search = None;
-    }
-
-    /// Lets the world serve the session for a line.
-    fn be_served<A: Allocator + Copy>(
-        &mut self,
-        world: &mut World<A>,
-        heap: Global,
-        text: &[u8],
-    ) -> Said<A>
-        ensures label { self.new.label ≡ self.old.label }
-        ensures search { self.new.search ≡ self.old.search }
-        ensures answers { Answers solo_subject Serves text.now (desk_of world.old.plain self.old) (desk_of world.new.plain self.new) (said_view result) }
-    {
-        let mut solo = Solo::at(world, heap, self.seat);
-        let said = answer(&mut solo, heap, &mut self.staged, text);
-        self.seat = solo.seat();
-        said
-    }
-
-    /// Answers a line whose command is of a search that goes step by step.
-    fn take_step<A: Allocator + Copy>(
-        &mut self,
-        world: &mut World<A>,
-        verb: StepVerb,
-        rest: &[u8],
-    ) -> Said<A>
-        ensures label { self.new.label ≡ self.old.label }
-        ensures takes { TakesStep verb rest.now self.old world.old.plain self.new world.new.plain (said_view result) }
-    {
-        let Some(seat) = self.seat else {
-            return Said::Line(Reply::Error(Fault::BeforeHello));
-        };
-        match read_step_command(self.search.is_some(), verb, rest) {
-            Err(fault) => Said::Line(Reply::Error(fault)),
-            Ok(command) => self.obey_step(world, seat, command),
-        }
-    }
-
-    /// Does what a command asks of a search that goes step by step.
-    fn obey_step<A: Allocator + Copy>(
-        &mut self,
-        world: &mut World<A>,
-        seat: u32,
-        command: StepCommand,
-    ) -> Said<A>
-        ensures label { self.new.label ≡ self.old.label }
-        ensures obeys { ObeysStep seat command self.old world.old.plain self.new world.new.plain (said_view result) }
-    {
-        match command {
-            StepCommand::Open(window) => Said::Line(self.open(world, seat, window)),
-            StepCommand::Step(count) => Said::Line(self.step(world, seat, count)),
-            StepCommand::Finish => self.finish(world, seat),
-        }
-    }
-
-    /// Opens a search.
-    fn open<A: Allocator + Copy>(&mut self, world: &mut World<A>, seat: u32, window: Shape) -> Reply
-        ensures label { self.new.label ≡ self.old.label }
-        ensures obeys { ObeysStep seat (StepCommand.Open window) self.old world.old.plain self.new world.new.plain (said_in_line result) }
-    {
-        if self.search.is_some() {
-            return Reply::Error(Fault::OutOfTurn);
-        }
-        match world.open_search(seat, window) {
-            Ok(number) => {
-                self.search = Some(number);
-                Reply::Opened
-            }
-            Err(fault) => fault_reply(fault),
-        }
-    }
-
-    /// Lets the open search go on. One that the index gives up is open no more.
-    fn step<A: Allocator + Copy>(&mut self, world: &mut World<A>, seat: u32, count: u32) -> Reply
-        ensures label { self.new.label ≡ self.old.label }
-        ensures obeys { ObeysStep seat (StepCommand.Step count) self.old world.old.plain self.new world.new.plain (said_in_line result) }
-    {
-        let Some(number) = self.search else {
-            return Reply::Error(Fault::OutOfTurn);
-        };
-        match go_on(world, seat, number, count) {
-            Ok(visit) => visit_reply(visit),
-            Err(fault) => {
-                self.search = left_open(&fault, number);
-                fault_reply(fault)
-            }
-        }
-    }
-
-    /// Finishes the open search. After a fault it stays open, unless the index has given it up.
-    fn finish<A: Allocator + Copy>(&mut self, world: &mut World<A>, seat: u32) -> Said<A>
-        ensures label { self.new.label ≡ self.old.label }
-        ensures obeys { ObeysStep seat StepCommand.Finish self.old world.old.plain self.new world.new.plain (said_view result) }
-    {
-        let Some(number) = self.search else {
-            return Said::Line(Reply::Error(Fault::OutOfTurn));
-        };
-        match finish_open(world, seat, number) {
-            Ok(answer) => {
-                self.search = None;
-                Said::Rows(answer)
-            }
-            Err(fault) => {
-                self.search = left_open(&fault, number);
-                Said::Line(fault_reply(fault))
-            }
-        }
-    }
-
-    /// Gives up the open search, if there is one.
-    fn drop_search<A: Allocator + Copy>(&self, world: &mut World<A>)
-        ensures { Drops self.now.seat self.now.search world.old.plain world.new.plain }
-    {
-        drop_open(world, self.seat, self.search);
-    }
-}
-
-/// Whether a session had a seat, and has it still.
-fn keeps_seat(before: Option<u32>, after: Option<u32>) -> bool
-    ensures { result ≡ keeps_seat before after }
-{
-    match (before, after) {
-        (Some(before), Some(after)) => before == after,
-        _ => false,
-    }
-}
-
-/// Gives up the open search of a session with this seat, if it has both.
-fn drop_open<A: Allocator + Copy>(world: &mut World<A>, seat: Option<u32>, search: Option<u64>)
-    ensures { Drops seat search world.old.plain world.new.plain }
-{
-    if let Some(seat) = seat {
-        if let Some(number) = search {
-            let _ = world.drop_search(seat, number);
-        }
-    }
-}
 
 /// The sessions of a script, with room for one of each label, and the slot of the index that is tended next.
 #[derive(Drop)]
@@ -275,7 +48,7 @@ fn is_to_skip(line: &[u8]) -> bool
 }
 
 /// How many bytes stand before the first colon.
-#[tactic(auto, using(crate::proofs::WordLemmas::prefix_fits))]
+#[tactic(auto, using(wkt::proofs::DigitsLemmas::prefix_fits))]
 fn label_len(line: &[u8]) -> usize
     ensures value { result ≡ prefix_len is_not_colon line.now }
     ensures fits { result ≤ length line.now }
@@ -325,7 +98,7 @@ impl<A: Allocator + Copy> Table<A> {
     }
 
     /// Begins the session of a label, where it has none.
-    fn open(&mut self, label: Name, at: usize)
+    fn begin_session(&mut self, label: Name, at: usize)
         requires place { at ≡ place label self.old.sessions.items }
         requires room { at < LABEL_LIMIT }
         ensures { self.new.sessions.items ≡ with_label label self.old.sessions.items }
@@ -336,14 +109,14 @@ impl<A: Allocator + Copy> Table<A> {
     }
 
     /// Answers what stands behind the label of the session at a place.
-    fn answer(&mut self, world: &mut World<A>, at: usize, text: &[u8]) -> Said<A>
+    fn answer_at(&mut self, world: &mut World<A>, at: usize, text: &[u8]) -> Said<A>
         requires { at < length self.old.sessions.items }
         ensures { (session : SessionState) × (self.new.sessions.items ≡ slice_set self.old.sessions.items at session)
             × ((d : SessionState) → SessionAnswers text.now (slice_index_or self.old.sessions.items at d) world.old.plain session world.new.plain (said_view result)) }
     {
         let heap = self.heap;
         let session = &mut self.sessions[at];
-        session.answer(world, heap, text)
+        session.answer_text(world, heap, text)
     }
 
     /// Tends the slot of the index whose turn it is.
@@ -375,9 +148,29 @@ impl<A: Allocator + Copy> Table<A> {
             return refuse(Fault::NoLabel, writer);
         };
         match Name::new(label) {
-            Some(label) => take_labelled(world, self, label, text, writer),
+            Some(label) => self.take_labelled(world, label, text, writer),
             None => refuse(Fault::NoLabel, writer),
         }
+    }
+
+    /// Answers a line that has a label.
+    fn take_labelled<W: Write>(
+        &mut self,
+        world: &mut World<A>,
+        label: Name,
+        text: &[u8],
+        writer: &mut W,
+    ) -> Result<(), WriteFailed>
+        ensures { (said : List ℕ) × Took result (W.contents writer.old) (W.contents writer.new) said
+            × LabelTells label text.now (script world.old.plain self.old.sessions.items) (script world.new.plain self.new.sessions.items) said }
+    {
+        let at = place_of(&self.sessions, &label);
+        if at >= LABEL_LIMIT {
+            return refuse(Fault::NoLabel, writer);
+        }
+        self.begin_session(label, at);
+        let said = self.answer_at(world, at, text);
+        write_said(label.as_bytes(), &said, writer)
     }
 }
 
@@ -397,26 +190,6 @@ fn refuse<W: Write>(fault: Fault, writer: &mut W) -> Result<(), WriteFailed>
     ensures { Took result (W.contents writer.old) (W.contents writer.new) (led (codes "?") (reply_text (Reply.Error fault))) }
 {
     write_line(b"?", &Reply::Error(fault), writer)
-}
-
-/// Answers a line that has a label.
-fn take_labelled<A: Allocator + Copy, W: Write>(
-    world: &mut World<A>,
-    table: &mut Table<A>,
-    label: Name,
-    text: &[u8],
-    writer: &mut W,
-) -> Result<(), WriteFailed>
-    ensures { (said : List ℕ) × Took result (W.contents writer.old) (W.contents writer.new) said
-        × LabelTells label text.now (script world.old.plain table.old.sessions.items) (script world.new.plain table.new.sessions.items) said }
-{
-    let at = place_of(&table.sessions, &label);
-    if at >= LABEL_LIMIT {
-        return refuse(Fault::NoLabel, writer);
-    }
-    table.open(label, at);
-    let said = table.answer(world, at, text);
-    write_said(label.as_bytes(), &said, writer)
 }
 
 impl<A: Allocator + Copy> LineDesk for Table<A> {

@@ -28,6 +28,8 @@ use transactions::World;
 struct Alone<S: Service> {
     heap: Global,
     staged: Staged,
+    // The service stands beside the desk, as the world of its `LineDesk`. Its type is named here, since an `impl` for `Alone`
+    // has no other place that fixes `S`.
     service: PhantomData<S>,
 }
 

@@ -4,7 +4,7 @@ ghost use Rattle.std.specs.Prelude.{◌≡◌, option_map};
 ghost use Rattle.plain_world.specs.Admitting.{may_go_on};
 ghost use Rattle.plain_world.specs.Events.{Refused, Rows, reply_of};
 ghost use Rattle.sessions.specs.Services.{is_overrun};
-ghost use Rattle.sessions.specs.Stepping.{Finishes, GoesOn, VisitsOn, left_open, step_allowed, step_arguments_at, step_at, step_command_at, step_count, step_verb_at, step_verb_of};
+ghost use Rattle.sessions.specs.Stepping.{Finishes, GoesOn, VisitsOn, count_at, left_open, step_command_at, step_count, step_verb_at, step_verb_of};
 
 use crate::calls::seek;
 use crate::commands::{as_number, as_shape, due_word, end};
@@ -14,15 +14,15 @@ use plane::Shape;
 use std::alloc::Allocator;
 use transactions::{Answer, Fault as WorldFault, STEP_LIMIT, TreeFault, Visit, World};
 
-/// What a line of a script asks of a search that goes step by step.
+/// What a line of a script asks of a search that goes step by step. STEP and FINISH name the search that its session has open.
 #[derive(Clone, Copy, Debug, PartialEq, Eq)]
-pub enum StepCommand {
+pub(crate) enum StepCommand {
     /// OPEN: to open a search of this window.
     Open(Shape),
     /// STEP: to make so many steps.
-    Step(u32),
+    Step { search: u64, count: u32 },
     /// FINISH: to go on until it is ready, and to list what was found.
-    Finish,
+    Finish { search: u64 },
 }
 
 /// The first word of such a line. A session by itself does not know it.
@@ -53,66 +53,45 @@ fn step_verb_named(word: &[u8]) -> Option<StepVerb>
 pub(crate) fn read_step_verb(text: &[u8]) -> Option<(StepVerb, &[u8])>
     ensures { option_map (λ r. (r.0, r.1.now)) result ≡ step_verb_at text.now }
 {
-    match next_word(text) {
-        None => None,
-        Some((word, rest)) => match step_verb_named(word) {
-            None => None,
-            Some(verb) => Some((verb, rest)),
-        },
-    }
+    let (word, rest) = next_word(text)?;
+    let verb = step_verb_named(word)?;
+    Some((verb, rest))
 }
 
-/// What is asked of a session that has a search open or not. Faults in this order: `OutOfTurn`, then by the words from left to
-/// right, then `Command` for something left over.
+/// What is asked of a session with this open search, or without one. Faults in this order: `OutOfTurn` for OPEN beside an open
+/// search, and for STEP and FINISH without one; then by the words from left to right; then `Command` for something left over.
 #[tactic(auto, unfolding(crate::specs::Stepping::step_command_at))]
 pub(crate) fn read_step_command(
-    has_search: bool,
+    search: Option<u64>,
     verb: StepVerb,
     rest: &[u8],
 ) -> Result<StepCommand, Fault>
-    ensures { result ≡ step_command_at has_search verb rest.now }
+    ensures { result ≡ step_command_at search verb rest.now }
 {
-    allow(has_search, verb)?;
-    step_arguments(verb, rest)
-}
-
-/// Whether the command may come now.
-fn allow(has_search: bool, verb: StepVerb) -> Result<(), Fault>
-    ensures { result ≡ step_allowed has_search verb }
-{
-    match verb {
-        StepVerb::Open if has_search => Err(Fault::OutOfTurn),
-        StepVerb::Open => Ok(()),
-        _ if has_search => Ok(()),
+    match (verb, search) {
+        (StepVerb::Open, None) => Ok(StepCommand::Open(as_shape(rest)?)),
+        (StepVerb::Step, Some(search)) => {
+            let count = step_words(rest)?;
+            Ok(StepCommand::Step { search, count })
+        }
+        (StepVerb::Finish, Some(search)) => {
+            end(rest)?;
+            Ok(StepCommand::Finish { search })
+        }
         _ => Err(Fault::OutOfTurn),
     }
 }
 
-/// Reads the words of a command.
-#[tactic(auto, unfolding(crate::specs::Stepping::step_arguments_at))]
-fn step_arguments(verb: StepVerb, rest: &[u8]) -> Result<StepCommand, Fault>
-    ensures { result ≡ step_arguments_at verb rest.now }
-{
-    match verb {
-        StepVerb::Open => Ok(StepCommand::Open(as_shape(rest)?)),
-        StepVerb::Step => step(rest),
-        StepVerb::Finish => {
-            end(rest)?;
-            Ok(StepCommand::Finish)
-        }
-    }
-}
-
 /// The words of STEP: how many steps.
-#[tactic(auto, unfolding(crate::specs::Stepping::step_at))]
-fn step(rest: &[u8]) -> Result<StepCommand, Fault>
-    ensures { result ≡ step_at rest.now }
+#[tactic(auto, unfolding(crate::specs::Stepping::count_at))]
+fn step_words(rest: &[u8]) -> Result<u32, Fault>
+    ensures { result ≡ count_at rest.now }
 {
     let (word, rest) = due_word(rest)?;
     let number = as_number(word)?;
     let count = as_count(number)?;
     end(rest)?;
-    Ok(StepCommand::Step(count))
+    Ok(count)
 }
 
 /// A number of steps, or `Number` where it is none from 1 to 1,000,000.
@@ -137,10 +116,9 @@ pub(crate) fn go_on<A: Allocator + Copy>(
     ensures index { VisitsOn (may_go_on seat number world.old.plain) number steps world.old.index world.new.index result }
 {
     for _ in 0..steps {
-        match world.visit(seat, number) {
-            Ok(Visit::More) => {}
-            Ok(Visit::Ready) => return Ok(Visit::Ready),
-            Err(fault) => return Err(fault),
+        match world.visit(seat, number)? {
+            Visit::More => {}
+            Visit::Ready => return Ok(Visit::Ready),
         }
     }
     Ok(Visit::More)

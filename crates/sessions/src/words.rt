@@ -16,7 +16,7 @@ const DIGITS: usize = 20;
 const TOO_LARGE: u128 = 1 << 64;
 
 /// How many spaces the bytes begin with.
-#[tactic(auto, using(crate::proofs::WordLemmas::prefix_fits))]
+#[tactic(auto, using(wkt::proofs::DigitsLemmas::prefix_fits))]
 fn space_len(text: &[u8]) -> usize
     ensures value { result ≡ prefix_len is_space text.now }
     ensures fits { result ≤ length text.now }
@@ -25,7 +25,7 @@ fn space_len(text: &[u8]) -> usize
 }
 
 /// How many bytes of a word the bytes begin with.
-#[tactic(auto, using(crate::proofs::WordLemmas::prefix_fits))]
+#[tactic(auto, using(wkt::proofs::DigitsLemmas::prefix_fits))]
 fn word_len(text: &[u8]) -> usize
     ensures value { result ≡ prefix_len is_letter text.now }
     ensures fits { result ≤ length text.now }

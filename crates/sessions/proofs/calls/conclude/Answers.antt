@@ -1,6 +1,6 @@
 use Rattle.std.proofs.Common.{refl, inl, inr}
 use Rattle.plain_world.specs.Events.{Commit, Ended, reply_of}
-use Rattle.sessions.specs.Steps.{ConcludesAll}
+use Rattle.sessions.specs.UnderWay.{ConcludesAll}
 use Rattle.sessions.proofs.LeavingLemmas.{left_by}
 use Rattle.sessions.proofs.SearchLemmas.{from_same}
 use Rattle.sessions.proofs.calls.conclude.Goals as goal

@@ -4,7 +4,7 @@ use Rattle.features.specs.declared.rows.Change.{Change}
 use Rattle.plain_world.specs.Admitting.{subject_at}
 use Rattle.plain_world.specs.States.{WorldData}
 use Rattle.sessions.specs.Services.{Brings}
-use Rattle.sessions.specs.Steps.{NoReadySeeksFirst, under}
+use Rattle.sessions.specs.UnderWay.{NoReadySeeksFirst, under}
 use Rattle.sessions.proofs.calls.place_all.Given as goal
 
 abbrev pub invariant-loop : goal.invariant-loop

@@ -4,12 +4,12 @@ use Rattle.sessions.proofs.SearchLemmas.{from_same}
 use Rattle.sessions.proofs.CommitLemmas.{may_stage_at, stage_one}
 use Rattle.sessions.proofs.calls.stage_all.Goals as goal
 
-pub returns-in-Err : goal.returns-in-Err
-returns-in-Err g c w subject seated start =
+pub returns-in_err-stage : goal.returns-in_err-stage
+returns-in_err-stage g c w subject seated start =
     let i = c.loop-change.change-index in
     let changes = c.args.changes.now in
     let change = c.change-item.result in
     let may = may_stage_at changes i change c.requires.distinct c.requires.few c.loop-change-test.true c.change-item.is in
-    let told = from_same (Stage c.args.seat c.args.number change) _ _ _ _ (c.loop-change.invariant w subject seated start) c.in-Err.ensures.happens in
-    let staged = stage_one c.args.number c.args.seat w subject seated (take i changes) 0 change c.stage.new.self.plain (Err c.in-Err.fault) may told in
+    let told = from_same (Stage c.args.seat c.args.number change) _ _ _ _ (c.loop-change.invariant w subject seated start) c.in_err-stage.ensures.happens in
+    let staged = stage_one c.args.number c.args.seat w subject seated (take i changes) 0 change c.stage.new.self.plain (Err c.in_err-stage.field-0.0) may told in
     (let wrong = staged.0 in absurd cc)

@@ -2,7 +2,7 @@ use Rattle.std.proofs.Common.{◌≡◌, [], Ok, take}
 use Rattle.features.specs.declared.actors.Subject.{Subject}
 use Rattle.plain_world.specs.Admitting.{subject_at}
 use Rattle.plain_world.specs.States.{WorldData}
-use Rattle.sessions.specs.Steps.{under}
+use Rattle.sessions.specs.UnderWay.{under}
 use Rattle.sessions.proofs.calls.stage_all.Given as goal
 
 abbrev pub invariant-loop-change : goal.invariant-loop-change

@@ -1,5 +1,5 @@
 use Rattle.std.proofs.Common.{◌∙◌}
-use Rattle.sessions.proofs.WordLemmas.{digit_in_range, capped_more}
+use Rattle.wkt.proofs.DigitsLemmas.{digit_in_range, capped_more}
 use Rattle.sessions.proofs.words.capped_value.Goals as goal
 
 pub overflow_sub-digit : goal.overflow_sub-digit

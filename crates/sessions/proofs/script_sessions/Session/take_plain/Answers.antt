@@ -1,6 +1,6 @@
 use Rattle.std.proofs.Common.{rules}
 use Rattle.sessions.proofs.StepLemmas.{plain_so}
-use Rattle.sessions.proofs.scripts.Session.take_plain.Goals as goal
+use Rattle.sessions.proofs.script_sessions.Session.take_plain.Goals as goal
 
 pub returns-clause-takes : goal.returns-clause-takes
 returns-clause-takes g c =

@@ -3,7 +3,7 @@ use Rattle.sessions.specs.declared.solos.Solo.{Solo}
 use Rattle.sessions.specs.Replies.{said_view}
 use Rattle.sessions.specs.States.{SessionState, SoloState, desk, solo}
 use Rattle.sessions.proofs.LentLemmas.{session_told}
-use Rattle.sessions.proofs.scripts.Session.be_served.Goals as goal
+use Rattle.sessions.proofs.script_sessions.Session.be_served.Goals as goal
 
 pub returns-clause-answers : goal.returns-clause-answers
 returns-clause-answers g c =

@@ -1,0 +1,254 @@
+//! A session of a script: what its lines make of it, and of the search that it has open.
+
+ghost use Rattle.std.specs.Bool.{MatchBool};
+ghost use Rattle.std.specs.Prelude.{◌≡◌, None};
+ghost use Rattle.sessions.specs.Desks.{Answers};
+ghost use Rattle.sessions.specs.Replies.{line as said_in_line, said_view};
+ghost use Rattle.sessions.specs.Scripts.{Ends, ObeysStep, Opens, SessionAnswers, Steps, TakesPlain, TakesStep, desk_of, fresh, keeps_seat};
+ghost use Rattle.sessions.specs.Services.{Serves, solo_subject};
+ghost use Rattle.sessions.specs.Stepping.{Drops};
+
+use crate::desks::{Staged, answer};
+use crate::faults::Fault;
+use crate::replies::{Reply, Said, fault_reply, visit_reply};
+use crate::solos::Solo;
+use crate::stepping::{
+    StepCommand, StepVerb, finish_open, go_on, left_open, read_step_command, read_step_verb,
+};
+use features::Name;
+use plane::Shape;
+use std::alloc::{Allocator, Global};
+use std::marker::Model;
+use transactions::World;
+
+/// A session of a script. A contract sees its label, its seat, its open search and the changes that it has staged.
+#[derive(Debug, Drop)]
+pub(crate) struct Session {
+    label: Name,
+    seat: Option<u32>,
+    search: Option<u64>,
+    staged: Staged,
+}
+
+impl Model for Session {
+    ghost use Rattle.sessions.specs.States.{SessionState};
+
+    ghost Value = { SessionState };
+
+    ghost view = { λ s. record { label = s.label; seat = s.seat; search = s.search; staged = s.staged } };
+}
+
+impl Session {
+    /// A session that has not begun.
+    pub(crate) fn new(label: Name) -> Self
+        ensures { result ≡ fresh label }
+    {
+        Session {
+            label,
+            seat: None,
+            search: None,
+            staged: Staged::new(),
+        }
+    }
+
+    /// The label that stands for the session.
+    pub(crate) fn label(&self) -> Name
+        ensures { result ≡ self.now.label }
+    {
+        self.label
+    }
+
+    /// Answers a line of the session, without its label.
+    pub(crate) fn answer_text<A: Allocator + Copy>(
+        &mut self,
+        world: &mut World<A>,
+        heap: Global,
+        text: &[u8],
+    ) -> Said<A>
+        ensures { SessionAnswers text.now self.old world.old.plain self.new world.new.plain (said_view result) }
+    {
+        match read_step_verb(text) {
+            None => self.take_plain(world, heap, text),
+            Some((verb, rest)) => self.take_step(world, verb, rest),
+        }
+    }
+
+    /// Answers a line that a session by itself knows too. The open search ends with the session.
+    fn take_plain<A: Allocator + Copy>(
+        &mut self,
+        world: &mut World<A>,
+        heap: Global,
+        text: &[u8],
+    ) -> Said<A>
+        ensures label { self.new.label ≡ self.old.label }
+        ensures takes { TakesPlain text.now self.old world.old.plain self.new world.new.plain (said_view result) }
+    {
+        let seat = self.seat;
+        let said = self.be_served(world, heap, text);
+        self.settle(world, seat);
+        said
+    }
+
+    /// Gives the open search up, where the session has lost the seat that it had.
+    fn settle<A: Allocator + Copy>(&mut self, world: &mut World<A>, before: Option<u32>)
+        ensures kept { self.new ≡ record self.old { search = self.new.search } }
+        ensures settles { MatchBool (keeps_seat before self.old.seat) ((self.new.search ≡ self.old.search) × (world.new.plain ≡ world.old.plain))
+            ((self.new.search ≡ None) × Drops before self.old.search world.old.plain world.new.plain) }
+    {
+        if keeps_seat(before, self.seat) {
+            return;
+        }
+        drop_open(world, before, self.search);
+        self.search = None;
+    }
+
+    /// Lets the world serve the session for a line.
+    fn be_served<A: Allocator + Copy>(
+        &mut self,
+        world: &mut World<A>,
+        heap: Global,
+        text: &[u8],
+    ) -> Said<A>
+        ensures label { self.new.label ≡ self.old.label }
+        ensures search { self.new.search ≡ self.old.search }
+        ensures answers { Answers solo_subject Serves text.now (desk_of world.old.plain self.old) (desk_of world.new.plain self.new) (said_view result) }
+    {
+        let mut solo = Solo::at(world, heap, self.seat);
+        let said = answer(&mut solo, heap, &mut self.staged, text);
+        self.seat = solo.seat();
+        said
+    }
+
+    /// Answers a line whose command is of a search that goes step by step.
+    fn take_step<A: Allocator + Copy>(
+        &mut self,
+        world: &mut World<A>,
+        verb: StepVerb,
+        rest: &[u8],
+    ) -> Said<A>
+        ensures label { self.new.label ≡ self.old.label }
+        ensures takes { TakesStep verb rest.now self.old world.old.plain self.new world.new.plain (said_view result) }
+    {
+        let Some(seat) = self.seat else {
+            return Said::Line(Reply::Error(Fault::BeforeHello));
+        };
+        match read_step_command(self.search, verb, rest) {
+            Err(fault) => Said::Line(Reply::Error(fault)),
+            Ok(command) => self.obey_step(world, seat, command),
+        }
+    }
+
+    /// Does what a command asks of a search that goes step by step: its call, and what the session has open afterwards.
+    fn obey_step<A: Allocator + Copy>(
+        &mut self,
+        world: &mut World<A>,
+        seat: u32,
+        command: StepCommand,
+    ) -> Said<A>
+        ensures label { self.new.label ≡ self.old.label }
+        ensures obeys { ObeysStep seat command self.old world.old.plain self.new world.new.plain (said_view result) }
+    {
+        match command {
+            StepCommand::Open(window) => Said::Line(self.open_search(world, seat, window)),
+            StepCommand::Step { search, count } => {
+                Said::Line(self.step_search(world, seat, search, count))
+            }
+            StepCommand::Finish { search } => self.finish_search(world, seat, search),
+        }
+    }
+
+    /// Opens a search.
+    fn open_search<A: Allocator + Copy>(
+        &mut self,
+        world: &mut World<A>,
+        seat: u32,
+        window: Shape,
+    ) -> Reply
+        ensures label { self.new.label ≡ self.old.label }
+        ensures opens { Opens seat window self.old world.old.plain self.new world.new.plain (said_in_line result) }
+    {
+        match world.open_search(seat, window) {
+            Ok(number) => {
+                self.search = Some(number);
+                Reply::Opened
+            }
+            Err(fault) => {
+                self.search = None;
+                fault_reply(fault)
+            }
+        }
+    }
+
+    /// Lets the open search go on. One that the index gives up is open no more.
+    fn step_search<A: Allocator + Copy>(
+        &mut self,
+        world: &mut World<A>,
+        seat: u32,
+        search: u64,
+        count: u32,
+    ) -> Reply
+        ensures label { self.new.label ≡ self.old.label }
+        ensures steps { Steps seat search count self.old world.old.plain self.new world.new.plain (said_in_line result) }
+    {
+        match go_on(world, seat, search, count) {
+            Ok(visit) => {
+                self.search = Some(search);
+                visit_reply(visit)
+            }
+            Err(fault) => {
+                self.search = left_open(&fault, search);
+                fault_reply(fault)
+            }
+        }
+    }
+
+    /// Finishes the open search. After a fault it stays open, unless the index has given it up.
+    fn finish_search<A: Allocator + Copy>(
+        &mut self,
+        world: &mut World<A>,
+        seat: u32,
+        search: u64,
+    ) -> Said<A>
+        ensures label { self.new.label ≡ self.old.label }
+        ensures ends { Ends seat search self.old world.old.plain self.new world.new.plain (said_view result) }
+    {
+        match finish_open(world, seat, search) {
+            Ok(answer) => {
+                self.search = None;
+                Said::Rows(answer)
+            }
+            Err(fault) => {
+                self.search = left_open(&fault, search);
+                Said::Line(fault_reply(fault))
+            }
+        }
+    }
+
+    /// Gives up the open search, if there is one.
+    pub(crate) fn drop_search<A: Allocator + Copy>(&self, world: &mut World<A>)
+        ensures { Drops self.now.seat self.now.search world.old.plain world.new.plain }
+    {
+        drop_open(world, self.seat, self.search);
+    }
+}
+
+/// Whether a session had a seat, and has it still.
+fn keeps_seat(before: Option<u32>, after: Option<u32>) -> bool
+    ensures { result ≡ keeps_seat before after }
+{
+    match (before, after) {
+        (Some(before), Some(after)) => before == after,
+        _ => false,
+    }
+}
+
+/// Gives up the open search of a session with this seat, if it has both.
+fn drop_open<A: Allocator + Copy>(world: &mut World<A>, seat: Option<u32>, search: Option<u64>)
+    ensures { Drops seat search world.old.plain world.new.plain }
+{
+    if let Some(seat) = seat {
+        if let Some(number) = search {
+            let _ = world.drop_search(seat, number);
+        }
+    }
+}
