@@ -87,7 +87,10 @@ fn asked_config<'a, F: Folder>(
     ensures err { IfErr result (IsOfConfig (F.holds folder.now) (option_map (λ name. name.now) name.entry)) }
 {
     let Some(name) = name else {
-        return built_in_config(heap, heap).map_err(ProgramFault::Config);
+        return match built_in_config(heap, heap) {
+            Ok(config) => Ok(config),
+            Err(fault) => Err(ProgramFault::Config(fault)),
+        };
     };
     named_config(heap, name, folder)
 }
@@ -105,7 +108,10 @@ pub fn run_named<'a, F: Folder, W: Write>(
     ensures ran { OnOk result (RanScript (F.holds folder.now) (option_map (λ name. name.now) words.entry.config) words.entry.script.now (W.contents output.old) (W.contents output.new)) }
     ensures err { IfErr result (BrokeOff (F.holds folder.now) (option_map (λ name. name.now) words.entry.config) words.entry.script.now (W.contents output.old) (W.contents output.new)) }
 {
-    let config = asked_config(heap, words.config, folder)?;
+    let config = match asked_config(heap, words.config, folder) {
+        Ok(config) => config,
+        Err(fault) => return Err(fault),
+    };
     let mut file = match folder.open_file(words.script) {
         Ok(file) => file,
         Err(closed) => {
