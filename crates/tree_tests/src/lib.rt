@@ -1,8 +1,7 @@
-//! Tests of the search tree and of what it stands on, and callers of the arena and of running searches.
+//! Tests of the search tree and of what it stands on, and callers of the arena.
 #![tactic(auto)]
 
 pub mod arena_uses;
-pub mod locks_uses;
 #[cfg(test)]
 mod node_arena_tests;
 #[cfg(test)]
@@ -15,3 +14,5 @@ mod search_tree_runs;
 mod search_tree_splits;
 #[cfg(test)]
 mod search_tree_tests;
+#[cfg(test)]
+mod tree_steps;

@@ -182,6 +182,25 @@ fn each_allocation_refused(rt: HostRuntime) -> Result<(), Fail> {
     Ok(())
 }
 
+// Where memory is refused, numbers that have no room are not attached, and the numbers 1 to 4 stay; room that was made is there. `attached` has these four, and room for no more.
+fn check_grown<B: Allocator>(
+    rt: &impl Abort,
+    memory: &Refusing<B>,
+    attached: &mut Attached<&Refusing<B>>,
+) {
+    memory.refuse(1);
+    assert!(rt; attached.attach_all(&[5, 6]).is_err() && memory.has_refused());
+    memory.refuse(1);
+    assert!(rt; attached.make_room(2).is_err() && memory.has_refused());
+    assert!(rt; attached.len() == 4 && attached.holds(1) && !attached.holds(5));
+    memory.refuse(0);
+    assert!(rt; attached.make_room(2).is_ok());
+    memory.refuse(1);
+    assert!(rt; attached.attach_all(&[5, 6]).is_ok() && !memory.has_refused());
+    assert!(rt; attached.copy().is_err() && memory.has_refused());
+    assert!(rt; attached.len() == 6 && attached.holds(4) && attached.holds(6));
+}
+
 #[test]
 fn each_allocation_of_attach_refused(rt: HostRuntime) -> Result<(), Fail> {
     let memory = Refusing::new(rt.alloc(), 0);
@@ -207,14 +226,7 @@ fn each_allocation_of_attach_refused(rt: HostRuntime) -> Result<(), Fail> {
             attached.attach(4).is_ok() && !memory.has_refused(),
             "at {at}"
         );
-        memory.refuse(0);
-        assert!(rt; attached.make_room(2).is_ok(), "at {at}");
-        memory.refuse(1);
-        assert!(rt;
-            attached.attach_all(&[5, 6]).is_ok() && !memory.has_refused(),
-            "at {at}"
-        );
-        assert!(rt; attached.copy().is_err() && memory.has_refused(), "at {at}");
+        check_grown(&rt, &memory, &mut attached);
     }
     assert!(rt; false, "each allocation was refused");
     Ok(())

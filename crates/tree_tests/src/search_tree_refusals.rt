@@ -1,5 +1,6 @@
-//! Each allocation of a tree's calls refused in turn.
-use crate::search_tree_tests::{KeepOne, place_until_split};
+//! Each allocation of a tree's calls refused in turn, and the calls that make none.
+use crate::search_tree_tests::{KeepOne, place_until_split, tend_all};
+use crate::tree_steps::{pin, see_all};
 use frame_keys::Frames;
 use plane::{Point, Shape};
 use refusing::Refusing;
@@ -7,13 +8,6 @@ use search_tree::{Step, Tending, Tree, TreeFault, Visit, Walk};
 use std::alloc::Allocator;
 use std::process::Abort;
 use std::test::Fail;
-
-// A point on the line across, or above it.
-fn pin(rt: &impl Abort, x: i32, y: i32) -> Shape {
-    let made = Shape::point(Point { x, y });
-    assert!(rt; made.is_ok());
-    made.unwrap()
-}
 
 // So many pairs have inner nodes that split.
 const MANY: u64 = 250;
@@ -94,18 +88,6 @@ fn fill<B: Allocator>(
     }
 }
 
-// Visits until the search is ready.
-fn see_all<A: Allocator + Copy>(rt: &impl Abort, tree: &mut Tree<Frames, A>, search: u64) {
-    for _ in 0..1_000 {
-        let answer = tree.visit(search);
-        assert!(rt; answer.is_ok());
-        if answer == Ok(Visit::Ready) {
-            return;
-        }
-    }
-    panic!(rt; "a search makes more than 1,000 steps");
-}
-
 // Whether these are, in some order, the pairs from 1 to the last, each once.
 fn is_whole(found: &[(u64, Shape)], last: u64) -> bool {
     if found.len() as u64 != last {
@@ -144,10 +126,15 @@ fn filled<'m, B: Allocator>(
     tree
 }
 
-// Opens so many searches, each for the band above the line, and visits them until they are ready.
-fn look_above<A: Allocator + Copy>(rt: &impl Abort, tree: &mut Tree<Frames, A>, count: u32) {
+// Opens so many searches, each for this window, and visits them until they are ready.
+fn look<A: Allocator + Copy>(
+    rt: &impl Abort,
+    tree: &mut Tree<Frames, A>,
+    window: Shape,
+    count: u32,
+) {
     for _ in 0..count {
-        let opened = tree.open_search(band(rt, 5, 8));
+        let opened = tree.open_search(window);
         assert!(rt; opened.is_ok());
         see_all(rt, tree, opened.unwrap());
     }
@@ -232,7 +219,7 @@ fn visit<B: Allocator>(
 // Visits until a search is ready, where allocation number `at` is refused; whether that came about.
 fn visit_refused<B: Allocator>(rt: &impl Abort, memory: &Refusing<B>, at: u64) -> bool {
     let mut tree = filled(rt, memory, 40);
-    look_along(rt, &mut tree, 8);
+    look(rt, &mut tree, band(rt, -1, 1), 8);
     let opened = tree.open_search(band(rt, -1, 1));
     assert!(rt; opened.is_ok());
     let search = opened.unwrap();
@@ -245,15 +232,6 @@ fn visit_refused<B: Allocator>(rt: &impl Abort, memory: &Refusing<B>, at: u64) -
     let refused = memory.has_refused();
     assert!(rt; is_whole(tree.found(search), 40));
     refused
-}
-
-// Opens so many searches, each for the line, and visits them until they are ready.
-fn look_along<A: Allocator + Copy>(rt: &impl Abort, tree: &mut Tree<Frames, A>, count: u32) {
-    for _ in 0..count {
-        let opened = tree.open_search(band(rt, -1, 1));
-        assert!(rt; opened.is_ok());
-        see_all(rt, tree, opened.unwrap());
-    }
 }
 
 #[test]
@@ -294,7 +272,7 @@ fn each_allocation_of_splits_refused(rt: HostRuntime) -> Result<(), Fail> {
 // A walk above the line leads searches for what lies between to a leaf that they have not seen, which takes memory to note there. Allocation number `at` is refused; whether that came about.
 fn descend_refused<B: Allocator>(rt: &impl Abort, memory: &Refusing<B>, at: u64) -> bool {
     let mut tree = filled(rt, memory, 40);
-    look_above(rt, &mut tree, 12);
+    look(rt, &mut tree, band(rt, 5, 8), 12);
     let slots = tree.slots();
     let mut walk = tree.start_walk(41, pin(rt, 20, 10));
     let root = walk.slot();
@@ -453,7 +431,7 @@ fn each_allocation_of_inner_splits_refused(rt: HostRuntime) -> Result<(), Fail> 
 fn join_marked_refused<B: Allocator>(rt: &impl Abort, memory: &Refusing<B>, at: u64) -> bool {
     let mut tree = filled(rt, memory, 40);
     let last = place_until_split(rt, &mut tree);
-    look_above(rt, &mut tree, 12);
+    look(rt, &mut tree, band(rt, 5, 8), 12);
     let trial = begin(rt, &mut tree, at);
     let x = i32::try_from(last).unwrap_or(0);
     let mut walk = tree.start_walk(last.saturating_add(1), pin(rt, x, 10));
@@ -478,4 +456,42 @@ fn each_allocation_of_joins_refused(rt: HostRuntime) -> Result<(), Fail> {
         }
     }
     panic!(rt; "each allocation was refused");
+}
+
+// Tends all slots again and again, with a keeper of nothing, beside a search that began before. How many leaves that has retired: none of them is freed.
+fn tend_beside<A: Allocator>(rt: &impl Abort, tree: &mut Tree<Frames, A>) -> u32 {
+    let keeper = KeepOne { key: 0 };
+    let (mut installed, mut cleaned, mut retired) = (0u32, 0u32, 0u32);
+    for _ in 0..10 {
+        let round = tend_all(rt, tree, &keeper);
+        installed = installed.saturating_add(round.installed);
+        cleaned = cleaned.saturating_add(round.cleaned);
+        retired = retired.saturating_add(round.retired);
+        assert_eq!(rt; round.freed, 0);
+    }
+    assert!(rt; 0 < installed && 0 < cleaned && 0 < retired);
+    retired
+}
+
+#[test]
+fn calls_that_take_no_memory(rt: HostRuntime) -> Result<(), Fail> {
+    let memory = Refusing::new(rt.alloc(), 0);
+    let mut tree = filled(&rt, &memory, 40);
+    let last = place_until_split(&rt, &mut tree);
+    let opened = tree.open_search(band(&rt, -1, 1));
+    assert!(rt; opened.is_ok());
+    let search = opened.unwrap();
+    see_all(&rt, &mut tree, search);
+    memory.refuse(1);
+    assert!(rt; tree.visit(search) == Ok(Visit::Ready));
+    let walk = tree.start_walk(last.saturating_add(1), pin(&rt, 0, 0));
+    assert!(rt; !walk.placed() && walk.slot() < tree.slots());
+    let retired = tend_beside(&rt, &mut tree);
+    assert!(rt; is_whole(tree.found(search), last));
+    tree.close_search(search);
+    assert!(rt; tree.found(search).is_empty());
+    let freed = tend_all(&rt, &mut tree, &KeepOne { key: 0 }).freed;
+    assert_eq!(rt; freed, retired);
+    assert!(rt; !memory.has_refused(), "memory was asked for");
+    Ok(())
 }

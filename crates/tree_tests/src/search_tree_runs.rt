@@ -1,4 +1,5 @@
 //! A hundred thousand steps of a tree over frames, in an order that nobody chose, beside a plain list of its pairs.
+use crate::tree_steps::see_all;
 use frame_keys::Frames;
 use plane::{Point, Shape};
 use search_tree::{Keeper, Step, Tending, Tree, TreeFault, Visit, Walk};
@@ -20,6 +21,9 @@ const WIDTH: u32 = 64;
 const ITEM: u32 = 4;
 
 const WINDOW: u32 = 20;
+
+// How often nodes split once more at the end, in slots that were freed.
+const MORE_SPLITS: u32 = 20;
 
 // The step of what has not come about.
 const NEVER: u32 = u32::MAX;
@@ -136,6 +140,7 @@ struct Tally {
     walks: usize,
     installed: u32,
     completed: u32,
+    listed: u32,
     ready: u32,
     closed: u32,
     held: u32,
@@ -157,6 +162,7 @@ const NOTHING: Tally = Tally {
     walks: 0,
     installed: 0,
     completed: 0,
+    listed: 0,
     ready: 0,
     closed: 0,
     held: 0,
@@ -382,13 +388,7 @@ fn everything(rt: &impl Abort, plain: &Plain, tree: &mut Tree<Frames, Global>) -
     let opened = tree.open_search(shape(rt, &window));
     assert!(rt; opened.is_ok());
     let number = opened.unwrap();
-    for _ in 0..100_000 {
-        let answer = tree.visit(number);
-        assert!(rt; answer.is_ok());
-        if answer == Ok(Visit::Ready) {
-            break;
-        }
-    }
+    see_all(rt, tree, number);
     Look {
         number,
         window,
@@ -417,6 +417,17 @@ fn drop_lost(rt: &impl Abort, plain: &mut Plain, search: u64) -> usize {
         None => false,
     });
     before.saturating_sub(plain.live.len())
+}
+
+// Before another keeper comes: no pair of the list has gone unnoticed, whatever steps led here.
+fn check_list(rt: &impl Abort, plain: &mut Plain, tree: &mut Tree<Frames, Global>) {
+    if plain.looks.len() >= SEARCHES {
+        close(rt, plain, tree, 0);
+    }
+    let look = everything(rt, plain, tree);
+    check_ready(rt, plain, tree, &look);
+    tree.close_search(look.number);
+    count(&mut plain.tally.listed);
 }
 
 // After a cleaning: some pairs are gone, no more than a leaf has.
@@ -494,7 +505,10 @@ fn try_one(rt: &impl Abort, dice: &mut Dice, plain: &mut Plain, tree: &mut Tree<
         350..=469 => try_start(rt, dice, plain, tree),
         470..=869 => try_advance(rt, dice, plain, tree),
         870..=998 => try_tend(rt, dice, plain, tree),
-        999 => change_keeper(dice, plain),
+        999 => {
+            check_list(rt, plain, tree);
+            change_keeper(dice, plain);
+        }
         _ => try_open(rt, dice, plain, tree),
     }
 }
@@ -547,13 +561,24 @@ fn clear(rt: &impl Abort, plain: &mut Plain, tree: &mut Tree<Frames, Global>) ->
     tree.slots()
 }
 
-// Starts as many walks as may be under way, and finishes them.
-fn refill(rt: &impl Abort, dice: &mut Dice, plain: &mut Plain, tree: &mut Tree<Frames, Global>) {
-    for _ in 0..WALKS {
-        try_start(rt, dice, plain, tree);
+// Places pairs until nodes have split as often as this.
+fn refill(
+    rt: &impl Abort,
+    dice: &mut Dice,
+    plain: &mut Plain,
+    tree: &mut Tree<Frames, Global>,
+    splits: u32,
+) {
+    for _ in 0..1_000 {
+        if splits <= plain.tally.split {
+            return;
+        }
+        for _ in 0..WALKS {
+            try_start(rt, dice, plain, tree);
+        }
+        finish_all(rt, dice, plain, tree);
     }
-    finish_all(rt, dice, plain, tree);
-    assert_eq!(rt; plain.live.len(), WALKS);
+    panic!(rt; "nodes do not split");
 }
 
 #[test]
@@ -568,14 +593,15 @@ fn beside_a_list_of_pairs(rt: HostRuntime) -> Result<(), Fail> {
     check_tally(&rt, &plain.tally);
     finish_all(&rt, &mut dice, &mut plain, &mut tree);
     let slots = clear(&rt, &mut plain, &mut tree);
-    refill(&rt, &mut dice, &mut plain, &mut tree);
+    let splits = plain.tally.split.saturating_add(MORE_SPLITS);
+    refill(&rt, &mut dice, &mut plain, &mut tree, splits);
     assert_eq!(rt; clear(&rt, &mut plain, &mut tree), slots);
     Ok(())
 }
 
 // Enough has happened: at some time as many searches ran and as many walks were under way as may, and right nodes got their entries from walks (installed) and from tending (completed).
 fn check_tally(rt: &impl Abort, tally: &Tally) {
-    let searched = tally.ready > 100 && tally.closed > 100;
+    let searched = tally.ready > 100 && tally.closed > 100 && tally.listed > 50;
     let walked = tally.placed > 1_000 && tally.split > 50;
     let hindered = tally.held > 500 && tally.restarted > 10;
     let tended = tally.cleaned > 100 && tally.retired > 20 && tally.freed > 20;

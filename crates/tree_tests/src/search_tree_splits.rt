@@ -1,8 +1,9 @@
 //! How well nodes are split: how many of them a search visits.
 use crate::search_tree_runs::Dice;
+use crate::tree_steps::see_all;
 use frame_keys::Frames;
 use plane::{Point, Shape};
-use search_tree::{Tree, Visit};
+use search_tree::Tree;
 use std::alloc::{Allocator, Global};
 use std::process::Abort;
 use std::test::Fail;
@@ -68,22 +69,10 @@ fn search<A: Allocator + Copy>(
     let opened = tree.open_search(window.unwrap());
     assert!(rt; opened.is_ok());
     let search = opened.unwrap();
-    let visited = visits(rt, tree, search);
+    let visited = see_all(rt, tree, search);
     let found = tree.found(search).len();
     tree.close_search(search);
     (visited, found)
-}
-
-// Visits until the search is ready, one node at a time. How many visits that takes.
-fn visits<A: Allocator + Copy>(rt: &impl Abort, tree: &mut Tree<Frames, A>, search: u64) -> u32 {
-    for visit in 1..=1_000 {
-        let answer = tree.visit(search);
-        assert!(rt; answer.is_ok());
-        if answer == Ok(Visit::Ready) {
-            return visit;
-        }
-    }
-    panic!(rt; "a search makes more than 1,000 steps");
 }
 
 #[test]

@@ -1,3 +1,4 @@
+use crate::tree_steps::{pin, see_all};
 use frame_keys::Frames;
 use node_arena::MAX_SLOTS;
 use plane::{Point, Shape};
@@ -26,16 +27,12 @@ impl<I> Keeper<I> for KeepOne {
 
 // What a round of tending did, slot by slot.
 #[derive(Clone, Copy, PartialEq, Eq, Debug)]
-struct Round {
-    idle: u32,
-    freed: u32,
-    retired: u32,
-}
-
-fn pin(rt: &impl Abort, x: i32, y: i32) -> Shape {
-    let shape = Shape::point(Point { x, y });
-    assert!(rt; shape.is_ok());
-    shape.unwrap()
+pub(crate) struct Round {
+    pub(crate) idle: u32,
+    pub(crate) freed: u32,
+    pub(crate) installed: u32,
+    pub(crate) cleaned: u32,
+    pub(crate) retired: u32,
 }
 
 // The shape of all that is searched for: a long band along the axis across.
@@ -84,18 +81,6 @@ fn fill<A: Allocator + Copy>(
     }
 }
 
-// Visits until the search is ready.
-fn see_all<A: Allocator + Copy>(rt: &impl Abort, tree: &mut Tree<Frames, A>, search: u64) {
-    for _ in 0..1_000 {
-        let answer = tree.visit(search);
-        assert!(rt; answer.is_ok(), "a visit is refused");
-        if answer.unwrap() == Visit::Ready {
-            return;
-        }
-    }
-    panic!(rt; "a search makes more than 1,000 steps");
-}
-
 // Whether the numbers found are, as a set, those from first to last.
 fn has_found<A: Allocator>(tree: &Tree<Frames, A>, search: u64, first: u64, last: u64) -> bool {
     let found = tree.found(search);
@@ -113,10 +98,16 @@ fn has_found<A: Allocator>(tree: &Tree<Frames, A>, search: u64, first: u64, last
 }
 
 // Tends each slot once.
-fn tend_all<A: Allocator>(rt: &impl Abort, tree: &mut Tree<Frames, A>, keeper: &KeepOne) -> Round {
+pub(crate) fn tend_all<A: Allocator>(
+    rt: &impl Abort,
+    tree: &mut Tree<Frames, A>,
+    keeper: &KeepOne,
+) -> Round {
     let mut round = Round {
         idle: 0,
         freed: 0,
+        installed: 0,
+        cleaned: 0,
         retired: 0,
     };
     for slot in 0..tree.slots() {
@@ -125,8 +116,9 @@ fn tend_all<A: Allocator>(rt: &impl Abort, tree: &mut Tree<Frames, A>, keeper: &
         match answer.unwrap() {
             Tending::Idle => round.idle = round.idle.saturating_add(1),
             Tending::Freed => round.freed = round.freed.saturating_add(1),
+            Tending::Installed => round.installed = round.installed.saturating_add(1),
+            Tending::Cleaned => round.cleaned = round.cleaned.saturating_add(1),
             Tending::Retired => round.retired = round.retired.saturating_add(1),
-            Tending::Installed | Tending::Cleaned => {}
         }
     }
     round
