@@ -29,7 +29,7 @@ pub data IsRun {O E : Type 0} (words : List Text) (held : List ℕ → Option (L
       → errors_after ≡ errors → IsRun words held written output output_after told errors errors_after 0
   -- they ask for help
   helps : IsAmong DisplayHelp (refusals words) → errors_after ≡ errors → IsRun words held written output output_after told errors errors_after 0
-  -- it ended by a fault, of which the line is told, or, where a write failed there, the line's front
+  -- it ended by a fault, of which the line is told, or the line's front; no contract sees whether a write there fails
   fails : (fault : ProgramFault) → Failed words held (written output) (written output_after) fault
       → TookFront (told errors) (told errors_after) (fault_line fault) → IsRun words held written output output_after told errors errors_after 1
   -- clap turns them down, and nothing is done

@@ -24,6 +24,7 @@ use transactions::World;
 
 /// Where the files stand that the command line names.
 pub trait Folder {
+    /// What reads a file that was opened.
     type File: Read + Drop;
 
     // what the file of a name reads, where that is known
@@ -161,8 +162,8 @@ fn end_run<E: Write>(end: &Result<(), ProgramFault<'_>>, errors: &mut E) -> u8
 }
 
 /// Runs the program with these words, of which the first is its name, and answers its exit status: 0; 1 where it ended
-/// by a fault, of which one line is written to `errors`, or its front; 2 where the command line is wrong, and then clap says there why.
-/// A fault of `errors` itself changes nothing.
+/// by a fault, of which one line is written to `errors`, or its front; 2 where the command line is wrong, and then clap
+/// says there why. A fault of `errors` itself changes nothing.
 pub fn run_program<F: Folder, O: Write, E: Write>(
     alloc: Global,
     words: &[String],

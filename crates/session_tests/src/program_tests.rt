@@ -608,7 +608,7 @@ fn has_parts(rt: &impl Abort, text: &[u8], parts: &[&str]) {
 }
 
 #[test]
-fn help(rt: HostRuntime) -> Result<(), Fail> {
+fn help_of_the_program(rt: HostRuntime) -> Result<(), Fail> {
     shows(
         &rt,
         &rt,
@@ -624,6 +624,11 @@ fn help(rt: HostRuntime) -> Result<(), Fail> {
             "\n  2  the command line is wrong",
         ],
     )?;
+    Ok(())
+}
+
+#[test]
+fn help_of_scripts(rt: HostRuntime) -> Result<(), Fail> {
     shows(
         &rt,
         &rt,

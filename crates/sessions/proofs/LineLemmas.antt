@@ -31,11 +31,12 @@ use Rattle.sessions.specs.declared.stepping.StepVerb.TheVariants as verbs
 use Rattle.sessions.specs.Commands.{◌>>=◌, end_at, shape_at}
 use Rattle.sessions.specs.declared.streams.ServeFault.{ServeFault}
 use Rattle.sessions.specs.Lines.{is_too_long}
-use Rattle.sessions.specs.Printed.{reply_text}
+use Rattle.sessions.specs.Printed.{led, reply_text}
 use Rattle.sessions.specs.Replies.{SaidData}
 use Rattle.sessions.specs.Scripts.{Script, Ends, IsRefused, LabelTells, LineTells, ObeysStep, OnlyTells, Opens, SessionAnswers, SessionTells, Steps, TakesPlain, TakesStep, desk_of, fresh, is_skipped, keeps_seat, parts_of, place, script, with_label}
 use Rattle.sessions.specs.Services.{Serves, is_overrun, solo_subject}
-use Rattle.sessions.specs.States.{IsAtRest, IsIdle, SessionState, desk, solo}
+use Rattle.sessions.specs.Serving.{LineTells as AloneTells, Replies}
+use Rattle.sessions.specs.States.{Desk, IsAtRest, IsIdle, SessionState, SoloState, desk, solo}
 use Rattle.sessions.specs.Stepping.{AllDrop, Drops, FindsMore, Finishes, GoesOn, Seeks, count_at, finished_as, left_open, opened_as, step_command_at, step_verb_at, stepped_as}
 use Rattle.sessions.specs.Streams.{Ran}
 use Rattle.sessions.proofs.DeskLemmas.{line_keeps}
@@ -325,6 +326,15 @@ pub line_rests : (text : List ℕ) (old new : Script) (said : List ℕ) → Line
 line_rests =
     line_by (λ old new. IsAtRest old.world → IsAtRest new.world) (λ s still. still)
     (λ label text old new said h. (session_moves text (slice_index_or (with_label label old.sessions) (place label old.sessions) (fresh label)) h.session old.world new.world h.reply h.answers).rests)
+
+-- so it is after a line of a session by itself
+pub alone_rests : (text : List ℕ) (old new : Desk SoloState) (said : List ℕ) → AloneTells solo_subject Serves text old new said → IsAtRest old.service.world → IsAtRest new.service.world
+alone_rests text old new said h still = go (is_too_long text) h
+  where
+    go : (b : Bool) → MatchBool b ((new ≡ old) × (said ≡ led [] (reply_text (Error LineTooLong)))) (Replies solo_subject Serves text old new said) → IsAtRest new.service.world
+    go true d = subst (λ (d : Desk SoloState). IsAtRest d.service.world) (sym d.0) still
+    go false d =
+        (line_keeps solo_subject Serves (λ a b. Rests a.world b.world) (λ s. rests_none s.world) call_rests text old new d.reply d.answers still).0
 
 -- a world at rest, whose searches the sessions have open
 pub record IsKept (s : Script) : Type 0 where

@@ -141,7 +141,8 @@ fn govern<S: Service>(service: &mut S, heap: Global, staged: &Staged, text: &[u8
     }
 }
 
-/// How the document in force rules of what the session's subject asks. What is staged stays: it is handed in for the contract to say so.
+/// How the document in force rules of what the session's subject asks. What is staged stays: it is handed in for the
+/// contract to say so.
 fn explain<S: Service>(service: &mut S, staged: &Staged, asking: &Asking) -> Reply
     ensures { Asks S.subject_of S.serves asking.now (desk staged.now service.old) (desk staged.now service.new) (line result) }
 {

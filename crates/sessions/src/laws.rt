@@ -3,7 +3,9 @@
 ghost use Rattle.std.specs.Prelude.{List, ℕ};
 ghost use Rattle.decision.specs.Deciders.{DeciderData};
 ghost use Rattle.sessions.specs.Scripts.{LineTells, Script};
-ghost use Rattle.sessions.specs.States.{IsAtRest, IsIdle};
+ghost use Rattle.sessions.specs.Services.{Serves, solo_subject};
+ghost use Rattle.sessions.specs.Serving.{LineTells as AloneTells};
+ghost use Rattle.sessions.specs.States.{Desk, IsAtRest, IsIdle, SoloState};
 ghost use Rattle.plain_world.specs.States.{WorldData, opened};
 
 use features::Subject;
@@ -14,9 +16,10 @@ pub fn opened_world_is_idle()
     ensures { (subjects : List Subject) (decider : DeciderData) (starts : Starts) (limits : Limits) → IsIdle (opened subjects decider starts limits) }
 {}
 
-/// A world in which nothing is under way is at rest, and each line of a script leaves one at rest that was so before it. So
-/// each line of a run over such a world is answered exactly.
+/// A world in which nothing is under way is at rest, and each line of a script, or of a session by itself, leaves one at rest
+/// that was so before it. So each line of a run over such a world is answered exactly.
 pub fn lines_leave_worlds_at_rest()
     ensures idle { (world : WorldData) → IsIdle world → IsAtRest world }
     ensures line { (text : List ℕ) (old new : Script) (said : List ℕ) → LineTells text old new said → IsAtRest old.world → IsAtRest new.world }
+    ensures alone { (text : List ℕ) (old new : Desk SoloState) (said : List ℕ) → AloneTells solo_subject Serves text old new said → IsAtRest old.service.world → IsAtRest new.service.world }
 {}

@@ -58,9 +58,10 @@ impl<S: Service> LineDesk for Alone<S> {
     ghost long_alike = { Prim.search rules };
 }
 
-/// Serves one session to the end of the input: each line is answered as a script answers it, without labels. No line is
-/// skipped: an empty one has no command. After BYE a new session may begin. `alloc` serves the buffers, `heap` the
-/// documents that are read. Faults and what stands after them are those of `run_script`.
+/// Serves one session to the end of the input: each line is answered as a script answers it, without labels; OPEN, STEP and
+/// FINISH, which scripts alone know, are E2. No line is skipped: an empty one has no command. After BYE a new session may
+/// begin. `alloc` serves the buffers, `heap` the documents that are read. Faults and what stands after them are those of
+/// `run_script`.
 pub fn serve<S: Service, A: Allocator, R: Read, W: Write>(
     alloc: A,
     heap: Global,
@@ -84,7 +85,8 @@ pub fn serve<S: Service, A: Allocator, R: Read, W: Write>(
 }
 
 /// Serves one session of a world, as `serve` does, while nobody else uses the world. `alloc` serves the buffers, `heap`
-/// documents and the lines of a trail. However the run ends, it leaves no search and no transaction under way.
+/// documents and the lines of a trail. However the run ends, it leaves no search and no transaction under way, where none was
+/// before.
 pub fn serve_world<A: Allocator + Copy, R: Read, W: Write>(
     alloc: A,
     heap: Global,
