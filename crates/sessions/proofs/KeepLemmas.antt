@@ -28,9 +28,10 @@ use Rattle.sessions.specs.Replies.{SaidData, line}
 use Rattle.sessions.specs.Services.{Call, Hello, Search as SearchCall, Commit, Govern, Explain, Roll, Leave, Serves, Searches, Commits, Brings, EndsAs, HoldsList, ListsRows, NoReadySeeksAny, holder, is_full, is_overrun, is_unplaced, may_conclude, may_search}
 use Rattle.sessions.specs.Serving as serving
 use Rattle.sessions.specs.Serving.{Calls}
-use Rattle.sessions.specs.States.{Desk, IsAtRest, IsIdle, SoloState, WhereAtRest, begun, searched}
+use Rattle.sessions.specs.States.{Desk, IsAtRest, IsIdle, SoloState, begun, searched}
 use Rattle.sessions.specs.Streams.{LinesTell, Ran, RanSoFar}
 use Rattle.sessions.proofs.DeskLemmas.{line_keeps}
+use Rattle.sessions.proofs.PolicyLemmas.{govern_rests, roll_rests, seat_rests}
 
 -- ---- runs
 
@@ -203,21 +204,27 @@ rests_then a b c first later still =
     )
 
 seated_rests : (at : Option ℕ) (old new : SoloState) (said : SaidData) (Does : ℕ → Type 0)
-    → MatchOption at ((new ≡ old) × (said ≡ line (Error BeforeHello))) (λ seat. (new.seat ≡ old.seat) × WhereAtRest old.world new.world (Does seat))
-    → ((seat : ℕ) → Does seat → Leaves old.world new.world) → Rests old.world new.world
+    → MatchOption at ((new ≡ old) × (said ≡ line (Error BeforeHello))) (λ seat. (new.seat ≡ old.seat) × Does seat)
+    → ((seat : ℕ) → Does seat → Rests old.world new.world) → Rests old.world new.world
 seated_rests None old new said Does h each = rests_as old.world new.world (ap (λ (s : SoloState). s.world) h.0)
-seated_rests (Some seat) old new said Does h each = λ still. (let ends = h.1 still in (ends.0, each seat ends.1))
+seated_rests (Some seat) old new said Does h each = each seat h.1
 
 pub call_rests : (call : Call) (old new : SoloState) (said : SaidData) → Serves call old new said → Rests old.world new.world
-call_rests (Hello name) old new said h = λ still. (let ends = h still in (ends.0, sits name old.world new.world (reply_of Number ends.1.0) ends.1.1))
+call_rests (Hello name) old new said h = λ still. (
+  seat_rests name old.world new.world (reply_of Number h.0) h.1 still,
+  sits name old.world new.world (reply_of Number h.0) h.1,
+)
 call_rests (SearchCall window) old new said h =
-    seated_rests old.seat old new said _ h (λ seat d. searches_leave seat window old.world new.world (reply_of Rows d.0) d.1)
+    seated_rests old.seat old new said _ h (λ seat d still. (let ends = d still in (ends.0, searches_leave seat window old.world new.world (reply_of Rows ends.1.0) ends.1.1)))
 call_rests (Commit changes) old new said h =
-    seated_rests old.seat old new said _ h (λ seat d. commits_leave seat changes old.world new.world (reply_of Ended d.0) d.1)
+    seated_rests old.seat old new said _ h (λ seat d still. (let ends = d still in (ends.0, commits_leave seat changes old.world new.world (reply_of Ended ends.1.0) ends.1.1)))
 call_rests (Govern document) old new said h =
-    seated_rests old.seat old new said _ h (λ seat d. governs seat document old.world new.world (reply_of Number d.0) d.1)
+    seated_rests old.seat old new said _ h
+    (λ seat d still. (govern_rests seat document old.world new.world (reply_of Number d.0) d.1 still, governs seat document old.world new.world (reply_of Number d.0) d.1))
 call_rests (Explain question) old new said h = rests_as old.world new.world (ap (λ (s : SoloState). s.world) h.0)
-call_rests Roll old new said h = seated_rests old.seat old new said _ h (λ seat d. rolls seat old.world new.world (reply_of TakenOut d.0) d.1)
+call_rests Roll old new said h =
+    seated_rests old.seat old new said _ h
+    (λ seat d still. (roll_rests seat old.world new.world (reply_of TakenOut d.0) d.1 still, rolls seat old.world new.world (reply_of TakenOut d.0) d.1))
 call_rests Leave old new said h = rests_as old.world new.world (ap (λ (s : SoloState). s.world) h.0)
 
 pub idle_rests : (w : WorldData) → IsIdle w → IsAtRest w

@@ -21,12 +21,12 @@ use Rattle.sessions.proofs.DeskLemmas.{line_keeps, line_seen}
 use Rattle.sessions.proofs.KeepLemmas.{StaysIdle, call_idle, calls_keep}
 use Rattle.sessions.proofs.StreamLemmas.{ran_as}
 
-module _ {S N : Type 0} (see : S → SoloState) (name : S → N) where
+module _ {S N : Type 0} (see : S → SoloState) (name : S → N) (Beside : Call → S → S → SaidData → Type 0) where
   abbrev pub asks_for : S → Option Subject
   asks_for s = solo_subject (see s)
 
   abbrev pub lent : Call → S → S → SaidData → Type 0
-  lent call old new said = (name new ≡ name old) × Serves call (see old) (see new) said
+  lent call old new said = (name new ≡ name old) × Serves call (see old) (see new) said × Beside call old new said
 
   shows : (call : Call) (old new : S) (said : SaidData) → lent call old new said → Serves call (see old) (see new) said
   shows call old new said h = h.1

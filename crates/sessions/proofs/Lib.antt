@@ -5,6 +5,7 @@ pub mod RollLemmas
 pub mod DeskLemmas
 pub mod StepLemmas
 pub mod KeepLemmas
+pub mod CauseLemmas
 pub mod HeldLemmas
 pub mod LineLemmas
 pub mod WritingLemmas

@@ -7,12 +7,12 @@ use Rattle.sessions.specs.declared.faults.Fault.TheVariants.{BeforeHello}
 use Rattle.sessions.specs.declared.replies.Reply.TheVariants.{Error}
 use Rattle.sessions.specs.Replies.{SaidData, line, rolled, told}
 use Rattle.sessions.specs.Services.{Roll, Serves}
-use Rattle.sessions.specs.States.{SoloState, WhereAtRest}
+use Rattle.sessions.specs.States.{SoloState}
 
 -- a trail that is taken out, and shown
 pub rolled_so : (seat : ℕ) (old new : SoloState) (end : Result RolledData Fault) (said : SaidData) → old.seat ≡ Some seat → new.seat ≡ old.seat
-    → WhereAtRest old.world new.world (Happens (RollEvent seat) old.world new.world (reply_of TakenOut end)) → said ≡ told rolled end → Serves Roll old new said
+    → Happens (RollEvent seat) old.world new.world (reply_of TakenOut end) → said ≡ told rolled end → Serves Roll old new said
 rolled_so seat old new end said is same all shown =
-    subst (λ (s : Option ℕ). MatchOption s ((new ≡ old) × (said ≡ line (Error BeforeHello))) (λ seat. (new.seat ≡ old.seat) × WhereAtRest old.world new.world
-    ((end : Result RolledData Fault) × Happens (RollEvent seat) old.world new.world (reply_of TakenOut end) × (said ≡ told rolled end)))) (sym is)
-    (same, λ still. (let ends = all still in (ends.0, (end, ends.1, shown))))
+    subst (λ (s : Option ℕ). MatchOption s ((new ≡ old) × (said ≡ line (Error BeforeHello))) (λ seat. (new.seat ≡ old.seat)
+    × ((end : Result RolledData Fault) × Happens (RollEvent seat) old.world new.world (reply_of TakenOut end) × (said ≡ told rolled end)))) (sym is)
+    (same, (end, all, shown))

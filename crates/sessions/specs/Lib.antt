@@ -6,6 +6,7 @@ pub mod States
 pub mod Services
 pub mod UnderWay
 pub mod Stepping
+pub mod Causes
 pub mod Desks
 pub mod Printed
 pub mod Lines

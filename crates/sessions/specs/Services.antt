@@ -147,8 +147,7 @@ solo_subject s = seated s.seat s.world
 -- before HELLO nothing is done; no line of a session leads here, since it is refused before
 abbrev pub WhereSeated : SoloState → SoloState → SaidData → (ℕ → Type 0) → Type 0
 WhereSeated old new said Does =
-    MatchOption old.seat ((new ≡ old) × (said ≡ line (Error BeforeHello)))
-    (λ seat. (new.seat ≡ old.seat) × WhereAtRest old.world new.world (Does seat))
+    MatchOption old.seat ((new ≡ old) × (said ≡ line (Error BeforeHello))) (λ seat. (new.seat ≡ old.seat) × Does seat)
 
 -- a session begins where the subject of its name is given a seat
 abbrev pub seat_after : Result ℕ Fault → Option ℕ → Option ℕ
@@ -157,8 +156,8 @@ seat_after (Err fault) before = before
 
 abbrev pub Begins : List ℕ → SoloState → SoloState → SaidData → Type 0
 Begins name old new said =
-    WhereAtRest old.world new.world ((end : Result ℕ Fault) × Happens (TakeSeat name) old.world new.world (reply_of Number end)
-    × (new.seat ≡ seat_after end old.seat) × (said ≡ told (λ seat. line (Greets name)) end))
+    (end : Result ℕ Fault) × Happens (TakeSeat name) old.world new.world (reply_of Number end)
+    × (new.seat ≡ seat_after end old.seat) × (said ≡ told (λ seat. line (Greets name)) end)
 
 -- how the document in force rules of a question
 abbrev pub Explains : Question → SoloState → SaidData → Type 0
@@ -166,14 +165,15 @@ Explains question s said =
     let decider = s.world.state.decider in
     (ruling : Ruling) × Rules decider.document question ruling × (said ≡ line (ruling_reply decider ruling))
 
--- what a call makes of a world and the session's seat, and what is said
+-- What a call makes of a world and the session's seat, and what is said. A search and a commit are several events, so what is
+-- said of them is said of a world at rest; a call of one event is that event, in any world.
 abbrev pub Serves : Call → SoloState → SoloState → SaidData → Type 0
 Serves (Hello name) old new said = Begins name old new said
 Serves (Search window) old new said =
-    WhereSeated old new said (λ seat. (end : Result AnswerData Fault) × Searches seat window old.world new.world (reply_of Rows end) × (said ≡ told rows end))
+    WhereSeated old new said (λ seat. WhereAtRest old.world new.world ((end : Result AnswerData Fault) × Searches seat window old.world new.world (reply_of Rows end) × (said ≡ told rows end)))
 Serves (Commit changes) old new said =
-    WhereSeated old new said (λ seat. (end : Result Outcome Fault) × Commits seat changes old.world new.world (reply_of Ended end)
-    × (said ≡ told (λ outcome. line (outcome_reply outcome)) end))
+    WhereSeated old new said (λ seat. WhereAtRest old.world new.world ((end : Result Outcome Fault) × Commits seat changes old.world new.world (reply_of Ended end)
+    × (said ≡ told (λ outcome. line (outcome_reply outcome)) end)))
 Serves (Govern document) old new said =
     WhereSeated old new said (λ seat. (end : Result ℕ Fault) × Happens (GovernEvent seat document) old.world new.world (reply_of Number end)
     × (said ≡ told (λ edition. line (Edition edition)) end))

@@ -1,15 +1,17 @@
 //! What a session asks of a world, each call from its beginning to its end. A search or a commit that ends with a fault is
 //! dropped or aborted, and so nothing of it stays under way.
 
-ghost use Rattle.std.specs.Prelude.{◌≡◌, ◌≤◌, length};
+ghost use Rattle.std.specs.Prelude.{◌≡◌, ◌≤◌, IfErr, length};
 ghost use Rattle.std.specs.Arc.{arc_value};
 ghost use Rattle.audit_trail.specs.Judging.{AreDistinct};
 ghost use Rattle.plain_world.specs.Events.{Ended, Govern, Happens, Number, Roll, Rows, TakenOut, reply_of};
 ghost use Rattle.plain_world.specs.declared.settings.TheConstants.{CHANGE_LIMIT};
+ghost use Rattle.sessions.specs.Causes.{IsOwn, SearchesOut, SeeksOut, StayBeside};
 ghost use Rattle.sessions.specs.Services.{Searches, Commits};
 ghost use Rattle.sessions.specs.States.{WhereAtRest};
 ghost use Rattle.sessions.specs.Stepping.{Seeks};
 ghost use Rattle.sessions.specs.UnderWay.{Concludes, Places, Stages};
+ghost use Rattle.transactions.specs.Refusing.{RefusesGrowth};
 
 use features::{Change, Meter};
 use plane::Shape;
@@ -34,7 +36,8 @@ pub(crate) fn search<A: Allocator + Copy>(
     seat: u32,
     window: Shape,
 ) -> Result<Answer<A>, Fault>
-    ensures { WhereAtRest world.old.plain world.new.plain (Searches seat window world.old.plain world.new.plain (reply_of Rows result)) }
+    ensures searches { WhereAtRest world.old.plain world.new.plain (Searches seat window world.old.plain world.new.plain (reply_of Rows result)) }
+    ensures index { IfErr result (SearchesOut window world.old.index) }
 {
     let number = world.open_search(seat, window)?;
     match seek(world, seat, number) {
@@ -52,7 +55,8 @@ pub(crate) fn seek<A: Allocator + Copy>(
     seat: u32,
     number: u64,
 ) -> Result<Answer<A>, Fault>
-    ensures { Seeks seat number world.old.plain world.new.plain (reply_of Rows result) }
+    ensures seeks { Seeks seat number world.old.plain world.new.plain (reply_of Rows result) }
+    ensures index { IfErr result (SeeksOut number world.old.index) }
 {
     for _ in 0..SEARCH_STEPS {
         match world.visit(seat, number)? {
@@ -77,7 +81,8 @@ pub(crate) fn commit<A: Allocator + Copy>(
 ) -> Result<Outcome, Fault>
     requires distinct { AreDistinct changes.now }
     requires few { length changes.now ≤ CHANGE_LIMIT }
-    ensures { WhereAtRest world.old.plain world.new.plain (Commits seat changes.now world.old.plain world.new.plain (reply_of Ended result)) }
+    ensures commits { WhereAtRest world.old.plain world.new.plain (Commits seat changes.now world.old.plain world.new.plain (reply_of Ended result)) }
+    ensures index { IfErr result (RefusesGrowth world.new.index) }
 {
     let number = world.begin(seat)?;
     match conclude(world, seat, number, changes) {
@@ -98,7 +103,8 @@ fn conclude<A: Allocator + Copy>(
 ) -> Result<Outcome, Fault>
     requires distinct { AreDistinct changes.now }
     requires few { length changes.now ≤ CHANGE_LIMIT }
-    ensures { Concludes seat number changes.now world.old.plain world.new.plain (reply_of Ended result) }
+    ensures concludes { Concludes seat number changes.now world.old.plain world.new.plain (reply_of Ended result) }
+    ensures index { IfErr result (RefusesGrowth world.new.index) }
 {
     stage_all(world, seat, number, changes)?;
     place_all(world, seat, number)?;
@@ -114,7 +120,8 @@ fn stage_all<A: Allocator>(
 ) -> Result<(), Fault>
     requires distinct { AreDistinct changes.now }
     requires few { length changes.now ≤ CHANGE_LIMIT }
-    ensures { Stages seat number changes.now world.old.plain world.new.plain result }
+    ensures stages { Stages seat number changes.now world.old.plain world.new.plain result }
+    ensures own { IfErr result IsOwn }
 {
     for change in changes {
         world.stage(seat, number, *change)?;
@@ -124,7 +131,8 @@ fn stage_all<A: Allocator>(
 
 /// Places in the index what the changes of a transaction bring.
 fn place_all<A: Allocator + Copy>(world: &mut World<A>, seat: u32, number: u64) -> Result<(), Fault>
-    ensures { Places seat number world.old.plain world.new.plain result }
+    ensures places { Places seat number world.old.plain world.new.plain result }
+    ensures index { IfErr result (RefusesGrowth world.new.index) }
 {
     for _ in 0..WALK_STEPS {
         match world.advance(seat, number)? {
@@ -143,7 +151,8 @@ pub(crate) fn govern<A: Allocator + Copy>(
     seat: u32,
     document: Document<Global>,
 ) -> Result<u64, Fault>
-    ensures { WhereAtRest world.old.plain world.new.plain (Happens (Govern seat document) world.old.plain world.new.plain (reply_of Number result)) }
+    ensures happens { Happens (Govern seat document) world.old.plain world.new.plain (reply_of Number result) }
+    ensures beside { StayBeside world.old world.new }
 {
     match world.govern(heap, seat, document) {
         Ok(edition) => Ok(edition),
@@ -158,7 +167,8 @@ pub(crate) fn roll<A: Allocator + Copy>(
     heap: Global,
     seat: u32,
 ) -> Result<Arc<Rolled<A>, A>, Fault>
-    ensures { WhereAtRest world.old.plain world.new.plain (Happens (Roll seat) world.old.plain world.new.plain (reply_of (λ piece. TakenOut (arc_value piece)) result)) }
+    ensures happens { Happens (Roll seat) world.old.plain world.new.plain (reply_of (λ piece. TakenOut (arc_value piece)) result) }
+    ensures beside { StayBeside world.old world.new }
 {
     world.roll(heap, seat)
 }

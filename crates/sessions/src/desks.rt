@@ -1,6 +1,7 @@
 //! How a session's line is answered, whoever serves the session.
 
-ghost use Rattle.std.specs.Prelude.{◌≡◌, []};
+ghost use Rattle.std.specs.Prelude.{◌≡◌, List, []};
+ghost use Rattle.features.specs.declared.rows.Change.{Change};
 ghost use Rattle.plain_world.specs.Staging.{names};
 ghost use Rattle.sessions.specs.Desks.{Answers, Asks, Closes, Does, Governs, Obeys, is_policy, staged_with};
 ghost use Rattle.sessions.specs.Replies.{line, said_view};
@@ -123,7 +124,7 @@ fn take_command<S: Service>(
     ensures { Does S.subject_of S.serves verb rest.now (desk staged.old service.old) (desk staged.new service.new) (said_view result) }
 {
     if is_policy(&verb) {
-        return Said::Line(govern(service, heap, staged, rest));
+        return Said::Line(govern(service, heap, rest));
     }
     match read_arguments(verb, rest) {
         Err(fault) => Said::Line(Reply::Error(fault)),
@@ -131,9 +132,9 @@ fn take_command<S: Service>(
     }
 }
 
-/// Puts the document in force that a text spells. What is staged stays: it is handed in for the contract to say so.
-fn govern<S: Service>(service: &mut S, heap: Global, staged: &Staged, text: &[u8]) -> Reply
-    ensures { Governs S.serves text.now (desk staged.now service.old) (desk staged.now service.new) (line result) }
+/// Puts the document in force that a text spells. What is staged stays.
+fn govern<S: Service>(service: &mut S, heap: Global, text: &[u8]) -> Reply
+    ensures { (staged : List Change) → Governs S.serves text.now (desk staged service.old) (desk staged service.new) (line result) }
 {
     match read_document(heap, heap, text) {
         Err(fault) => policy_reply(fault),
@@ -141,10 +142,9 @@ fn govern<S: Service>(service: &mut S, heap: Global, staged: &Staged, text: &[u8
     }
 }
 
-/// How the document in force rules of what the session's subject asks. What is staged stays: it is handed in for the
-/// contract to say so.
-fn explain<S: Service>(service: &mut S, staged: &Staged, asking: &Asking) -> Reply
-    ensures { Asks S.subject_of S.serves asking.now (desk staged.now service.old) (desk staged.now service.new) (line result) }
+/// How the document in force rules of what the session's subject asks. What is staged stays.
+fn explain<S: Service>(service: &mut S, asking: &Asking) -> Reply
+    ensures { (staged : List Change) → Asks S.subject_of S.serves asking.now (desk staged service.old) (desk staged service.new) (line result) }
 {
     match service.subject() {
         None => Reply::Error(Fault::BeforeHello),
@@ -171,7 +171,7 @@ fn obey<S: Service>(service: &mut S, staged: &mut Staged, command: Command) -> S
             staged.clear();
             Said::Line(Reply::Aborted)
         }
-        Command::Explain(asking) => Said::Line(explain(service, staged, &asking)),
+        Command::Explain(asking) => Said::Line(explain(service, &asking)),
         Command::Roll => service.roll(),
         Command::Bye => {
             staged.clear();

@@ -1,11 +1,13 @@
 //! What follows from the definitions alone. The functions do nothing: each is its contract.
 
-ghost use Rattle.std.specs.Prelude.{List, ℕ};
+ghost use Rattle.std.specs.Prelude.{◌≡◌, List, ℕ};
 ghost use Rattle.decision.specs.Deciders.{DeciderData};
 ghost use Rattle.sessions.specs.Scripts.{LineTells, Script};
 ghost use Rattle.sessions.specs.Services.{Serves, solo_subject};
 ghost use Rattle.sessions.specs.Serving.{LineTells as AloneTells};
 ghost use Rattle.sessions.specs.States.{Desk, IsAtRest, IsIdle, SoloState};
+ghost use Rattle.sessions.specs.declared.scripts.TheConstants.{LABEL_LIMIT};
+ghost use Rattle.sessions.specs.declared.streams.TheConstants.{LINE_LIMIT, READ_LIMIT};
 ghost use Rattle.plain_world.specs.States.{WorldData, opened};
 
 use features::Subject;
@@ -22,4 +24,11 @@ pub fn lines_leave_worlds_at_rest()
     ensures idle { (world : WorldData) → IsIdle world → IsAtRest world }
     ensures line { (text : List ℕ) (old new : Script) (said : List ℕ) → LineTells text old new said → IsAtRest old.world → IsAtRest new.world }
     ensures alone { (text : List ℕ) (old new : Desk SoloState) (said : List ℕ) → AloneTells solo_subject Serves text old new said → IsAtRest old.service.world → IsAtRest new.service.world }
+{}
+
+/// The limits that the definitions name, in numbers: labels of a script, bytes of a line without its end, and reads of a run.
+pub fn limits_in_numbers()
+    ensures labels { LABEL_LIMIT ≡ 64 }
+    ensures line { LINE_LIMIT ≡ 65536 }
+    ensures reads { READ_LIMIT ≡ 16777216 }
 {}

@@ -21,7 +21,7 @@ mod writing;
 
 pub use built_in::built_in_subjects;
 pub use faults::Fault;
-pub use laws::{lines_leave_worlds_at_rest, opened_world_is_idle};
+pub use laws::{limits_in_numbers, lines_leave_worlds_at_rest, opened_world_is_idle};
 pub use replies::{Reply, Said};
 pub use scripts::{LABEL_LIMIT, run_script};
 pub use services::Service;

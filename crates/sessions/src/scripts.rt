@@ -1,11 +1,15 @@
 //! Scripts: lines of many sessions, each led by the label of its session, and the table of these sessions.
-ghost use Rattle.std.specs.Prelude.{◌≡◌, ◌≤◌, ◌<◌, ◌+◌, ◌++◌, [], List, None, OnOk, IfOk, IfErr, IfSome, codes, length, nat_lt, option_map, slice_set, slice_index_or, vec_len, vec_capacity, if◌then◌else◌, ℕ};
+ghost use Rattle.std.specs.Prelude.{◌≡◌, ◌≤◌, ◌<◌, ◌+◌, ◌++◌, [], List, None, OnOk, IfOk, IfErr, IfSome, codes, length, option_map, slice_set, slice_index_or, vec_len, vec_capacity, ℕ, Result};
 ghost use Rattle.std.specs.Io.KnownBytes.{Appends};
 ghost use Rattle.std.specs.List.{prefix_len};
-ghost use Rattle.sessions.specs.Scripts.{IsScriptText, LabelTells, LineTells, SessionAnswers, is_not_colon, is_skipped, parts_of, place, script, with_label};
+ghost use Rattle.sessions.specs.Scripts.{IsScriptText, LabelTells, LineTells, SessionAnswers, behind, is_not_colon, is_skipped, parts_of, place, script, with_label};
 ghost use Rattle.sessions.specs.Printed.{led, reply_text};
 ghost use Rattle.sessions.specs.Replies.{said_view};
+ghost use Rattle.plain_world.specs.declared.faults.Fault.{Fault as WorldFault};
+ghost use Rattle.search_tree.specs.declared.answers.Tending.{Tending};
 ghost use Rattle.sessions.specs.Stepping.{AllDrop};
+ghost use Rattle.transactions.specs.Index.{slots_of};
+ghost use Rattle.transactions.specs.Stepping.{TendsIndex};
 ghost use Rattle.byte_streams.specs.Written.{Took};
 ghost use Rattle.sessions.specs.Streams.{OnMemory, Ran};
 ghost use Rattle.sessions.specs.States.{IsIdle, SessionState};
@@ -119,10 +123,12 @@ impl<A: Allocator + Copy> Table<A> {
         session.answer_text(world, heap, text)
     }
 
-    /// Tends the slot of the index whose turn it is.
+    /// Tends the slot of the index whose turn it is. The next one's turn comes, also where the index refuses.
     fn tend(&mut self, world: &mut World<A>)
         ensures sessions { self.new.sessions.items ≡ self.old.sessions.items }
         ensures world { world.new.plain ≡ world.old.plain }
+        ensures index { (answer : Result Tending WorldFault) × TendsIndex world.old.plain self.old.next_slot world.old.index world.new.index answer }
+        ensures turn { self.new.next_slot ≡ behind self.old.next_slot (slots_of world.new.index) }
     {
         let _ = world.tend(self.next_slot);
         self.next_slot = slot_behind(self.next_slot, world.slots());
@@ -176,7 +182,7 @@ impl<A: Allocator + Copy> Table<A> {
 
 /// The slot that is tended after this one, of so many: from 0 on, and behind the last one 0 again.
 fn slot_behind(slot: u32, slots: u32) -> u32
-    ensures { result ≡ (if nat_lt (slot + 1) slots then slot + 1 else 0) }
+    ensures { result ≡ behind slot slots }
 {
     if slot < slots && slot + 1 < slots {
         slot + 1

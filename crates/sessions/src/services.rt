@@ -37,11 +37,12 @@ pub trait Service {
     fn hello(&mut self, name: Name) -> Reply
         ensures { serves (Hello name) self.old self.new (line result) };
 
-    /// What the subject may read of what meets a window: `rows`, `memory`, or the fault of the search.
+    /// What the subject may read of what meets a window: `rows`, `memory`, or the search's fault (of a world S2, S6, S7 or X10).
     fn search(&mut self, window: Shape) -> Said<Self::Memory>
         ensures { serves (Search window) self.old self.new (said_view result) };
 
-    /// Commits a list of changes, all or none of it: how it is judged, `held`, `memory`, or the fault of the commit.
+    /// Commits a list of changes, all or none of it: how it is judged, `held`, `memory`, or the
+    /// commit's fault (of a world S4 to S7, X8, X10 or X11).
     fn commit(&mut self, changes: &[Change]) -> Reply
         requires distinct { AreDistinct changes.now }
         requires few { length changes.now ≤ CHANGE_LIMIT }

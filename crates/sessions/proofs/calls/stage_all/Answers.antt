@@ -1,11 +1,14 @@
-use Rattle.std.proofs.Common.{take, Err}
-use Rattle.plain_world.specs.Events.{Stage}
+use Rattle.std.proofs.Common.{take, Err, IfErr}
+use Rattle.plain_world.specs.Events.{Stage, Refused}
+use Rattle.sessions.specs.Causes.{IsOwn}
+use Rattle.sessions.proofs.CauseLemmas.{stage_own}
+use Rattle.sessions.proofs.LeavingLemmas.{left_by}
 use Rattle.sessions.proofs.SearchLemmas.{from_same}
 use Rattle.sessions.proofs.CommitLemmas.{may_stage_at, stage_one}
 use Rattle.sessions.proofs.calls.stage_all.Goals as goal
 
-pub returns-in_err-stage : goal.returns-in_err-stage
-returns-in_err-stage g c w subject seated start =
+pub returns-in_err-stage-clause-stages : goal.returns-in_err-stage-clause-stages
+returns-in_err-stage-clause-stages g c w subject seated start =
     let i = c.loop-change.change-index in
     let changes = c.args.changes.now in
     let change = c.change-item.result in
@@ -13,3 +16,9 @@ returns-in_err-stage g c w subject seated start =
     let told = from_same (Stage c.args.seat c.args.number change) _ _ _ _ (c.loop-change.invariant w subject seated start) c.in_err-stage.ensures.happens in
     let staged = stage_one c.args.number c.args.seat w subject seated (take i changes) 0 change c.stage.new.self.plain (Err c.in_err-stage.field-0.0) may told in
     (let wrong = staged.0 in absurd cc)
+
+pub returns-in_err-stage-clause-own : goal.returns-in_err-stage-clause-own
+returns-in_err-stage-clause-own g c =
+    let fault = c.in_err-stage.field-0.0 in
+    left_by c.from_residual.result fault (λ r. IfErr r IsOwn) c.from_residual.ensures.1
+    (stage_own c.args.seat c.args.number c.change-item.result c.loop-change.world.plain c.stage.new.self.plain (Refused fault) c.in_err-stage.ensures.happens)

@@ -8,9 +8,9 @@ use Rattle.sessions.proofs.solos.SoloService.roll.Goals as goal
 pub returns-in-Ok : goal.returns-in-Ok
 returns-in-Ok g c =
     let s = c.args.self.now in
-    (refl, rolled_so c.in-Some.seat (solo s.world.now.plain s.seat) (solo c.roll.new.world.plain s.seat) (Ok (arc_value c.in-Ok.piece)) (rolled (arc_value c.in-Ok.piece)) c.in-Some.is refl c.in-Ok.ensures refl)
+    (refl, rolled_so c.in-Some.seat (solo s.world.now.plain s.seat) (solo c.roll.new.world.plain s.seat) (Ok (arc_value c.in-Ok.piece)) (rolled (arc_value c.in-Ok.piece)) c.in-Some.is refl c.in-Ok.ensures.happens refl, c.in-Ok.ensures.beside)
 
 pub returns-in-Err : goal.returns-in-Err
 returns-in-Err g c =
     let s = c.args.self.now in
-    (refl, rolled_so c.in-Some.seat (solo s.world.now.plain s.seat) (solo c.roll.new.world.plain s.seat) (Err c.in-Err.fault) (line c.fault_reply.result) c.in-Some.is refl c.in-Err.ensures (ap line c.fault_reply.ensures))
+    (refl, rolled_so c.in-Some.seat (solo s.world.now.plain s.seat) (solo c.roll.new.world.plain s.seat) (Err c.in-Err.fault) (line c.fault_reply.result) c.in-Some.is refl c.in-Err.ensures.happens (ap line c.fault_reply.ensures), c.in-Err.ensures.beside)
