@@ -11,7 +11,7 @@ use Rattle.search_tree.specs.Penalties.{IsBest}
 use Rattle.search_tree.specs.Splitting.{HasGrown, HasSplit}
 use Rattle.search_tree.specs.Standings.{IsAside, IsHere, IsNowhere, IsUnlinked}
 use Rattle.search_tree.specs.Trees.{PlainTree, IsLeaf, root_level, tree_of}
-use Rattle.search_tree.specs.Walks.{HasBegunDescent, HasDescended, IsHolder, NoneHolds}
+use Rattle.search_tree.specs.Walks.{HasDescended, IsHolder, NoneHolds}
 use Rattle.search_tree.specs.declared.answers.Step.{Step}
 use Rattle.search_tree.specs.declared.answers.Step.TheVariants.{Moved, Split, Installed, Restarted, Placed}
 use Rattle.search_tree.specs.declared.fault.TreeFault.{TreeFault}
@@ -112,7 +112,7 @@ module _ (C : Class) (t u : PlainTree C.Key C.Query C.Item) (at now : Handle) wh
     begins_anew : IsNowhere t.nodes at → u ≡ t → now ≡ t.root → TakesStep growth second_growth pair (Ok Restarted)
     climbs : IsAside C t.nodes at now (C.key_of pair.1) → u ≡ t → TakesStep growth second_growth pair (Ok Moved)
     descends : {old : C.Key} → IsWayDown C t growth second_growth at (C.key_of pair.1) now old → HasDescended C t u at now old (C.key_of pair.1) → TakesStep growth second_growth pair (Ok Moved)
-    wants_memory : {child : Handle} {old : C.Key} {refusal : Refused} → IsWayDown C t growth second_growth at (C.key_of pair.1) child old → HasBegunDescent C t u at child old (C.key_of pair.1) → TakesStep growth second_growth pair (Err (Memory refusal))
+    wants_memory : {child : Handle} {old : C.Key} {refusal : Refused} → IsWayDown C t growth second_growth at (C.key_of pair.1) child old → IsUntouched C t u → TakesStep growth second_growth pair (Err (Memory refusal))
     is_held : {leaf : Node C} {search : ℕ} → IsAtLeaf C t at pair.1 leaf → IsHolder C t.running leaf.attached pair.1 search → u ≡ t → TakesStep growth second_growth pair (Err (Held search))
     places : {leaf : Node C} → IsFree C t at pair.1 leaf → size_of leaf.body < NODE_SIZE → IsPlaced (tree_of C t) (tree_of C u) at pair → now ≡ at → TakesStep growth second_growth pair (Ok Placed)
     makes : {change : Change} {answer : Result Step TreeFault} → Wants C t at pair.1 change → Answers change answer → TakesStep growth second_growth pair answer

@@ -20,7 +20,7 @@ returns-in_ok-descend-in-Descend-clause-first g c = descends c.in-Descend.ensure
 pub returns-in_err-descend-in-Descend-clause-first : goal.returns-in_err-descend-in-Descend-clause-first
 returns-in_err-descend-in-Descend-clause-first g c =
     let p = err_from_is_err_and c.from_residual.result c.from_residual.ensures.1 in
-    rw (p.1, p.2) (wants_memory c.in-Descend.ensures.first.1 (rw (c.in-Descend.ensures.first.0, c.key_of.ensures) at c.in_err-descend-in-Descend.ensures.begun))
+    rw (p.1, p.2) (wants_memory c.in-Descend.ensures.first.1 c.in_err-descend-in-Descend.ensures.err)
 
 pub returns-in-Hold-clause-first : goal.returns-in-Hold-clause-first
 returns-in-Hold-clause-first g c = is_held c.in-Hold.ensures.first.1 c.in-Hold.ensures.first.2 refl
