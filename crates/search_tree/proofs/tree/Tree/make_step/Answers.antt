@@ -29,4 +29,4 @@ pub returns-in-Place-clause-first : goal.returns-in-Place-clause-first
 returns-in-Place-clause-first g c = places c.in-Place.ensures.first.1 c.in-Place.ensures.first.2 c.place.ensures.step refl
 
 pub returns-in-Make-clause-first : goal.returns-in-Make-clause-first
-returns-in-Make-clause-first g c = makes_room (class_of g.C.KeyClass.covered g.C.KeyClass.may_match g.C.KeyClass.is_match g.C.KeyClass.key_with g.C.KeyClass.united) c.args.self.now c.make_room.new.self c.args.at _ _ _ (c.args.key, c.args.item) c.in-Make.room _ c.in-Make.ensures.first c.make_room.ensures.made
+returns-in-Make-clause-first g c = makes_room (class_of g.C.KeyClass.covered g.C.KeyClass.may_match g.C.KeyClass.is_match g.C.KeyClass.key_with g.C.KeyClass.united) c.args.self.now c.make_room.new.self c.args.at _ _ _ _ (c.args.key, c.args.item) c.in-Make.room _ c.in-Make.ensures.first c.make_room.ensures.made
