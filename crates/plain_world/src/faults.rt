@@ -7,7 +7,7 @@ use memory::Refused;
 use search_tree::TreeFault;
 use std::fmt;
 
-/// Why a world refuses a call. A refused call changes nothing, save that an overrun ends the search, or
+/// Why a world refuses a call. A refused call changes nothing that is served or under way, save that an overrun ends the search, or
 /// the transaction whose walk it was.
 #[derive(Debug, Drop, PartialEq, Eq)]
 pub enum Fault {

@@ -76,8 +76,8 @@ impl<A: Allocator + Copy> PlainWorld<A> {
     /// force and at the shapes that stand in the store, and is written to the trail. X1 where the seat was not given or no
     /// such search runs, X2 where it is another seat's, X3 where it has not answered Ready, X10 where the trail is full, X12
     /// where a growth is refused. The meter counts at most a tick for each pair that was found, and none where the call is
-    /// refused before X12. Each id that was found is looked up once, which costs a tick; that nothing else is read from the
-    /// store no clause says.
+    /// refused before X12. The body looks each id that was found up once; neither that nor that nothing else is read from
+    /// the store a clause says.
     pub fn finish(
         &mut self,
         seat: u32,
