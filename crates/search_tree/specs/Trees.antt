@@ -149,8 +149,8 @@ module _ (C : Class) where
     -- each search that runs has its progress, and no other
     pub progress_of_each : (s : ℕ) → is_some (progress_at s t.progress) ≡ is_some (search_at t.running s)
 
-  -- a tree that nobody has called yet: it has no pairs and no searches, its root is its one node, in the
-  -- first slot, and each slot starts at this generation. The root is a leaf that has nothing yet, and has the counter's number
+  -- a tree that nobody has called yet: it has no pairs and no searches, its root is its one node, in the first slot, and
+  -- each slot starts at this generation. The root is a leaf that has nothing yet, and has the counter's number
   pub record IsFirst (generation counter next limit : ℕ) (t : PlainTree C.Key C.Query C.Item) : Type 0 where
     pub contents : IsContents (tree_of t) []
     pub searches : (s : ℕ) → search_in t s ≡ None
