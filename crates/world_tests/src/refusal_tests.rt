@@ -46,6 +46,9 @@ fn seats_that_are_not_given(rt: HostRuntime) -> Result<(), Fail> {
     let heap = rt.alloc();
     let mut world = inhabited(&rt, heap);
     ask_for_nobody(&rt, heap, &mut world);
+    // A fault is shown by its code, and one of the index by the index's.
+    let shown = format!(in heap; "{} {}", Fault::NoSuch, Fault::Tree(TreeFault::Spent))?;
+    assert_eq!(rt; shown.as_str(), "X1 S6");
     Ok(())
 }
 
