@@ -1,73 +1,104 @@
-//! Lines over a tree of many nodes, and what lines of which nothing is asked do to the index's slots.
-use crate::worlds::{opened, replies, run_first};
+//! Lines over a tree of many nodes, and the slots of the index that a script tends.
+use crate::worlds::{opened, replies, run_first, serve_first};
 use sessions::serve_world;
 use std::alloc::{AllocError, Global};
 use std::process::Abort;
 use std::test::Fail;
 use transactions::World;
 
-/// So many lists of sixteen points at one place, from this one on, each committed.
-fn lists(alloc: Global, first: u64, count: u64) -> Result<String, AllocError> {
-    let mut lines = String::new(alloc);
+/// Puts so many lists of sixteen points at one place to a script, from this one on, each committed.
+fn put_lists(script: &mut String, first: u64, count: u64) -> Result<(), AllocError> {
     for list in first..first.saturating_add(count) {
         for place in 0..16 {
             let id = list.saturating_mul(16).saturating_add(place);
-            write!(lines, "n: ADD {id} road POINT (0 0)\n")?;
+            write!(script, "n: ADD {id} road POINT (0 0)\n")?;
         }
-        lines.push_str("n: COMMIT\n")?;
+        script.push_str("n: COMMIT\n")?;
     }
-    Ok(lines)
+    Ok(())
 }
 
-/// What a search is answered that finds so many of these points.
-fn rows(alloc: Global, count: u64) -> Result<String, AllocError> {
-    let mut rows = format!(in alloc; "n: rows {count}\n")?;
+/// Puts what a search is answered that finds so many of these points.
+fn put_rows(expected: &mut String, count: u64) -> Result<(), AllocError> {
+    write!(expected, "n: rows {count}\n")?;
     for id in 0..count {
         let version = (id / 16).saturating_add(1);
-        write!(rows, "n: {id} {version} north road POINT (0 0)\n")?;
+        write!(expected, "n: {id} {version} north road POINT (0 0)\n")?;
     }
-    Ok(rows)
+    Ok(())
 }
 
-/// A leaf holds sixteen points, and of these, which nothing tells apart, about half as many: a search for them visits some
-/// two hundred nodes.
+/// A hundred lists, searches, and one list more.
+fn many_lines(alloc: Global) -> Result<String, AllocError> {
+    let mut script = String::new(alloc);
+    script.push_str("n: HELLO north\n")?;
+    put_lists(&mut script, 0, 100)?;
+    script.push_str(
+        "n: SEARCH POINT (0 0)\nn: OPEN POINT (0 0)\nn: STEP 50\nn: STEP 100\nn: STEP 1000000\nn: FINISH\n",
+    )?;
+    put_lists(&mut script, 100, 1)?;
+    script.push_str("n: SEARCH POINT (0 0)\n")?;
+    Ok(script)
+}
+
+/// Their replies, from the last of the hundred lists on.
+fn many_replies(alloc: Global) -> Result<String, AllocError> {
+    let mut expected = String::new(alloc);
+    expected.push_str("n: staged\nn: applied 100\n")?;
+    put_rows(&mut expected, 1_600)?;
+    expected.push_str("n: opened\nn: more\nn: more\nn: ready\n")?;
+    put_rows(&mut expected, 1_600)?;
+    for _ in 0..16 {
+        expected.push_str("n: staged\n")?;
+    }
+    expected.push_str("n: applied 101\n")?;
+    put_rows(&mut expected, 1_616)?;
+    Ok(expected)
+}
+
+/// A leaf has room for sixteen points, and many are half full: a search for all visits more than 150 nodes.
 #[test]
 fn large_searches(rt: HostRuntime) -> Result<(), Fail> {
-    let alloc = rt.alloc();
-    let (before, behind) = (lists(alloc, 0, 100)?, lists(alloc, 100, 1)?);
-    let script = format!(in alloc;
-        "n: HELLO north\n{before}n: SEARCH POINT (0 0)\nn: OPEN POINT (0 0)\nn: STEP 50\nn: STEP 100\nn: STEP 1000000\nn: FINISH\n{behind}n: SEARCH POINT (0 0)\n"
-    )?;
-    let ran = run_first(&rt, alloc, script.as_str());
+    let script = many_lines(rt.alloc())?;
+    let ran = run_first(&rt, rt.alloc(), script.as_str());
     assert!(rt; ran.slots > 150, "{}", ran.slots);
-    let found = rows(alloc, 1_600)?;
-    let answered = format!(in alloc;
-        "n: applied 100\n{found}n: opened\nn: more\nn: more\nn: ready\n{found}"
-    )?;
-    let staged = "n: staged\n".repeat(alloc, 16)?;
-    let more = rows(alloc, 1_616)?;
-    let expected = format!(in alloc; "{answered}{staged}n: applied 101\n{more}")?;
+    let expected = many_replies(rt.alloc())?;
     assert!(rt; ran.output.ends_with(expected.as_bytes()));
     Ok(())
 }
 
-/// Lines of a session by itself, which tends no slot: so many rounds of sixteen points that come and go in two lists, from
-/// this version on.
-fn rounds(alloc: Global, version: u64, count: u64) -> Result<String, AllocError> {
+/// Lines that add sixteen points and delete them again, in lists, so many times, the first under this version; before each
+/// stands this label.
+fn rounds(alloc: Global, version: u64, count: u64, label: &str) -> Result<String, AllocError> {
     let mut lines = String::new(alloc);
-    lines.push_str("HELLO north\n")?;
+    write!(lines, "{label}HELLO north\n")?;
     for round in 0..count {
         for id in 0..16 {
-            write!(lines, "ADD {id} road POINT ({id} 0)\n")?;
+            write!(lines, "{label}ADD {id} road POINT ({id} 0)\n")?;
         }
-        lines.push_str("COMMIT\n")?;
+        write!(lines, "{label}COMMIT\n")?;
         let version = version.saturating_add(round.saturating_mul(2));
         for id in 0..16 {
-            write!(lines, "DELETE {id} {version}\n")?;
+            write!(lines, "{label}DELETE {id} {version}\n")?;
         }
-        lines.push_str("COMMIT\n")?;
+        write!(lines, "{label}COMMIT\n")?;
     }
     Ok(lines)
+}
+
+/// A leaf holds sixteen pairs, so the 1,600 that are placed here take a hundred leaves where none is cleaned. A script
+/// tends one slot after each line, in turn, and so the index stays small.
+#[test]
+fn slots_are_tended(rt: HostRuntime) -> Result<(), Fail> {
+    let labelled = rounds(rt.alloc(), 1, 100, "n: ")?;
+    let tended = run_first(&rt, rt.alloc(), labelled.as_str());
+    assert!(rt; tended.output.ends_with(b"n: staged\nn: applied 200\n"));
+    assert!(rt; tended.slots < 20, "{}", tended.slots);
+    let alone = rounds(rt.alloc(), 1, 100, "")?;
+    let untended = serve_first(&rt, rt.alloc(), alone.as_str());
+    assert!(rt; untended.output.ends_with(b"staged\napplied 200\n"));
+    assert!(rt; untended.slots > 100, "{}", untended.slots);
+    Ok(())
 }
 
 /// Serves such rounds over a world. How many slots there are behind them.
@@ -77,7 +108,7 @@ fn served(
     world: &mut World<Global>,
     version: u64,
 ) -> Result<u32, AllocError> {
-    let lines = rounds(alloc, version, 30)?;
+    let lines = rounds(alloc, version, 30, "")?;
     let mut output = Vec::new(alloc);
     let end = serve_world(alloc, alloc, world, &mut lines.as_bytes(), &mut output);
     assert_eq!(rt; end, Ok(()));

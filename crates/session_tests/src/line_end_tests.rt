@@ -294,7 +294,11 @@ fn ends_of_searches(rt: HostRuntime) -> Result<(), Fail> {
     Ok(())
 }
 
-/// Sixteen points more, all at one place, part a leaf below the root, for which the index's counter has no number left.
+/// Ten points more, all at one place.
+const TEN_MORE: &str =
+    "n: ADD 18 a POINT (1 0)\nn: ADD 19 a POINT (1 0)\nn: ADD 20 a POINT (1 0)\nn: ADD 21 a POINT (1 0)\nn: ADD 22 a POINT (1 0)\nn: ADD 23 a POINT (1 0)\nn: ADD 24 a POINT (1 0)\nn: ADD 25 a POINT (1 0)\nn: ADD 26 a POINT (1 0)\nn: ADD 27 a POINT (1 0)\n";
+
+/// The seventeenth point parts the root, and ten more a leaf below it: for that the index's counter has no number left.
 #[test]
 fn ends_of_the_counter(rt: HostRuntime) -> Result<(), Fail> {
     let last_count = Starts {
@@ -302,12 +306,10 @@ fn ends_of_the_counter(rt: HostRuntime) -> Result<(), Fail> {
         ..STARTS
     };
     let lines = format!(in rt.alloc();
-        "n: COMMIT\n{}n: COMMIT\nn: COMMIT\n{SEARCH}n: ABORT\nn: COMMIT\nn: ADD 1000 road POINT (600 0)\nn: COMMIT\n",
-        sixteen_more(rt.alloc())?
+        "n: COMMIT\n{TEN_MORE}n: COMMIT\nn: COMMIT\n{SEARCH}n: ABORT\nn: COMMIT\nn: ADD 28 a POINT (600 0)\nn: COMMIT\n"
     )?;
-    let staged = "n: staged\n".repeat(rt.alloc(), 16)?;
     let expected = format!(in rt.alloc();
-        "n: applied 2\n{staged}n: error S6\nn: error S6\n{SEVENTEEN_ROWS}n: aborted\nn: error E7\nn: staged\nn: applied 3\n"
+        "n: applied 2\nn: staged\nn: staged\nn: staged\nn: staged\nn: staged\nn: staged\nn: staged\nn: staged\nn: staged\nn: staged\nn: error S6\nn: error S6\n{SEVENTEEN_ROWS}n: aborted\nn: error E7\nn: staged\nn: applied 3\n"
     )?;
     check_behind(
         &rt,
@@ -318,15 +320,6 @@ fn ends_of_the_counter(rt: HostRuntime) -> Result<(), Fail> {
         expected.as_str(),
     )?;
     Ok(())
-}
-
-/// Lines that stage sixteen points at one place.
-fn sixteen_more(alloc: Global) -> Result<String, AllocError> {
-    let mut lines = String::new(alloc);
-    for id in 100..116 {
-        write!(lines, "n: ADD {id} road POINT (1 0)\n")?;
-    }
-    Ok(lines)
 }
 
 /// A kind of line that takes memory of the world.

@@ -326,7 +326,7 @@ fn no_install_at_the_counters_end(rt: HostRuntime) -> Result<(), Fail> {
 }
 
 #[test]
-fn limits_and_codes_of_every_tree(rt: HostRuntime) -> Result<(), Fail> {
+fn limits_of_every_tree(rt: HostRuntime) -> Result<(), Fail> {
     assert_eq!(rt; (NODE_SIZE, TOP_LEVEL), (16, 31));
     assert_eq!(rt; (MAX_SLOTS, MAX_RUNNING), (1_048_576, 16));
     assert_eq!(rt; MAX_STEPS, 1_000_000);

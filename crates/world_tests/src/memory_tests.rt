@@ -1,4 +1,4 @@
-//! Each event with each of its allocations refused in turn, and the calls that take no memory.
+//! Events with each of their allocations refused in turn, and the calls that take no memory.
 use crate::worlds::{
     CLOSED, LIMITS, OPEN, STARTS, add, document, found, name, picture, place_all, placed, point,
     ready, seated, square, staged,

@@ -1,4 +1,5 @@
-//! Each refusal of each event, with what the world tells before and after it.
+//! Refusals of the events, with ample memory and before any number is at its end; what the world tells before and after most
+//! of them.
 use crate::worlds::{
     CLOSED, LIMITS, OPEN, STARTS, add, document, found, name, picture, placed, point, ready,
     seated, square, staged,
