@@ -294,11 +294,15 @@ fn ends_of_searches(rt: HostRuntime) -> Result<(), Fail> {
     Ok(())
 }
 
-/// Ten points more, all at one place.
-const TEN_MORE: &str =
-    "n: ADD 18 a POINT (1 0)\nn: ADD 19 a POINT (1 0)\nn: ADD 20 a POINT (1 0)\nn: ADD 21 a POINT (1 0)\nn: ADD 22 a POINT (1 0)\nn: ADD 23 a POINT (1 0)\nn: ADD 24 a POINT (1 0)\nn: ADD 25 a POINT (1 0)\nn: ADD 26 a POINT (1 0)\nn: ADD 27 a POINT (1 0)\n";
+/// Sixteen points more, all at one place.
+const SIXTEEN_MORE: &str =
+    "n: ADD 18 a POINT (1 0)\nn: ADD 19 a POINT (1 0)\nn: ADD 20 a POINT (1 0)\nn: ADD 21 a POINT (1 0)\nn: ADD 22 a POINT (1 0)\nn: ADD 23 a POINT (1 0)\nn: ADD 24 a POINT (1 0)\nn: ADD 25 a POINT (1 0)\nn: ADD 26 a POINT (1 0)\nn: ADD 27 a POINT (1 0)\nn: ADD 28 a POINT (1 0)\nn: ADD 29 a POINT (1 0)\nn: ADD 30 a POINT (1 0)\nn: ADD 31 a POINT (1 0)\nn: ADD 32 a POINT (1 0)\nn: ADD 33 a POINT (1 0)\n";
 
-/// The seventeenth point parts the root, and ten more a leaf below it: for that the index's counter has no number left.
+/// What their lines are answered.
+const SIXTEEN_STAGED: &str =
+    "n: staged\nn: staged\nn: staged\nn: staged\nn: staged\nn: staged\nn: staged\nn: staged\nn: staged\nn: staged\nn: staged\nn: staged\nn: staged\nn: staged\nn: staged\nn: staged\n";
+
+/// The seventeenth point parts the root, and sixteen more a leaf below it: for that the index's counter has no number left.
 #[test]
 fn ends_of_the_counter(rt: HostRuntime) -> Result<(), Fail> {
     let last_count = Starts {
@@ -306,10 +310,10 @@ fn ends_of_the_counter(rt: HostRuntime) -> Result<(), Fail> {
         ..STARTS
     };
     let lines = format!(in rt.alloc();
-        "n: COMMIT\n{TEN_MORE}n: COMMIT\nn: COMMIT\n{SEARCH}n: ABORT\nn: COMMIT\nn: ADD 28 a POINT (600 0)\nn: COMMIT\n"
+        "n: COMMIT\n{SIXTEEN_MORE}n: COMMIT\nn: COMMIT\n{SEARCH}n: ABORT\nn: COMMIT\nn: ADD 34 a POINT (600 0)\nn: COMMIT\n"
     )?;
     let expected = format!(in rt.alloc();
-        "n: applied 2\nn: staged\nn: staged\nn: staged\nn: staged\nn: staged\nn: staged\nn: staged\nn: staged\nn: staged\nn: staged\nn: error S6\nn: error S6\n{SEVENTEEN_ROWS}n: aborted\nn: error E7\nn: staged\nn: applied 3\n"
+        "n: applied 2\n{SIXTEEN_STAGED}n: error S6\nn: error S6\n{SEVENTEEN_ROWS}n: aborted\nn: error E7\nn: staged\nn: applied 3\n"
     )?;
     check_behind(
         &rt,
