@@ -1,12 +1,13 @@
 -- How a full node's keys are shared out to two parts.
-use Rattle.std.specs.Prelude.{◌≡◌, ◌-◌, ◌+◌, ◌<◌, List, Some, IsBitSet, slice_get, ℕ, ◌≤◌, ℤ, ◌+ℤ◌, Bool, ◌&&◌, ◌||◌, int_lt, nat_lt, nat_eq, count_ones}
+use Rattle.std.specs.Prelude.{◌≡◌, ◌-◌, ◌+◌, ◌<◌, List, Some, IsBitSet, slice_get, ℕ, ◌≤◌, ℤ, ◌+ℤ◌, ◌⊎◌, ◌↔◌, Bool, IsTrue, ◌&&◌, ◌||◌, int_lt, nat_lt, nat_eq, count_ones}
 use Rattle.std.specs.Ordering.{int_eq}
 use Rattle.plane.specs.Extents.{Extent}
 use Rattle.frame_keys.specs.Keys.{Encloses}
 use Rattle.frame_keys.specs.Measures.{margin, overlap}
 use Rattle.frame_keys.specs.declared.split.Axis.{Axis}
 use Rattle.frame_keys.specs.declared.split.Axis.TheVariants.{Across, Up}
-use Rattle.frame_keys.specs.declared.split.TheConstants.{FEWEST, MOST}
+use Rattle.frame_keys.specs.declared.split.TheConstants.{FEWEST, MOST, LATER_HALF}
+use Rattle.tree_theory.specs.declared.TheConstants.{NODE_SIZE}
 
 -- each part gets enough keys
 pub record IsEven (right : ℕ) : Type 0 where
@@ -46,3 +47,28 @@ pub record IsCut (keys : List Extent) (mask right shared margins : ℕ) : Type 0
 -- less is shared, or as much and the margins are less
 abbrev pub is_better : ℕ → ℕ → ℕ → ℕ → Bool
 is_better shared margins other_shared other_margins = nat_lt shared other_shared || (nat_eq shared other_shared && nat_lt margins other_margins)
+
+-- these are the keys that stand behind the one at this place, in the order of their middles along an axis, and of
+-- their places where the middles are the same
+pub record AreBehind (keys : List Extent) (axis : Axis) (place part : ℕ) : Type 0 where
+  pub at : Extent
+  pub here : slice_get keys place ≡ Some at
+  pub each : (i : ℕ) (key : Extent) → slice_get keys i ≡ Some key → (IsBitSet part i ↔ IsTrue (is_behind (middle axis key) i (middle axis at) place))
+  pub no_other : (i : ℕ) → IsBitSet part i → i < NODE_SIZE
+
+-- the keys are cut behind one of them along an axis, and the part with the larger margin stays left: those behind go
+-- right where that part's margin is no larger, else the others
+pub record IsCutBehind (keys : List Extent) (right : ℕ) : Type 0 where
+  pub axis : Axis
+  pub place : ℕ
+  pub part : ℕ
+  pub behind : AreBehind keys axis place part
+  pub shared : ℕ
+  pub margins : ℕ
+  pub cut : IsCut keys part right shared margins
+
+-- which keys of a full node may go right: those of a cut whose parts get enough keys each, or the later half, with
+-- which the search for a better cut begins
+pub record PicksRight (keys : List Extent) (right : ℕ) : Type 0 where
+  pub even : IsEven right
+  pub picked : IsCutBehind keys right ⊎ (right ≡ LATER_HALF)

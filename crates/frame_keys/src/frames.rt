@@ -5,6 +5,7 @@ ghost use Rattle.plane.specs.Extents.{Extent, IsFrame, joined, extent_of, whole_
 ghost use Rattle.plane.specs.Rows.{Meet};
 ghost use Rattle.frame_keys.specs.Keys.{Encloses, MayMeet};
 ghost use Rattle.frame_keys.specs.Measures.{area, margin};
+ghost use Rattle.frame_keys.specs.Splits.{PicksRight};
 ghost use Rattle.tree_theory.specs.declared.TheConstants.{NODE_SIZE};
 
 use crate::measure::{area, margin};
@@ -41,6 +42,8 @@ impl KeyClass for Frames {
     ghost growth = { λ key other. area (joined key other) - area key };
 
     ghost second_growth = { λ key other. margin (joined key other) - margin key };
+
+    ghost picks = { PicksRight };
 
     fn known_key(key: Frame) {
         let _left = key.x0();

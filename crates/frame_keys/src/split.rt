@@ -4,7 +4,7 @@
 
 ghost use Rattle.std.specs.Prelude.{◌≡◌, ◌↔◌, ◌≤◌, ◌<◌, ℕ, Some, IsTrue, IsBitSet, length, count_ones, slice_get, slice_index};
 ghost use Rattle.plane.specs.Extents.{Extent};
-ghost use Rattle.frame_keys.specs.Splits.{IsEven, IsLeastOf, IsCut, middle, is_behind, is_better};
+ghost use Rattle.frame_keys.specs.Splits.{AreBehind, IsEven, IsLeastOf, IsCut, PicksRight, middle, is_behind, is_better};
 ghost use Rattle.tree_theory.specs.declared.TheConstants.{NODE_SIZE};
 
 use crate::measure::{margin, overlap};
@@ -48,6 +48,7 @@ impl Cut {
 /// Which of a full node's keys go to the right part: bit i for key i.
 pub fn right_part(keys: &[Frame]) -> u16
     requires { length keys.now ≡ NODE_SIZE }
+    ensures picked { PicksRight keys.now result }
     ensures least { 4 ≤ count_ones result }
     ensures most { count_ones result ≤ 12 }
 {
@@ -63,8 +64,8 @@ pub fn right_part(keys: &[Frame]) -> u16
 /// The best cut along an axis, or the first one where none is better.
 fn best_cut(keys: &[Frame], axis: Axis, first: Cut) -> Cut
     requires size { length keys.now ≡ NODE_SIZE }
-    requires even { IsEven first.right }
-    ensures { IsEven result.right }
+    requires picked { PicksRight keys.now first.right }
+    ensures { PicksRight keys.now result.right }
 {
     let mut best = first;
     for place in 0..keys.len() {
@@ -126,8 +127,7 @@ fn hull_of(keys: &[Frame], mask: u16) -> Frame
 fn behind(keys: &[Frame], axis: Axis, place: usize) -> u16
     requires size { length keys.now ≡ NODE_SIZE }
     requires place { place < NODE_SIZE }
-    ensures each { (i : ℕ) (key at : Extent) → slice_get keys.now i ≡ Some key → slice_get keys.now place ≡ Some at → (IsBitSet result i ↔ IsTrue (is_behind (middle axis key) i (middle axis at) place)) }
-    ensures no_other { (i : ℕ) → IsBitSet result i → i < NODE_SIZE }
+    ensures { AreBehind keys.now axis place result }
 {
     let at = middle(keys[place], axis);
     let mut mask = 0;

@@ -119,6 +119,9 @@ fn subjects(rt: HostRuntime) -> Result<(), Fail> {
     let both = both.unwrap();
     assert_eq!(rt; both.get(name(&rt, b"south")), Some(subject(&rt, b"south")));
     assert_eq!(rt; both.get(name(&rt, b"west")), None);
+    // A fault is shown by its code.
+    let shown = format!(in rt.alloc(); "{} {}", SubjectsFault::NoneGiven, StoreFault::Full)?;
+    assert_eq!(rt; shown.as_str(), "N1 F1");
     Ok(())
 }
 

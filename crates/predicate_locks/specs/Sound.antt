@@ -1,4 +1,4 @@
--- How the running searches are kept. No public clause cites this module.
+-- How the running searches are kept.
 use Rattle.std.specs.Prelude.{ℕ, ◌+◌, ◌≤◌, List, [], ◌∷◌, length}
 use Rattle.predicate_locks.specs.declared.running.RunningSearch.{RunningSearch}
 use Rattle.predicate_locks.specs.declared.TheConstants.{MAX_RUNNING}

@@ -1,5 +1,6 @@
 ghost use Rattle.std.specs.Prelude.{◌≡◌, ◌↔◌, ℕ, ◌+◌, ◌<◌, ◌≤◌, [], ◌∷◌, ◌++◌, false, true, length, Contains, slice_index_or, is_some, option_map, IsTrue, IsSome, IsOk, IfOk, IfErr, IfSome, IfNone, OnErr, Some, Ok, Err};
 ghost use Rattle.std.specs.Fn.{FnReturnsAt};
+ghost use Rattle.predicate_locks.specs.Sound.{IsRising};
 ghost use Rattle.predicate_locks.specs.Searches.{last_number, find_number, search_at, does_run, IsEntered, IsLeft, IsFirstMeeting, NoneMeets, AreMeeting, AllBegunSince};
 ghost use Rattle.memory.specs.Refused.{refused};
 
@@ -58,6 +59,7 @@ impl<Q: Copy, A: Allocator> Running<Q, A> {
     /// The searches that run, by rising number.
     pub fn searches(&self) -> &[RunningSearch<Q>]
         ensures value { result.now ≡ self.now.running }
+        ensures rising { IsRising 0 self.now.running self.now.next }
         ensures limit { length self.now.running ≤ MAX_RUNNING }
         ensures below { (number : ℕ) → IsSome (search_at self.now number) → number < self.now.next }
     {

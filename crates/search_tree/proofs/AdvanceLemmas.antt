@@ -1,5 +1,5 @@
 -- What is said of a success, by what was said of it, and which step a walk takes, by what is next for it.
-use Rattle.std.proofs.Common.{◌≡◌, ◌↔◌, ◌⊎◌, ◌∙◌, ◌+◌, ◌<◌, ◌≤◌, ℕ, Result, Ok, Err, IfOk, refl, ap, sym, subst, inl, inr}
+use Rattle.std.proofs.Common.{◌≡◌, ◌↔◌, ◌⊎◌, ◌∙◌, ◌+◌, ◌<◌, ◌≤◌, ℕ, List, Result, Ok, Err, IfOk, refl, ap, sym, subst, inl, inr}
 use Rattle.std.proofs.lemmas.Bool.{cases_lt}
 use Rattle.memory.specs.Refused.{refused}
 use Rattle.node_arena.specs.Slots.{taken_count}
@@ -27,16 +27,16 @@ if_ok (Err e) goes p = tt
 
 module _ (C : Class) (t u : PlainTree C.Key C.Query C.Item) (at now : Handle) where
   -- a walk that has to wait for a change makes it, or is refused
-  pub makes_room : (growth second_growth : C.Key → C.Key → ℕ) (pair : ℕ × C.Item) (room : Room C.Key) (answer : Result Step TreeFault) → IsChange room × ((change : Change) → ComesTo C t room change → Wants C t at pair.1 change) → Makes C t u at now room answer → TakesStep C t u at now growth second_growth pair answer
-  makes_room growth second_growth pair (Install entry) answer next made = makes (next.1 (Linking entry.left) refl) made
-  makes_room growth second_growth pair (Split full) answer next made = makes (next.1 (Parting full) refl) made
-  makes_room growth second_growth pair Grow answer next made = makes (next.1 Growing refl) made
-  makes_room growth second_growth pair (Behind left) answer next made = absurd made
-  makes_room growth second_growth pair Nothing answer next made = absurd made
+  pub makes_room : (growth second_growth : C.Key → C.Key → ℕ) (picks : List C.Key → ℕ → Type 0) (pair : ℕ × C.Item) (room : Room C.Key) (answer : Result Step TreeFault) → IsChange room × ((change : Change) → ComesTo C t room change → Wants C t at pair.1 change) → Makes C t u at now picks room answer → TakesStep C t u at now growth second_growth picks pair answer
+  makes_room growth second_growth picks pair (Install entry) answer next made = makes (next.1 (Linking entry.left) refl) made
+  makes_room growth second_growth picks pair (Split full) answer next made = makes (next.1 (Parting full) refl) made
+  makes_room growth second_growth picks pair Grow answer next made = makes (next.1 Growing refl) made
+  makes_room growth second_growth picks pair (Behind left) answer next made = absurd made
+  makes_room growth second_growth picks pair Nothing answer next made = absurd made
 
   -- why each change is refused
-  pub not_linked : (left : Handle) (fault : TreeFault) → (fault ≡ Spent) × (t.counter ≡ last_number) → u ≡ t → Answers C t u at now (Linking left) (Err fault)
-  not_linked left fault is same = subst (λ f. Answers C t u at now (Linking left) (Err f)) (sym is.0) (counter_ends is.1 same)
+  pub not_linked : {picks : List C.Key → ℕ → Type 0} (left : Handle) (fault : TreeFault) → (fault ≡ Spent) × (t.counter ≡ last_number) → u ≡ t → Answers C t u at now picks (Linking left) (Err fault)
+  not_linked {picks} left fault is same = subst (λ f. Answers C t u at now picks (Linking left) (Err f)) (sym is.0) (counter_ends is.1 same)
 
   -- so many slots are left where it is not the slots that are refused
   fits : (T : Type 0) (more : ℕ) (fault : TreeFault) → fault ≡ Memory refused → ◌≡◌ {A = Result T TreeFault} (Err fault) (Err Full) ↔ (MAX_SLOTS < taken_count t.nodes + more) → taken_count t.nodes + more ≤ MAX_SLOTS
@@ -53,26 +53,26 @@ module _ (C : Class) (t u : PlainTree C.Key C.Query C.Item) (at now : Handle) wh
       let both : ◌≡◌ {A = Result T TreeFault} (Err (Memory refused)) (Err TooHigh) = ap (λ (f : TreeFault). Err f) (sym is) ∙ e in
       absurd (cc (both))
 
-  pub not_parted : (T : Type 0) (full : Handle) (fault : TreeFault) → (fault ≡ Full) ⊎ (fault ≡ Memory refused) → ◌≡◌ {A = Result T TreeFault} (Err fault) (Err Full) ↔ (MAX_SLOTS < taken_count t.nodes + 1) → (◌≡◌ {A = Result T TreeFault} (Err fault) (Err Full) → u ≡ t) → IsUntouched C t u → Answers C t u at now (Parting full) (Err fault)
-  not_parted T full fault is slots same untouched = elim is [
+  pub not_parted : {picks : List C.Key → ℕ → Type 0} (T : Type 0) (full : Handle) (fault : TreeFault) → (fault ≡ Full) ⊎ (fault ≡ Memory refused) → ◌≡◌ {A = Result T TreeFault} (Err fault) (Err Full) ↔ (MAX_SLOTS < taken_count t.nodes + 1) → (◌≡◌ {A = Result T TreeFault} (Err fault) (Err Full) → u ≡ t) → IsUntouched C t u → Answers C t u at now picks (Parting full) (Err fault)
+  not_parted {picks} T full fault is slots same untouched = elim is [
     | inl none_left ↦
         let e = ap (λ (f : TreeFault). Err f) none_left in
-        subst (λ f. Answers C t u at now (Parting full) (Err f)) (sym none_left) (no_slot (slots.0 e) (same e))
-    | inr no_room ↦ subst (λ f. Answers C t u at now (Parting full) (Err f)) (sym no_room) (no_memory (fits T 1 fault no_room slots) untouched)
+        subst (λ f. Answers C t u at now picks (Parting full) (Err f)) (sym none_left) (no_slot (slots.0 e) (same e))
+    | inr no_room ↦ subst (λ f. Answers C t u at now picks (Parting full) (Err f)) (sym no_room) (no_memory (fits T 1 fault no_room slots) untouched)
   ]
 
-  pub not_grown : (T : Type 0) (fault : TreeFault) → (fault ≡ TooHigh) ⊎ (fault ≡ Full) ⊎ (fault ≡ Memory refused) → ◌≡◌ {A = Result T TreeFault} (Err fault) (Err TooHigh) ↔ ((taken_count t.nodes + 2 ≤ MAX_SLOTS) × (root_level t ≡ TOP_LEVEL)) → ◌≡◌ {A = Result T TreeFault} (Err fault) (Err Full) ↔ (MAX_SLOTS < taken_count t.nodes + 2) → (◌≡◌ {A = Result T TreeFault} (Err fault) (Err Full) ⊎ ◌≡◌ {A = Result T TreeFault} (Err fault) (Err TooHigh) → u ≡ t) → IsUntouched C t u → Answers C t u at now Growing (Err fault)
-  not_grown T fault is high slots same untouched = elim is [
+  pub not_grown : {picks : List C.Key → ℕ → Type 0} (T : Type 0) (fault : TreeFault) → (fault ≡ TooHigh) ⊎ (fault ≡ Full) ⊎ (fault ≡ Memory refused) → ◌≡◌ {A = Result T TreeFault} (Err fault) (Err TooHigh) ↔ ((taken_count t.nodes + 2 ≤ MAX_SLOTS) × (root_level t ≡ TOP_LEVEL)) → ◌≡◌ {A = Result T TreeFault} (Err fault) (Err Full) ↔ (MAX_SLOTS < taken_count t.nodes + 2) → (◌≡◌ {A = Result T TreeFault} (Err fault) (Err Full) ⊎ ◌≡◌ {A = Result T TreeFault} (Err fault) (Err TooHigh) → u ≡ t) → IsUntouched C t u → Answers C t u at now picks Growing (Err fault)
+  not_grown {picks} T fault is high slots same untouched = elim is [
     | inl top ↦
         let e = ap (λ (f : TreeFault). Err f) top in
         let at_top = high.0 e in
-        subst (λ f. Answers C t u at now Growing (Err f)) (sym top) (top_level at_top.0 at_top.1 (same (inr e)))
+        subst (λ f. Answers C t u at now picks Growing (Err f)) (sym top) (top_level at_top.0 at_top.1 (same (inr e)))
     | inr other ↦ elim other [
       | inl none_left ↦
           let e = ap (λ (f : TreeFault). Err f) none_left in
-          subst (λ f. Answers C t u at now Growing (Err f)) (sym none_left) (no_slots (slots.0 e) (same (inl e)))
+          subst (λ f. Answers C t u at now picks Growing (Err f)) (sym none_left) (no_slots (slots.0 e) (same (inl e)))
       | inr no_room ↦
           let enough = fits T 2 fault no_room slots in
-          subst (λ f. Answers C t u at now Growing (Err f)) (sym no_room) (no_memory_to_grow enough (λ top. lower T fault no_room (high.1 (enough, top))) untouched)
+          subst (λ f. Answers C t u at now picks Growing (Err f)) (sym no_room) (no_memory_to_grow enough (λ top. lower T fault no_room (high.1 (enough, top))) untouched)
     ]
   ]

@@ -24,11 +24,11 @@ module _ (C : Class) (t : PlainTree C.Key C.Query C.Item) (way : WayDown C.Key) 
       }
 
   -- where nodes have got searches attached
-  module _ (nodes : Slots (Node C)) (more : MoreAttached C led t.nodes nodes) where
+  module _ (nodes : Slots (Node C)) (more : MoreAttached C t led nodes) where
     abbrev joined : PlainTree C.Key C.Query C.Item
     joined = record t { nodes = nodes }
 
-    still_takes : (now : Node C) → HasMore led may.node now → MayTake (tree_of C joined) way.parent now key
+    still_takes : (now : Node C) → HasMore C t led may.node now → MayTake (tree_of C joined) way.parent now key
     still_takes now has_more = elim may.may_take [
       | inl root ↦ inl (ap (λ (n : Node C). n.place) has_more.same ∙ root)
       | inr above ↦
@@ -58,7 +58,7 @@ module _ (C : Class) (t : PlainTree C.Key C.Query C.Item) (way : WayDown C.Key) 
           may_take = still_takes now.0 now.2;
           seen = λ s run runs has consistent. elim (held_or_not s led) [
             | inl listed ↦ let seen = done s listed in inr (seen.node, seen.is, seen.attached)
-            | inr unlisted ↦ elim (now.2.only s has) [
+            | inr unlisted ↦ elim (now.2.numbers.only s has) [
               | inl before ↦ inl (are_led.missed s run runs before unlisted consistent)
               | inr new ↦ absurd (unlisted new)
             ]

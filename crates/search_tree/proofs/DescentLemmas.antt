@@ -1,12 +1,11 @@
 -- A walk's way down: searches join the child, and its right node where it is marked, before the entry is enlarged.
-use Rattle.std.proofs.Common.{◌≡◌, ◌⊎◌, ◌∙◌, ℕ, List, [], ◌∷◌, Contains, Bool, true, false, if◌then◌else◌, filter, IsTrue, Option, None, Some, is_some, refl, sym, ap, subst, inl, inr, Result, Ok, Err, OnOk}
+use Rattle.std.proofs.Common.{◌≡◌, ◌≢◌, ◌⊎◌, ◌∙◌, ℕ, List, [], ◌∷◌, Contains, Bool, true, false, if◌then◌else◌, filter, IsTrue, Option, None, Some, is_some, refl, sym, ap, subst, inl, inr, Result, Ok, Err, OnOk}
 use Rattle.std.proofs.lemmas.Bool.{cases_eq}
 use Rattle.std.specs.Option.{option_map}
 use Rattle.node_arena.specs.Slots.{Slots, value_at}
 use Rattle.node_arena.specs.declared.handle.Handle.{Handle}
-use Rattle.predicate_locks.proofs.NumberLemmas.{with_all}
 use Rattle.predicate_locks.specs.Numbers.{with_numbers}
-use Rattle.predicate_locks.specs.Searches.{Searches, does_run, search_at}
+use Rattle.predicate_locks.specs.Searches.{does_run, search_at}
 use Rattle.predicate_locks.specs.declared.running.RunningSearch.{RunningSearch}
 use Rattle.tree_theory.proofs.ListLemmas.{first_in, later_in, in_cases, nothing_in, handle_cases}
 use Rattle.tree_theory.specs.KeyClasses.{Class, Laws}
@@ -14,19 +13,26 @@ use Rattle.tree_theory.specs.Nodes.{PlainNode, Node, Search, entries_of, is_mark
 use Rattle.tree_theory.specs.Walks.{Done}
 use Rattle.tree_theory.specs.declared.place.Place.{Place}
 use Rattle.tree_theory.specs.declared.place.Place.TheVariants.{Unlinked}
-use Rattle.search_tree.specs.Arenas.{AreSame, IsChanged}
-use Rattle.search_tree.specs.Calls.{IsAlike}
+use Rattle.search_tree.specs.Arenas.{Holds, IsChanged}
+use Rattle.search_tree.specs.Calls.{IsAlike, IsUntouched}
 use Rattle.search_tree.specs.Trees.{PlainProgress, PlainTree, IsSound, progress_at, tree_of}
-use Rattle.search_tree.specs.Walks.{HasMore, MoreAttached, MayJoinAll, HasJoined, HasJoinedInPart, MayJoinBelow, HasJoinedBelow, marked_right}
-use Rattle.search_tree.proofs.Kept.{filter_from, all_join}
+use Rattle.search_tree.specs.Walks.{HasMore, MoreAttached, MayJoinAll, HasJoined, MayJoinBelow, HasJoinedBelow, marked_right}
+use Rattle.search_tree.proofs.Kept.{all_join, with_all_kept}
 use Rattle.search_tree.proofs.TendSteps.{some_one}
-use Rattle.search_tree.proofs.WalkSteps.{joined_sound, joined_call, same_call}
+use Rattle.search_tree.proofs.WalkSteps.{joined_sound, joined_call}
 
 -- a node that is not linked has no mark
 no_mark : (place : Place) (left : Handle) → place ≡ Unlinked left → IsTrue (is_marked place) → ⊥
 no_mark place left is marked = let no : false ≡ true = (rw is at marked) in absurd (cc (no))
 
 module _ (C : Class) where
+  -- a tree is like itself
+  pub alike_self : (t : PlainTree C.Key C.Query C.Item) → IsAlike C t t
+  alike_self t = record { searches = λ s. refl; steps = λ s. refl; running = refl; contents = λ xs is. is; counts = record { counter = refl; limit = refl; level = refl; taken = refl; slots = refl } }
+
+  pub untouched_self : (t : PlainTree C.Key C.Query C.Item) → IsUntouched C t t
+  untouched_self t = record { alike = alike_self t; root = refl; nodes = record { look = λ h. refl }; searches = record { search = λ s. refl } }
+
   -- a tree like another, and a third like that
   pub alike_both : (t u v : PlainTree C.Key C.Query C.Item) → IsAlike C t u → IsAlike C u v → IsAlike C t v
   alike_both t u v one two =
@@ -137,36 +143,54 @@ marked_none node e marked r leads = by (is_marked node.place) marked e
     by true test none = absurd (cc (none, leads))
     by false test none = absurd (cc (test))
 
-module _ (C : Class) where
-  more_twice : (searches : List ℕ) (one two three : Node C) → HasMore searches one two → HasMore searches two three → HasMore searches one three
-  more_twice searches one two three first second =
+-- the list that was made for a node is set
+pub list_set : {Key Item : Type 0} (runs : ℕ → Bool) (searches : List ℕ) (old new : Slots (PlainNode Key Item)) (at : Handle) (list : List ℕ)
+    → Holds old at (λ n. list ≡ filter runs (with_numbers searches n.attached))
+    → IsChanged old new at (λ n. record n { attached = list })
+    → IsChanged old new at (λ n. record n { attached = filter runs (with_numbers searches n.attached) })
+list_set {Key = Key} {Item = Item} runs searches old new at list made changed = record { here = by (value_at old at) refl; others = changed.others; counts = changed.counts }
+  where
+    by : (o : Option (PlainNode Key Item)) → value_at old at ≡ o → value_at new at ≡ option_map (λ (n : PlainNode Key Item). record n { attached = filter runs (with_numbers searches n.attached) }) (value_at old at)
+    by None e = changed.here ∙ rw e refl
+    by (Some n) e = changed.here ∙ rw e (ap (λ xs. Some (record n { attached = xs })) (made n e))
+
+module _ (C : Class) (t : PlainTree C.Key C.Query C.Item) (searches : List ℕ) where
+  -- a node that has not changed
+  no_more : (n : Node C) → HasMore C t searches n n
+  no_more n = record { same = refl; numbers = record { keeps = λ s search is has. has; only = λ s has. inl has } }
+
+  more_twice : (mid : Slots (Node C)) (one two three : Node C) → HasMore C t searches one two → HasMore C (record t { nodes = mid }) searches two three → HasMore C t searches one three
+  more_twice mid one two three first second =
       record {
         same = second.same ∙ ap (λ (n : Node C). record n { attached = three.attached }) first.same;
-        only = λ s has. elim (second.only s has) [ inl before ↦ first.only s before | inr new ↦ inr new ];
+        numbers = record {
+          keeps = λ s search is has. second.numbers.keeps s search is (first.numbers.keeps s search is has);
+          only = λ s has. elim (second.numbers.only s has) [ inl before ↦ first.numbers.only s before | inr new ↦ inr new ];
+        };
       }
 
-  pub more_both : (searches : List ℕ) (a b c : Slots (Node C)) → MoreAttached C searches a b → MoreAttached C searches b c → MoreAttached C searches a c
-  more_both searches a b c one two =
+  pub more_both : (one two : Slots (Node C)) → MoreAttached C t searches one → MoreAttached C (record t { nodes = one }) searches two → MoreAttached C t searches two
+  more_both one two first second =
       record {
         forth = λ h n is.
-            let first = one.forth h n is in
-            let second = two.forth h first.0 first.1 in
-            (second.0, second.1, more_twice searches n first.0 second.0 first.2 second.2);
+            let before = first.forth h n is in
+            let after = second.forth h before.0 before.1 in
+            (after.0, after.1, more_twice one n before.0 after.0 before.2 after.2);
       }
 
-  module _ (running : Searches C.Query) (searches : List ℕ) (old new : Slots (Node C)) (at : Handle) where
-    abbrev joined : Node C → Node C
-    joined n = record n { attached = filter (does_run running) (with_numbers searches n.attached) }
+  abbrev joined : Node C → Node C
+  joined n = record n { attached = filter (does_run t.running) (with_numbers searches n.attached) }
 
-    has_more : (n : Node C) → HasMore searches n (joined n)
-    has_more n = record { same = refl; only = λ s has. (with_all searches n.attached s).0 (filter_from (does_run running) (with_numbers searches n.attached) s has) }
+  module _ (nodes : Slots (Node C)) (at : Handle) where
+    has_more : (n : Node C) → HasMore C t searches n (joined n)
+    has_more n = record { same = refl; numbers = with_all_kept C t (λ s. Contains searches s) searches n.attached (λ s has. has) }
 
-    pub more_from : IsChanged old new at (λ n. record n { attached = filter (does_run running) (with_numbers searches n.attached) }) → MoreAttached C searches old new
+    pub more_from : IsChanged t.nodes nodes at joined → MoreAttached C t searches nodes
     more_from changed =
         record {
           forth = λ h n is. elim (handle_cases h at) [
-            | inl same ↦ (joined n, subst (λ x. value_at new x ≡ Some (joined n)) (sym same) (changed.here ∙ ap (option_map joined) (subst (λ x. value_at old x ≡ Some n) same is)), has_more n)
-            | inr apart ↦ (n, changed.others h apart ∙ is, record { same = refl; only = λ s has. inl has })
+            | inl same ↦ (joined n, subst (λ x. value_at nodes x ≡ Some (joined n)) (sym same) (changed.here ∙ ap (option_map joined) (subst (λ x. value_at t.nodes x ≡ Some n) same is)), has_more n)
+            | inr apart ↦ (n, changed.others h apart ∙ is, no_more n)
           ];
         }
 
@@ -183,18 +207,8 @@ module _ (C : Class) (t : PlainTree C.Key C.Query C.Item) where
         attached = all_join C t searches n.attached s has runs;
       }
 
-  -- nobody is joined
-  pub joined_none : (nodes : Slots (Node C)) (child : Handle) (searches : List ℕ) → AreSame t.nodes nodes → IsSound C t → HasJoinedInPart C t (with_nodes nodes) child searches
-  joined_none nodes child searches same sound =
-      record {
-        only_nodes = refl;
-        more = record { forth = λ h node is. (node, same.each h ∙ is, record { same = refl; only = λ s has. inl has }) };
-        alike = same_call C t nodes same sound;
-        others = λ h beyond. same.each h;
-      }
-
   -- what the child's entry says stays
-  below_still : (nodes : Slots (Node C)) (child : Handle) (searches : List ℕ) → MoreAttached C searches t.nodes nodes → MayJoinBelow C t child searches → MayJoinBelow C (with_nodes nodes) child searches
+  below_still : (nodes : Slots (Node C)) (child : Handle) (searches : List ℕ) → MoreAttached C t searches nodes → MayJoinBelow C t child searches → MayJoinBelow C (with_nodes nodes) child searches
   below_still nodes child searches more may =
       let there = more.forth may.parent may.node may.is in
       record {
@@ -210,6 +224,17 @@ module _ (C : Class) (t : PlainTree C.Key C.Query C.Item) where
     parts : MarkedRight (value_at t.nodes child) right
     parts = marked_parts (value_at t.nodes child) right leads
 
+    -- the right node is another one
+    child_apart : child ≢ right
+    child_apart same =
+        let beside = sound.invariant.shape.mark_right child parts.node parts.is parts.marked in
+        let there : value_at t.nodes child ≡ Some beside.node = subst (λ h. value_at t.nodes h ≡ Some beside.node) (some_one beside.is_right parts.leads ∙ sym same) beside.is in
+        no_mark parts.node.place child (ap (λ (n : Node C). n.place) (some_one parts.is there) ∙ beside.place) parts.marked
+
+    -- the list that was made for the child is set after the right node's
+    pub second_set : (list : List ℕ) → Holds t.nodes child (λ n. list ≡ filter (does_run t.running) (with_numbers searches n.attached)) → IsChanged one two child (λ n. record n { attached = list }) → IsChanged one two child (λ n. record n { attached = filter (does_run t.running) (with_numbers searches n.attached) })
+    second_set list made = list_set (does_run t.running) searches one two child list (λ n is. made n (sym (first.others child child_apart) ∙ is))
+
     may_first : MayJoinAll C t right searches
     may_first = may_right C t sound child searches may parts.node parts.is parts.marked right parts.leads
 
@@ -219,18 +244,8 @@ module _ (C : Class) (t : PlainTree C.Key C.Query C.Item) where
     pub first_alike : IsAlike C t (with_nodes one)
     first_alike = (joined_call C t one right searches may_first first).alike
 
-    first_more : MoreAttached C searches t.nodes one
-    first_more = more_from C t.running searches t.nodes one right first
-
-    -- the child wants memory where its right node is joined already
-    pub joined_in_part : AreSame one two → HasJoinedInPart C t (with_nodes two) child searches
-    joined_in_part same =
-        record {
-          only_nodes = refl;
-          more = record { forth = λ h node is. let there = first_more.forth h node is in (there.0, same.each h ∙ there.1, there.2) };
-          alike = alike_both C t (with_nodes one) (with_nodes two) first_alike (same_call C (with_nodes one) two same first_sound);
-          others = λ h beyond. same.each h ∙ first.others h (λ e. beyond (leads ∙ ap Some (sym e)));
-        }
+    first_more : MoreAttached C t searches one
+    first_more = more_from C t searches one right first
 
     may_second : MayJoinAll C (with_nodes one) child searches
     may_second =
@@ -256,7 +271,7 @@ module _ (C : Class) (t : PlainTree C.Key C.Query C.Item) where
     both_joined second =
         record {
           only_nodes = refl;
-          more = more_both C searches t.nodes one two first_more (more_from C t.running searches one two child second);
+          more = more_both C t searches one two first_more (more_from C (with_nodes one) searches two child second);
           done = λ s has. let seen = joined_done2 s has second in seen;
           alike = alike_both C t (with_nodes one) (with_nodes two) first_alike (joined_call C (with_nodes one) two child searches may_second second).alike;
           beside = λ to leads_to s has. subst (Done (tree_of C (with_nodes two)) s) (some_one leads leads_to) (right_done second (λ s has. joined_done2 s has second) s has);
@@ -283,7 +298,7 @@ module _ (C : Class) (t : PlainTree C.Key C.Query C.Item) where
     alone_joined u join =
         record {
           only_nodes = join.only_nodes;
-          more = more_from C t.running searches t.nodes u.nodes child join.changed;
+          more = more_from C t searches u.nodes child join.changed;
           done = λ s has. record {
             node = record may_alone.node { attached = filter (does_run t.running) (with_numbers searches may_alone.node.attached) };
             is = rw (join.changed.here, may_alone.is) refl;

@@ -17,6 +17,7 @@ use Rattle.tree_theory.specs.declared.TheConstants.{NODE_SIZE, TOP_LEVEL}
 use Rattle.tree_theory.specs.declared.place.Place.TheVariants.{Root}
 use Rattle.search_tree.specs.Arenas.{AreSame, Holds}
 use Rattle.search_tree.specs.Calls.{IsUntouched}
+use Rattle.search_tree.specs.Halvings.{IsPickedOut}
 use Rattle.search_tree.specs.Splitting.{HasGrown, HasMoreNodes, HasPutBelow, IsFullRoot, IsLower, IsPutOver, MayGrow, MayRise, below}
 use Rattle.search_tree.specs.Trees.{PlainTree, IsSound, level_of, tree_of}
 use Rattle.search_tree.specs.declared.fault.TreeFault.{TreeFault}
@@ -104,7 +105,7 @@ module _ {Key Item : Type 0} where
   child_of_two : {whole one two : PlainBody Key Item} → IsHalved whole one two → (h : Handle) → Contains (children_of two) h → Contains (children_of whole) h
   child_of_two {whole = whole} {two = two} halves h has = let entry = entry_of_child two h has in child_in whole entry.0 h (other_in (entry.0, h) halves.entries entry.1)
 
-module _ (C : Class) (old new : Slots (Node C)) (root : Handle) (seq : ℕ) (full : IsFullRoot old root) (low : full.node.level < TOP_LEVEL) (one two : Body C) (halves : IsHalved full.node.body one two) (one_node two_node : Node C) (ones twos : List Handle) (one_key two_key : C.Key) (low_one : IsLower C (below full.node root seq one) one_node ones one_key) (low_two : IsLower C (below full.node root seq two) two_node twos two_key) (put : HasPutBelow old new root one_node ones one_key two_node twos two_key) where
+module _ (C : Class) (picks : List C.Key → ℕ → Type 0) (old new : Slots (Node C)) (root : Handle) (seq : ℕ) (full : IsFullRoot old root) (low : full.node.level < TOP_LEVEL) (one two : Body C) (halves : IsHalved full.node.body one two) (picked : IsPickedOut C.key_of picks full.node.body one two) (one_node two_node : Node C) (ones twos : List Handle) (one_key two_key : C.Key) (low_one : IsLower C (below full.node root seq one) one_node ones one_key) (low_two : IsLower C (below full.node root seq two) two_node twos two_key) (put : HasPutBelow old new root one_node ones one_key two_node twos two_key) where
   not_a : root ≢ put.a
   not_a = not_new put.put_one full.is
 
@@ -136,7 +137,7 @@ module _ (C : Class) (old new : Slots (Node C)) (root : Handle) (seq : ℕ) (ful
   of_two : (h : Handle) → Contains (children_of two) h → Contains twos h
   of_two h has = subst (λ xs. Contains xs h) (sym low_two.children_are) has
 
-  pub grown_done : HasGrown C old new root seq
+  pub grown_done : HasGrown C picks old new root seq
   grown_done =
       record {
         node = full.node;
@@ -148,6 +149,7 @@ module _ (C : Class) (old new : Slots (Node C)) (root : Handle) (seq : ℕ) (ful
         one = one;
         two = two;
         halves = halves;
+        picked = picked;
         one_key = one_key;
         one_union = low_one.union;
         two_key = two_key;
@@ -165,8 +167,8 @@ module _ (C : Class) (old new : Slots (Node C)) (root : Handle) (seq : ℕ) (ful
       }
 
 -- where nothing but the room had changed before
-pub grown_after : (C : Class) (old mid new : Slots (Node C)) (root : Handle) (seq : ℕ) → AreSame old mid → HasGrown C mid new root seq → HasGrown C old new root seq
-grown_after C old mid new root seq same grown =
+pub grown_after : (C : Class) (picks : List C.Key → ℕ → Type 0) (old mid new : Slots (Node C)) (root : Handle) (seq : ℕ) → AreSame old mid → HasGrown C picks mid new root seq → HasGrown C picks old new root seq
+grown_after C picks old mid new root seq same grown =
     record {
       node = grown.node;
       is = sym (same.each root) ∙ grown.is;
@@ -177,6 +179,7 @@ grown_after C old mid new root seq same grown =
       one = grown.one;
       two = grown.two;
       halves = grown.halves;
+      picked = grown.picked;
       one_key = grown.one_key;
       one_union = grown.one_union;
       two_key = grown.two_key;
@@ -215,7 +218,7 @@ module _ (C : Class) (t : PlainTree C.Key C.Query C.Item) where
     abbrev higher : PlainTree C.Key C.Query C.Item
     higher = record t { nodes = nodes }
 
-    module _ (grown : HasGrown C t.nodes nodes t.root t.counter) (sound : IsSound C t) where
+    module _ {picks : List C.Key → ℕ → Type 0} (grown : HasGrown C picks t.nodes nodes t.root t.counter) (sound : IsSound C t) where
       apart_children : (h : Handle) → Contains (children_of grown.one) h → Contains (children_of grown.two) h → ⊥
       apart_children h in_one in_two =
           let one = entry_of_child grown.one h in_one in
@@ -276,13 +279,13 @@ module _ (C : Class) (t : PlainTree C.Key C.Query C.Item) where
               more = grown.more;
             }
 
-    pub grown_sound_either : {R : Type 0} (result : Result R TreeFault) → OnOk result (HasGrown C t.nodes nodes t.root t.counter) → OnErr result (AreSame t.nodes nodes) → IsSound C t → IsSound C higher
-    grown_sound_either (Ok done) grown same sound = grown_sound grown sound grown.low
-    grown_sound_either (Err fault) grown same sound = same_sound C t nodes same sound
+    pub grown_sound_either : (picks : List C.Key → ℕ → Type 0) {R : Type 0} (result : Result R TreeFault) → OnOk result (HasGrown C picks t.nodes nodes t.root t.counter) → OnErr result (AreSame t.nodes nodes) → IsSound C t → IsSound C higher
+    grown_sound_either picks (Ok done) grown same sound = grown_sound grown sound grown.low
+    grown_sound_either picks (Err fault) grown same sound = same_sound C t nodes same sound
 
-    pub grown_call_ok : {R : Type 0} (result : Result R TreeFault) → OnOk result (HasGrown C t.nodes nodes t.root t.counter) → IsSound C t → OnOk result (HasMoreNodes C t higher 2 1)
-    grown_call_ok (Ok done) grown sound = grown_call grown sound grown.low
-    grown_call_ok (Err fault) grown sound = tt
+    pub grown_call_ok : (picks : List C.Key → ℕ → Type 0) {R : Type 0} (result : Result R TreeFault) → OnOk result (HasGrown C picks t.nodes nodes t.root t.counter) → IsSound C t → OnOk result (HasMoreNodes C t higher 2 1)
+    grown_call_ok picks (Ok done) grown sound = grown_call grown sound grown.low
+    grown_call_ok picks (Err fault) grown sound = tt
 
     pub grown_call_err : {R : Type 0} (result : Result R TreeFault) → OnErr result (AreSame t.nodes nodes) → IsSound C t → OnErr result (IsUntouched C t higher)
     grown_call_err (Ok done) same sound = tt

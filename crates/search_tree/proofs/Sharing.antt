@@ -17,9 +17,10 @@ use Rattle.tree_theory.specs.Lists.Parted.{none}
 use Rattle.tree_theory.specs.Nodes.{PlainBody, entries_of, children_of}
 use Rattle.tree_theory.specs.Nodes.PlainBody.{Leaf, Inner}
 use Rattle.tree_theory.specs.declared.TheConstants.{NODE_SIZE}
-use Rattle.search_tree.specs.Halvings.{IsShared}
+use Rattle.search_tree.specs.Halvings.{IsPickedOut, IsShared}
+use Rattle.search_tree.specs.Halvings.IsPickedOut.{of_entries}
 use Rattle.search_tree.proofs.ListEnds.{take_one}
-use Rattle.search_tree.proofs.Zips.{length_aligned}
+use Rattle.search_tree.proofs.Zips.{length_aligned, zip_keys}
 
 -- ---- the lowest bits of a mask
 
@@ -183,3 +184,7 @@ module _ {Key Item : Type 0} where
   -- an inner node's keys and children are what it has
   pub whole_inner : (body : PlainBody Key Item) (entries : List (Key × Handle)) (keys : List Key) (children : List Handle) → body ≡ Inner entries → keys ≡ map (λ entry. entry.0) (entries_of body) → children ≡ children_of body → Inner (zip keys children) ≡ body
   whole_inner body entries keys children inner keys_are children_are = rw (keys_are, children_are, inner) (ap Inner (zip_parts entries))
+
+-- an inner node's entries are parted as the class picks by their keys
+pub picked_inner : {Key Item : Type 0} (key_of : Item → Key) (picks : List Key → ℕ → Type 0) (mask : ℕ) (keys : List Key) (children : List Handle) (left right : List (Key × Handle)) → length children ≡ length keys → picks keys mask → IsShared mask (zip keys children) left right → IsPickedOut key_of picks (Inner (zip keys children)) (Inner left) (Inner right)
+picked_inner {Key = Key} key_of picks mask keys children left right same picked shared = of_entries (subst (λ (ks : List Key). picks ks mask) (sym (zip_keys keys children same)) picked) shared

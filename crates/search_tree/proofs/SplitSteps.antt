@@ -13,6 +13,7 @@ use Rattle.tree_theory.specs.Nodes.{PlainBody, PlainNode, Node, children_of, und
 use Rattle.tree_theory.specs.declared.place.Place.TheVariants.{Linked}
 use Rattle.search_tree.specs.Arenas.{IsChanged, AreSame}
 use Rattle.search_tree.specs.Calls.{IsUntouched}
+use Rattle.search_tree.specs.Halvings.{IsPickedOut}
 use Rattle.search_tree.specs.Splitting.{HasMoreNodes, HasSplit, IsPutOver, MoreTaken, left_of, right_of}
 use Rattle.search_tree.specs.Trees.{PlainTree, IsSound, level_of, tree_of}
 use Rattle.search_tree.specs.declared.fault.TreeFault.{TreeFault}
@@ -47,7 +48,7 @@ module _ {Key Item : Type 0} where
       let most = after.slots_most in
       record { taken = omega (arith, taken, has); slots_kept = omega (arith, slots, kept); slots_most = omega (arith, slots, most) }
 
-  module _ (old mid new : Slots (PlainNode Key Item)) (at right parent : Handle) (node made : PlainNode Key Item) (kept moved : PlainBody Key Item) (children : List Handle) (is : value_at old at ≡ Some node) (linked : node.place ≡ Linked parent false) (halves : IsHalved node.body kept moved) (made_is : made ≡ right_of node at moved) (children_are : children ≡ children_of made.body) (put : IsPutOver old mid made children right) (more : MoreTaken old mid 1) (changed : IsChanged mid new at (λ n. left_of n parent right kept)) where
+  module _ (key_of : Item → Key) (picks : List Key → ℕ → Type 0) (old mid new : Slots (PlainNode Key Item)) (at right parent : Handle) (node made : PlainNode Key Item) (kept moved : PlainBody Key Item) (children : List Handle) (is : value_at old at ≡ Some node) (linked : node.place ≡ Linked parent false) (halves : IsHalved node.body kept moved) (picked : IsPickedOut key_of picks node.body kept moved) (made_is : made ≡ right_of node at moved) (children_are : children ≡ children_of made.body) (put : IsPutOver old mid made children right) (more : MoreTaken old mid 1) (changed : IsChanged mid new at (λ n. left_of n parent right kept)) where
     apart : at ≢ right
     apart e = nothing_there is (subst (λ h. value_at old h ≡ None) (sym e) put.fresh)
 
@@ -62,7 +63,7 @@ module _ {Key Item : Type 0} where
     right_stands (inl has) = put.here_under has ∙ ap (λ (n : PlainNode Key Item). Some (under right n)) made_is
     right_stands (inr not) = put.here not ∙ ap Some made_is
 
-    pub split_done : HasSplit old new at right
+    pub split_done : HasSplit key_of picks old new at right
     split_done =
         record {
           node = node;
@@ -72,6 +73,7 @@ module _ {Key Item : Type 0} where
           kept = kept;
           moved = moved;
           halves = halves;
+          picked = picked;
           fresh = put.fresh;
           left_now = left_stands (child_cases children at);
           right_now = changed.others right (λ e. apart (sym e)) ∙ right_stands (child_cases children right);
@@ -81,8 +83,8 @@ module _ {Key Item : Type 0} where
         }
 
   -- where nothing but the room had changed before
-  pub split_after : (old mid new : Slots (PlainNode Key Item)) (at right : Handle) → AreSame old mid → HasSplit mid new at right → HasSplit old new at right
-  split_after old mid new at right same split =
+  pub split_after : (key_of : Item → Key) (picks : List Key → ℕ → Type 0) (old mid new : Slots (PlainNode Key Item)) (at right : Handle) → AreSame old mid → HasSplit key_of picks mid new at right → HasSplit key_of picks old new at right
+  split_after key_of picks old mid new at right same split =
       record {
         node = split.node;
         is = sym (same.each at) ∙ split.is;
@@ -91,6 +93,7 @@ module _ {Key Item : Type 0} where
         kept = split.kept;
         moved = split.moved;
         halves = split.halves;
+        picked = split.picked;
         fresh = sym (same.each right) ∙ split.fresh;
         left_now = split.left_now;
         right_now = split.right_now;
@@ -103,7 +106,7 @@ module _ (C : Class) (t : PlainTree C.Key C.Query C.Item) (nodes : Slots (Node C
   abbrev parted : PlainTree C.Key C.Query C.Item
   parted = record t { nodes = nodes }
 
-  module _ (right : Handle) (split : HasSplit t.nodes nodes at right) where
+  module _ {picks : List C.Key → ℕ → Type 0} (right : Handle) (split : HasSplit C.key_of picks t.nodes nodes at right) where
     split_step : IsSplit (tree_of C t) (tree_of C parted) at right
     split_step =
         record {
@@ -160,13 +163,13 @@ module _ (C : Class) (t : PlainTree C.Key C.Query C.Item) (nodes : Slots (Node C
           more = split.more;
         }
 
-  pub split_sound_either : (result : Result Handle TreeFault) → IfOk result (HasSplit t.nodes nodes at) → OnErr result (AreSame t.nodes nodes) → IsSound C t → IsSound C parted
-  split_sound_either (Ok right) split same sound = split_sound right split sound
-  split_sound_either (Err fault) split same sound = same_sound C t nodes same sound
+  pub split_sound_either : (picks : List C.Key → ℕ → Type 0) (result : Result Handle TreeFault) → IfOk result (HasSplit C.key_of picks t.nodes nodes at) → OnErr result (AreSame t.nodes nodes) → IsSound C t → IsSound C parted
+  split_sound_either picks (Ok right) split same sound = split_sound right split sound
+  split_sound_either picks (Err fault) split same sound = same_sound C t nodes same sound
 
-  pub split_call_ok : (result : Result Handle TreeFault) → IfOk result (HasSplit t.nodes nodes at) → IsSound C t → OnOk result (HasMoreNodes C t parted 1 0)
-  split_call_ok (Ok right) split sound = split_call right split sound
-  split_call_ok (Err fault) split sound = tt
+  pub split_call_ok : (picks : List C.Key → ℕ → Type 0) (result : Result Handle TreeFault) → IfOk result (HasSplit C.key_of picks t.nodes nodes at) → IsSound C t → OnOk result (HasMoreNodes C t parted 1 0)
+  split_call_ok picks (Ok right) split sound = split_call right split sound
+  split_call_ok picks (Err fault) split sound = tt
 
   pub split_call_err : (result : Result Handle TreeFault) → OnErr result (AreSame t.nodes nodes) → IsSound C t → OnErr result (IsUntouched C t parted)
   split_call_err (Ok right) same sound = tt

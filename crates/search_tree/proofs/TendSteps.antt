@@ -17,7 +17,7 @@ use Rattle.tree_theory.specs.Nodes.PlainBody.{Leaf, Inner}
 use Rattle.tree_theory.specs.declared.place.Place.TheVariants.{Retired as AtRest}
 use Rattle.search_tree.specs.Arenas.{IsChanged, Holds}
 use Rattle.search_tree.specs.Calls.{SameContents}
-use Rattle.search_tree.specs.Tends.{HasTended, MayFree, MayRetire}
+use Rattle.search_tree.specs.Tends.{HasTended, MayFree, MayRetire, slots_freed}
 use Rattle.search_tree.specs.Trees.{PlainTree, IsSound, IsInner, progress_at, level_of, tree_of}
 use Rattle.search_tree.specs.declared.answers.Tending.TheVariants.{Freed, Retired}
 use Rattle.search_tree.proofs.Kept.{parts_of}
@@ -89,9 +89,12 @@ module _ (C : Class) (t : PlainTree C.Key C.Query C.Item) where
         let same : top.node ≡ may.node = some_one (subst (λ h. value_at t.nodes h ≡ Some top.node) e top.is) may.is in
         root_not_retired top.node.place may.stamp top.place (ap (λ (n : Node C). n.place) same ∙ may.place)
 
-    pub freed_call : (gone : Option (Node C)) → gone ≡ value_at t.nodes at → OnSome gone (taken_count nodes + (if at.generation == last_generation then 0 else 1) ≡ taken_count t.nodes) → slot_count nodes ≡ slot_count t.nodes → HasTended C t let_go Freed
+    pub freed_slots : (gone : Option (Node C)) → gone ≡ value_at t.nodes at → OnSome gone (taken_count nodes + slots_freed at ≡ taken_count t.nodes) → taken_count nodes + slots_freed at ≡ taken_count t.nodes
+    freed_slots gone was given = on_there gone may.node (was ∙ may.is) given
+
+    pub freed_call : (gone : Option (Node C)) → gone ≡ value_at t.nodes at → OnSome gone (taken_count nodes + slots_freed at ≡ taken_count t.nodes) → slot_count nodes ≡ slot_count t.nodes → HasTended C t let_go Freed
     freed_call gone was given slots =
-        let counted : taken_count nodes + (if at.generation == last_generation then 0 else 1) ≡ taken_count t.nodes = on_there gone may.node (was ∙ may.is) given in
+        let counted = freed_slots gone was given in
         let most = one_at_most (at.generation == last_generation) in
         record {
           searches = λ s. refl;

@@ -15,6 +15,13 @@ use Rattle.search_tree.specs.Visits.{HasVisited, HasSeenAt, IsGoneAt}
 use Rattle.search_tree.proofs.Kept.{with_one_kept, one_joins}
 use Rattle.search_tree.proofs.ProgressLemmas.{first_read, set_here, set_other}
 
+-- a handle by its two parts
+pub handle_is : (h : Handle) (slot generation : ℕ) → h.slot ≡ slot → h.generation ≡ generation → h ≡ record { slot = slot; generation = generation }
+handle_is h slot generation one other = ap (λ s. made s h.generation) one ∙ ap (made slot) other
+  where
+    made : ℕ → ℕ → Handle
+    made s g = record { slot = s; generation = g }
+
 module _ (C : Class) where
   -- a tree with the same nodes and searches: as where a search is closed that does not run
   pub same_tree : (t u : Tree C) → Invariant t → ((h : Handle) → u.look h ≡ t.look h) → u.root ≡ t.root → u.counter ≡ t.counter → u.next ≡ t.next → ((s : ℕ) → u.searches s ≡ t.searches s) → IsClosed t u t.next

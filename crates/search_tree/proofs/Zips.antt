@@ -2,7 +2,7 @@
 use Rattle.std.proofs.lemmas.Slice.Zip.{length-zip}
 use Rattle.search_tree.specs.Rooms.{AreAligned}
 use Rattle.tree_theory.specs.declared.TheConstants.{NODE_SIZE}
-use Rattle.std.proofs.Common.{◌≡◌, ◌<◌, ◌≤◌, ℕ, zero, suc, List, [], ◌∷◌, ◌++◌, length, slice_set, slice_get, length-append, Some, remove, zip, refl, ap, arith}
+use Rattle.std.proofs.Common.{◌≡◌, ◌<◌, ◌≤◌, ℕ, zero, suc, List, [], ◌∷◌, ◌++◌, length, slice_set, slice_get, length-append, Some, remove, map, zip, refl, ap, arith}
 
 module _ {K T : Type 0} where
   pub zip_push : (ks : List K) (ts : List T) (k : K) (t : T) → length ts ≡ length ks → zip (ks ++ k ∷ []) (ts ++ t ∷ []) ≡ zip ks ts ++ (k, t) ∷ []
@@ -30,6 +30,12 @@ module _ {K T : Type 0} where
 
   pub length_aligned : (ks : List K) (ts : List T) → length ts ≡ length ks → length (zip ks ts) ≡ length ks
   length_aligned ks ts same = let long = length-zip ks ts in omega (arith, long, same)
+
+  pub zip_keys : (ks : List K) (ts : List T) → length ts ≡ length ks → map (λ (pair : K × T). pair.0) (zip ks ts) ≡ ks
+  zip_keys [] [] n = refl
+  zip_keys [] (y ∷ ts) n = absurd (omega arith)
+  zip_keys (x ∷ ks) [] n = absurd (omega arith)
+  zip_keys (x ∷ ks) (y ∷ ts) n = ap (λ l. x ∷ l) (zip_keys ks ts (omega arith))
 
   -- with one more of each there is still room for a full node
   pub pushed_aligned : {ks : List K} {ts : List T} {key_places child_places more_keys more_children : ℕ} (k : K) (t : T) → AreAligned ks ts key_places child_places → length ks < NODE_SIZE → key_places ≤ more_keys → child_places ≤ more_children → AreAligned (ks ++ k ∷ []) (ts ++ t ∷ []) more_keys more_children

@@ -3,7 +3,7 @@ use Rattle.std.specs.Prelude.{◌≡◌, ◌⊎◌, ◌+◌, ◌<◌, ◌≤◌,
 use Rattle.node_arena.specs.Slots.{taken_count}
 use Rattle.node_arena.specs.declared.TheConstants.{MAX_SLOTS}
 use Rattle.predicate_locks.specs.Searches.{last_number}
-use Rattle.search_tree.specs.Calls.{IsAlike, SameContents}
+use Rattle.search_tree.specs.Calls.{IsAlike, IsUntouched, SameContents}
 use Rattle.search_tree.specs.Splitting.{HasMoreNodes, MayGrow}
 use Rattle.search_tree.specs.Tends.{HasTended}
 use Rattle.search_tree.specs.Trees.{PlainTree, PlainWalk, SeenSearch, search_in, root_level}
@@ -85,4 +85,4 @@ pub data IsAdvance (C : Class) (t u : PlainTree C.Key C.Query C.Item) (old new :
   was_placed : old.placed ≡ true → u ≡ t → new ≡ old → IsAdvance C t u old new (Ok Placed)
   overruns : old.placed ≡ false → t.limit ≤ old.steps → u ≡ t → new ≡ old → IsAdvance C t u old new (Err Overrun)
   goes_on : (step : Step) → MayWalk t.limit old → HasStepped old new step → HasAdvanced C t u (old.key, old.item) step → IsAdvance C t u old new (Ok step)
-  is_refused : (fault : TreeFault) → MayWalk t.limit old → MayRefuse C t old.item fault → IsAlike C t u → new ≡ old → IsAdvance C t u old new (Err fault)
+  is_refused : (fault : TreeFault) → MayWalk t.limit old → MayRefuse C t old.item fault → IsUntouched C t u → new ≡ old → IsAdvance C t u old new (Err fault)

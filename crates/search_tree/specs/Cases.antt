@@ -11,7 +11,7 @@ use Rattle.search_tree.specs.Penalties.{IsBest}
 use Rattle.search_tree.specs.Splitting.{HasGrown, HasSplit}
 use Rattle.search_tree.specs.Standings.{IsAside, IsHere, IsNowhere, IsUnlinked}
 use Rattle.search_tree.specs.Trees.{PlainTree, IsLeaf, root_level, tree_of}
-use Rattle.search_tree.specs.Walks.{HasBegunDescent, HasDescended, IsHolder, NoneHolds}
+use Rattle.search_tree.specs.Walks.{HasDescended, IsHolder, NoneHolds}
 use Rattle.search_tree.specs.declared.answers.Step.{Step}
 use Rattle.search_tree.specs.declared.answers.Step.TheVariants.{Moved, Split, Installed, Restarted, Placed}
 use Rattle.search_tree.specs.declared.fault.TreeFault.{TreeFault}
@@ -94,25 +94,25 @@ module _ (C : Class) (t u : PlainTree C.Key C.Query C.Item) (at now : Handle) wh
   -- change is refused where the counter is at its end, where too few slots are left, else where the root stands at the
   -- highest level, else where there is no memory. What is refused leaves the tree as it was; where there is no memory, all
   -- but the memory that it has at hand.
-  pub data Answers : Change → Result Step TreeFault → Type 0 where
-    links : {parent left right : Handle} → IsInstalled (tree_of C t) (tree_of C u) parent left right → now ≡ at → Answers (Linking left) (Ok Installed)
-    counter_ends : {left : Handle} → t.counter ≡ last_number → u ≡ t → Answers (Linking left) (Err Spent)
-    parts : {full : Handle} → HasSplit t.nodes u.nodes full now → Answers (Parting full) (Ok Split)
-    no_slot : {full : Handle} → MAX_SLOTS < taken_count t.nodes + 1 → u ≡ t → Answers (Parting full) (Err Full)
-    no_memory : {full : Handle} {refusal : Refused} → taken_count t.nodes + 1 ≤ MAX_SLOTS → IsUntouched C t u → Answers (Parting full) (Err (Memory refusal))
-    grows : HasGrown C t.nodes u.nodes t.root t.counter → now ≡ at → Answers Growing (Ok Split)
-    no_slots : MAX_SLOTS < taken_count t.nodes + 2 → u ≡ t → Answers Growing (Err Full)
-    top_level : taken_count t.nodes + 2 ≤ MAX_SLOTS → root_level t ≡ TOP_LEVEL → u ≡ t → Answers Growing (Err TooHigh)
-    no_memory_to_grow : {refusal : Refused} → taken_count t.nodes + 2 ≤ MAX_SLOTS → root_level t ≢ TOP_LEVEL → IsUntouched C t u → Answers Growing (Err (Memory refusal))
+  pub data Answers (picks : List C.Key → ℕ → Type 0) : Change → Result Step TreeFault → Type 0 where
+    links : {parent left right : Handle} → IsInstalled (tree_of C t) (tree_of C u) parent left right → now ≡ at → Answers picks (Linking left) (Ok Installed)
+    counter_ends : {left : Handle} → t.counter ≡ last_number → u ≡ t → Answers picks (Linking left) (Err Spent)
+    parts : {full : Handle} → HasSplit C.key_of picks t.nodes u.nodes full now → Answers picks (Parting full) (Ok Split)
+    no_slot : {full : Handle} → MAX_SLOTS < taken_count t.nodes + 1 → u ≡ t → Answers picks (Parting full) (Err Full)
+    no_memory : {full : Handle} {refusal : Refused} → taken_count t.nodes + 1 ≤ MAX_SLOTS → IsUntouched C t u → Answers picks (Parting full) (Err (Memory refusal))
+    grows : HasGrown C picks t.nodes u.nodes t.root t.counter → now ≡ at → Answers picks Growing (Ok Split)
+    no_slots : MAX_SLOTS < taken_count t.nodes + 2 → u ≡ t → Answers picks Growing (Err Full)
+    top_level : taken_count t.nodes + 2 ≤ MAX_SLOTS → root_level t ≡ TOP_LEVEL → u ≡ t → Answers picks Growing (Err TooHigh)
+    no_memory_to_grow : {refusal : Refused} → taken_count t.nodes + 2 ≤ MAX_SLOTS → root_level t ≢ TOP_LEVEL → IsUntouched C t u → Answers picks Growing (Err (Memory refusal))
 
   -- What a step of a walk of this pair answers that stands here, by the first case that holds, what it leaves, and
   -- where the walk stands now. At most one of the cases can be said of a tree, a node and an item, want of memory aside:
   -- a way down is gone, or refused where memory is wanting.
-  pub data TakesStep (growth second_growth : C.Key → C.Key → ℕ) (pair : ℕ × C.Item) : Result Step TreeFault → Type 0 where
-    begins_anew : IsNowhere t.nodes at → u ≡ t → now ≡ t.root → TakesStep growth second_growth pair (Ok Restarted)
-    climbs : IsAside C t.nodes at now (C.key_of pair.1) → u ≡ t → TakesStep growth second_growth pair (Ok Moved)
-    descends : {old : C.Key} → IsWayDown C t growth second_growth at (C.key_of pair.1) now old → HasDescended C t u at now old (C.key_of pair.1) → TakesStep growth second_growth pair (Ok Moved)
-    wants_memory : {child : Handle} {old : C.Key} {refusal : Refused} → IsWayDown C t growth second_growth at (C.key_of pair.1) child old → HasBegunDescent C t u at child old (C.key_of pair.1) → TakesStep growth second_growth pair (Err (Memory refusal))
-    is_held : {leaf : Node C} {search : ℕ} → IsAtLeaf C t at pair.1 leaf → IsHolder C t.running leaf.attached pair.1 search → u ≡ t → TakesStep growth second_growth pair (Err (Held search))
-    places : {leaf : Node C} → IsFree C t at pair.1 leaf → size_of leaf.body < NODE_SIZE → IsPlaced (tree_of C t) (tree_of C u) at pair → now ≡ at → TakesStep growth second_growth pair (Ok Placed)
-    makes : {change : Change} {answer : Result Step TreeFault} → Wants C t at pair.1 change → Answers change answer → TakesStep growth second_growth pair answer
+  pub data TakesStep (growth second_growth : C.Key → C.Key → ℕ) (picks : List C.Key → ℕ → Type 0) (pair : ℕ × C.Item) : Result Step TreeFault → Type 0 where
+    begins_anew : IsNowhere t.nodes at → u ≡ t → now ≡ t.root → TakesStep growth second_growth picks pair (Ok Restarted)
+    climbs : IsAside C t.nodes at now (C.key_of pair.1) → u ≡ t → TakesStep growth second_growth picks pair (Ok Moved)
+    descends : {old : C.Key} → IsWayDown C t growth second_growth at (C.key_of pair.1) now old → HasDescended C t u at now old (C.key_of pair.1) → TakesStep growth second_growth picks pair (Ok Moved)
+    wants_memory : {child : Handle} {old : C.Key} {refusal : Refused} → IsWayDown C t growth second_growth at (C.key_of pair.1) child old → IsUntouched C t u → TakesStep growth second_growth picks pair (Err (Memory refusal))
+    is_held : {leaf : Node C} {search : ℕ} → IsAtLeaf C t at pair.1 leaf → IsHolder C t.running leaf.attached pair.1 search → u ≡ t → TakesStep growth second_growth picks pair (Err (Held search))
+    places : {leaf : Node C} → IsFree C t at pair.1 leaf → size_of leaf.body < NODE_SIZE → IsPlaced (tree_of C t) (tree_of C u) at pair → now ≡ at → TakesStep growth second_growth picks pair (Ok Placed)
+    makes : {change : Change} {answer : Result Step TreeFault} → Wants C t at pair.1 change → Answers picks change answer → TakesStep growth second_growth picks pair answer

@@ -26,7 +26,7 @@ module _ (C : Class) (t : PlainTree C.Key C.Query C.Item) where
     pub above_is : value_at t.nodes parent ≡ Some above
     pub room : size_of above.body < NODE_SIZE
 
-  -- an empty unmarked leaf that is not its parent's only child
+  -- an empty unmarked leaf that has an entry, beside others of its parent
   pub record IsUnneeded (at : Handle) : Type 0 where
     pub leaf : Node C
     pub is : value_at t.nodes at ≡ Some leaf

@@ -1,5 +1,5 @@
 -- What is next for a walk, and what its steps need.
-use Rattle.std.specs.Prelude.{◌≡◌, ◌<◌, ◌≤◌, ℕ, true, Some, Result, Ok, Err, if◌then◌else◌, ⊤}
+use Rattle.std.specs.Prelude.{◌≡◌, ◌<◌, ◌≤◌, ℕ, List, true, Some, Result, Ok, Err, if◌then◌else◌, ⊤}
 use Rattle.node_arena.specs.Slots.{value_at}
 use Rattle.node_arena.specs.declared.handle.Handle.{Handle}
 use Rattle.search_tree.specs.Advances.{IsHeldBy}
@@ -92,12 +92,12 @@ module _ (C : Class) (t : PlainTree C.Key C.Query C.Item) where
 
 module _ (C : Class) (t u : PlainTree C.Key C.Query C.Item) (at now : Handle) where
   -- what is answered where this room is made
-  abbrev pub Makes : Room C.Key → Result Step TreeFault → Type 0
-  Makes (Install entry) answer = Answers C t u at now (Linking entry.left) answer
-  Makes (Split full) answer = Answers C t u at now (Parting full) answer
-  Makes Grow answer = Answers C t u at now Growing answer
-  Makes (Behind left) answer = ⊥
-  Makes Nothing answer = ⊥
+  abbrev pub Makes : (picks : List C.Key → ℕ → Type 0) → Room C.Key → Result Step TreeFault → Type 0
+  Makes picks (Install entry) answer = Answers C t u at now picks (Linking entry.left) answer
+  Makes picks (Split full) answer = Answers C t u at now picks (Parting full) answer
+  Makes picks Grow answer = Answers C t u at now picks Growing answer
+  Makes picks (Behind left) answer = ⊥
+  Makes picks Nothing answer = ⊥
 
 -- what a step answers
 abbrev pub answer_in : Result Arrival TreeFault → Result Step TreeFault

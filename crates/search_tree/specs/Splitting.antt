@@ -5,6 +5,7 @@ use Rattle.node_arena.specs.Slots.{Slots, SameCounts, value_at, taken_count, slo
 use Rattle.node_arena.specs.declared.handle.Handle.{Handle}
 use Rattle.search_tree.specs.Arenas.{IsChanged}
 use Rattle.search_tree.specs.Calls.{SameContents}
+use Rattle.search_tree.specs.Halvings.{IsPickedOut}
 use Rattle.search_tree.specs.Trees.{PlainTree, search_in, steps_in, root_level}
 use Rattle.tree_theory.specs.Changes.{IsHalved, IsUnion}
 use Rattle.tree_theory.specs.KeyClasses.{Class}
@@ -78,8 +79,9 @@ module _ {Key Item : Type 0} where
     pub slots_kept : slot_count old ≤ slot_count new
     pub slots_most : slot_count new ≤ slot_count old + more
 
-  -- a full node has split: it has one part of what it had and is marked, and its new right node has the other part
-  pub record HasSplit (old new : Slots (PlainNode Key Item)) (at right : Handle) : Type 0 where
+  -- a full node has split: it is marked, and its new right node has that part of what it had which the class picks. It
+  -- has the other part itself
+  pub record HasSplit (key_of : Item → Key) (picks : List Key → ℕ → Type 0) (old new : Slots (PlainNode Key Item)) (at right : Handle) : Type 0 where
     pub node : PlainNode Key Item
     pub is : value_at old at ≡ Some node
     pub parent : Handle
@@ -87,6 +89,7 @@ module _ {Key Item : Type 0} where
     pub kept : PlainBody Key Item
     pub moved : PlainBody Key Item
     pub halves : IsHalved node.body kept moved
+    pub picked : IsPickedOut key_of picks node.body kept moved
     pub fresh : value_at old right ≡ None
     pub left_now : value_at new at ≡ Some (left_of node parent right kept)
     pub right_now : value_at new right ≡ Some (right_of node at moved)
@@ -111,8 +114,9 @@ pub record HasPutBelow {Key Item : Type 0} (old new : Slots (PlainNode Key Item)
   pub risen : IsChanged last new root (λ node. record node { level = node.level + 1; body = Inner ((one_key, a) ∷ (two_key, b) ∷ []) })
   pub more : MoreTaken old new 2
 
--- the root has grown: two new nodes have what it had, and it has their entries, one level higher
-pub record HasGrown (C : Class) (old new : Slots (Node C)) (root : Handle) (seq : ℕ) : Type 0 where
+-- the root has grown: two new nodes have what it had, the second one that part which the class picks, and it has their
+-- entries in this order, one level higher
+pub record HasGrown (C : Class) (picks : List C.Key → ℕ → Type 0) (old new : Slots (Node C)) (root : Handle) (seq : ℕ) : Type 0 where
   pub node : Node C
   pub is : value_at old root ≡ Some node
   pub place : node.place ≡ Root
@@ -122,6 +126,7 @@ pub record HasGrown (C : Class) (old new : Slots (Node C)) (root : Handle) (seq 
   pub one : Body C
   pub two : Body C
   pub halves : IsHalved node.body one two
+  pub picked : IsPickedOut C.key_of picks node.body one two
   pub one_key : C.Key
   pub one_union : IsUnion C one one_key
   pub two_key : C.Key

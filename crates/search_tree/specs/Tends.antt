@@ -1,6 +1,6 @@
 -- What a step of tending needs, and what it leaves.
-use Rattle.std.specs.Prelude.{◌≡◌, ◌+◌, ◌<◌, ◌≤◌, ℕ, true, false, List, [], Some, length, slice_get}
-use Rattle.node_arena.specs.Slots.{value_at, slot_count, taken_count}
+use Rattle.std.specs.Prelude.{◌≡◌, ◌==◌, ◌+◌, ◌<◌, ◌≤◌, ℕ, true, false, List, [], Some, length, slice_get, if◌then◌else◌}
+use Rattle.node_arena.specs.Slots.{value_at, slot_count, taken_count, last_generation}
 use Rattle.node_arena.specs.declared.handle.Handle.{Handle}
 use Rattle.predicate_locks.specs.Searches.{AllBegunSince}
 use Rattle.search_tree.specs.Calls.{SameContents}
@@ -32,6 +32,10 @@ TakenAfter Installed before after = after ≡ before
 TakenAfter Cleaned before after = after ≡ before
 TakenAfter Retired before after = after ≡ before
 
+-- how many slots are free again where the node at this handle goes: its own, but none where it is worn out
+abbrev pub slots_freed : Handle → ℕ
+slots_freed at = if at.generation == last_generation then 0 else 1
+
 module _ (C : Class) (t : PlainTree C.Key C.Query C.Item) where
   -- tending changes no search, and of the counts no other than the counter and the slots that are taken
   pub record HasTended (u : PlainTree C.Key C.Query C.Item) (tending : Tending) : Type 0 where
@@ -56,11 +60,11 @@ module _ (C : Class) (t : PlainTree C.Key C.Query C.Item) where
   ContentsTended Kept u Cleaned = ContentsLess u Kept
   ContentsTended Kept u Retired = SameContents C t u
 
-  -- what tending does at a node: nothing, or the one step that its answer tells. A cleaned leaf has what it had of
-  -- Kept, and nothing else
+  -- what tending does at a node: nothing, or the one step that its answer tells. Where a node goes, its slot is free
+  -- again or worn out. A cleaned leaf has what it had of Kept, and nothing else
   abbrev pub StepsAt : (ℕ × C.Item → Type 0) → Handle → PlainTree C.Key C.Query C.Item → Tending → Type 0
   StepsAt Kept at u Idle = u ≡ t
-  StepsAt Kept at u Freed = IsFreed (tree_of C t) (tree_of C u) at
+  StepsAt Kept at u Freed = IsFreed (tree_of C t) (tree_of C u) at × (taken_count u.nodes + slots_freed at ≡ taken_count t.nodes)
   StepsAt Kept at u Installed = (parent : Handle) × (right : Handle) × IsInstalled (tree_of C t) (tree_of C u) parent at right
   StepsAt Kept at u Cleaned = IsCleaned (tree_of C t) (tree_of C u) Kept at
   StepsAt Kept at u Retired = (parent : Handle) × IsRetired (tree_of C t) (tree_of C u) at parent

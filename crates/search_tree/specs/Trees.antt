@@ -1,7 +1,7 @@
 -- The tree as its contracts see it.
 use Rattle.std.specs.Prelude.{◌≡◌, ◌≢◌, ◌==◌, ◌+◌, ◌<◌, ◌≤◌, ℕ, Bool, true, false, [], ◌∷◌, ◌++◌, List, length, slice_index_or, Option, None, Some, is_some, if◌then◌else◌}
 use Rattle.std.specs.Option.{option_map}
-use Rattle.node_arena.specs.Slots.{Slots, value_at, taken_count}
+use Rattle.node_arena.specs.Slots.{Slots, value_at, slot_count, taken_count}
 use Rattle.node_arena.specs.declared.handle.Handle.{Handle}
 use Rattle.predicate_locks.specs.Searches.{Searches, search_at}
 use Rattle.predicate_locks.specs.declared.running.RunningSearch.{RunningSearch}
@@ -149,8 +149,8 @@ module _ (C : Class) where
     -- each search that runs has its progress, and no other
     pub progress_of_each : (s : ℕ) → is_some (progress_at s t.progress) ≡ is_some (search_at t.running s)
 
-  -- a tree that nobody has called yet: it has no pairs and no searches, its root is its one node, and each
-  -- slot starts at this generation. The root is a leaf that has nothing yet, and has the counter's number
+  -- a tree that nobody has called yet: it has no pairs and no searches, its root is its one node, in the first slot, and
+  -- each slot starts at this generation. The root is a leaf that has nothing yet, and has the counter's number
   pub record IsFirst (generation counter next limit : ℕ) (t : PlainTree C.Key C.Query C.Item) : Type 0 where
     pub contents : IsContents (tree_of t) []
     pub searches : (s : ℕ) → search_in t s ≡ None
@@ -161,4 +161,6 @@ module _ (C : Class) where
     pub level : root_level t ≡ 0
     pub root_is : value_at t.nodes t.root ≡ Some (first_leaf counter)
     pub taken : taken_count t.nodes ≡ 1
+    pub slots : slot_count t.nodes ≡ 1
     pub generation_is : t.nodes.first ≡ generation
+    pub root_at : t.root ≡ record { slot = 0; generation = generation }

@@ -5,7 +5,7 @@ use Rattle.node_arena.specs.declared.handle.Handle.{Handle}
 use Rattle.predicate_locks.specs.Numbers.{with_numbers}
 use Rattle.predicate_locks.specs.Searches.{Searches, does_run, search_at}
 use Rattle.predicate_locks.specs.declared.running.RunningSearch.{RunningSearch}
-use Rattle.tree_theory.specs.Changes.{IsEnlarged, MayTake, MayJoin}
+use Rattle.tree_theory.specs.Changes.{IsEnlarged, MayTake, MayJoin, Numbers}
 use Rattle.tree_theory.specs.Contents.{IsContents}
 use Rattle.tree_theory.specs.KeyClasses.{Class}
 use Rattle.tree_theory.specs.Nodes.{PlainNode, Node, entries_of, is_marked}
@@ -55,15 +55,6 @@ abbrev pub marked_right : {Key Item : Type 0} → Option (PlainNode Key Item) �
 marked_right None = None
 marked_right (Some node) = if is_marked node.place then node.right else None
 
--- a node has got some of these searches attached, and may have lost others; nothing else of it changes
-pub record HasMore {Key Item : Type 0} (searches : List ℕ) (old new : PlainNode Key Item) : Type 0 where
-  pub same : new ≡ record old { attached = new.attached }
-  pub only : (s : ℕ) → Contains new.attached s → Contains old.attached s ⊎ Contains searches s
-
--- nodes have got some of these searches attached
-pub record MoreAttached (C : Class) (searches : List ℕ) (old new : Slots (Node C)) : Type 0 where
-  pub forth : (h : Handle) (node : Node C) → value_at old h ≡ Some node → (now : Node C) × (value_at new h ≡ Some now) × HasMore searches node now
-
 module _ (C : Class) (t : PlainTree C.Key C.Query C.Item) where
   -- a leaf with room may take the pair: its entry covers the item, and no search that is done with it looks for the item
   pub record MayPlace (at : Handle) (pair : ℕ × C.Item) : Type 0 where
@@ -94,6 +85,16 @@ module _ (C : Class) (t : PlainTree C.Key C.Query C.Item) where
     pub only_nodes : u ≡ record t { nodes = u.nodes }
     pub changed : IsChanged t.nodes u.nodes at (λ n. record n { attached = filter (does_run t.running) (with_numbers searches n.attached) })
     pub alike : IsAlike C t u
+
+  -- A node has got some of these searches attached, and each search that was attached to it and runs still is. Nothing
+  -- else of it changes
+  pub record HasMore (searches : List ℕ) (old new : Node C) : Type 0 where
+    pub same : new ≡ record old { attached = new.attached }
+    pub numbers : Numbers (tree_of C t) (λ s. Contains searches s) old.attached new.attached
+
+  -- nodes have got some of these searches attached
+  pub record MoreAttached (searches : List ℕ) (new : Slots (Node C)) : Type 0 where
+    pub forth : (h : Handle) (node : Node C) → value_at t.nodes h ≡ Some node → (now : Node C) × (value_at new h ≡ Some now) × HasMore searches node now
 
   -- an entry of p may take a key: it becomes the union
   pub record MayEnlarge (p : Handle) (place : ℕ) (old key : C.Key) (child : Handle) : Type 0 where
@@ -127,19 +128,11 @@ module _ (C : Class) (t : PlainTree C.Key C.Query C.Item) where
   -- who is attached, and no other node changes
   pub record HasJoinedBelow (u : PlainTree C.Key C.Query C.Item) (child : Handle) (searches : List ℕ) : Type 0 where
     pub only_nodes : u ≡ record t { nodes = u.nodes }
-    pub more : MoreAttached C searches t.nodes u.nodes
+    pub more : MoreAttached searches u.nodes
     pub done : (s : ℕ) → Contains searches s → Done (tree_of C u) s child
     pub alike : IsAlike C t u
     pub beside : (right : Handle) → marked_right (value_at t.nodes child) ≡ Some right → (s : ℕ) → Contains searches s → Done (tree_of C u) s right
     pub others : (h : Handle) → h ≢ child → marked_right (value_at t.nodes child) ≢ Some h → value_at u.nodes h ≡ value_at t.nodes h
-
-  -- Memory was wanted before that was done: at most the right node of a marked child has them attached. Of it nothing
-  -- else changes but who is attached, and no other node changes
-  pub record HasJoinedInPart (u : PlainTree C.Key C.Query C.Item) (child : Handle) (searches : List ℕ) : Type 0 where
-    pub only_nodes : u ≡ record t { nodes = u.nodes }
-    pub more : MoreAttached C searches t.nodes u.nodes
-    pub alike : IsAlike C t u
-    pub others : (h : Handle) → marked_right (value_at t.nodes child) ≢ Some h → value_at u.nodes h ≡ value_at t.nodes h
 
   -- the entry of p that has this key and names the child has the union of the key with another one
   pub record HasEnlarged (u : PlainTree C.Key C.Query C.Item) (p : Handle) (old key : C.Key) (child : Handle) : Type 0 where
@@ -157,11 +150,3 @@ pub record HasDescended (C : Class) (t u : PlainTree C.Key C.Query C.Item) (at c
   pub mid : PlainTree C.Key C.Query C.Item
   pub joined : HasJoinedBelow C t mid child led
   pub enlarged : HasEnlarged C mid u at old key child
-
--- memory was wanted before these searches were all attached, and the entry is as it was
-pub record HasBegunDescent (C : Class) (t u : PlainTree C.Key C.Query C.Item) (at child : Handle) (old key : C.Key) : Type 0 where
-  pub node : Node C
-  pub is : value_at t.nodes at ≡ Some node
-  pub led : List ℕ
-  pub are_led : AreLed C t.running old (C.united old key) node.attached led
-  pub joined : HasJoinedInPart C t u child led

@@ -2,7 +2,7 @@
 
 ghost use Rattle.std.specs.Prelude.{◌≡◌, ℕ, IfOk, IfErr, OnErr};
 ghost use Rattle.search_tree.specs.Advances.{HasAdvanced, IsAdvance, MayRefuse, MayWalk};
-ghost use Rattle.search_tree.specs.Calls.{IsAlike};
+ghost use Rattle.search_tree.specs.Calls.{IsUntouched};
 ghost use Rattle.search_tree.specs.Cases.{TakesStep};
 ghost use Rattle.search_tree.specs.Nexts.{IsChange, Makes, MayMake, answer_in, place_in};
 ghost use Rattle.tree_theory.specs.KeyClasses.{class_of};
@@ -27,10 +27,10 @@ pub(crate) struct Arrival {
 impl<C: KeyClass, A: Allocator + Copy> Tree<C, A> {
     /// One step of a walk. Placed is answered where its pair is in the tree then: no search that is ready looks for it. Where other nodes have to be parted or to get their entries first, one of them is, and the answer is Split or Installed.
     ///
-    /// A walk whose pair is placed is answered Placed again, and makes no step. S7 where it has made all its steps. S3 where a search that is done with the leaf (it has seen it, or has passed it over), and so would miss the pair, looks for it: the walk goes on once that search is closed. S4 where fewer slots are free than a split or the root's growth wants, else S5 where the root would stand too high, S6 where the counter is at its end, S8 where there is no memory. A step that is refused is not counted, and changes nothing; only where there is no memory, nothing but the memory at hand and who is attached to a right node.
+    /// A walk whose pair is placed is answered Placed again, and makes no step. S7 where it has made all its steps. S3 where a search that is done with the leaf (it has seen it, or has passed it over), and so would miss the pair, looks for it, with the least number of those that do: the walk goes on once they are closed. S4 where fewer slots are free than a split or the root's growth wants, else S5 where the root would stand too high, S6 where the counter is at its end, S8 where there is no memory. A step that is refused is not counted, and changes nothing; only where there is no memory, nothing but the memory at hand.
     pub fn advance(&mut self, walk: &mut Walk<C::Item>) -> Result<Step, TreeFault>
         ensures step { IsAdvance (class_of C.covered C.may_match C.is_match C.key_with C.united) self.old self.new walk.old walk.new result }
-        ensures first { MayWalk self.old.limit walk.old → TakesStep (class_of C.covered C.may_match C.is_match C.key_with C.united) self.old self.new walk.old.at walk.new.at C.growth C.second_growth (walk.old.key, walk.old.item) result }
+        ensures first { MayWalk self.old.limit walk.old → TakesStep (class_of C.covered C.may_match C.is_match C.key_with C.united) self.old self.new walk.old.at walk.new.at C.growth C.second_growth C.picks (walk.old.key, walk.old.item) result }
     {
         if walk.placed() {
             return Ok(Step::Placed);
@@ -47,8 +47,8 @@ impl<C: KeyClass, A: Allocator + Copy> Tree<C, A> {
     fn make_step(&mut self, at: Handle, key: u64, item: C::Item) -> Result<Arrival, TreeFault>
         ensures ok { IfOk result (λ made. HasAdvanced (class_of C.covered C.may_match C.is_match C.key_with C.united) self.old self.new (key, item) made.step) }
         ensures err { IfErr result (MayRefuse (class_of C.covered C.may_match C.is_match C.key_with C.united) self.old item) }
-        ensures alike { OnErr result (IsAlike (class_of C.covered C.may_match C.is_match C.key_with C.united) self.old self.new) }
-        ensures first { TakesStep (class_of C.covered C.may_match C.is_match C.key_with C.united) self.old self.new at (place_in at result) C.growth C.second_growth (key, item) (answer_in result) }
+        ensures untouched { OnErr result (IsUntouched (class_of C.covered C.may_match C.is_match C.key_with C.united) self.old self.new) }
+        ensures first { TakesStep (class_of C.covered C.may_match C.is_match C.key_with C.united) self.old self.new at (place_in at result) C.growth C.second_growth C.picks (key, item) (answer_in result) }
     {
         match self.next_for(at, item) {
             Next::Restart => Ok(self.restart()),
@@ -92,8 +92,8 @@ impl<C: KeyClass, A: Allocator + Copy> Tree<C, A> {
         requires change { IsChange room.now }
         ensures ok { IfOk result (λ made. (pair : ℕ × C.Item) → HasAdvanced (class_of C.covered C.may_match C.is_match C.key_with C.united) self.old self.new pair made.step) }
         ensures err { IfErr result (λ fault. (item : C.Item) → MayRefuse (class_of C.covered C.may_match C.is_match C.key_with C.united) self.old item fault) }
-        ensures alike { OnErr result (IsAlike (class_of C.covered C.may_match C.is_match C.key_with C.united) self.old self.new) }
-        ensures made { Makes (class_of C.covered C.may_match C.is_match C.key_with C.united) self.old self.new at (place_in at result) room.now (answer_in result) }
+        ensures untouched { OnErr result (IsUntouched (class_of C.covered C.may_match C.is_match C.key_with C.united) self.old self.new) }
+        ensures made { Makes (class_of C.covered C.may_match C.is_match C.key_with C.united) self.old self.new at (place_in at result) C.picks room.now (answer_in result) }
     {
         match room {
             Room::Install(entry) => {

@@ -3,8 +3,8 @@
 ghost use Rattle.std.specs.Prelude.{◌≡◌, ◌≤◌, Some, OnOk, OnErr, length};
 ghost use Rattle.node_arena.specs.Slots.{value_at};
 ghost use Rattle.predicate_locks.specs.declared.TheConstants.{MAX_RUNNING};
-ghost use Rattle.search_tree.specs.Calls.{IsAlike};
-ghost use Rattle.search_tree.specs.Walks.{AreLed, HasBegunDescent, HasDescended, MayDescend};
+ghost use Rattle.search_tree.specs.Calls.{IsAlike, IsUntouched};
+ghost use Rattle.search_tree.specs.Walks.{AreLed, HasDescended, MayDescend};
 ghost use Rattle.tree_theory.specs.KeyClasses.{class_of};
 ghost use Rattle.tree_theory.specs.Nodes.{PlainNode};
 
@@ -27,13 +27,12 @@ pub(crate) struct WayDown<K> {
 }
 
 impl<C: KeyClass, A: Allocator + Copy> Tree<C, A> {
-    // Makes the key of an entry its union with an item's key. Before, the searches that are done with the parent and that only the union leads on join the child. Where there is no memory they may have joined the child's right node, and nothing else has changed.
+    // Makes the key of an entry its union with an item's key. Before, the searches that are done with the parent and that only the union leads on join the child. Where there is no memory nothing changes.
     pub(crate) fn descend(&mut self, way: &WayDown<C::Key>, key: C::Key) -> Result<(), Refused>
         requires { MayDescend (class_of C.covered C.may_match C.is_match C.key_with C.united) self.old way.now key }
         ensures ok { OnOk result (IsAlike (class_of C.covered C.may_match C.is_match C.key_with C.united) self.old self.new) }
         ensures step { OnOk result (HasDescended (class_of C.covered C.may_match C.is_match C.key_with C.united) self.old self.new way.now.parent way.now.child way.now.key key) }
-        ensures begun { OnErr result (HasBegunDescent (class_of C.covered C.may_match C.is_match C.key_with C.united) self.old self.new way.now.parent way.now.child way.now.key key) }
-        ensures err { OnErr result (IsAlike (class_of C.covered C.may_match C.is_match C.key_with C.united) self.old self.new) }
+        ensures err { OnErr result (IsUntouched (class_of C.covered C.may_match C.is_match C.key_with C.united) self.old self.new) }
     {
         let led = self.led_by(way, C::union(way.key, key));
         self.join_below(way.child, led.as_slice())?;

@@ -16,7 +16,7 @@ pub enum TreeFault {
     NoSearch,
     /// S2: as many searches run as may run at once.
     TooMany,
-    /// S3: the search of this number is done with the leaf (it has seen it, or has passed it over), and looks for the item that would be put there.
+    /// S3: the search of this number is done with the leaf (it has seen it, or has passed it over), and looks for the item that would be put there. Of several it is the one of the least number.
     Held(u64),
     /// S4: fewer slots are free than the new nodes want.
     Full,

@@ -41,7 +41,7 @@ impl<C: KeyClass, A: Allocator + Copy> Tree<C, A> {
     pub(crate) fn grow(&mut self) -> Result<(), TreeFault>
         requires { MayGrow (class_of C.covered C.may_match C.is_match C.key_with C.united) self.old }
         ensures ok { OnOk result (HasMoreNodes (class_of C.covered C.may_match C.is_match C.key_with C.united) self.old self.new 2 1) }
-        ensures grown { OnOk result (HasGrown (class_of C.covered C.may_match C.is_match C.key_with C.united) self.old.nodes self.new.nodes self.old.root self.old.counter) }
+        ensures grown { OnOk result (HasGrown (class_of C.covered C.may_match C.is_match C.key_with C.united) C.picks self.old.nodes self.new.nodes self.old.root self.old.counter) }
         ensures full { (result ≡ Err TreeFault.Full) ↔ (MAX_SLOTS < taken_count self.old.nodes + 2) }
         ensures too_high { (result ≡ Err TreeFault.TooHigh) ↔ ((taken_count self.old.nodes + 2 ≤ MAX_SLOTS) × (root_level self.old ≡ TOP_LEVEL)) }
         ensures untouched { (result ≡ Err TreeFault.Full) ⊎ (result ≡ Err TreeFault.TooHigh) → self.new ≡ self.old }
@@ -60,7 +60,7 @@ fn grow_in<C: KeyClass, A: Allocator + Copy>(
     seq: u64,
 ) -> Result<(), TreeFault>
     requires { IsFullRoot nodes.old root }
-    ensures ok { OnOk result (HasGrown (class_of C.covered C.may_match C.is_match C.key_with C.united) nodes.old nodes.new root seq) }
+    ensures ok { OnOk result (HasGrown (class_of C.covered C.may_match C.is_match C.key_with C.united) C.picks nodes.old nodes.new root seq) }
     ensures full { (result ≡ Err TreeFault.Full) ↔ (MAX_SLOTS < taken_count nodes.old + 2) }
     ensures too_high { (result ≡ Err TreeFault.TooHigh) ↔ ((taken_count nodes.old + 2 ≤ MAX_SLOTS) × (level_of (value_at nodes.old root) ≡ TOP_LEVEL)) }
     ensures untouched { (result ≡ Err TreeFault.Full) ⊎ (result ≡ Err TreeFault.TooHigh) → nodes.new ≡ nodes.old }
@@ -98,7 +98,7 @@ fn grow_root<C: KeyClass, A: Allocator + Copy>(
     requires full { IsFullRoot nodes.old root }
     requires level { level_of (value_at nodes.old root) ≢ TOP_LEVEL }
     requires room { HasRoomFor nodes.old 2 }
-    ensures ok { OnOk result (HasGrown (class_of C.covered C.may_match C.is_match C.key_with C.united) nodes.old nodes.new root seq) }
+    ensures ok { OnOk result (HasGrown (class_of C.covered C.may_match C.is_match C.key_with C.united) C.picks nodes.old nodes.new root seq) }
     ensures err { OnErr result (AreSame nodes.old nodes.new) }
 {
     let Some(node) = nodes.get(root) else {

@@ -2,7 +2,7 @@
 
 ghost use Rattle.std.specs.Prelude.{◌≡◌, ◌≤◌, [], IfOk, length, map, zip};
 ghost use Rattle.search_tree.specs.Bodies.{plain_body};
-ghost use Rattle.search_tree.specs.Halvings.{IsShared};
+ghost use Rattle.search_tree.specs.Halvings.{IsPickedOut, IsShared};
 ghost use Rattle.tree_theory.specs.Changes.{IsHalved};
 ghost use Rattle.tree_theory.specs.Nodes.{size_of};
 ghost use Rattle.tree_theory.specs.Nodes.PlainBody.{Leaf, Inner};
@@ -28,7 +28,8 @@ pub(crate) fn shared_out<C: KeyClass, A: Allocator + Copy>(
     alloc: A,
 ) -> Result<Halves<C::Key, C::Item, A>, Refused>
     requires { size_of node.now.body ≡ NODE_SIZE }
-    ensures { IfOk result (λ made. IsHalved node.now.body (plain_body made.left) (plain_body made.right)) }
+    ensures halved { IfOk result (λ made. IsHalved node.now.body (plain_body made.left) (plain_body made.right)) }
+    ensures picked { IfOk result (λ made. IsPickedOut C.key_with C.picks node.now.body (plain_body made.left) (plain_body made.right)) }
 {
     if node.is_leaf() {
         halves_of_pairs::<C, A>(node.pairs(), alloc)
@@ -43,7 +44,8 @@ fn halves_of_pairs<C: KeyClass, A: Allocator + Copy>(
     alloc: A,
 ) -> Result<Halves<C::Key, C::Item, A>, Refused>
     requires { length pairs.now ≡ NODE_SIZE }
-    ensures { IfOk result (λ made. IsHalved (Leaf pairs.now) (plain_body made.left) (plain_body made.right)) }
+    ensures halved { IfOk result (λ made. IsHalved (Leaf pairs.now) (plain_body made.left) (plain_body made.right)) }
+    ensures picked { IfOk result (λ made. IsPickedOut C.key_with C.picks (Leaf pairs.now) (plain_body made.left) (plain_body made.right)) }
 {
     let keys = keys_of::<C, A>(pairs, alloc)?;
     let mut left = Pairs::with_places(alloc)?;
@@ -63,7 +65,8 @@ fn halves_of_entries<C: KeyClass, A: Allocator + Copy>(
 ) -> Result<Halves<C::Key, C::Item, A>, Refused>
     requires keys { length keys.now ≡ NODE_SIZE }
     requires children { length children.now ≡ NODE_SIZE }
-    ensures { IfOk result (λ made. IsHalved (Inner (zip keys.now children.now)) (plain_body made.left) (plain_body made.right)) }
+    ensures halved { IfOk result (λ made. IsHalved (Inner (zip keys.now children.now)) (plain_body made.left) (plain_body made.right)) }
+    ensures picked { IfOk result (λ made. IsPickedOut C.key_with C.picks (Inner (zip keys.now children.now)) (plain_body made.left) (plain_body made.right)) }
 {
     let mut left = Entries::with_places(alloc)?;
     let mut right = Entries::with_places(alloc)?;

@@ -4,11 +4,11 @@ ghost use Rattle.std.specs.Prelude.{◌≡◌, ◌≤◌, Some, OnOk, OnErr, len
 ghost use Rattle.node_arena.specs.Slots.{value_at};
 ghost use Rattle.predicate_locks.specs.declared.TheConstants.{MAX_ROOM};
 ghost use Rattle.search_tree.specs.Calls.{IsAlike};
-ghost use Rattle.search_tree.specs.Walks.{MayJoinAll, HasEnlarged, HasJoined, HasJoinedInPart, MayJoinBelow, HasJoinedBelow, MayEnlarge, marked_right as right_of_marked};
+ghost use Rattle.search_tree.specs.Walks.{MayJoinAll, HasEnlarged, HasJoined, MayJoinBelow, HasJoinedBelow, MayEnlarge, marked_right as right_of_marked};
 ghost use Rattle.tree_theory.specs.KeyClasses.{class_of};
 
 use crate::descending::marked_right;
-use crate::setters::{attach_all, set_key};
+use crate::setters::{joined, set_attached, set_key};
 use crate::tree::Tree;
 use memory::Refused;
 use node_arena::Handle;
@@ -21,35 +21,42 @@ impl<C: KeyClass, A: Allocator + Copy> Tree<C, A> {
         requires may { MayJoinAll (class_of C.covered C.may_match C.is_match C.key_with C.united) self.old at searches.now }
         requires few { length searches.now ≤ MAX_ROOM }
         ensures ok { OnOk result (HasJoined (class_of C.covered C.may_match C.is_match C.key_with C.united) self.old self.new at searches.now) }
-        ensures err { OnErr result (HasJoinedInPart (class_of C.covered C.may_match C.is_match C.key_with C.united) self.old self.new at searches.now) }
+        ensures err { OnErr result (self.new ≡ self.old) }
     {
-        attach_all(&mut self.nodes, &self.running, at, searches)?;
+        let list = joined(self.alloc, &self.nodes, &self.running, at, searches)?;
+        set_attached(&mut self.nodes, at, list);
         Ok(())
     }
 
-    // Attaches searches to a child whose entry does not lead them on, and to its right node first where the child is marked. Where there is no memory the right node may have got them already.
+    // Attaches searches to a child whose entry does not lead them on, and to its right node too where the child is marked. Where there is no memory nothing changes.
     pub(crate) fn join_below(&mut self, child: Handle, searches: &[u64]) -> Result<(), Refused>
         requires may { MayJoinBelow (class_of C.covered C.may_match C.is_match C.key_with C.united) self.old child searches.now }
         requires few { length searches.now ≤ MAX_ROOM }
         ensures ok { OnOk result (HasJoinedBelow (class_of C.covered C.may_match C.is_match C.key_with C.united) self.old self.new child searches.now) }
-        ensures err { OnErr result (HasJoinedInPart (class_of C.covered C.may_match C.is_match C.key_with C.united) self.old self.new child searches.now) }
+        ensures err { OnErr result (self.new ≡ self.old) }
     {
+        // Most descents lead nobody on, and copy no list.
+        if searches.is_empty() {
+            return Ok(());
+        }
         match marked_right(&self.nodes, child) {
             Some(right) => self.join_both(child, right, searches),
             None => self.join(child, searches),
         }
     }
 
-    // The same for a marked child and this right node of it.
+    // The same for a marked child and this right node of it. Both lists are made before the first change.
     fn join_both(&mut self, child: Handle, right: Handle, searches: &[u64]) -> Result<(), Refused>
         requires may { MayJoinBelow (class_of C.covered C.may_match C.is_match C.key_with C.united) self.old child searches.now }
         requires leads { right_of_marked (value_at self.old.nodes child) ≡ Some right }
         requires few { length searches.now ≤ MAX_ROOM }
         ensures ok { OnOk result (HasJoinedBelow (class_of C.covered C.may_match C.is_match C.key_with C.united) self.old self.new child searches.now) }
-        ensures err { OnErr result (HasJoinedInPart (class_of C.covered C.may_match C.is_match C.key_with C.united) self.old self.new child searches.now) }
+        ensures err { OnErr result (self.new ≡ self.old) }
     {
-        attach_all(&mut self.nodes, &self.running, right, searches)?;
-        attach_all(&mut self.nodes, &self.running, child, searches)?;
+        let of_right = joined(self.alloc, &self.nodes, &self.running, right, searches)?;
+        let of_child = joined(self.alloc, &self.nodes, &self.running, child, searches)?;
+        set_attached(&mut self.nodes, right, of_right);
+        set_attached(&mut self.nodes, child, of_child);
         Ok(())
     }
 }

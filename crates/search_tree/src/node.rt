@@ -333,25 +333,32 @@ impl<K: Copy, I: Copy, A: Allocator> TreeNode<K, I, A> {
         }
     }
 
-    /// Attaches each of these searches. Numbers that do not run are let go. Where there is no memory nothing changes.
-    pub fn attach_all<Q: Copy, B: Allocator>(
-        &mut self,
+    /// Its attached searches with each of these more, and without the numbers that do not run: a list of its own, for `set_attached`.
+    pub fn joined<Q: Copy, B: Allocator>(
+        &self,
         running: &Running<Q, B>,
         searches: &[u64],
-    ) -> Result<(), Refused>
+    ) -> Result<Attached<A>, Refused>
     where
         A: Copy,
         requires { length searches.now ≤ MAX_ROOM }
-        ensures ok { OnOk result (self.new ≡ record self.old { attached = filter (does_run running.now) (with_numbers searches.now self.old.attached) }) }
-        ensures err { OnErr result (self.new ≡ self.old) }
+        ensures { IfOk result (λ list. list.numbers ≡ filter (does_run running.now) (with_numbers searches.now self.now.attached)) }
     {
-        match self.attached.attach_all(searches) {
+        let mut list = same_numbers(&self.attached)?;
+        match list.attach_all(searches) {
             Ok(()) => {
-                self.attached.prune(running);
-                Ok(())
+                list.prune(running);
+                Ok(list)
             }
             Err(fault) => Err(refusal_in(fault)),
         }
+    }
+
+    /// Has the searches of this list attached, and no others.
+    pub fn set_attached(&mut self, list: Attached<A>)
+        ensures { self.new ≡ record self.old { attached = list.numbers } }
+    {
+        self.attached = list;
     }
 }
 

@@ -1,6 +1,6 @@
 //! Changes of one node of the tree's arena. Where no node stands at the handle nothing happens.
 
-ghost use Rattle.std.specs.Prelude.{◌≡◌, ◌∷◌, ◌++◌, ◌+◌, ◌<◌, ◌≤◌, [], Some, OnOk, OnErr, filter, length, slice_get, slice_set, remove};
+ghost use Rattle.std.specs.Prelude.{◌≡◌, ◌∷◌, ◌++◌, ◌+◌, ◌<◌, ◌≤◌, [], Some, IfOk, OnOk, OnErr, filter, length, slice_get, slice_set, remove};
 ghost use Rattle.node_arena.specs.declared.handle.Handle.{Handle};
 ghost use Rattle.predicate_locks.specs.Numbers.{with_number, with_numbers};
 ghost use Rattle.predicate_locks.specs.Searches.{does_run};
@@ -18,7 +18,7 @@ use crate::keeper::Keeper;
 use crate::node::{Body, TreeNode};
 use memory::Refused;
 use node_arena::{Arena, Handle};
-use predicate_locks::Running;
+use predicate_locks::{Attached, Running};
 use std::alloc::Allocator;
 use tree_theory::Place;
 
@@ -140,20 +140,33 @@ pub fn attach<K: Copy, I: Copy, Q: Copy, A: Allocator + Copy>(
     }
 }
 
-/// Attaches each of these searches to a node, and lets numbers go that do not run. Where there is no memory nothing changes.
-pub fn attach_all<K: Copy, I: Copy, Q: Copy, A: Allocator + Copy>(
-    nodes: &mut Nodes<K, I, A>,
+/// The attached searches of a node with each of these more, and without the numbers that do not run: a list of its own, for `set_attached`.
+pub fn joined<K: Copy, I: Copy, Q: Copy, A: Allocator + Copy>(
+    alloc: A,
+    nodes: &Nodes<K, I, A>,
     running: &Running<Q, A>,
     at: Handle,
     searches: &[u64],
-) -> Result<(), Refused>
+) -> Result<Attached<A>, Refused>
     requires { length searches.now ≤ MAX_ROOM }
-    ensures ok { OnOk result (IsChanged nodes.old nodes.new at (λ node. record node { attached = filter (does_run running.now) (with_numbers searches.now node.attached) })) }
-    ensures err { OnErr result (AreSame nodes.old nodes.new) }
+    ensures { IfOk result (λ list. Holds nodes.now at (λ node. list.numbers ≡ filter (does_run running.now) (with_numbers searches.now node.attached))) }
 {
-    match nodes.get_mut(at) {
-        Some(node) => node.attach_all(running, searches),
-        None => Ok(()),
+    match nodes.get(at) {
+        Some(node) => node.joined(running, searches),
+        None => Ok(Attached::new(alloc)),
+    }
+}
+
+/// Gives a node the searches of this list attached, and no others.
+pub fn set_attached<K: Copy, I: Copy, A: Allocator>(
+    nodes: &mut Nodes<K, I, A>,
+    at: Handle,
+    list: Attached<A>,
+)
+    ensures { IsChanged nodes.old nodes.new at (λ node. record node { attached = list.numbers }) }
+{
+    if let Some(node) = nodes.get_mut(at) {
+        node.set_attached(list);
     }
 }
 

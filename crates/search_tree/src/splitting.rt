@@ -30,7 +30,7 @@ impl<C: KeyClass, A: Allocator + Copy> Tree<C, A> {
         requires { MaySplit (class_of C.covered C.may_match C.is_match C.key_with C.united) self.old at }
         ensures ok { OnOk result (HasMoreNodes (class_of C.covered C.may_match C.is_match C.key_with C.united) self.old self.new 1 0) }
         ensures right { IfOk result (λ right. right_of_marked (value_at self.new.nodes at) ≡ Some right) }
-        ensures parted { IfOk result (HasSplit self.old.nodes self.new.nodes at) }
+        ensures parted { IfOk result (HasSplit C.key_with C.picks self.old.nodes self.new.nodes at) }
         ensures full { (result ≡ Err TreeFault.Full) ↔ (MAX_SLOTS < taken_count self.old.nodes + 1) }
         ensures faults { IfErr result (λ fault. (fault ≡ TreeFault.Full) ⊎ (fault ≡ TreeFault.Memory refused)) }
         ensures untouched { result ≡ Err TreeFault.Full → self.new ≡ self.old }
@@ -47,7 +47,7 @@ fn split_in<C: KeyClass, A: Allocator + Copy>(
     at: Handle,
 ) -> Result<Handle, TreeFault>
     requires { IsFullLinked nodes.old at }
-    ensures ok { IfOk result (HasSplit nodes.old nodes.new at) }
+    ensures ok { IfOk result (HasSplit C.key_with C.picks nodes.old nodes.new at) }
     ensures full { (result ≡ Err TreeFault.Full) ↔ (MAX_SLOTS < taken_count nodes.old + 1) }
     ensures faults { IfErr result (λ fault. (fault ≡ TreeFault.Full) ⊎ (fault ≡ TreeFault.Memory refused)) }
     ensures untouched { result ≡ Err TreeFault.Full → nodes.new ≡ nodes.old }
@@ -86,7 +86,7 @@ fn split_node<C: KeyClass, A: Allocator + Copy>(
 ) -> Result<Handle, Refused>
     requires full { IsFullLinked nodes.old at }
     requires room { HasRoomFor nodes.old 1 }
-    ensures ok { IfOk result (HasSplit nodes.old nodes.new at) }
+    ensures ok { IfOk result (HasSplit C.key_with C.picks nodes.old nodes.new at) }
     ensures err { OnErr result (AreSame nodes.old nodes.new) }
 {
     let Some(node) = nodes.get(at) else {

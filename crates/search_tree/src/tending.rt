@@ -1,12 +1,12 @@
 //! Tending: slot by slot a tree lets go of what it no longer needs.
 
 ghost use Rattle.std.specs.Prelude.{◌≡◌, ◌+◌, Ok, IsTrue, IsSome, IfOk, IfErr, OnErr};
-ghost use Rattle.node_arena.specs.Slots.{value_at};
+ghost use Rattle.node_arena.specs.Slots.{taken_count, value_at};
 ghost use Rattle.node_arena.specs.declared.handle.Handle.{Handle};
 ghost use Rattle.predicate_locks.specs.Searches.{last_number};
 ghost use Rattle.search_tree.specs.Calls.{SameContents};
 ghost use Rattle.search_tree.specs.Dues.{AnswersFirst};
-ghost use Rattle.search_tree.specs.Tends.{HasTended, ContentsLess, ContentsTended, MayClean, MayFree, MayRetire, StepsAt};
+ghost use Rattle.search_tree.specs.Tends.{HasTended, ContentsLess, ContentsTended, MayClean, MayFree, MayRetire, StepsAt, slots_freed};
 ghost use Rattle.search_tree.specs.Trees.{tree_of};
 ghost use Rattle.tree_theory.specs.Changes.{IsFreed, IsCleaned, IsRetired};
 ghost use Rattle.tree_theory.specs.KeyClasses.{class_of};
@@ -22,9 +22,9 @@ use std::alloc::Allocator;
 use tree_theory::{KeyClass, Place};
 
 impl<C: KeyClass, A: Allocator> Tree<C, A> {
-    /// Tends one slot: it lets go of what stands there and is no longer needed, or gives a right node its entry. Where there is nothing to do it answers Idle, and changes nothing.
+    /// Tends one slot: it lets go of what stands there and is no longer needed, or gives a right node its entry. Of what is due there the first is done, in this order. Where nothing is due it answers Idle, and changes nothing.
     ///
-    /// A retired node goes (Freed) where every running search began since it was retired. A marked node's right node gets its entry where their parent has room (Installed). A leaf loses the pairs that are not kept (Cleaned). An empty leaf that is not its parent's only child is retired (Retired). It takes no memory, and changes no search.
+    /// A retired node goes (Freed) where every running search began since it was retired. A marked node's right node gets its entry where their parent has room (Installed). A leaf loses the pairs that are not kept (Cleaned). An empty leaf that has an entry, beside others, and is not marked is retired (Retired). It takes no memory, and changes no search.
     ///
     /// S6 where a node is to be installed or retired and the counter is at its end. Then nothing has changed.
     pub fn tend<K: Keeper<C::Item>>(&mut self, slot: u32, keeper: &K) -> Result<Tending, TreeFault>
@@ -92,6 +92,7 @@ impl<C: KeyClass, A: Allocator> Tree<C, A> {
         ensures tended { HasTended (class_of C.covered C.may_match C.is_match C.key_with C.united) self.old self.new Tending.Freed }
         ensures contents { SameContents (class_of C.covered C.may_match C.is_match C.key_with C.united) self.old self.new }
         ensures step { IsFreed (tree_of (class_of C.covered C.may_match C.is_match C.key_with C.united) self.old) (tree_of (class_of C.covered C.may_match C.is_match C.key_with C.united) self.new) at }
+        ensures freed { taken_count self.new.nodes + slots_freed at ≡ taken_count self.old.nodes }
     {
         self.nodes.remove(at);
     }

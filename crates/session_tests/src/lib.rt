@@ -10,6 +10,8 @@ mod fakes;
 #[cfg(test)]
 mod fault_tests;
 #[cfg(test)]
+mod large_tests;
+#[cfg(test)]
 mod line_end_tests;
 #[cfg(test)]
 mod line_tests;

@@ -1,7 +1,7 @@
 //! Session lines at the ends of counters and limits, and each line that takes memory of the world, its allocations
 //! refused in turn.
 use crate::fakes::{SEVENTEEN_ROWS, SIXTEEN, SIXTEEN_ROWS};
-use crate::worlds::{LIMITS, OPEN, ROADS, STARTS, check_over, document};
+use crate::worlds::{LIMITS, OPEN, ROADS, STARTS, check_over, document, replies};
 use features::FEATURE_LIMIT;
 use refusing::Refusing;
 use sessions::{built_in_subjects, run_script};
@@ -204,6 +204,124 @@ fn ends_of_features(rt: HostRuntime) -> Result<(), Fail> {
         one_feature,
         "n: ADD 1 mast POINT (3 4)\nn: COMMIT\nn: ADD 2 mast POINT (3 4)\nn: COMMIT\nn: COMMIT\nn: ABORT\n",
         "n: staged\nn: applied 1\nn: staged\nn: error X11\nn: error X11\nn: aborted\n",
+    )?;
+    Ok(())
+}
+
+/// The lines behind the sixteen points, and the one that is staged, are answered so, in a world whose numbers start so, and
+/// whose limits are these.
+fn check_behind(
+    rt: &impl Abort,
+    alloc: Global,
+    starts: Starts,
+    limits: Limits,
+    lines: &str,
+    expected: &str,
+) -> Result<(), AllocError> {
+    let mut world = opened_at(rt, alloc, alloc, starts, limits);
+    let script = format!(in alloc; "{SIXTEEN}{lines}")?;
+    let output = replies(rt, alloc, &mut world, script.as_str());
+    let expected = format!(in alloc; "n: staged\nn: applied 1\nn: staged\n{expected}")?;
+    assert!(rt; output.ends_with(expected.as_bytes()), "{lines}");
+    Ok(())
+}
+
+/// The same, in a world whose walks and searches make so many steps.
+fn check_steps(
+    rt: &impl Abort,
+    alloc: Global,
+    steps: u32,
+    lines: &str,
+    expected: &str,
+) -> Result<(), AllocError> {
+    let limits = Limits { steps, ..LIMITS };
+    check_behind(rt, alloc, STARTS, limits, lines, expected)
+}
+
+/// The seventeenth point parts the root, which is a leaf so far: one step. From the root down to a leaf is one more, and
+/// placing is the last. A search for all points visits the root and both leaves.
+#[test]
+fn ends_of_steps(rt: HostRuntime) -> Result<(), Fail> {
+    let cases = [
+        (
+            1,
+            "n: COMMIT\nn: COMMIT\nn: ABORT\nn: COMMIT\n",
+            "n: error S7\nn: error S7\nn: aborted\nn: error E7\n",
+        ),
+        (
+            2,
+            "n: COMMIT\nn: COMMIT\nn: SEARCH POINT (1 0)\n",
+            "n: error S7\nn: applied 2\nn: rows 1\nn: 1 1 north road POINT (1 0)\n",
+        ),
+        (3, "n: COMMIT\n", "n: applied 2\n"),
+    ];
+    for (steps, lines, expected) in cases {
+        check_steps(&rt, rt.alloc(), steps, lines, expected)?;
+    }
+    Ok(())
+}
+
+/// A search that the index gives up is gone.
+#[test]
+fn ends_of_searches(rt: HostRuntime) -> Result<(), Fail> {
+    let before =
+        "n: COMMIT\nn: COMMIT\nn: SEARCH POLYGON ((0 -1, 500 -1, 500 1, 0 1, 0 -1))\nn: OPEN POLYGON ((0 -1, 500 -1, 500 1, 0 1, 0 -1))\n";
+    let cases = [
+        (
+            "n: STEP 1\nn: STEP 1\nn: STEP 1\nn: STEP 1\nn: FINISH\n",
+            "n: more\nn: more\nn: error S7\nn: error E8\nn: error E8\n",
+        ),
+        (
+            "n: STEP 2\nn: STEP 1000000\nn: FINISH\n",
+            "n: more\nn: error S7\nn: error E8\n",
+        ),
+        (
+            "n: STEP 3\nn: OPEN POINT (0 0)\n",
+            "n: error S7\nn: opened\n",
+        ),
+        (
+            "n: FINISH\nn: STEP 1\nn: OPEN POINT (0 0)\n",
+            "n: error S7\nn: error E8\nn: opened\n",
+        ),
+    ];
+    for (lines, expected) in cases {
+        let lines = format!(in rt.alloc(); "{before}{lines}")?;
+        let expected = format!(in rt.alloc();
+            "n: error S7\nn: applied 2\nn: error S7\nn: opened\n{expected}"
+        )?;
+        check_steps(&rt, rt.alloc(), 2, lines.as_str(), expected.as_str())?;
+    }
+    Ok(())
+}
+
+/// Sixteen points more, all at one place.
+const SIXTEEN_MORE: &str =
+    "n: ADD 18 a POINT (1 0)\nn: ADD 19 a POINT (1 0)\nn: ADD 20 a POINT (1 0)\nn: ADD 21 a POINT (1 0)\nn: ADD 22 a POINT (1 0)\nn: ADD 23 a POINT (1 0)\nn: ADD 24 a POINT (1 0)\nn: ADD 25 a POINT (1 0)\nn: ADD 26 a POINT (1 0)\nn: ADD 27 a POINT (1 0)\nn: ADD 28 a POINT (1 0)\nn: ADD 29 a POINT (1 0)\nn: ADD 30 a POINT (1 0)\nn: ADD 31 a POINT (1 0)\nn: ADD 32 a POINT (1 0)\nn: ADD 33 a POINT (1 0)\n";
+
+/// What their lines are answered.
+const SIXTEEN_STAGED: &str =
+    "n: staged\nn: staged\nn: staged\nn: staged\nn: staged\nn: staged\nn: staged\nn: staged\nn: staged\nn: staged\nn: staged\nn: staged\nn: staged\nn: staged\nn: staged\nn: staged\n";
+
+/// The seventeenth point parts the root, and sixteen more a leaf below it: for that the index's counter has no number left.
+#[test]
+fn ends_of_the_counter(rt: HostRuntime) -> Result<(), Fail> {
+    let last_count = Starts {
+        counter: u64::MAX,
+        ..STARTS
+    };
+    let lines = format!(in rt.alloc();
+        "n: COMMIT\n{SIXTEEN_MORE}n: COMMIT\nn: COMMIT\n{SEARCH}n: ABORT\nn: COMMIT\nn: ADD 34 a POINT (600 0)\nn: COMMIT\n"
+    )?;
+    let expected = format!(in rt.alloc();
+        "n: applied 2\n{SIXTEEN_STAGED}n: error S6\nn: error S6\n{SEVENTEEN_ROWS}n: aborted\nn: error E7\nn: staged\nn: applied 3\n"
+    )?;
+    check_behind(
+        &rt,
+        rt.alloc(),
+        last_count,
+        LIMITS,
+        lines.as_str(),
+        expected.as_str(),
     )?;
     Ok(())
 }

@@ -1,4 +1,4 @@
-//! Worked scripts, lines and labels, limits, and what a script does to the index's slots.
+//! Worked scripts, lines and labels, and limits.
 use crate::fakes::{FIRST_POINT, FIRST_REPLIES, THREE_REPLIES, THREE_SHAPES};
 use crate::worlds::{SQUARE, run_first, serve_first};
 use std::alloc::{AllocError, Global};
@@ -214,38 +214,5 @@ fn served_alone(
     text.push_str("\nBYE\n")?;
     let ran = serve_first(rt, alloc, text.as_str());
     assert_eq!(rt; ran.output.as_slice(), expected.as_bytes(), "{len}");
-    Ok(())
-}
-
-/// Lines that add sixteen points and delete them again, in lists, so many times; before each stands this label.
-fn rounds(alloc: Global, count: u64, label: &str) -> Result<String, AllocError> {
-    let mut lines = String::new(alloc);
-    write!(lines, "{label}HELLO north\n")?;
-    for round in 0..count {
-        for id in 0..16 {
-            write!(lines, "{label}ADD {id} road POINT ({id} 0)\n")?;
-        }
-        write!(lines, "{label}COMMIT\n")?;
-        let version = round.saturating_mul(2).saturating_add(1);
-        for id in 0..16 {
-            write!(lines, "{label}DELETE {id} {version}\n")?;
-        }
-        write!(lines, "{label}COMMIT\n")?;
-    }
-    Ok(lines)
-}
-
-/// A leaf holds sixteen pairs, so the 1,600 that are placed here take a hundred leaves where none is cleaned. A script
-/// tends one slot after each line, in turn, and so the index stays small.
-#[test]
-fn slots_are_tended(rt: HostRuntime) -> Result<(), Fail> {
-    let labelled = rounds(rt.alloc(), 100, "n: ")?;
-    let tended = run_first(&rt, rt.alloc(), labelled.as_str());
-    assert!(rt; tended.output.ends_with(b"n: staged\nn: applied 200\n"));
-    assert!(rt; tended.slots < 20, "{}", tended.slots);
-    let alone = rounds(rt.alloc(), 100, "")?;
-    let untended = serve_first(&rt, rt.alloc(), alone.as_str());
-    assert!(rt; untended.output.ends_with(b"staged\napplied 200\n"));
-    assert!(rt; untended.slots > 100, "{}", untended.slots);
     Ok(())
 }

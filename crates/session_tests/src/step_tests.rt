@@ -1,9 +1,11 @@
 //! Searches that go step by step: OPEN, STEP and FINISH of a script.
-use crate::fakes::{SEVENTEEN_ROWS, SIXTEEN};
+use crate::fakes::{FailingReader, FailingWriter, Failure, SEVENTEEN_ROWS, SIXTEEN};
 use crate::worlds::{check, opened, replies, run_first, serve_first};
+use sessions::{ServeFault, run_script};
 use std::alloc::{AllocError, Global};
 use std::process::Abort;
 use std::test::Fail;
+use transactions::World;
 
 const NO_PARCEL: &str =
     r#"{"root":{"combine":"deny-overrides","policy":"p","rules":[{"effect":"deny","rule":"no-parcel","target":[[[{"class":"parcel"}]]]},{"effect":"permit","rule":"open"}]}}"#;
@@ -141,6 +143,54 @@ fn dropped_at_the_end(rt: HostRuntime) -> Result<(), Fail> {
     for _ in 0..2 {
         let output = replies(&rt, rt.alloc(), &mut world, open.as_str());
         assert!(rt; output.ends_with(b"s14: opened\ns15: opened\n"));
+    }
+    Ok(())
+}
+
+/// A session that opens a search, and lets it go on.
+const OPENING: &str = "n: HELLO north\nn: OPEN POINT (3 4)\nn: STEP 1\n";
+
+/// Nobody holds a place of the sixteen in a world that a run has left.
+fn check_places(rt: &impl Abort, alloc: Global, world: &mut World<Global>, open: &str) {
+    let output = replies(rt, alloc, world, open);
+    assert!(rt; output.ends_with(b"s14: opened\ns15: opened\n"));
+}
+
+/// A read of the session fails, of one byte each; the last would tell that the input ends. The search is open where its line
+/// was read.
+#[test]
+fn dropped_where_a_read_fails(rt: HostRuntime) -> Result<(), Fail> {
+    let open = sixteen_open(rt.alloc())?;
+    for at in 0..=OPENING.len() {
+        let mut world = opened(&rt, rt.alloc(), rt.alloc());
+        let mut output = Vec::new(rt.alloc());
+        let mut reader = FailingReader {
+            bytes: OPENING.as_bytes(),
+            fails_at: (at as u64).saturating_add(1),
+        };
+        let end = run_script(rt.alloc(), rt.alloc(), &mut world, &mut reader, &mut output);
+        assert!(rt; matches!(end, Err(ServeFault::Read(_))), "at {at}");
+        check_places(&rt, rt.alloc(), &mut world, open.as_str());
+    }
+    Ok(())
+}
+
+/// A write of its replies fails, counted from 1: the search is open where that tells `opened`.
+#[test]
+fn dropped_where_a_write_fails(rt: HostRuntime) -> Result<(), Fail> {
+    let open = sixteen_open(rt.alloc())?;
+    for at in 1..4 {
+        let mut world = opened(&rt, rt.alloc(), rt.alloc());
+        let mut writer = FailingWriter {
+            taken: Vec::new(rt.alloc()),
+            most: 1_000,
+            fails_at: at,
+            with: Failure::Error,
+        };
+        let mut reader = OPENING.as_bytes();
+        let end = run_script(rt.alloc(), rt.alloc(), &mut world, &mut reader, &mut writer);
+        assert!(rt; matches!(end, Err(ServeFault::Write(_))), "at {at}");
+        check_places(&rt, rt.alloc(), &mut world, open.as_str());
     }
     Ok(())
 }

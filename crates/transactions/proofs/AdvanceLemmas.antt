@@ -1,5 +1,6 @@
 -- A step of the walk of an open transaction, by what the index answers.
 use Rattle.std.proofs.Common.{◌≡◌, ℕ, Bool, true, false, List, Option, Some, None, Result, Ok, Err, if◌then◌else◌, refl, sym, ap, subst, ◌∙◌}
+use Rattle.frame_keys.specs.Splits.{PicksRight}
 use Rattle.plane.specs.declared.point.Point.{Point}
 use Rattle.plain_world.specs.declared.faults.Fault.{Fault}
 use Rattle.plain_world.specs.declared.steps.Advance.{Advance}
@@ -36,7 +37,7 @@ module _ (seat number : ℕ) (w : WorldData) (t u : Index) (js : List JourneyDat
   going = subst (λ (x : PlainWalk (List Point)). IsWalkFor own.0 x) (sym walk_is) (next_for number placement t own.0 w.transactions js own.2 own.3 h.walks)
 
   -- what the clause `walked` says, from what it says of the walk's own pair
-  pub makes : (MayWalk t.limit walk → TakesStep frames t u walk.at after.at area_growth margin_growth (walk.key, walk.item) answer) → (v : WorldData) (ks : List JourneyData) (result : Result Advance Fault) → result ≡ told_step answer → ks ≡ after_step number after answer js
+  pub makes : (MayWalk t.limit walk → TakesStep frames t u walk.at after.at area_growth margin_growth PicksRight (walk.key, walk.item) answer) → (v : WorldData) (ks : List JourneyData) (result : Result Advance Fault) → result ≡ told_step answer → ks ≡ after_step number after answer js
       → WalksOn seat number (indexed w t js) (indexed v u ks) result
   makes first v ks result is_told left =
       let same : (walk.key, walk.item) ≡ placement = same_pair _ _ (sym going.next ∙ own.3) in
@@ -46,7 +47,7 @@ module _ (seat number : ℕ) (w : WorldData) (t u : Index) (js : List JourneyDat
         answer = answer;
         walk_is = walk_is;
         step = made;
-        first = λ may. subst (λ (pair : ℕ × List Point). TakesStep frames t u walk.at after.at area_growth margin_growth pair answer) same (first may);
+        first = λ may. subst (λ (pair : ℕ × List Point). TakesStep frames t u walk.at after.at area_growth margin_growth PicksRight pair answer) same (first may);
         is_told = is_told;
         walks = left;
       })

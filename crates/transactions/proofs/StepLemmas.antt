@@ -101,10 +101,10 @@ module _ (w : WorldData) (t u : Index) (old new : PlainWalk (List Point)) where
   after_step h waits _ (walk_goes_on steps.Split may stepped (inl has)) = (serves_alike w t u h has.contents has.searches has.running has.limit, record { key = stepped.key; item = stepped.item; waits = stepped.placed })
   after_step h waits _ (walk_goes_on steps.Split may stepped (inr has)) = (serves_alike w t u h has.contents has.searches has.running has.limit, record { key = stepped.key; item = stepped.item; waits = stepped.placed })
   after_step h waits _ (walk_goes_on steps.Placed may stepped has) = has
-  after_step h waits _ (is_refused fault may why alike stays) = refused fault why
+  after_step h waits _ (is_refused fault may why untouched stays) = refused fault why
     where
       same : Serves w u
-      same = serves_alike w t u h alike.contents alike.searches alike.running alike.counts.limit
+      same = let alike = untouched.alike in serves_alike w t u h alike.contents alike.searches alike.running alike.counts.limit
 
       on : GoesOn
       on = record { key = ap (λ (x : PlainWalk (List Point)). x.key) stays; item = ap (λ (x : PlainWalk (List Point)). x.item) stays; waits = ap (λ (x : PlainWalk (List Point)). x.placed) stays ∙ waits }

@@ -5,6 +5,7 @@ use Rattle.plane.specs.declared.point.Point.{Point}
 use Rattle.plane.specs.Extents.{Extent, extent_of, joined}
 use Rattle.plane.specs.Rows.{Meet}
 use Rattle.features.specs.declared.rows.Feature.{Feature}
+use Rattle.node_arena.specs.Slots.{slot_count}
 use Rattle.frame_keys.specs.Keys.{Encloses, MayMeet}
 use Rattle.tree_theory.specs.Contents.{IsContents}
 use Rattle.tree_theory.specs.KeyClasses.{Class, class_of}
@@ -22,6 +23,10 @@ frames = class_of Encloses MayMeet Meet extent_of joined
 
 abbrev pub Index : Type 0
 Index = PlainTree Extent (List Point) (List Point)
+
+-- how many slots the index has used at most
+abbrev pub slots_of : Index → ℕ
+slots_of index = slot_count index.nodes
 
 -- a world: all that is served and under way, its index, and the walks of the open transactions
 pub record IndexedWorld : Type 0 where

@@ -4,6 +4,7 @@ use Rattle.std.specs.Option.{unwrap_or}
 use Rattle.plane.specs.declared.point.Point.{Point}
 use Rattle.plane.specs.Extents.{Extent, joined}
 use Rattle.frame_keys.specs.Measures.{area, margin}
+use Rattle.frame_keys.specs.Splits.{PicksRight}
 use Rattle.plain_world.specs.declared.faults.Fault.{Fault}
 use Rattle.plain_world.specs.declared.steps.Advance.{Advance}
 use Rattle.plain_world.specs.declared.steps.Advance.TheVariants.{Walked}
@@ -52,7 +53,7 @@ pub record MakesStep (number : ℕ) (placement : ℕ × List Point) (old new : I
   pub answer : Result Step TreeFault
   pub walk_is : walk ≡ next_walk number placement old.index old.walks
   pub step : IsAdvance frames old.index new.index walk after answer
-  pub first : MayWalk old.index.limit walk → TakesStep frames old.index new.index walk.at after.at area_growth margin_growth placement answer
+  pub first : MayWalk old.index.limit walk → TakesStep frames old.index new.index walk.at after.at area_growth margin_growth PicksRight placement answer
   pub is_told : result ≡ told_step answer
   pub walks : new.walks ≡ after_step number after answer old.walks
 

@@ -3,12 +3,12 @@
 ghost use Rattle.std.specs.Prelude.{◌≡◌, ◌≤◌, [], length, IfOk, IfErr};
 ghost use Rattle.memory.specs.Refused.{refused};
 ghost use Rattle.audit_trail.specs.Legal.{IsLegal, replay, subject_of};
-ghost use Rattle.node_arena.specs.Slots.{slot_count, taken_count};
+ghost use Rattle.node_arena.specs.Slots.{taken_count};
 ghost use Rattle.plain_world.specs.Admitting.{subject_at};
 ghost use Rattle.plain_world.specs.States.{opened};
 ghost use Rattle.search_tree.specs.Calls.{found_in};
 ghost use Rattle.search_tree.specs.Trees.{IsFirst};
-ghost use Rattle.transactions.specs.Index.{Serves, frames};
+ghost use Rattle.transactions.specs.Index.{Serves, frames, slots_of};
 ghost use Rattle.transactions.specs.Walks.{AreWalks};
 
 use crate::walks::Walks;
@@ -96,7 +96,7 @@ impl<A: Allocator> World<A> {
 
     /// How many slots of the index there are to tend. It takes no memory.
     pub fn slots(&self) -> u32
-        ensures value { result ≡ slot_count self.now.index.nodes }
+        ensures value { result ≡ slots_of self.now.index }
         ensures taken { taken_count self.now.index.nodes ≤ result }
     {
         self.index.slots()

@@ -1,16 +1,9 @@
+use crate::tree_steps::Dice;
 use node_arena::{Arena, ArenaFault, Handle, MAX_SLOTS};
 use refusing::Refusing;
-use std::alloc::Allocator;
+use std::alloc::{AllocError, Allocator, Global};
 use std::process::Abort;
 use std::test::Fail;
-
-/// The next of a fixed row of numbers that look random.
-fn next_random(state: &mut u64) -> usize {
-    *state = state
-        .wrapping_mul(6_364_136_223_846_793_005)
-        .wrapping_add(1_442_695_040_888_963_407);
-    (*state >> 33) as usize
-}
 
 /// Puts a value in, which has to succeed.
 fn inserted<A: Allocator + Drop>(rt: &impl Abort, arena: &mut Arena<u64, A>, value: u64) -> Handle {
@@ -46,9 +39,9 @@ fn as_a_list_of_pairs(rt: HostRuntime) -> Result<(), Fail> {
     let mut arena = Arena::new(rt.alloc());
     let mut pairs: Vec<(Handle, u64)> = Vec::new(rt.alloc());
     let mut removed: Vec<Handle> = Vec::new(rt.alloc());
-    let mut state = 2_026;
+    let mut dice = Dice { state: 2_026 };
     for step in 0..100_000u64 {
-        let draw = next_random(&mut state);
+        let draw = dice.draw() as usize;
         // In turn, mostly inserts and mostly removals.
         let inserts = if step / 10_000 % 2 == 0 { 7 } else { 4 };
         if draw % 10 < inserts || pairs.is_empty() {
@@ -72,51 +65,114 @@ fn as_a_list_of_pairs(rt: HostRuntime) -> Result<(), Fail> {
     Ok(())
 }
 
+/// Fills so many slots. The handles, in the order in which they were given.
+fn filled(
+    rt: &impl Abort,
+    alloc: Global,
+    arena: &mut Arena<u64, Global>,
+    count: u64,
+) -> Result<Vec<Handle>, AllocError> {
+    let mut handles = Vec::new(alloc);
+    for value in 0..count {
+        handles.push(inserted(rt, arena, value))?;
+    }
+    Ok(handles)
+}
+
+/// Takes out what was put in under these handles.
+fn empty(rt: &impl Abort, arena: &mut Arena<u64, Global>, handles: &[Handle]) {
+    for (value, handle) in handles.iter().enumerate() {
+        assert_eq!(rt; arena.get(*handle).copied(), Some(value as u64));
+        assert_eq!(rt; arena.remove(*handle), Some(value as u64));
+    }
+}
+
+/// Under none of these handles anything is found.
+fn check_stale(rt: &impl Abort, arena: &mut Arena<u64, Global>, handles: &[Handle]) {
+    for handle in handles {
+        assert_eq!(rt; arena.get(*handle).copied(), None);
+        assert!(rt; arena.get_mut(*handle).is_none());
+        assert_eq!(rt; arena.remove(*handle), None);
+        assert!(rt; arena.at_slot(handle.slot) != Some(*handle));
+    }
+}
+
+#[test]
+fn filled_and_emptied_again(rt: HostRuntime) -> Result<(), Fail> {
+    let mut arena = Arena::new(rt.alloc());
+    let first = filled(&rt, rt.alloc(), &mut arena, 600)?;
+    empty(&rt, &mut arena, &first);
+    check_stale(&rt, &mut arena, &first);
+    assert_eq!(rt; (arena.len(), arena.slots()), (0, 600));
+    let second = filled(&rt, rt.alloc(), &mut arena, 600)?;
+    check_stale(&rt, &mut arena, &first);
+    assert_eq!(rt; (arena.len(), arena.slots()), (600, 600));
+    empty(&rt, &mut arena, &second);
+    check_stale(&rt, &mut arena, &first);
+    check_stale(&rt, &mut arena, &second);
+    Ok(())
+}
+
+/// How many of the arena's first slots hold their own number.
+fn held<A: Allocator + Drop>(arena: &Arena<u64, A>, slots: u32) -> u32 {
+    let mut held = 0u32;
+    for slot in 0..slots {
+        let handle = Handle {
+            slot,
+            generation: 0,
+        };
+        if arena.get(handle).copied() == Some(u64::from(slot)) {
+            held = held.saturating_add(1);
+        }
+    }
+    held
+}
+
+/// Puts the numbers 0 to 3 in. The first one's handle.
+fn put_four<A: Allocator + Drop>(rt: &impl Abort, arena: &mut Arena<u64, A>) -> Handle {
+    let first = inserted(rt, arena, 0);
+    for value in 1..4 {
+        inserted(rt, arena, value);
+    }
+    first
+}
+
+/// A fifth is put in beside four with the allocation of this number refused. Whether that was reached: then the four
+/// stand, and a slot that is free is used again with no memory.
+fn insert_refused<B: Allocator>(rt: &impl Abort, memory: &Refusing<B>, at: u64) -> bool {
+    memory.refuse(0);
+    let mut arena = Arena::new(memory);
+    let first = put_four(rt, &mut arena);
+    memory.refuse(at);
+    let answer = arena.insert(4);
+    if !memory.has_refused() {
+        assert!(rt; answer.is_ok() && at > 1, "nothing was refused");
+        return false;
+    }
+    assert!(rt;
+        matches!(&answer, Err((4, ArenaFault::Memory(_)))),
+        "at {at}"
+    );
+    assert_eq!(rt; (arena.len(), arena.slots()), (4, 4), "at {at}");
+    assert_eq!(rt; held(&arena, 4), 4, "at {at}");
+    memory.refuse(1);
+    assert_eq!(rt; arena.remove(first), Some(0), "at {at}");
+    let again = Handle {
+        slot: 0,
+        generation: 1,
+    };
+    assert_eq!(rt; inserted(rt, &mut arena, 5), again, "at {at}");
+    assert!(rt; !memory.has_refused(), "at {at}");
+    true
+}
+
 #[test]
 fn each_allocation_refused(rt: HostRuntime) -> Result<(), Fail> {
     let memory = Refusing::new(rt.alloc(), 0);
     for at in 1..8 {
-        memory.refuse(0);
-        let mut arena = Arena::new(&memory);
-        let first = inserted(&rt, &mut arena, 0);
-        for value in 1..4 {
-            inserted(&rt, &mut arena, value);
-        }
-        memory.refuse(at);
-        let answer = arena.insert(4);
-        if !memory.has_refused() {
-            assert!(rt; answer.is_ok() && at > 1, "nothing was refused");
+        if !insert_refused(&rt, &memory, at) {
             return Ok(());
         }
-        assert!(rt;
-            matches!(&answer, Err((4, ArenaFault::Memory(_)))),
-            "at {at}"
-        );
-        assert_eq!(rt; (arena.len(), arena.slots()), (4, 4), "at {at}");
-        for slot in 0..4 {
-            let handle = Handle {
-                slot,
-                generation: 0,
-            };
-            assert_eq!(rt;
-                arena.get(handle).copied(),
-                Some(u64::from(slot)),
-                "at {at}"
-            );
-        }
-        // A slot that is free is used again with no memory.
-        memory.refuse(1);
-        assert_eq!(rt; arena.remove(first), Some(0), "at {at}");
-        let again = inserted(&rt, &mut arena, 5);
-        assert_eq!(rt;
-            again,
-            Handle {
-                slot: 0,
-                generation: 1
-            },
-            "at {at}"
-        );
-        assert!(rt; !memory.has_refused(), "at {at}");
     }
     assert!(rt; false, "each allocation was refused");
     Ok(())
@@ -154,30 +210,13 @@ fn full(rt: HostRuntime) -> Result<(), Fail> {
     Ok(())
 }
 
-/// How many of the arena's first slots hold their own number.
-fn held<A: Allocator + Drop>(arena: &Arena<u64, A>, slots: u32) -> u32 {
-    let mut held = 0u32;
-    for slot in 0..slots {
-        let handle = Handle {
-            slot,
-            generation: 0,
-        };
-        if arena.get(handle).copied() == Some(u64::from(slot)) {
-            held = held.saturating_add(1);
-        }
-    }
-    held
-}
-
 #[test]
 fn each_allocation_of_reserve_refused(rt: HostRuntime) -> Result<(), Fail> {
     let memory = Refusing::new(rt.alloc(), 0);
     for at in 1..8 {
         memory.refuse(0);
         let mut arena = Arena::new(&memory);
-        for value in 0..4 {
-            inserted(&rt, &mut arena, value);
-        }
+        put_four(&rt, &mut arena);
         memory.refuse(at);
         let answer = arena.reserve(2);
         if !memory.has_refused() {

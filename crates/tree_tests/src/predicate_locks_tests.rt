@@ -1,18 +1,11 @@
 ghost use Rattle.std.specs.Prelude.{◌<◌, length, IfSome};
 
+use crate::tree_steps::Dice;
 use predicate_locks::{Attached, LockFault, MAX_RUNNING, Running};
 use refusing::Refusing;
 use std::alloc::Allocator;
 use std::process::Abort;
 use std::test::Fail;
-
-/// The next of a fixed row of numbers that look random.
-fn next_random(state: &mut u64) -> u64 {
-    *state = state
-        .wrapping_mul(6_364_136_223_846_793_005)
-        .wrapping_add(1_442_695_040_888_963_407);
-    *state >> 33
-}
 
 /// Enters a search, which has to succeed.
 fn entered<A: Allocator + Drop>(
@@ -245,10 +238,10 @@ fn as_a_list_of_pairs(rt: HostRuntime) -> Result<(), Fail> {
     assert!(rt; made.is_ok());
     let mut running = made.unwrap();
     let mut pairs: Vec<(u64, u64)> = Vec::new(rt.alloc());
-    let mut state = 2_026;
+    let mut dice = Dice { state: 2_026 };
     let mut next = 100u64;
     for step in 0..20_000 {
-        let draw = next_random(&mut state);
+        let draw = dice.draw();
         if draw % 2 == 0 {
             let answer = running.enter(draw, step);
             if pairs.len() == 16 {

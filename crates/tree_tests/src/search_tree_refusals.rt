@@ -1,6 +1,6 @@
 //! Each allocation of a tree's calls refused in turn, and the calls that make none.
 use crate::search_tree_tests::{KeepOne, place_until_split, tend_all};
-use crate::tree_steps::{pin, see_all};
+use crate::tree_steps::{pin, see_all, window};
 use frame_keys::Frames;
 use plane::{Point, Shape};
 use refusing::Refusing;
@@ -11,19 +11,6 @@ use std::test::Fail;
 
 // So many pairs have inner nodes that split.
 const MANY: u64 = 250;
-
-// The rectangle from the line's beginning to a place across, from one height to another.
-fn window(rt: &impl Abort, right: i32, low: i32, high: i32) -> Shape {
-    let made = Shape::polygon(&[
-        Point { x: 0, y: low },
-        Point { x: right, y: low },
-        Point { x: right, y: high },
-        Point { x: 0, y: high },
-        Point { x: 0, y: low },
-    ]);
-    assert!(rt; made.is_ok());
-    made.unwrap()
-}
 
 // A band along the whole line, from one height to another.
 fn band(rt: &impl Abort, low: i32, high: i32) -> Shape {

@@ -1,5 +1,5 @@
 //! A hundred thousand steps of a tree over frames, in an order that nobody chose, beside a plain list of its pairs.
-use crate::tree_steps::see_all;
+use crate::tree_steps::{Dice, see_all};
 use frame_keys::Frames;
 use plane::{Point, Shape};
 use search_tree::{Keeper, Step, Tending, Tree, TreeFault, Visit, Walk};
@@ -44,25 +44,7 @@ impl<I> Keeper<I> for KeepFrom {
     }
 }
 
-// Numbers that look like chance, from a linear congruence.
-#[derive(Drop)]
-pub(crate) struct Dice {
-    pub(crate) state: u64,
-}
-
 impl Dice {
-    // A number below this one, or 0 where that is 0.
-    pub(crate) fn below(&mut self, sides: u32) -> u32 {
-        self.state = self
-            .state
-            .wrapping_mul(6_364_136_223_846_793_005)
-            .wrapping_add(1_442_695_040_888_963_407);
-        let number = (self.state >> 33)
-            .checked_rem(u64::from(sides))
-            .unwrap_or(0);
-        u32::try_from(number).unwrap_or(0)
-    }
-
     // A square in the plane, with a side below this one.
     fn square(&mut self, side: u32) -> Square {
         Square {

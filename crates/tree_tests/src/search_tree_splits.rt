@@ -1,6 +1,5 @@
 //! How well nodes are split: how many of them a search visits.
-use crate::search_tree_runs::Dice;
-use crate::tree_steps::see_all;
+use crate::tree_steps::{Dice, finish, see_all};
 use frame_keys::Frames;
 use plane::{Point, Shape};
 use search_tree::Tree;
@@ -40,13 +39,7 @@ fn spread<A: Allocator + Copy>(rt: &impl Abort, dice: &mut Dice, tree: &mut Tree
         let point = Shape::point(place(dice, WIDTH));
         assert!(rt; point.is_ok());
         let mut walk = tree.start_walk(key, point.unwrap());
-        for _ in 0..100 {
-            if walk.placed() {
-                break;
-            }
-            assert!(rt; tree.advance(&mut walk).is_ok());
-        }
-        assert!(rt; walk.placed());
+        finish(rt, tree, &mut walk);
     }
 }
 

@@ -1,7 +1,7 @@
-use crate::tree_steps::{pin, see_all};
+use crate::tree_steps::{finish, pin, see_all, window};
 use frame_keys::Frames;
 use node_arena::MAX_SLOTS;
-use plane::{Point, Shape};
+use plane::Shape;
 use predicate_locks::MAX_RUNNING;
 use search_tree::{Keeper, MAX_STEPS, Step, Tending, Tree, TreeFault, Visit, Walk};
 use std::alloc::Allocator;
@@ -37,30 +37,7 @@ pub(crate) struct Round {
 
 // The shape of all that is searched for: a long band along the axis across.
 fn band(rt: &impl Abort) -> Shape {
-    let shape = Shape::polygon(&[
-        Point { x: 0, y: -1 },
-        Point { x: 500, y: -1 },
-        Point { x: 500, y: 1 },
-        Point { x: 0, y: 1 },
-        Point { x: 0, y: -1 },
-    ]);
-    assert!(rt; shape.is_ok());
-    shape.unwrap()
-}
-
-// Advances a walk until its pair is placed.
-fn finish<A: Allocator + Copy>(
-    rt: &impl Abort,
-    tree: &mut Tree<Frames, A>,
-    walk: &mut Walk<Shape>,
-) {
-    for _ in 0..100 {
-        if walk.placed() {
-            return;
-        }
-        assert!(rt; tree.advance(walk).is_ok(), "a walk is refused");
-    }
-    panic!(rt; "a walk makes more than 100 steps");
+    window(rt, 500, -1, 1)
 }
 
 // Places pairs of the numbers from first to last, each at its number's place along a line.
@@ -349,8 +326,25 @@ fn no_install_at_the_counters_end(rt: HostRuntime) -> Result<(), Fail> {
 }
 
 #[test]
-fn limits_of_every_tree(rt: HostRuntime) {
+fn limits_of_every_tree(rt: HostRuntime) -> Result<(), Fail> {
     assert_eq!(rt; (NODE_SIZE, TOP_LEVEL), (16, 31));
     assert_eq!(rt; (MAX_SLOTS, MAX_RUNNING), (1_048_576, 16));
     assert_eq!(rt; MAX_STEPS, 1_000_000);
+    // A fault is shown by its code.
+    let refused = format!(in rt.alloc();
+        "{} {} {} {}",
+        TreeFault::NoSearch,
+        TreeFault::TooMany,
+        TreeFault::Held(1),
+        TreeFault::Full
+    )?;
+    assert_eq!(rt; refused.as_str(), "S1 S2 S3 S4");
+    let ended = format!(in rt.alloc();
+        "{} {} {}",
+        TreeFault::TooHigh,
+        TreeFault::Spent,
+        TreeFault::Overrun
+    )?;
+    assert_eq!(rt; ended.as_str(), "S5 S6 S7");
+    Ok(())
 }

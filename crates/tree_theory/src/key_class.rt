@@ -1,11 +1,11 @@
 //! The keys of a search tree.
 
-ghost use Rattle.std.specs.Prelude.{◌≡◌, ◌↔◌, ℕ, ◌<◌, ◌≤◌, Some, IsTrue, IsBitSet, length, count_ones, slice_get};
+ghost use Rattle.std.specs.Prelude.{◌≡◌, ◌↔◌, List, ℕ, ◌<◌, ◌≤◌, Some, IsTrue, IsBitSet, length, count_ones, slice_get};
 ghost use Rattle.tree_theory.specs.declared.TheConstants.{NODE_SIZE};
 
 /// What a search tree knows of its keys: an item's key, what a query may match behind a key, and the union of keys. A class is a type with no values of its own.
 ///
-/// `covered`, `may_match` and `is_match` are the facts that the tests `covers`, `consistent` and `matches` decide. The laws are said of all values of the types, save that `whole_key` covers those keys that are some value in hand, which `is_key` tells.
+/// `covered`, `may_match` and `is_match` are the facts that the tests `covers`, `consistent` and `matches` decide, and `picks` tells which masks may name the keys of a full node that go right where it is parted. The laws are said of all values of the types, save that `whole_key` covers those keys that are some value in hand, which `is_key` tells.
 pub trait KeyClass {
     /// Stands for all items below a node, as a frame.
     type Key: Copy;
@@ -33,6 +33,8 @@ pub trait KeyClass {
     ghost growth: { Self.Key → Self.Key → ℕ };
 
     ghost second_growth: { Self.Key → Self.Key → ℕ };
+
+    ghost picks: { List Self.Key → ℕ → Type 0 };
 
     /// Does nothing: each key in hand is one.
     fn known_key(key: Self::Key)
@@ -79,6 +81,7 @@ pub trait KeyClass {
     /// Which of a full node's keys go to the right part of it: bit i for key i.
     fn pick_split(keys: &[Self::Key]) -> u16
         requires { length keys.now ≡ NODE_SIZE }
+        ensures picked { picks keys.now result }
         ensures least { 4 ≤ count_ones result }
         ensures most { count_ones result ≤ 12 };
 

@@ -101,6 +101,8 @@ fn printed_forms(rt: HostRuntime) -> Result<(), Fail> {
     );
     assert!(rt; matches!(trail.json_line(heap, 0), Err(TrailFault::NoRecord)));
     assert!(rt; matches!(trail.json_line(heap, 3), Err(TrailFault::NoRecord)));
+    let shown = format!(in heap; "{} {}", TrailFault::Full, TrailFault::NoRecord)?;
+    assert_eq!(rt; shown.as_str(), "G1 G3");
     Ok(())
 }
 

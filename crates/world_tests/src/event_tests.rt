@@ -1,4 +1,4 @@
-//! The way of an event from its begin to its end, each once.
+//! The way of a list, of a search and of a policy from begin to end.
 use crate::worlds::{
     OPEN, ROADS, STARTS, add, document, found, name, placed, point, ready, seated, square,
 };

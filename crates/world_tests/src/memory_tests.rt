@@ -1,4 +1,4 @@
-//! Each event with each of its allocations refused in turn, and the calls that take no memory.
+//! Events with each of their allocations refused in turn, and the calls that take no memory.
 use crate::worlds::{
     CLOSED, LIMITS, OPEN, STARTS, add, document, found, name, picture, place_all, placed, point,
     ready, seated, square, staged,
@@ -126,6 +126,28 @@ fn govern(rt: &impl Abort, heap: Global, world: &mut World<&Refusing<Global>>) -
     }
 }
 
+/// The ids and versions of what the ready search lists, after the event: the four roads; a fifth, which is placed, once its
+/// list is applied; and none where nothing is permitted.
+fn listed(event: &Taking) -> &'static [(u64, u64)] {
+    match event {
+        Taking::Apply => &[(1, 1), (2, 1), (3, 1), (4, 1), (5, 2)],
+        Taking::Deny | Taking::Govern => &[],
+        _ => &[(1, 1), (2, 1), (3, 1), (4, 1)],
+    }
+}
+
+/// The ready search is finished, and lists what has these ids and versions.
+fn check_listed(rt: &impl Abort, prepared: &mut Prepared<'_>, expected: &[(u64, u64)]) {
+    let mut meter = Meter::new();
+    let answered = prepared.world.finish(1, prepared.search, &mut meter);
+    assert!(rt; answered.is_ok());
+    let answer = answered.unwrap();
+    assert_eq!(rt; answer.rows().len(), expected.len());
+    for (row, (id, version)) in answer.rows().iter().zip(expected) {
+        assert!(rt; row.id == *id && row.version == *version, "{id}");
+    }
+}
+
 /// After a refusal the world tells what it told before, what is under way goes on, and the event succeeds when it is
 /// made again.
 fn check_refused(
@@ -136,12 +158,10 @@ fn check_refused(
     before: &str,
 ) {
     assert_eq!(rt; picture(rt, heap, &prepared.world).as_str(), before);
-    assert!(rt; run(rt, heap, prepared, event).is_none());
-    let world = &mut prepared.world;
     if *event != Taking::Finish {
-        let mut meter = Meter::new();
-        assert!(rt; world.finish(1, prepared.search, &mut meter).is_ok());
+        assert!(rt; run(rt, heap, prepared, event).is_none());
     }
+    check_listed(rt, prepared, listed(event));
 }
 
 /// The event with its allocation of this number refused. Whether that was reached.

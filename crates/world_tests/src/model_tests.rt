@@ -1,4 +1,5 @@
-//! Ten thousand events of sixteen seats, in an order that nobody chose, each compared to a plain world of lists.
+//! Ten thousand events of sixteen seats, in an order that nobody chose, beside a plain world of lists: answers, outcomes,
+//! refusals by their codes, and most records.
 use crate::dice::Dice;
 use crate::happened::Happened;
 use crate::listed_world::{

@@ -1,4 +1,5 @@
-//! Each refusal of each event, with what the world tells before and after it.
+//! Refusals of the events, with ample memory and before any number is at its end; what the world tells before and after most
+//! of them.
 use crate::worlds::{
     CLOSED, LIMITS, OPEN, STARTS, add, document, found, name, picture, placed, point, ready,
     seated, square, staged,
@@ -46,6 +47,9 @@ fn seats_that_are_not_given(rt: HostRuntime) -> Result<(), Fail> {
     let heap = rt.alloc();
     let mut world = inhabited(&rt, heap);
     ask_for_nobody(&rt, heap, &mut world);
+    // A fault is shown by its code, and one of the index by the index's.
+    let shown = format!(in heap; "{} {}", Fault::NoSuch, Fault::Tree(TreeFault::Spent))?;
+    assert_eq!(rt; shown.as_str(), "X1 S6");
     Ok(())
 }
 

@@ -1,8 +1,8 @@
 use Rattle.std.specs.Prelude.{◌↔◌, IsTrue, IsBitSet}
-use Rattle.std.proofs.Common.{arith, sym, ap, ◌∙◌, subst, refl}
+use Rattle.std.proofs.Common.{arith, sym, ◌∙◌, subst, refl}
 use Rattle.std.proofs.lemmas.Bool.{false≢true}
 use Rattle.std.proofs.lemmas.Option.{slice_get_read, slice_get_within}
-use Rattle.frame_keys.proofs.MaskBits.{tells_set, tells_not, same_key}
+use Rattle.frame_keys.proofs.MaskBits.{tells_set, tells_not}
 use Rattle.frame_keys.proofs.Middles.{reads_middle, test_reads}
 use Rattle.frame_keys.specs.Splits.{middle, is_behind}
 use Rattle.frame_keys.proofs.split.behind.Goals as goal
@@ -22,9 +22,15 @@ loop-i-preserved c =
           )
     ]
 
-pub returns-clause-each : goal.returns-clause-each
-returns-clause-each c = λ i key at found there.
-    let same = same_key c.args.keys.now c.args.place _ at (slice_get_read c.args.keys.now _ c.args.place _ refl (omega (arith, c.requires.size, c.requires.place)) c.index-keys-place.is) there in
-    let reads = reads_middle _ c.args.axis c.index-keys-place.result c.middle-at.type_inv c.middle-at.ensures ∙ ap (λ e. middle c.args.axis e) same in
-    subst (λ m. IsBitSet c.loop-i.mask i ↔ IsTrue (is_behind (middle c.args.axis key) i m c.args.place)) reads
-    (c.loop-i.invariant.each i key (let h = slice_get_within c.args.keys.now i key found in omega arith) found)
+pub returns : goal.returns
+returns c =
+    let here = slice_get_read c.args.keys.now _ c.args.place _ refl (omega (arith, c.requires.size, c.requires.place)) c.index-keys-place.is in
+    record {
+      at = c.index-keys-place.result;
+      here = here;
+      each = λ i key found.
+          let reads = reads_middle _ c.args.axis c.index-keys-place.result c.middle-at.type_inv c.middle-at.ensures in
+          subst (λ m. IsBitSet c.loop-i.mask i ↔ IsTrue (is_behind (middle c.args.axis key) i m c.args.place)) reads
+          (c.loop-i.invariant.each i key (let h = slice_get_within c.args.keys.now i key found in omega arith) found);
+      no_other = λ i set. let h = c.loop-i.invariant.no_other i set in omega (arith, h, c.requires.size, c.loop-i.auto.i-end);
+    }

@@ -33,4 +33,4 @@ pub returns-in_err-arrival-clause-step : goal.returns-in_err-arrival-clause-step
 returns-in_err-arrival-clause-step g c =
     let left = c.if-step_limit-steps.false in
     let p = err_from_is_err_and c.from_residual.result c.from_residual.ensures.1 in
-    rw (p.1, p.2) (is_refused c.in_err-arrival.field-0.0 (record { waits = sym c.placed.ensures ∙ c.if-placed.false; left = omega (arith, c.step_limit.ensures, c.steps.ensures, left) }) (rw c.item.ensures at c.in_err-arrival.ensures.err) c.in_err-arrival.ensures.alike refl)
+    rw (p.1, p.2) (is_refused c.in_err-arrival.field-0.0 (record { waits = sym c.placed.ensures ∙ c.if-placed.false; left = omega (arith, c.step_limit.ensures, c.steps.ensures, left) }) (rw c.item.ensures at c.in_err-arrival.ensures.err) c.in_err-arrival.ensures.untouched refl)

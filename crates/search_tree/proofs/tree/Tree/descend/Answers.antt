@@ -1,5 +1,5 @@
 use Rattle.search_tree.proofs.DescendSteps.{may_join, may_enlarge}
-use Rattle.search_tree.proofs.DescentLemmas.{alike_both}
+use Rattle.search_tree.proofs.DescentLemmas.{alike_both, untouched_self}
 use Rattle.search_tree.proofs.VisitCalls.{on_err}
 use Rattle.search_tree.proofs.tree.Tree.descend.Goals as goal
 
@@ -26,16 +26,5 @@ returns-clause-step g c =
       enlarged = c.enlarge.ensures.step;
     }
 
-pub returns-in_err-join_below-clause-begun : goal.returns-in_err-join_below-clause-begun
-returns-in_err-join_below-clause-begun g c =
-    on_err c.from_residual.result _
-    (record {
-      node = c.requires.node;
-      is = c.requires.is;
-      led = c.led_by-led.result.items;
-      are_led = rw c.union.ensures at (c.led_by-led.ensures.led c.requires.node c.requires.is);
-      joined = rw c.as_slice.ensures.value at c.in_err-join_below.ensures.err;
-    })
-
 pub returns-in_err-join_below-clause-err : goal.returns-in_err-join_below-clause-err
-returns-in_err-join_below-clause-err g c = on_err c.from_residual.result _ c.in_err-join_below.ensures.err.alike
+returns-in_err-join_below-clause-err g c = rw c.in_err-join_below.ensures.err (on_err c.from_residual.result _ (untouched_self _ _))

@@ -20,7 +20,7 @@ returns-in_ok-descend-in-Descend-clause-first g c = descends c.in-Descend.ensure
 pub returns-in_err-descend-in-Descend-clause-first : goal.returns-in_err-descend-in-Descend-clause-first
 returns-in_err-descend-in-Descend-clause-first g c =
     let p = err_from_is_err_and c.from_residual.result c.from_residual.ensures.1 in
-    rw (p.1, p.2) (wants_memory c.in-Descend.ensures.first.1 (rw (c.in-Descend.ensures.first.0, c.key_of.ensures) at c.in_err-descend-in-Descend.ensures.begun))
+    rw (p.1, p.2) (wants_memory c.in-Descend.ensures.first.1 c.in_err-descend-in-Descend.ensures.err)
 
 pub returns-in-Hold-clause-first : goal.returns-in-Hold-clause-first
 returns-in-Hold-clause-first g c = is_held c.in-Hold.ensures.first.1 c.in-Hold.ensures.first.2 refl
@@ -29,4 +29,4 @@ pub returns-in-Place-clause-first : goal.returns-in-Place-clause-first
 returns-in-Place-clause-first g c = places c.in-Place.ensures.first.1 c.in-Place.ensures.first.2 c.place.ensures.step refl
 
 pub returns-in-Make-clause-first : goal.returns-in-Make-clause-first
-returns-in-Make-clause-first g c = makes_room (class_of g.C.KeyClass.covered g.C.KeyClass.may_match g.C.KeyClass.is_match g.C.KeyClass.key_with g.C.KeyClass.united) c.args.self.now c.make_room.new.self c.args.at _ _ _ (c.args.key, c.args.item) c.in-Make.room _ c.in-Make.ensures.first c.make_room.ensures.made
+returns-in-Make-clause-first g c = makes_room (class_of g.C.KeyClass.covered g.C.KeyClass.may_match g.C.KeyClass.is_match g.C.KeyClass.key_with g.C.KeyClass.united) c.args.self.now c.make_room.new.self c.args.at _ _ _ _ (c.args.key, c.args.item) c.in-Make.room _ c.in-Make.ensures.first c.make_room.ensures.made

@@ -1,7 +1,8 @@
 use Rattle.std.proofs.Common.{◌≡◌, Some, refl, ap, ◌∙◌, arith}
-use Rattle.node_arena.specs.Slots.{taken_count}
+use Rattle.node_arena.specs.Slots.{slot_count, taken_count}
 use Rattle.tree_theory.proofs.Steps.{started_keeps}
 use Rattle.tree_theory.proofs.ContentsKept.{contents_started}
+use Rattle.search_tree.proofs.TreeSteps.{handle_is}
 use Rattle.search_tree.proofs.tree.Tree.starting_at.Goals as goal
 
 pub invariant_of-result : goal.invariant_of-result
@@ -21,7 +22,11 @@ pub returns-clause-ok : goal.returns-clause-ok
 returns-clause-ok g c =
     let given = c.in_ok-root.ensures.ok in
     let empty = c.starting_at-nodes.ensures.empty in
+    let counts = c.in_ok-root.ensures.counts in
     let none : taken_count c.starting_at-nodes.result ≡ 0 = rw c.starting_at-nodes.ensures.value refl in
+    let none_yet : slot_count c.starting_at-nodes.result ≡ 0 = rw c.starting_at-nodes.ensures.value refl in
+    let next = counts.next_slot in
+    let slot : c.in_ok-root.root.slot ≡ 0 = omega (arith, next, none_yet) in
     record {
       contents = contents_started (record {
         root_now = given.has_value ∙ ap Some c.in_ok-first.ensures;
@@ -35,6 +40,8 @@ returns-clause-ok g c =
       limit_is = refl;
       level = rw (given.has_value, c.in_ok-first.ensures) refl;
       root_is = given.has_value ∙ ap Some c.in_ok-first.ensures;
-      taken = let more = c.in_ok-root.ensures.counts.taken in omega (arith, more, none);
+      taken = let more = counts.taken in omega (arith, more, none);
+      slots = counts.slots ∙ rw (none_yet, slot) refl;
       generation_is = given.same_first ∙ rw c.starting_at-nodes.ensures.value refl;
+      root_at = handle_is c.in_ok-root.root 0 c.args.generation slot (counts.generation ∙ rw (slot, c.starting_at-nodes.ensures.value) refl);
     }
