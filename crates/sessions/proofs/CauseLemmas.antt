@@ -178,7 +178,7 @@ untouched_so t u (faults.Tree tree.Full) same refuses =
     elim refuses [
       | inl lt ↦ inl (rw same.alike.counts.taken lt)
       | inr root ↦ inr (
-        record { node = root.0.node; is = rw same.root (same.nodes t.root ∙ root.0.is); full = root.0.full },
+        record { node = root.0.node; is = rw same.root (same.nodes.look t.root ∙ root.0.is); full = root.0.full },
         rw same.alike.counts.taken root.1,
       )
     ]
