@@ -9,7 +9,6 @@ use Rattle.program.specs.CommandLine.{refusals}
 use Rattle.program.specs.declared.words.Asked.{Asked}
 use Rattle.program.specs.declared.words.Asked.TheVariants.{Script, Text}
 use Rattle.program.specs.declared.words.ScriptWords.{ScriptWords}
-use Rattle.program.specs.Ends.{IsUnwritten}
 use Rattle.program.specs.Programs.{AreTurnedDown, IsAnswer, IsDone, IsFault}
 use Rattle.program.specs.RunFaults.{BrokeOff}
 use Rattle.program.specs.Runs.{RanScript}

@@ -1,5 +1,5 @@
 -- How the program ends.
-use Rattle.std.specs.Prelude.{◌≡◌, ℕ, List, [], ◌++◌, codes}
+use Rattle.std.specs.Prelude.{ℕ, List, [], ◌++◌, codes}
 use Rattle.program.specs.declared.ends.Ended.{Ended}
 use Rattle.program.specs.declared.ends.Ended.TheVariants.{Well, Failed, TurnedDown}
 use Rattle.program.specs.declared.faults.ProgramFault.{ProgramFault}

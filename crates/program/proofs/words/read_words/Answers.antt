@@ -1,4 +1,4 @@
-use Rattle.std.proofs.Common.{ap, sym, map, string_bytes, codes, is_some, true, false, List, [], None, Some, option_map, option_and_then, ◌≡◌, ◌∙◌, true≢false}
+use Rattle.std.proofs.Common.{ap, sym, map, string_bytes, codes, is_some, List, [], None, Some, option_map, option_and_then, ◌≡◌, ◌∙◌, true≢false}
 use Rattle.clap.proofs.WalkLemmas.{first_value-rows}
 use Rattle.clap.specs.Words.{App, Row, Text, app_of, fault_of, first_of, first_value, found_of, is_simple, is_simple_and_free, rows_of, subcommand_of}
 use Rattle.program.specs.CommandLine.{command_line, refusals, word_for}
