@@ -2,10 +2,10 @@
 #![tactic(auto)]
 
 use memory::buffered;
-use program::{HostFolder, ProgramFault, run_program, tell};
-use std::io::{ErrorKind, Stderr, Write};
+use program::{HostFolder, ProgramFault, WordsFault, host_words, run_program, tell};
+use std::io;
+use std::io::{Stderr, Write};
 use std::process::ExitCode;
-use std::{env, io};
 
 /// The program ends by a fault before it runs.
 fn fail(fault: &ProgramFault<'_>, errors: &mut Stderr) -> ExitCode {
@@ -15,29 +15,27 @@ fn fail(fault: &ProgramFault<'_>, errors: &mut Stderr) -> ExitCode {
 
 fn main(rt: HostRuntime) -> ExitCode {
     let mut errors = rt.stderr();
-    let words: Vec<String> = match env::args(&rt) {
-        Ok(words) => match words.collect(rt.alloc()) {
-            Ok(words) => words,
-            Err(_) => return fail(&ProgramFault::NoMemory, &mut errors),
-        },
-        Err(error) if error.kind() == ErrorKind::OutOfMemory => {
-            return fail(&ProgramFault::NoMemory, &mut errors);
+    let words = match host_words(&rt) {
+        Ok(words) => words,
+        Err(WordsFault::Memory(refused)) => {
+            return fail(&ProgramFault::Words(refused), &mut errors);
         }
-        Err(_) => {
+        Err(WordsFault::NotUtf8) => {
             let _ = write!(errors, "error: an argument is not UTF-8\n");
             return ExitCode::from(2);
         }
     };
-    let Ok(mut output) = buffered(rt.alloc(), io::writer(&rt)) else {
-        return fail(&ProgramFault::NoMemory, &mut errors);
+    let mut output = match buffered(rt.alloc(), io::writer(&rt)) {
+        Ok(output) => output,
+        Err(refused) => return fail(&ProgramFault::Memory(refused), &mut errors),
     };
     let folder = HostFolder::of(&rt);
-    let status = run_program(
+    let ended = run_program(
         rt.alloc(),
         words.as_slice(),
         &folder,
         &mut output,
         &mut errors,
     );
-    ExitCode::from(status)
+    ExitCode::from(ended.status())
 }

@@ -1,3 +1,4 @@
+pub mod AskedLemmas
 pub mod BuiltInLemmas
 pub mod CommandLineRows
 pub mod ConfigLemmas

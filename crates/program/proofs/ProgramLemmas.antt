@@ -1,57 +1,47 @@
--- What a run of the program leaves.
-use Rattle.std.proofs.Common.{◌≡◌, ℕ, List, Option, IfErr, OnOk, Result, Ok, Err, option_map, sym, subst}
+-- What is done with the words of a command line, and what is answered of it.
+use Rattle.std.proofs.Common.{◌≡◌, ℕ, List, Option, None, Some, Result, Ok, option_map, sym, subst}
 use Rattle.clap.specs.Words.{IsAmong, Text as Words, kind_of}
 use Rattle.clap.specs.declared.error.Error.{Error}
+use Rattle.clap.specs.declared.error.kind.ErrorKind.{ErrorKind}
 use Rattle.clap.specs.declared.error.kind.ErrorKind.TheVariants.{DisplayHelp}
 use Rattle.program.specs.Asking.{IsAsked}
 use Rattle.program.specs.CommandLine.{refusals}
 use Rattle.program.specs.declared.words.Asked.{Asked}
 use Rattle.program.specs.declared.words.Asked.TheVariants.{Script, Text}
 use Rattle.program.specs.declared.words.ScriptWords.{ScriptWords}
-use Rattle.program.specs.Ends.{IsUnwritten, TookFront, exit_status, fault_line}
-use Rattle.program.specs.Programs.{Failed, IsRun}
+use Rattle.program.specs.Programs.{AreTurnedDown, IsAnswer, IsDone, IsFault}
 use Rattle.program.specs.RunFaults.{BrokeOff}
 use Rattle.program.specs.Runs.{RanScript}
 use Rattle.program.specs.declared.faults.ProgramFault.{ProgramFault}
-use Rattle.program.specs.declared.faults.ProgramFault.TheVariants.{NoMemory}
 
 -- the name of the configuration's file, where one is asked for
 abbrev config_name : ScriptWords → Option (List ℕ)
 config_name files = option_map (λ name. name.now) files.config
 
-module _ {O E : Type 0} (words : List Words) (held : List ℕ → Option (List ℕ)) (written : O → Option (List ℕ)) (output output_after : O) (told : E → Option (List ℕ)) (errors errors_after : E) where
-  -- the line of a fault, or its front
-  abbrev Tells : ProgramFault → Type 0
-  Tells fault = TookFront (told errors) (told errors_after) (fault_line fault)
+module _ (words : List Words) (held : List ℕ → Option (List ℕ)) (before after : Option (List ℕ)) where
+  -- the script that the words ask for was served
+  pub script_served : (asked : Asked) (files : ScriptWords) → IsAsked words asked → asked ≡ Script files → RanScript held (config_name files) files.script.now before after → IsDone words held before after
+  script_served asked files is_asked is ran =
+      let of_files = subst (IsAsked words) is is_asked in
+      IsDone.serves files.script.now of_files.0 of_files.1 (subst (λ c. RanScript held c files.script.now before after) (sym of_files.2) ran)
 
-  abbrev Leaves : ℕ → Type 0
-  Leaves = IsRun words held written output output_after told errors errors_after
+  -- or its run broke off
+  pub script_broke : (asked : Asked) (files : ScriptWords) (fault : ProgramFault) → IsAsked words asked → asked ≡ Script files → BrokeOff held (config_name files) files.script.now before after fault
+      → IsFault words held before after fault
+  script_broke asked files fault is_asked is broke =
+      let of_files = subst (IsAsked words) is is_asked in
+      IsFault.script files.script.now fault of_files.0 of_files.1 (subst (λ c. BrokeOff held c files.script.now before after fault) (sym of_files.2) broke)
 
-  -- a run that served the script that the words ask for, or ended by a fault
-  pub run_of_script : (asked : Asked) (files : ScriptWords) (end : Result (Unit {0}) ProgramFault) (status : ℕ) → IsAsked words asked → asked ≡ Script files → status ≡ exit_status end
-      → OnOk end (RanScript held (config_name files) files.script.now (written output) (written output_after))
-      → IfErr end (BrokeOff held (config_name files) files.script.now (written output) (written output_after)) → OnOk end (errors_after ≡ errors) → IfErr end Tells → Leaves status
-  run_of_script asked files end status is_asked is status_is ran broke_off quiet tells = subst Leaves (sym status_is) (by end (subst (IsAsked words) is is_asked) ran broke_off quiet tells)
-    where
-      by : (end : Result (Unit {0}) ProgramFault) → IsAsked words (Script files) → OnOk end (RanScript held (config_name files) files.script.now (written output) (written output_after))
-          → IfErr end (BrokeOff held (config_name files) files.script.now (written output) (written output_after)) → OnOk end (errors_after ≡ errors) → IfErr end Tells → Leaves (exit_status end)
-      by (Ok u) asked ran broke_off quiet tells = IsRun.serves files.script.now asked.0 asked.1 (subst (λ c. RanScript held c files.script.now (written output) (written output_after)) (sym asked.2) ran) quiet
-      by (Err fault) asked ran broke_off quiet tells =
-          IsRun.fails fault (Failed.script files.script.now fault asked.0 asked.1 (subst (λ c. BrokeOff held c files.script.now (written output) (written output_after) fault) (sym asked.2) broke_off)) tells
+-- the words ask for help
+pub help_asked : (words : List Words) (asked : Asked) (help : Error) → IsAsked words asked → asked ≡ Text help → kind_of help ≡ DisplayHelp → IsAmong DisplayHelp (refusals words)
+help_asked words asked help is_asked is kind = subst (λ k. IsAmong k (refusals words)) kind (subst (IsAsked words) is is_asked)
 
-  -- a run that showed help, or could not
-  pub run_of_help : (asked : Asked) (help : Error) (end : Result (Unit {0}) ProgramFault) (status : ℕ) → IsAsked words asked → asked ≡ Text help → kind_of help ≡ DisplayHelp → status ≡ exit_status end
-      → IfErr end (λ fault. IsUnwritten fault) → OnOk end (errors_after ≡ errors) → IfErr end Tells → Leaves status
-  run_of_help asked help end status is_asked is kind status_is unwritten quiet tells = subst Leaves (sym status_is) (by end (subst (λ k. IsAmong k (refusals words)) kind (subst (IsAsked words) is is_asked)) unwritten quiet tells)
-    where
-      by : (end : Result (Unit {0}) ProgramFault) → IsAmong DisplayHelp (refusals words) → IfErr end (λ fault. IsUnwritten fault) → OnOk end (errors_after ≡ errors) → IfErr end Tells → Leaves (exit_status end)
-      by (Ok u) asked unwritten quiet tells = IsRun.helps asked quiet
-      by (Err fault) asked unwritten quiet tells = IsRun.fails fault (Failed.help fault asked unwritten) tells
+-- what was answered of the words, read off by cases
+module _ {O : Type 0} (words : List Words) (held : List ℕ → Option (List ℕ)) (written : O → Option (List ℕ)) (output after : O) (result : Result (Option Error) ProgramFault) (text : Option Error) where
+  pub was_done : IsAnswer words held written output after result → result ≡ Ok text → text ≡ None → IsDone words held (written output) (written after)
+  was_done h is none = subst (λ (o : Option Error). IsAnswer words held written output after (Ok o)) none (subst (IsAnswer words held written output after) is h)
 
-  -- a run that clap turned down
-  pub run_of_mistake : (asked : Asked) (mistake : Error) → IsAsked words asked → asked ≡ Text mistake → (kind_of mistake ≡ DisplayHelp → ⊥) → output_after ≡ output → Leaves 2
-  run_of_mistake asked mistake is_asked is other same = IsRun.turns_down (kind_of mistake) (subst (IsAsked words) is is_asked) other same
-
-  -- there was no memory for the command line
-  pub run_of_nothing : (status : ℕ) (fault : ProgramFault) → status ≡ exit_status (Err fault) → fault ≡ NoMemory → written output_after ≡ written output → Tells fault → Leaves status
-  run_of_nothing status fault is none same tells = subst Leaves (sym is) (IsRun.fails NoMemory (Failed.unread same) (subst Tells none tells))
+  pub was_turned_down : (mistake : Error) → IsAnswer words held written output after result → result ≡ Ok text → text ≡ Some mistake → (kind : ErrorKind) × AreTurnedDown words kind × (after ≡ output)
+  was_turned_down mistake h is some =
+      let down = subst (λ (o : Option Error). IsAnswer words held written output after (Ok o)) some (subst (IsAnswer words held written output after) is h) in
+      (kind_of mistake, down.0, down.1)

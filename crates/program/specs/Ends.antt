@@ -1,8 +1,9 @@
 -- How the program ends.
-use Rattle.std.specs.Prelude.{◌≡◌, ℕ, List, [], ◌++◌, codes, Option, Result, Ok, Err}
-use Rattle.std.specs.Io.KnownBytes.{Appends}
+use Rattle.std.specs.Prelude.{ℕ, List, [], ◌++◌, codes}
+use Rattle.program.specs.declared.ends.Ended.{Ended}
+use Rattle.program.specs.declared.ends.Ended.TheVariants.{Well, Failed, TurnedDown}
 use Rattle.program.specs.declared.faults.ProgramFault.{ProgramFault}
-use Rattle.program.specs.declared.faults.ProgramFault.TheVariants.{CannotRead, CannotWrite, NoMemory, Config, World, Run}
+use Rattle.program.specs.declared.faults.ProgramFault.TheVariants.{CannotRead, CannotWrite, Words, Memory, Config, World, Run}
 use Rattle.program.specs.ConfigFaults.{config_code_of}
 use Rattle.sessions.specs.Faults.{serve_code_of}
 use Rattle.sessions.specs.declared.streams.ServeFault.{ServeFault}
@@ -18,7 +19,8 @@ told_as fault = Run fault
 abbrev pub fault_word : ProgramFault → List ℕ
 fault_word (CannotRead name fault) = codes "cannot read "
 fault_word (CannotWrite failed) = codes "cannot write"
-fault_word NoMemory = codes "V4"
+fault_word (Words refused) = codes "V4"
+fault_word (Memory refused) = codes "V4"
 fault_word (Config fault) = config_code_of fault
 fault_word (World fault) = fault_code fault
 fault_word (Run fault) = serve_code_of fault
@@ -39,10 +41,8 @@ abbrev pub IsUnwritten : ProgramFault → Type 0
 IsUnwritten (CannotWrite failed) = Unit {0}
 IsUnwritten _ = ⊥
 
--- a writer took the front of these bytes, or all of them
-abbrev pub TookFront : Option (List ℕ) → Option (List ℕ) → List ℕ → Type 0
-TookFront before after text = (front : List ℕ) × (left : List ℕ) × (text ≡ front ++ left) × Appends before after front
-
-abbrev pub exit_status : Result (Unit {0}) ProgramFault → ℕ
-exit_status (Ok u) = 0
-exit_status (Err fault) = 1
+-- The exit status of the program.
+abbrev pub exit_status : Ended → ℕ
+exit_status Well = 0
+exit_status (Failed fault line) = 1
+exit_status TurnedDown = 2

@@ -1,36 +1,52 @@
 -- What a run of the program leaves.
-use Rattle.std.specs.Prelude.{◌≡◌, ◌≢◌, ℕ, List, [], Option, Some, codes}
-use Rattle.clap.specs.Words.{IsAmong, Text}
+use Rattle.std.specs.Prelude.{◌≡◌, ◌≢◌, ℕ, List, [], Option, None, Some, Result, Ok, Err, codes}
+use Rattle.clap.specs.Words.{IsAmong, Text, kind_of}
+use Rattle.clap.specs.declared.error.Error.{Error}
 use Rattle.clap.specs.declared.error.kind.ErrorKind.{ErrorKind}
 use Rattle.clap.specs.declared.error.kind.ErrorKind.TheVariants.{DisplayHelp}
+use Rattle.byte_streams.specs.Written.{Took}
 use Rattle.program.specs.CommandLine.{refusals, word_for}
-use Rattle.program.specs.Ends.{IsUnwritten, TookFront, fault_line}
+use Rattle.program.specs.Ends.{IsUnwritten, fault_line}
 use Rattle.program.specs.RunFaults.{BrokeOff}
 use Rattle.program.specs.Runs.{RanScript}
+use Rattle.program.specs.declared.ends.Ended.{Ended}
+use Rattle.program.specs.declared.ends.Ended.TheVariants.{Well, Failed, TurnedDown}
 use Rattle.program.specs.declared.faults.ProgramFault.{ProgramFault}
-use Rattle.program.specs.declared.faults.ProgramFault.TheVariants.{NoMemory}
+use Rattle.program.specs.declared.faults.ProgramFault.TheVariants.{Words}
+use Rattle.program.specs.declared.words.WordsRefused.{WordsRefused}
 
--- Why a run of the program with these words ended by a fault. Want of memory for the command line may come of any words.
-pub data Failed (words : List Text) (held : List ℕ → Option (List ℕ)) (before after : Option (List ℕ)) : ProgramFault → Type 0 where
-  -- they ask for a script, and its run broke off
-  script : (name : List ℕ) (fault : ProgramFault) → refusals words ≡ [] → word_for (codes "FILE") words ≡ Some name
-      → BrokeOff held (word_for (codes "config") words) name before after fault → Failed words held before after fault
-  -- they ask for help, which could not be written
-  help : (fault : ProgramFault) → IsAmong DisplayHelp (refusals words) → IsUnwritten fault → Failed words held before after fault
-  unread : after ≡ before → Failed words held before after NoMemory
-
--- What a run of the program with these words leaves, and its exit status: of the output the bytes that are known, of
--- the standard error all, or, where a line is told there, the bytes that are known. `held` is what the file of a name
--- reads, where that is known.
-pub data IsRun {O E : Type 0} (words : List Text) (held : List ℕ → Option (List ℕ)) (written : O → Option (List ℕ)) (output output_after : O) (told : E → Option (List ℕ)) (errors errors_after : E) : ℕ → Type 0 where
+-- What these words ask for is done. `held` is what the file of a name reads, where that is known.
+pub data IsDone (words : List Text) (held : List ℕ → Option (List ℕ)) (before after : Option (List ℕ)) : Type 0 where
   -- they ask for a script, which is served
   serves : (script : List ℕ) → refusals words ≡ [] → word_for (codes "FILE") words ≡ Some script
-      → RanScript held (word_for (codes "config") words) script (written output) (written output_after)
-      → errors_after ≡ errors → IsRun words held written output output_after told errors errors_after 0
+      → RanScript held (word_for (codes "config") words) script before after → IsDone words held before after
   -- they ask for help
-  helps : IsAmong DisplayHelp (refusals words) → errors_after ≡ errors → IsRun words held written output output_after told errors errors_after 0
-  -- it ended by a fault, of which the line is told, or the line's front; no contract sees whether a write there fails
-  fails : (fault : ProgramFault) → Failed words held (written output) (written output_after) fault
-      → TookFront (told errors) (told errors_after) (fault_line fault) → IsRun words held written output output_after told errors errors_after 1
-  -- clap turns them down, and nothing is done
-  turns_down : (kind : ErrorKind) → IsAmong kind (refusals words) → kind ≢ DisplayHelp → output_after ≡ output → IsRun words held written output output_after told errors errors_after 2
+  helps : IsAmong DisplayHelp (refusals words) → IsDone words held before after
+
+-- Why a run of the program with these words ended by a fault. Want of memory for the command line may come of any words.
+pub data IsFault (words : List Text) (held : List ℕ → Option (List ℕ)) (before after : Option (List ℕ)) : ProgramFault → Type 0 where
+  -- they ask for a script, and its run broke off
+  script : (name : List ℕ) (fault : ProgramFault) → refusals words ≡ [] → word_for (codes "FILE") words ≡ Some name
+      → BrokeOff held (word_for (codes "config") words) name before after fault → IsFault words held before after fault
+  -- they ask for help, which could not be written
+  help : (fault : ProgramFault) → IsAmong DisplayHelp (refusals words) → IsUnwritten fault → IsFault words held before after fault
+  unread : (refused : WordsRefused) → after ≡ before → IsFault words held before after (Words refused)
+
+-- clap turns these words down, for a reason of this kind
+abbrev pub AreTurnedDown : List Text → ErrorKind → Type 0
+AreTurnedDown words kind = IsAmong kind (refusals words) × (kind ≢ DisplayHelp)
+
+-- What is done with these words, before anything of it is told: what they ask for; or nothing, where clap turns them down
+-- by a text; or a fault came.
+abbrev pub IsAnswer : {O : Type 0} → List Text → (List ℕ → Option (List ℕ)) → (O → Option (List ℕ)) → O → O → Result (Option Error) ProgramFault → Type 0
+IsAnswer words held written output output_after (Ok None) = IsDone words held (written output) (written output_after)
+IsAnswer words held written output output_after (Ok (Some mistake)) = AreTurnedDown words (kind_of mistake) × (output_after ≡ output)
+IsAnswer words held written output output_after (Err fault) = IsFault words held (written output) (written output_after) fault
+
+-- What a run of the program with these words leaves, by how it ended. Of one that ended well nothing is on standard error,
+-- and of one that ended by a fault that fault's line, or, where a write of it failed, the line's front.
+abbrev pub IsRun : {O E : Type 0} → List Text → (List ℕ → Option (List ℕ)) → (O → Option (List ℕ)) → O → O → (E → Option (List ℕ)) → E → E → Ended → Type 0
+IsRun words held written output output_after told errors errors_after Well = IsDone words held (written output) (written output_after) × (errors_after ≡ errors)
+IsRun words held written output output_after told errors errors_after (Failed fault line) =
+    IsFault words held (written output) (written output_after) fault × Took line (told errors) (told errors_after) (fault_line fault)
+IsRun words held written output output_after told errors errors_after TurnedDown = (kind : ErrorKind) × AreTurnedDown words kind × (output_after ≡ output)

@@ -4,7 +4,9 @@ ghost use Rattle.std.specs.Prelude.{◌≡◌};
 
 use crate::config_faults::ConfigFault;
 use crate::files::ReadFault;
+use crate::words::WordsRefused;
 use byte_streams::WriteFailed;
+use memory::Refused;
 use sessions::ServeFault;
 use std::fmt;
 use transactions::Fault;
@@ -17,8 +19,10 @@ pub enum ProgramFault<'a> {
     CannotRead(&'a str, ReadFault),
     /// What the program has to say cannot be written.
     CannotWrite(WriteFailed),
-    /// There is no memory for the command line, or for the output's buffer. It is shown as V4.
-    NoMemory,
+    /// There is no memory for the command line. It is shown as V4.
+    Words(WordsRefused),
+    /// There is no memory for the output's buffer. It is shown as V4.
+    Memory(Refused),
     /// The configuration is none.
     Config(ConfigFault),
     /// The world that the configuration describes cannot be opened.
@@ -37,7 +41,7 @@ impl ProgramFault<'_> {
         match self {
             ProgramFault::CannotRead(..) => "cannot read ",
             ProgramFault::CannotWrite(_) => "cannot write",
-            ProgramFault::NoMemory => "V4",
+            ProgramFault::Words(_) | ProgramFault::Memory(_) => "V4",
             ProgramFault::Config(fault) => fault.code(),
             ProgramFault::World(fault) => fault.code(),
             ProgramFault::Run(fault) => fault.code(),

@@ -1,15 +1,16 @@
-//! Runs of scripts, from the words of the command line to the exit status.
+//! Runs of the program, from the words of the command line to how it ends.
 
 ghost use Rattle.std.specs.Prelude.{◌≡◌, ◌↔◌, ℕ, List, Option, Some, OnOk, IfOk, IfErr, IfSome, IsTrue, map, option_map, string_bytes};
 ghost use Rattle.clap.specs.Words.{kind_of};
 ghost use Rattle.program.specs.Configs.{config_data};
-ghost use Rattle.program.specs.Ends.{IsUnwritten, TookFront, exit_status, fault_line};
-ghost use Rattle.program.specs.Programs.{IsRun};
+ghost use Rattle.program.specs.Ends.{IsUnwritten};
+ghost use Rattle.program.specs.Programs.{IsAnswer, IsRun};
 ghost use Rattle.program.specs.RunFaults.{BrokeOff, IsOfConfig, IsOfRun};
 ghost use Rattle.program.specs.Runs.{IsConfigOf, RanScript, Served};
 
 use crate::built_in::built_in_config;
 use crate::configs::Config;
+use crate::ends::Ended;
 use crate::faults::ProgramFault;
 use crate::files::{FileFault, ReadFault, read_config_file};
 use crate::telling::tell;
@@ -139,47 +140,52 @@ fn show_help<'a, W: Write>(help: &Error, output: &mut W) -> Result<(), ProgramFa
     Ok(())
 }
 
-/// The exit status of a run: 0, or 1 where it ended by a fault.
-pub fn status_of(end: &Result<(), ProgramFault<'_>>) -> u8
-    ensures { result ≡ exit_status end.now }
-{
-    match end {
-        Ok(()) => 0,
-        Err(_) => 1,
-    }
-}
-
-/// Tells of the fault by which a run ended, if it did, and answers the exit status.
-fn end_run<E: Write>(end: &Result<(), ProgramFault<'_>>, errors: &mut E) -> u8
-    ensures status { result ≡ exit_status end.now }
-    ensures quiet { OnOk end.now (errors.new ≡ errors.old) }
-    ensures told { IfErr end.now (λ fault. TookFront (E.contents errors.old) (E.contents errors.new) (fault_line fault)) }
-{
-    if let Err(fault) = end {
-        let _ = tell(fault, errors);
-    }
-    status_of(end)
-}
-
-/// Runs the program with these words, of which the first is its name, and answers its exit status: 0; 1 where it ended
-/// by a fault, of which one line is written to `errors`, or its front; 2 where the command line is wrong, and then clap
-/// says there why. A fault of `errors` itself changes nothing.
-pub fn run_program<F: Folder, O: Write, E: Write>(
+/// Does what the words of the command line ask for. Where clap turns them down nothing is done, and the answer is clap's
+/// text that says why. Faults: `Words` where there is no memory for the command line, `CannotWrite` where help cannot be
+/// written, and those of `run_named`.
+fn run_asked<'a, F: Folder, O: Write>(
     alloc: Global,
-    words: &[String],
+    words: &'a [String],
+    folder: &F,
+    output: &mut O,
+) -> Result<Option<Error>, ProgramFault<'a>>
+    ensures { IsAnswer (map (λ word. string_bytes word) words.entry.now) (F.holds folder.now) O.contents output.old output.new result }
+{
+    match read_words(alloc, words) {
+        Ok(Asked::Script(files)) => match run_named(alloc, files, folder, output) {
+            Ok(()) => Ok(None),
+            Err(fault) => Err(fault),
+        },
+        Ok(Asked::Text(help)) if is_help(&help) => match show_help(&help, output) {
+            Ok(()) => Ok(None),
+            Err(fault) => Err(fault),
+        },
+        Ok(Asked::Text(mistake)) => Ok(Some(mistake)),
+        Err(refused) => Err(ProgramFault::Words(refused)),
+    }
+}
+
+/// Runs the program with these words, of which the first is its name, and answers how it ended. Where that is by a fault,
+/// one line on `errors` tells of it, or the line's front where a write there failed; where clap turns the words down, it
+/// says there why. A fault of `errors` changes nothing of how the run ended.
+pub fn run_program<'a, F: Folder, O: Write, E: Write>(
+    alloc: Global,
+    words: &'a [String],
     folder: &F,
     output: &mut O,
     errors: &mut E,
-) -> u8
-    ensures { IsRun (map (λ word. string_bytes word) words.now) (F.holds folder.now) O.contents output.old output.new E.contents errors.old errors.new result }
+) -> Ended<'a>
+    ensures { IsRun (map (λ word. string_bytes word) words.entry.now) (F.holds folder.now) O.contents output.old output.new E.contents errors.old errors.new result }
 {
-    match read_words(alloc, words) {
-        Ok(Asked::Script(files)) => end_run(&run_named(alloc, files, folder, output), errors),
-        Ok(Asked::Text(help)) if is_help(&help) => { end_run(&show_help(&help, output), errors) }
-        Ok(Asked::Text(mistake)) => {
+    match run_asked(alloc, words, folder, output) {
+        Ok(None) => Ended::Well,
+        Ok(Some(mistake)) => {
             let _ = write_shown(&mistake, errors);
-            2
+            Ended::TurnedDown
         }
-        Err(fault) => end_run(&Err(fault), errors),
+        Err(fault) => {
+            let line = tell(&fault, errors);
+            Ended::Failed(fault, line)
+        }
     }
 }

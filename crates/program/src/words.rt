@@ -1,15 +1,15 @@
-//! What the command line may say, the texts of help, and how clap reads it.
+//! The words of the command line: how they come from the host, what they may say, the texts of help, and how clap reads them.
 
-ghost use Rattle.std.specs.Prelude.{◌≡◌, false, map, string_bytes, IfOk, IfErr};
+ghost use Rattle.std.specs.Prelude.{◌≡◌, false, map, string_bytes, IfOk};
 ghost use Rattle.clap.specs.Words.{app_of};
 ghost use Rattle.clap.specs.declared.builder.command.Command.TheViews.{out-Command as fields_of};
 ghost use Rattle.program.specs.Asking.{IsAsked};
 ghost use Rattle.program.specs.CommandLine.{command_line, script_line};
 
-use crate::faults::ProgramFault;
 use clap::error::ErrorKind;
 use clap::{Arg, Command, Error};
 use std::alloc::{AllocError, Global};
+use std::{env, io};
 
 const ABOUT: &str = "A map feature server for land agencies";
 
@@ -112,6 +112,45 @@ pub struct ScriptWords<'a> {
     pub config: Option<&'a str>,
 }
 
+/// There was no memory for the words of the command line, or to read them. Only this module makes one, and only where std
+/// or clap has answered so, so a fault that carries one was not invented.
+#[derive(Debug, Drop, PartialEq, Eq)]
+pub struct WordsRefused {
+    seal: (),
+}
+
+impl WordsRefused {
+    /// Is called only where std or clap has answered that memory is wanted.
+    fn seen() -> Self {
+        WordsRefused { seal: () }
+    }
+}
+
+/// Why the host gives no words of a command line.
+#[derive(Debug, Drop, PartialEq, Eq)]
+pub enum WordsFault {
+    /// One of them is not UTF-8.
+    NotUtf8,
+    /// There is no memory for them.
+    Memory(WordsRefused),
+}
+
+/// The words with which the host started the program, of which the first is its name. `NotUtf8` where one of them is not
+/// UTF-8; `Memory` where there is no memory for them.
+pub fn host_words(rt: &HostRuntime) -> Result<Vec<String>, WordsFault> {
+    let words = match env::args(rt) {
+        Ok(words) => words,
+        Err(error) if error.kind() == io::ErrorKind::OutOfMemory => {
+            return Err(WordsFault::Memory(WordsRefused::seen()));
+        }
+        Err(_) => return Err(WordsFault::NotUtf8),
+    };
+    match words.collect(rt.alloc()) {
+        Ok(words) => Ok(words),
+        Err(_) => Err(WordsFault::Memory(WordsRefused::seen())),
+    }
+}
+
 /// The subcommand that runs a script.
 fn script_command<'a>(alloc: Global) -> Result<Command<'a>, AllocError>
     ensures app { IfOk result (λ command. app_of command ≡ script_line) }
@@ -145,31 +184,27 @@ fn command<'a>(alloc: Global) -> Result<Command<'a>, AllocError>
         .subcommand(script_command(alloc)?)
 }
 
-/// Reads the command line, of which the first word is the program's name. `NoMemory` where clap found none. Where clap
-/// takes the words there is a subcommand with its FILE, since both are required; should one be missing, it is `NoMemory` too.
-pub(crate) fn read_words<'a>(
-    alloc: Global,
-    words: &'a [String],
-) -> Result<Asked<'a>, ProgramFault<'a>>
-    ensures ok { IfOk result (IsAsked (map (λ word. string_bytes word) words.entry.now)) }
-    ensures err { IfErr result (λ fault. fault ≡ ProgramFault.NoMemory) }
+/// Reads the command line, of which the first word is the program's name. `WordsRefused` where clap found no memory. Where
+/// clap has nothing against the words there is a subcommand with its FILE, since both are required.
+pub(crate) fn read_words<'a>(alloc: Global, words: &'a [String]) -> Result<Asked<'a>, WordsRefused>
+    ensures { IfOk result (IsAsked (map (λ word. string_bytes word) words.entry.now)) }
 {
     let Ok(command) = command(alloc) else {
-        return Err(ProgramFault::NoMemory);
+        return Err(WordsRefused::seen());
     };
     let matches = match command.try_get_matches_from(words) {
         Ok(matches) => matches,
-        Err(error) if error.kind() == ErrorKind::OutOfMemory => return Err(ProgramFault::NoMemory),
+        Err(error) if error.kind() == ErrorKind::OutOfMemory => return Err(WordsRefused::seen()),
         Err(error) => return Ok(Asked::Text(error)),
     };
-    match matches.subcommand() {
-        Some((_, matches)) => match matches.get_str("FILE") {
-            Some(script) => Ok(Asked::Script(ScriptWords {
-                script,
-                config: matches.get_str("config"),
-            })),
-            None => Err(ProgramFault::NoMemory),
-        },
-        None => Err(ProgramFault::NoMemory),
-    }
+    let Some((_, files)) = matches.subcommand() else {
+        unreachable!()
+    };
+    let Some(script) = files.get_str("FILE") else {
+        unreachable!()
+    };
+    Ok(Asked::Script(ScriptWords {
+        script,
+        config: files.get_str("config"),
+    }))
 }

@@ -4,7 +4,8 @@ use crate::fakes::{
 };
 use byte_streams::{NotOpened, open_file};
 use program::{
-    CONFIG_LIMIT, Folder, ProgramFault, built_in_config, run_file, run_program, status_of, tell,
+    CONFIG_LIMIT, ConfigFault, Ended, Folder, ProgramFault, built_in_config, run_file, run_program,
+    tell,
 };
 use refusing::Refusing;
 use std::alloc::{AllocError, Global};
@@ -124,7 +125,7 @@ fn check<F: Folder>(
     let mut output = Vec::new(alloc);
     let mut errors = Vec::new(alloc);
     let ended = run_program(alloc, words.as_slice(), folder, &mut output, &mut errors);
-    assert_eq!(rt; ended, status);
+    assert_eq!(rt; ended.status(), status);
     assert_eq!(rt; output.as_slice(), written.0.as_bytes());
     assert_eq!(rt; errors.as_slice(), written.1.as_bytes());
     Ok(())
@@ -453,10 +454,10 @@ fn without_memory(rt: &impl Abort, alloc: Global, at: u64) -> Result<Vec<u8>, Al
         &mut FIRST_POINT.as_bytes(),
         &mut output,
     );
-    assert_eq!(rt; status_of(&end), 1);
-    if let Err(fault) = &end {
-        assert!(rt; tell(fault, &mut errors).is_ok());
-    }
+    let Err(fault) = &end else {
+        panic!(rt; "no allocation was refused")
+    };
+    assert!(rt; tell(fault, &mut errors).is_ok());
     assert_eq!(rt; output.len(), 0);
     Ok(errors)
 }
@@ -481,19 +482,33 @@ fn memory_is_refused(rt: HostRuntime) -> Result<(), Fail> {
         let told = without_memory(&rt, rt.alloc(), opened.saturating_add(at))?;
         assert_eq!(rt; told.as_slice(), b"landmap: V4\n".as_slice());
     }
-    is_told(&rt, rt.alloc(), &ProgramFault::NoMemory, "landmap: V4\n");
+    buffer_without_memory(&rt, rt.alloc());
     config_without_memory(&rt, rt.alloc());
     Ok(())
 }
 
-/// A configuration that finds no memory is told as B5.
-fn config_without_memory(rt: &impl Abort, alloc: Global) {
+/// The fault of a configuration that finds no memory.
+fn refused_config(rt: &impl Abort, alloc: Global) -> ConfigFault {
     let memory = Refusing::new(alloc, 1);
     let made = built_in_config(&memory, alloc);
     let Some(fault) = made.err() else {
         panic!(rt; "no allocation was refused")
     };
+    fault
+}
+
+/// A configuration that finds no memory is told as B5.
+fn config_without_memory(rt: &impl Abort, alloc: Global) {
+    let fault = refused_config(rt, alloc);
     is_told(rt, alloc, &ProgramFault::Config(fault), "landmap: B5\n");
+}
+
+/// A buffer of the output that finds none is told as V4.
+fn buffer_without_memory(rt: &impl Abort, alloc: Global) {
+    let ConfigFault::Memory(refused) = refused_config(rt, alloc) else {
+        panic!(rt; "a growth was refused")
+    };
+    is_told(rt, alloc, &ProgramFault::Memory(refused), "landmap: V4\n");
 }
 
 /// This fault is told by this line.
@@ -519,8 +534,8 @@ fn with_output(
     let words = words(alloc, texts)?;
     let mut output = writer(alloc, 1, with);
     let mut errors = Vec::new(alloc);
-    let status = run_program(alloc, words.as_slice(), &folder, &mut output, &mut errors);
-    assert_eq!(rt; status, 1);
+    let ended = run_program(alloc, words.as_slice(), &folder, &mut output, &mut errors);
+    assert_eq!(rt; ended.status(), 1);
     assert_eq!(rt; errors.as_slice(), b"landmap: cannot write\n".as_slice());
     Ok(())
 }
@@ -550,7 +565,10 @@ fn with_errors(
     let mut output = Vec::new(alloc);
     let mut errors = writer(alloc, 1, Failure::Error);
     let ended = run_program(alloc, words.as_slice(), &folder, &mut output, &mut errors);
-    assert_eq!(rt; ended, status);
+    assert_eq!(rt; ended.status(), status);
+    if let Ended::Failed(_, told) = &ended {
+        assert!(rt; told.is_err());
+    }
     assert_eq!(rt; errors.taken.len(), 0);
     Ok(())
 }
@@ -582,7 +600,7 @@ fn shows(
     let mut output = Vec::new(alloc);
     let mut errors = Vec::new(alloc);
     let ended = run_program(alloc, words.as_slice(), &folder, &mut output, &mut errors);
-    assert_eq!(rt; ended, status);
+    assert_eq!(rt; ended.status(), status);
     let (shown, other) = if status == 0 {
         (&output, &errors)
     } else {

@@ -1,0 +1,31 @@
+//! How a run of the program ends, and the exit status by which it tells so.
+
+ghost use Rattle.std.specs.Prelude.{◌≡◌};
+ghost use Rattle.program.specs.Ends.{exit_status};
+
+use crate::faults::ProgramFault;
+use byte_streams::WriteFailed;
+
+/// How a run of the program ended.
+#[derive(Debug, Drop)]
+pub enum Ended<'a> {
+    /// What was asked for is done.
+    Well,
+    /// It ended by this fault; and whether the fault's one line was told.
+    Failed(ProgramFault<'a>, Result<(), WriteFailed>),
+    /// clap turned the words of the command line down.
+    TurnedDown,
+}
+
+impl Ended<'_> {
+    /// The exit status of the program: 0 where it ended well, 1 where it ended by a fault, 2 where the command line is wrong.
+    pub fn status(&self) -> u8
+        ensures { result ≡ exit_status self.now }
+    {
+        match self {
+            Ended::Well => 0,
+            Ended::Failed(..) => 1,
+            Ended::TurnedDown => 2,
+        }
+    }
+}
