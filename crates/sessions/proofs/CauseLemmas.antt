@@ -1,5 +1,5 @@
 -- Which faults are the index's, and why it refuses.
-use Rattle.std.proofs.Common.{◌≡◌, ◌⊎◌, ℕ, zero, suc, ◌+◌, ◌<◌, ◌==◌, Bool, true, false, List, Option, None, Some, MatchOption, Result, Ok, Err, IfErr, if◌then◌else◌, refl, sym, ap, subst, ◌∙◌, inl, inr, arith, nat_le, nat_lt, length}
+use Rattle.std.proofs.Common.{◌≡◌, ◌⊎◌, ℕ, zero, suc, ◌+◌, ◌*◌, ◌<◌, [], ◌==◌, Bool, true, false, List, Option, None, Some, MatchOption, Result, Ok, Err, IfErr, if◌then◌else◌, refl, sym, ap, subst, ◌∙◌, inl, inr, arith, nat_le, nat_lt, length}
 use Rattle.std.specs.Prelude.{⊤}
 use Rattle.std.specs.Bool.{MatchBool}
 use Rattle.plane.specs.declared.point.Point.{Point}
@@ -12,10 +12,12 @@ use Rattle.audit_trail.specs.Legal.{subject_of}
 use Rattle.audit_trail.specs.Records.{applied}
 use Rattle.plain_world.specs.declared.faults.Fault.{Fault}
 use Rattle.plain_world.specs.declared.faults.Fault.TheVariants as faults
+use Rattle.plain_world.specs.declared.outcomes.Outcome.{Outcome}
 use Rattle.plain_world.specs.declared.outcomes.Outcome.TheVariants as outcomes
 use Rattle.plain_world.specs.declared.searches.Search.{Search}
 use Rattle.plain_world.specs.declared.settings.TheConstants.{CHANGE_LIMIT, SEARCH_LIMIT, STEP_LIMIT, TRANSACTION_LIMIT}
 use Rattle.plain_world.specs.declared.steps.Advance.{Advance}
+use Rattle.plain_world.specs.declared.steps.Advance.TheVariants.{Walked}
 use Rattle.plain_world.specs.Admitting.{LAST, and_then, given, map_ok, refused_if, owned, search_with, subject_at, own_search, has_answered_ready, may_record, may_go_on, may_finish, may_open, next_search, next_transaction, may_begin, transaction_owned, own_transaction, may_step, may_add, may_stage, all_placed, may_commit}
 use Rattle.plain_world.specs.Events.{Event, OpenSearch, VisitNext, Finish, Begin, Stage, Commit, Happens, Reply, Number, Visited, Refused, Rows, Ended, Done, Applies, CommitsAs, UnlessMemory, Visits, is_want, recorded, reply_of, without_transaction}
 use Rattle.plain_world.specs.Staging.{TransactionData, names, next_placement, placements, staged_in, transaction_with}
@@ -35,8 +37,17 @@ use Rattle.transactions.specs.Index.{Index, IndexedWorld, frames}
 use Rattle.transactions.specs.Refusing.{GivesUp, RefusesGrowth}
 use Rattle.transactions.specs.Stepping.{VisitsIndex}
 use Rattle.transactions.specs.Walking.{IsWalked, MakesStep, WalksOn, told_step}
-use Rattle.sessions.specs.Causes.{IsOwn, SearchesOut, SeeksOut, is_of_index}
+use Rattle.transactions.specs.Walks.{begun as with_place}
+use Rattle.sessions.specs.declared.faults.Fault.TheVariants.{BeforeHello}
+use Rattle.sessions.specs.declared.replies.Reply.{Reply as Told}
+use Rattle.sessions.specs.declared.replies.Reply.TheVariants.{Error}
+use Rattle.sessions.specs.Causes.{Advances, CommitsOut, ConcludesOut, IsOwn, IsStaged, OfRefusal, PlacesOut, SearchesOut, SeeksOut, WalksMore, is_of_index}
+use Rattle.sessions.specs.Replies.{fault_reply, line, outcome_reply, told}
+use Rattle.sessions.specs.Services.{Commit as CommitList, Commits, Serves}
+use Rattle.sessions.specs.States.{SoloState, WhereAtRest, begun}
 use Rattle.sessions.specs.Stepping.{SeesMore}
+use Rattle.sessions.specs.UnderWay.{under}
+use Rattle.sessions.proofs.CommitLemmas.{begins}
 use Rattle.sessions.proofs.SearchLemmas.{want_is}
 
 -- ---- faults that are not the index's
@@ -267,3 +278,73 @@ open_out seat window index old new reply h =
         fails_then Fits (subject_at seat old) _ (fails_given Fits (subject_of seat old.seats) tt) (λ _.
         fails_if Fits (nat_le SEARCH_LIMIT (length old.searches)) (faults.Tree tree.TooMany) _ tt
         (fails_if Fits (old.next_search == LAST) (faults.Tree tree.Spent) (Ok old.next_search) tt (fails_ok Fits old.next_search)))
+
+-- ---- lists
+
+module _ (seat number count : ℕ) (first old : IndexedWorld) (walks : WalksMore seat number count first old) where
+  -- one step more
+  pub walks_further : (new : IndexedWorld) (step : Step) → Advances seat number old new (Ok (Walked step)) → WalksMore seat number (count + 1) first new
+  walks_further new step h =
+      let next : suc count ≡ count + 1 = omega arith in
+      subst (λ (n : ℕ). WalksMore seat number n first new) next (old, step, walks, h)
+
+  -- the step is refused
+  pub places_refused_out : (new : IndexedWorld) (fault : Fault) → Advances seat number old new (Err fault) → PlacesOut seat number first fault
+  places_refused_out new (faults.Tree fault) h = (count, old, walks, inl (new, h))
+  places_refused_out new _ h = tt
+
+  -- the walks are waited for no longer
+  pub places_no_longer : CHANGE_LIMIT * (STEP_LIMIT + 1) < count → PlacesOut seat number first (faults.Tree tree.Overrun)
+  places_no_longer lt = (count, old, walks, inr (refl, lt))
+
+-- what the index does of a list that is not placed, as the list is staged
+pub places_out : (seat number : ℕ) (changes : List Change) (plain : WorldData) (old first : IndexedWorld) → IsStaged seat number changes plain old.index old.walks first → (fault : Fault)
+    → PlacesOut seat number first fault → ConcludesOut seat number changes plain old fault
+places_out seat number changes plain old first staged (faults.Tree fault) out = (first, staged, out)
+places_out seat number changes plain old first staged _ out = tt
+
+pub concludes_own : (seat number : ℕ) (changes : List Change) (plain : WorldData) (old : IndexedWorld) (fault : Fault) → IsOwn fault → ConcludesOut seat number changes plain old fault
+concludes_own seat number changes plain old (faults.Tree fault) own = absurd cc
+concludes_own seat number changes plain old _ own = tt
+
+pub concludes_told : (seat number : ℕ) (changes : List Change) (old : IndexedWorld) {T : Type 0} (make : T → Reply) (r : Result T Fault) → Answered IsOwn (reply_of make r)
+    → IfErr r (λ fault. (w : WorldData) (subject : Subject) → subject_at seat w ≡ Ok subject → old.plain ≡ under number seat [] 0 w → ConcludesOut seat number changes w old fault)
+concludes_told seat number changes old make (Ok x) own = tt
+concludes_told seat number changes old make (Err fault) own = λ w subject seated start. concludes_own seat number changes w old fault own
+
+pub commits_own : (changes : List Change) (old : IndexedWorld) (fault : Fault) → IsOwn fault → CommitsOut changes old fault
+commits_own changes old (faults.Tree fault) own = absurd cc
+commits_own changes old _ own = tt
+
+-- a list that is given up once its transaction has begun
+pub commits_out : (seat number : ℕ) (changes : List Change) (old mid : IndexedWorld) → Happens (Begin seat) old.plain mid.plain (Number number) → mid.index ≡ old.index
+    → mid.walks ≡ with_place number old.walks → (fault : Fault)
+    → ((w : WorldData) (subject : Subject) → subject_at seat w ≡ Ok subject → mid.plain ≡ under number seat [] 0 w → ConcludesOut seat number changes w mid fault) → CommitsOut changes old fault
+commits_out seat number changes old mid h index walks (faults.Tree fault) out =
+    λ still.
+    let started = begins seat old.plain mid.plain number still h in
+    let ends = out (begun old.plain) started.subject started.seated started.stands in (
+      seat,
+      number,
+      ends.0,
+      record { stands = ends.1.stands; index_is = ends.1.index_is ∙ index; walks_are = ends.1.walks_are ∙ walks },
+      ends.2,
+    )
+commits_out seat number changes old mid h index walks _ out = tt
+
+-- what holds of a refusal holds of what is told of it
+pub list_refused : (fault : Fault) (Holds : Fault → Type 0) → Holds fault → OfRefusal (line (fault_reply fault)) Holds
+list_refused (faults.Memory refused) Holds h = tt
+list_refused (faults.Tree (tree.Memory refused)) Holds h = tt
+list_refused (faults.Tree (tree.Held search)) Holds h = (search, h)
+list_refused faults.NoSubject Holds h = tt
+list_refused faults.NoPlace Holds h = tt
+list_refused _ Holds h = h
+
+-- a commit that comes to nothing
+pub commit_refused : (seat : ℕ) (changes : List Change) (old new : SoloState) (fault : Fault) (told_so : Told) → old.seat ≡ Some seat → new.seat ≡ old.seat
+    → WhereAtRest old.world new.world (Commits seat changes old.world new.world (Refused fault)) → told_so ≡ fault_reply fault → Serves (CommitList changes) old new (line told_so)
+commit_refused seat changes old new fault told_so is same ends shown =
+    subst (λ (s : Option ℕ). MatchOption s ((new ≡ old) × (line told_so ≡ line (Error BeforeHello))) (λ seat. (new.seat ≡ old.seat)
+    × WhereAtRest old.world new.world ((end : Result Outcome Fault) × Commits seat changes old.world new.world (reply_of Ended end) × (line told_so ≡ told (λ outcome. line (outcome_reply outcome)) end)))) (sym is)
+    (same, λ still. let all = ends still in (all.0, (Err fault, all.1, ap line shown)))

@@ -1,6 +1,6 @@
 -- Lines over a world that is lent to a session. The loan ends with the world as the last call left it, since each call keeps
 -- the reference.
-use Rattle.std.proofs.Common.{◌≡◌, ℕ, Bool, true, false, List, [], Option, None, Result, refl, sym, ap, subst, ◌∙◌}
+use Rattle.std.proofs.Common.{◌≡◌, ℕ, Bool, true, false, List, [], Option, Result, refl, ap, subst, ◌∙◌}
 use Rattle.std.specs.Bool.{MatchBool}
 use Rattle.features.specs.declared.actors.Subject.{Subject}
 use Rattle.features.specs.declared.rows.Change.{Change}
@@ -11,79 +11,78 @@ use Rattle.sessions.specs.Desks.{Answers}
 use Rattle.sessions.specs.Lines.{is_too_long}
 use Rattle.sessions.specs.Printed.{led, reply_text}
 use Rattle.sessions.specs.Replies.{SaidData}
-use Rattle.sessions.specs.Scripts.{desk_of}
 use Rattle.sessions.specs.Services.{Call, Serves, solo_subject}
 use Rattle.sessions.specs.Serving.{Calls, LineTells, Replies}
-use Rattle.sessions.specs.States.{Desk, IsIdle, SessionState, SoloState, desk, solo}
+use Rattle.sessions.specs.States.{Desk, IsIdle, SoloState, desk}
 use Rattle.sessions.specs.Streams.{Ran}
-use Rattle.plain_world.specs.States.{WorldData}
 use Rattle.sessions.proofs.DeskLemmas.{line_keeps, line_seen}
 use Rattle.sessions.proofs.KeepLemmas.{StaysIdle, call_idle, calls_keep}
 use Rattle.sessions.proofs.StreamLemmas.{ran_as}
 
-module _ {S N : Type 0} (see : S → SoloState) (name : S → N) (Beside : Call → S → S → SaidData → Type 0) where
-  abbrev pub asks_for : S → Option Subject
-  asks_for s = solo_subject (see s)
-
-  abbrev pub lent : Call → S → S → SaidData → Type 0
-  lent call old new said = (name new ≡ name old) × Serves call (see old) (see new) said × Beside call old new said
-
-  shows : (call : Call) (old new : S) (said : SaidData) → lent call old new said → Serves call (see old) (see new) said
-  shows call old new said h = h.1
+-- a service that is seen as another, and keeps its name at each call
+module _ {S T N : Type 0} (see : S → T) (name : S → N) (subject_of : T → Option Subject) (lent : Call → S → S → SaidData → Type 0) (shown : Call → T → T → SaidData → Type 0)
+    (named : (call : Call) (old new : S) (said : SaidData) → lent call old new said → name new ≡ name old)
+    (shows : (call : Call) (old new : S) (said : SaidData) → lent call old new said → shown call (see old) (see new) said) where
+  abbrev asks : S → Option Subject
+  asks s = subject_of (see s)
 
   -- ---- one line
 
-  line_name : (text : List ℕ) (old new : Desk S) (said : SaidData) → Answers asks_for lent text old new said → name new.service ≡ name old.service
-  line_name text old new said h =
-      line_keeps asks_for lent (λ (a b : S). name b ≡ name a) (λ s. refl) (λ call a b said h. h.0) text old new said h
-
-  pub session_told : (text : List ℕ) (old new : Desk S) (said : SaidData) (before after : SessionState) (world end : WorldData) → Answers asks_for lent text old new said
-      → old.staged ≡ before.staged → see old.service ≡ solo world before.seat → new.staged ≡ after.staged → (name new.service ≡ name old.service → see new.service ≡ solo end after.seat)
-      → Answers solo_subject Serves text (desk_of world before) (desk_of end after) said
-  session_told text old new said before after world end h staged stands left lent_ends =
-      let ends = lent_ends (line_name text old new said h) in
-      let old_is : desk old.staged (see old.service) ≡ desk_of world before = ap (λ (xs : List Change). desk xs (see old.service)) staged ∙ ap (λ (s : SoloState). desk before.staged s) stands in
-      let new_is : desk new.staged (see new.service) ≡ desk_of end after = ap (λ (xs : List Change). desk xs (see new.service)) left ∙ ap (λ (s : SoloState). desk after.staged s) ends in
-      let told = line_seen see solo_subject lent Serves shows text old new said h in
-      subst (λ (d : Desk SoloState). Answers solo_subject Serves text (desk_of world before) d said) new_is
-      (subst (λ (d : Desk SoloState). Answers solo_subject Serves text d (desk new.staged (see new.service)) said) old_is told)
+  pub session_shown : (text : List ℕ) (old new : Desk S) (said : SaidData) (before after : List Change) (begins ends : T) → Answers asks lent text old new said
+      → old.staged ≡ before → see old.service ≡ begins → new.staged ≡ after → (name new.service ≡ name old.service → see new.service ≡ ends)
+      → Answers subject_of shown text (desk before begins) (desk after ends) said
+  session_shown text old new said before after begins ends h staged stands left lent_ends =
+      let kept = line_keeps asks lent (λ (a b : S). name b ≡ name a) (λ s. refl) named text old new said h in
+      let old_is : desk old.staged (see old.service) ≡ desk before begins = ap (λ (xs : List Change). desk xs (see old.service)) staged ∙ ap (λ (s : T). desk before s) stands in
+      let new_is : desk new.staged (see new.service) ≡ desk after ends = ap (λ (xs : List Change). desk xs (see new.service)) left ∙ ap (λ (s : T). desk after s) (lent_ends kept) in
+      let told = line_seen see subject_of lent shown shows text old new said h in
+      subst (λ (d : Desk T). Answers subject_of shown text (desk before begins) d said) new_is (subst (λ (d : Desk T). Answers subject_of shown text d (desk new.staged (see new.service)) said) old_is told)
 
   -- ---- a run
 
-  abbrev seen : Desk S → Desk SoloState
+  abbrev seen : Desk S → Desk T
   seen d = desk d.staged (see d.service)
 
-  line_told : (text : List ℕ) (old new : Desk S) (said : List ℕ) → LineTells asks_for lent text old new said → LineTells solo_subject Serves text (seen old) (seen new) said
+  line_told : (text : List ℕ) (old new : Desk S) (said : List ℕ) → LineTells asks lent text old new said → LineTells subject_of shown text (seen old) (seen new) said
   line_told text old new said h = go (is_too_long text) h
     where
-      go : (b : Bool) → MatchBool b ((new ≡ old) × (said ≡ led [] (reply_text (Error LineTooLong)))) (Replies asks_for lent text old new said)
-          → MatchBool b ((seen new ≡ seen old) × (said ≡ led [] (reply_text (Error LineTooLong)))) (Replies solo_subject Serves text (seen old) (seen new) said)
+      go : (b : Bool) → MatchBool b ((new ≡ old) × (said ≡ led [] (reply_text (Error LineTooLong)))) (Replies asks lent text old new said)
+          → MatchBool b ((seen new ≡ seen old) × (said ≡ led [] (reply_text (Error LineTooLong)))) (Replies subject_of shown text (seen old) (seen new) said)
       go true h = (ap seen h.0, h.1)
-      go false h = record { reply = h.reply; answers = line_seen see solo_subject lent Serves shows text old new h.reply h.answers; shows = h.shows }
+      go false h = record { reply = h.reply; answers = line_seen see subject_of lent shown shows text old new h.reply h.answers; shows = h.shows }
 
-  run_seen : (r : Result (Unit {0}) ServeFault) (old new : Desk S) (input left a b : Option (List ℕ)) → Ran (LineTells asks_for lent) r old new input left a b
-      → Ran (LineTells solo_subject Serves) r (seen old) (seen new) input left a b
-  run_seen r old new input left a b run = ran_as seen (LineTells asks_for lent) (LineTells solo_subject Serves) line_told r old new input left a b run
+  run_seen : (r : Result (Unit {0}) ServeFault) (old new : Desk S) (input left a b : Option (List ℕ)) → Ran (LineTells asks lent) r old new input left a b
+      → Ran (LineTells subject_of shown) r (seen old) (seen new) input left a b
+  run_seen r old new input left a b run = ran_as seen (LineTells asks lent) (LineTells subject_of shown) line_told r old new input left a b run
 
   calls_name : (calls : List (Call × SaidData)) (old new : S) → Calls lent calls old new → name new ≡ name old
-  calls_name calls old new h = calls_keep asks_for lent (λ (a b : S). name b ≡ name a) (λ s. refl) (λ a b c first more. more ∙ first) (λ call a b said h. h.0) calls old new h
-
-  calls_idle : (calls : List (Call × SaidData)) (old new : S) → Calls lent calls old new → StaysIdle (see old) (see new)
-  calls_idle calls old new h =
-      calls_keep asks_for lent (λ (a b : S). StaysIdle (see a) (see b)) (λ s still. still) (λ a b c first more still. more (first still)) (λ call a b said h. call_idle call (see a) (see b) said h.1) calls old new h
+  calls_name calls old new h = calls_keep asks lent (λ (a b : S). name b ≡ name a) (λ s. refl) (λ a b c first more. more ∙ first) named calls old new h
 
   -- a run, where the world ends as the loan leaves it
-  pub run_told : (r : Result (Unit {0}) ServeFault) (old new : S) (staged : List Change) (world end : WorldData) (seat : Option ℕ) (input left a b : Option (List ℕ))
-      → ((calls : List (Call × SaidData)) × Calls lent calls old new) → see old ≡ solo world None → (name new ≡ name old → see new ≡ solo end seat)
-      → Ran (LineTells asks_for lent) r (desk [] old) (desk staged new) input left a b
-      → Ran (LineTells solo_subject Serves) r (desk [] (solo world None)) (desk staged (solo end seat)) input left a b
-  run_told r old new staged world end seat input left a b called begins ends run =
-      subst (λ (s : SoloState). Ran (LineTells solo_subject Serves) r (desk [] (solo world None)) (desk staged s) input left a b) (ends (calls_name called.0 old new called.1))
-      (subst (λ (s : SoloState). Ran (LineTells solo_subject Serves) r (desk [] s) (desk staged (see new)) input left a b) begins
+  pub run_shown : (r : Result (Unit {0}) ServeFault) (old new : S) (staged : List Change) (begins ends : T) (input left a b : Option (List ℕ))
+      → ((calls : List (Call × SaidData)) × Calls lent calls old new) → see old ≡ begins → (name new ≡ name old → see new ≡ ends)
+      → Ran (LineTells asks lent) r (desk [] old) (desk staged new) input left a b
+      → Ran (LineTells subject_of shown) r (desk [] begins) (desk staged ends) input left a b
+  run_shown r old new staged begins ends input left a b called stands lent_ends run =
+      subst (λ (s : T). Ran (LineTells subject_of shown) r (desk [] begins) (desk staged s) input left a b) (lent_ends (calls_name called.0 old new called.1))
+      (subst (λ (s : T). Ran (LineTells subject_of shown) r (desk [] s) (desk staged (see new)) input left a b) stands
       (run_seen r (desk [] old) (desk staged new) input left a b run))
 
-  pub run_idles : (old new : S) (world end : WorldData) (seat : Option ℕ) → ((calls : List (Call × SaidData)) × Calls lent calls old new) → see old ≡ solo world None
-      → (name new ≡ name old → see new ≡ solo end seat) → IsIdle world → IsIdle end
-  run_idles old new world end seat called begins ends still =
-      subst (λ (s : SoloState). IsIdle s.world) (ends (calls_name called.0 old new called.1))
-      (calls_idle called.0 old new called.1 (subst (λ (s : SoloState). IsIdle s.world) (sym begins) still))
+  -- what every call keeps of what is seen, a run keeps
+  pub run_keeps : (Kept : T → T → Type 0) → ((s : T) → Kept s s) → ((a b c : T) → Kept a b → Kept b c → Kept a c)
+      → ((call : Call) (a b : T) (said : SaidData) → shown call a b said → Kept a b) → (old new : S) (begins ends : T)
+      → ((calls : List (Call × SaidData)) × Calls lent calls old new) → see old ≡ begins → (name new ≡ name old → see new ≡ ends) → Kept begins ends
+  run_keeps Kept same chain each old new begins ends called stands lent_ends =
+      subst (λ (s : T). Kept begins s) (lent_ends (calls_name called.0 old new called.1))
+      (subst (λ (s : T). Kept s (see new)) stands
+      (calls_keep asks lent (λ (a b : S). Kept (see a) (see b)) (λ s. same (see s)) (λ a b c first more. chain (see a) (see b) (see c) first more)
+      (λ call a b said h. each call (see a) (see b) said (shows call a b said h)) called.0 old new called.1))
+
+-- nothing comes to be under way in the world of a run
+pub run_idles : {S N : Type 0} (see : S → SoloState) (name : S → N) (lent : Call → S → S → SaidData → Type 0)
+    → ((call : Call) (old new : S) (said : SaidData) → lent call old new said → name new ≡ name old)
+    → ((call : Call) (old new : S) (said : SaidData) → lent call old new said → Serves call (see old) (see new) said) → (old new : S) (begins ends : SoloState)
+    → ((calls : List (Call × SaidData)) × Calls lent calls old new) → see old ≡ begins → (name new ≡ name old → see new ≡ ends) → IsIdle begins.world → IsIdle ends.world
+run_idles see name lent named shows old new begins ends called stands lent_ends =
+    run_keeps see name solo_subject lent Serves named shows StaysIdle (λ s still. still) (λ a b c first more still. more (first still)) (λ call a b said h. call_idle call a b said h)
+    old new begins ends called stands lent_ends

@@ -7,7 +7,9 @@ use Rattle.sessions.specs.declared.scripts.TheConstants.{LABEL_LIMIT}
 use Rattle.sessions.specs.Printed.{said_text}
 use Rattle.sessions.specs.Replies.{SaidData}
 use Rattle.plain_world.specs.States.{WorldData}
-use Rattle.sessions.specs.Scripts.{Script, SessionAnswers, fresh, script, place, with_label, IsScriptText, LabelTells, LineTells}
+use Rattle.transactions.specs.Index.{IndexedWorld}
+use Rattle.sessions.specs.Indexed.{IndexedScript, LabelThere, LineRuns, SessionThere}
+use Rattle.sessions.specs.Scripts.{SessionAnswers, fresh, script, place, with_label, IsScriptText, LabelTells, LineTells}
 use Rattle.sessions.specs.Serving as serving
 use Rattle.sessions.specs.Serving.{IsServedText}
 use Rattle.sessions.specs.Services.{Call}
@@ -19,16 +21,27 @@ use Rattle.byte_streams.specs.Written.{Took}
 use Rattle.sessions.specs.Streams.{OnMemory, Ran}
 use Rattle.sessions.specs.declared.streams.ServeFault.{ServeFault}
 use Rattle.sessions.specs.declared.streams.ServeFault.TheVariants.{Memory}
+use Rattle.sessions.proofs.StreamLemmas.{ran_as}
 
 -- what a session answered and wrote is what its label's line tells
-pub label_told : {E : Type 0} (r : Result (Unit {0}) E) (label text : List ℕ) (old : Script) (world : WorldData) (sessions : List SessionState) (reply : SaidData) (a b : Option (List ℕ))
+pub label_told : {E : Type 0} (r : Result (Unit {0}) E) (label text : List ℕ) (old : IndexedScript) (world : IndexedWorld) (sessions : List SessionState) (reply : SaidData) (a b : Option (List ℕ))
     → place label old.sessions < LABEL_LIMIT
     → ((session : SessionState) × (sessions ≡ slice_set (with_label label old.sessions) (place label old.sessions) session)
-    × ((d : SessionState) → SessionAnswers text (slice_index_or (with_label label old.sessions) (place label old.sessions) d) old.world session world reply))
+    × ((d : SessionState) → SessionAnswers text (slice_index_or (with_label label old.sessions) (place label old.sessions) d) old.world.plain session world.plain reply)
+    × ((d : SessionState) → SessionThere text (slice_index_or (with_label label old.sessions) (place label old.sessions) d) old.world session world reply))
     → Took r a b (said_text label reply)
-    → ((said : List ℕ) × Took r a b said × LabelTells label text old (script world sessions) said)
-label_told r label text old world sessions reply a b room answered written =
-    (said_text label reply, written, rw (lt-ltb _ _ room) (record { session = answered.0; reply = reply; answers = answered.2 (fresh label); stays = answered.1; shows = refl }))
+    → ((said : List ℕ) × Took r a b said × LabelTells label text (script old.world.plain old.sessions) (script world.plain sessions) said × LabelThere label text old sessions world said)
+label_told r label text old world sessions reply a b room answered written = (
+  said_text label reply,
+  written,
+  rw (lt-ltb _ _ room) (record { session = answered.0; reply = reply; answers = answered.2 (fresh label); stays = answered.1; shows = refl }),
+  rw (lt-ltb _ _ room) (answered.0, reply, answered.3 (fresh label), answered.1, refl),
+)
+
+-- a run over a world with its index, as the script text has it
+pub ran_plainly : (r : Result (Unit {0}) ServeFault) (old new : IndexedScript) (input left a b : Option (List ℕ)) → Ran LineRuns r old new input left a b
+    → Ran LineTells r (script old.world.plain old.sessions) (script new.world.plain new.sessions) input left a b
+ran_plainly r old new input left a b run = ran_as (λ (s : IndexedScript). script s.world.plain s.sessions) LineRuns LineTells (λ line x y said h. h.0) r old new input left a b run
 
 -- a run that ended well has written the script text of all its known input
 pub script_text_of : (r : Result (Unit {0}) ServeFault) (world last end : WorldData) (sessions : List SessionState) (input left a b : Option (List ℕ)) → Ran LineTells r (script world []) (script last sessions) input left a b

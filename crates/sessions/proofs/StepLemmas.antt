@@ -15,7 +15,8 @@ use Rattle.sessions.specs.Services.{Serves, solo_subject}
 use Rattle.sessions.specs.States.{SessionState, desk, solo}
 use Rattle.sessions.specs.Stepping.{Drops, FindsMore, GoesOn, SeesMore, VisitsOn}
 use Rattle.sessions.proofs.SearchLemmas.{more_same}
-use Rattle.transactions.specs.Index.{Index}
+use Rattle.sessions.specs.Indexed.{ServesThere, Shuts, TakesThere, asks_for, server}
+use Rattle.transactions.specs.Index.{Index, IndexedWorld}
 use Rattle.transactions.specs.Stepping.{VisitsIndex}
 
 -- a session is served, and its open search stays or is given up
@@ -32,6 +33,22 @@ plain_so text old mid new before old_world mid_world new_world said answers sear
       subst (λ (at : Option ℕ). MatchBool (keeps_seat old.seat at) ((new.search ≡ old.search) × (new_world ≡ mid_world)) ((new.search ≡ None) × Drops old.seat old.search mid_world new_world)) (sym seat)
           (subst (λ (o : Option ℕ). MatchBool (keeps_seat old.seat mid.seat) ((new.search ≡ o) × (new_world ≡ mid_world)) ((new.search ≡ None) × Drops old.seat o mid_world new_world)) search
           (subst (λ (at : Option ℕ). MatchBool (keeps_seat at mid.seat) ((new.search ≡ mid.search) × (new_world ≡ mid_world)) ((new.search ≡ None) × Drops at mid.search mid_world new_world)) was settles)),
+    )
+
+-- the same, with the index of the world
+pub there_so : (text : List ℕ) (old mid new : SessionState) (before : Option ℕ) (old_world mid_world new_world : IndexedWorld) (said : SaidData)
+    → Answers asks_for ServesThere text (desk old.staged (server old_world old.seat)) (desk mid.staged (server mid_world mid.seat)) said → mid.search ≡ old.search → new ≡ record mid { search = new.search } → before ≡ old.seat
+    → MatchBool (keeps_seat before mid.seat) (new_world ≡ mid_world) (Shuts before mid.search mid_world new_world)
+    → TakesThere text old old_world new new_world said
+there_so text old mid new before old_world mid_world new_world said answers search kept was settles =
+    let seat : new.seat ≡ mid.seat = ap (λ (x : SessionState). x.seat) kept in
+    let staged : new.staged ≡ mid.staged = ap (λ (x : SessionState). x.staged) kept in (
+      mid_world,
+      subst (λ (at : Option ℕ). Answers asks_for ServesThere text (desk old.staged (server old_world old.seat)) (desk new.staged (server mid_world at)) said) (sym seat)
+          (subst (λ (xs : List Change). Answers asks_for ServesThere text (desk old.staged (server old_world old.seat)) (desk xs (server mid_world mid.seat)) said) (sym staged) answers),
+      subst (λ (at : Option ℕ). MatchBool (keeps_seat old.seat at) (new_world ≡ mid_world) (Shuts old.seat old.search mid_world new_world)) (sym seat)
+          (subst (λ (o : Option ℕ). MatchBool (keeps_seat old.seat mid.seat) (new_world ≡ mid_world) (Shuts old.seat o mid_world new_world)) search
+          (subst (λ (at : Option ℕ). MatchBool (keeps_seat at mid.seat) (new_world ≡ mid_world) (Shuts at mid.search mid_world new_world)) was settles)),
     )
 
 module _ (seat number count : ℕ) (start old new : WorldData) (more : FindsMore seat number count start old) where

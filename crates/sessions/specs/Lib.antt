@@ -12,5 +12,6 @@ pub mod Printed
 pub mod Lines
 pub mod Streams
 pub mod Scripts
+pub mod Indexed
 pub mod Serving
 pub mod BuiltIn

@@ -1,16 +1,19 @@
 //! What a session asks of a world, each call from its beginning to its end. A search or a commit that ends with a fault is
 //! dropped or aborted, and so nothing of it stays under way.
 
-ghost use Rattle.std.specs.Prelude.{◌≡◌, ◌≤◌, IfErr, length};
+ghost use Rattle.std.specs.Prelude.{◌≡◌, ◌≤◌, [], Ok, IfErr, length};
 ghost use Rattle.std.specs.Arc.{arc_value};
 ghost use Rattle.audit_trail.specs.Judging.{AreDistinct};
 ghost use Rattle.plain_world.specs.Events.{Ended, Govern, Happens, Number, Roll, Rows, TakenOut, reply_of};
 ghost use Rattle.plain_world.specs.declared.settings.TheConstants.{CHANGE_LIMIT};
-ghost use Rattle.sessions.specs.Causes.{IsOwn, SearchesOut, SeeksOut, StayBeside};
+ghost use Rattle.features.specs.declared.actors.Subject.{Subject};
+ghost use Rattle.plain_world.specs.Admitting.{subject_at};
+ghost use Rattle.plain_world.specs.States.{WorldData};
+ghost use Rattle.sessions.specs.Causes.{CommitsOut, ConcludesOut, IsOwn, PlacesOut, SearchesOut, SeeksOut, StayBeside};
 ghost use Rattle.sessions.specs.Services.{Searches, Commits};
 ghost use Rattle.sessions.specs.States.{WhereAtRest};
 ghost use Rattle.sessions.specs.Stepping.{Seeks};
-ghost use Rattle.sessions.specs.UnderWay.{Concludes, Places, Stages};
+ghost use Rattle.sessions.specs.UnderWay.{Concludes, Places, Stages, under};
 ghost use Rattle.transactions.specs.Refusing.{RefusesGrowth};
 
 use features::{Change, Meter};
@@ -83,6 +86,7 @@ pub(crate) fn commit<A: Allocator + Copy>(
     requires few { length changes.now ≤ CHANGE_LIMIT }
     ensures commits { WhereAtRest world.old.plain world.new.plain (Commits seat changes.now world.old.plain world.new.plain (reply_of Ended result)) }
     ensures index { IfErr result (RefusesGrowth world.new.index) }
+    ensures out { IfErr result (CommitsOut changes.now world.old) }
 {
     let number = world.begin(seat)?;
     match conclude(world, seat, number, changes) {
@@ -105,6 +109,8 @@ fn conclude<A: Allocator + Copy>(
     requires few { length changes.now ≤ CHANGE_LIMIT }
     ensures concludes { Concludes seat number changes.now world.old.plain world.new.plain (reply_of Ended result) }
     ensures index { IfErr result (RefusesGrowth world.new.index) }
+    ensures out { IfErr result (λ fault. (w : WorldData) (subject : Subject) → subject_at seat w ≡ Ok subject → world.old.plain ≡ under number seat [] 0 w
+        → ConcludesOut seat number changes.now w world.old fault) }
 {
     stage_all(world, seat, number, changes)?;
     place_all(world, seat, number)?;
@@ -122,6 +128,7 @@ fn stage_all<A: Allocator>(
     requires few { length changes.now ≤ CHANGE_LIMIT }
     ensures stages { Stages seat number changes.now world.old.plain world.new.plain result }
     ensures own { IfErr result IsOwn }
+    ensures beside { StayBeside world.old world.new }
 {
     for change in changes {
         world.stage(seat, number, *change)?;
@@ -133,6 +140,7 @@ fn stage_all<A: Allocator>(
 fn place_all<A: Allocator + Copy>(world: &mut World<A>, seat: u32, number: u64) -> Result<(), Fault>
     ensures places { Places seat number world.old.plain world.new.plain result }
     ensures index { IfErr result (RefusesGrowth world.new.index) }
+    ensures out { IfErr result (PlacesOut seat number world.old) }
 {
     for _ in 0..WALK_STEPS {
         match world.advance(seat, number)? {

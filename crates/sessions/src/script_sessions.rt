@@ -3,9 +3,11 @@
 ghost use Rattle.std.specs.Bool.{MatchBool};
 ghost use Rattle.std.specs.Prelude.{◌≡◌, None};
 ghost use Rattle.sessions.specs.Desks.{Answers};
+ghost use Rattle.sessions.specs.Indexed.{ServesThere, SessionThere, Shuts, StepsThere, TakesStepThere, TakesThere, asks_for, server};
 ghost use Rattle.sessions.specs.Replies.{line as said_in_line, said_view};
 ghost use Rattle.sessions.specs.Scripts.{Ends, ObeysStep, Opens, SessionAnswers, Steps, TakesPlain, TakesStep, desk_of, fresh, keeps_seat};
 ghost use Rattle.sessions.specs.Services.{Serves, solo_subject};
+ghost use Rattle.sessions.specs.States.{desk};
 ghost use Rattle.sessions.specs.Stepping.{Drops};
 
 use crate::desks::{Staged, answer};
@@ -65,7 +67,8 @@ impl Session {
         heap: Global,
         text: &[u8],
     ) -> Said<A>
-        ensures { SessionAnswers text.now self.old world.old.plain self.new world.new.plain (said_view result) }
+        ensures answers { SessionAnswers text.now self.old world.old.plain self.new world.new.plain (said_view result) }
+        ensures there { SessionThere text.now self.old world.old self.new world.new (said_view result) }
     {
         match read_step_verb(text) {
             None => self.take_plain(world, heap, text),
@@ -82,6 +85,7 @@ impl Session {
     ) -> Said<A>
         ensures label { self.new.label ≡ self.old.label }
         ensures takes { TakesPlain text.now self.old world.old.plain self.new world.new.plain (said_view result) }
+        ensures there { TakesThere text.now self.old world.old self.new world.new (said_view result) }
     {
         let seat = self.seat;
         let said = self.be_served(world, heap, text);
@@ -94,6 +98,7 @@ impl Session {
         ensures kept { self.new ≡ record self.old { search = self.new.search } }
         ensures settles { MatchBool (keeps_seat before self.old.seat) ((self.new.search ≡ self.old.search) × (world.new.plain ≡ world.old.plain))
             ((self.new.search ≡ None) × Drops before self.old.search world.old.plain world.new.plain) }
+        ensures shuts { MatchBool (keeps_seat before self.old.seat) (world.new ≡ world.old) (Shuts before self.old.search world.old world.new) }
     {
         if keeps_seat(before, self.seat) {
             return;
@@ -112,6 +117,7 @@ impl Session {
         ensures label { self.new.label ≡ self.old.label }
         ensures search { self.new.search ≡ self.old.search }
         ensures answers { Answers solo_subject Serves text.now (desk_of world.old.plain self.old) (desk_of world.new.plain self.new) (said_view result) }
+        ensures there { Answers asks_for ServesThere text.now (desk self.old.staged (server world.old self.old.seat)) (desk self.new.staged (server world.new self.new.seat)) (said_view result) }
     {
         let mut solo = Solo::at(world, heap, self.seat);
         let said = answer(&mut solo, heap, &mut self.staged, text);
@@ -128,6 +134,7 @@ impl Session {
     ) -> Said<A>
         ensures label { self.new.label ≡ self.old.label }
         ensures takes { TakesStep verb rest.now self.old world.old.plain self.new world.new.plain (said_view result) }
+        ensures there { TakesStepThere verb rest.now self.old world.old world.new (said_view result) }
     {
         let Some(seat) = self.seat else {
             return Said::Line(Reply::Error(Fault::BeforeHello));
@@ -147,6 +154,7 @@ impl Session {
     ) -> Said<A>
         ensures label { self.new.label ≡ self.old.label }
         ensures obeys { ObeysStep seat command self.old world.old.plain self.new world.new.plain (said_view result) }
+        ensures there { StepsThere seat command world.old world.new (said_view result) }
     {
         match command {
             StepCommand::Open(window) => Said::Line(self.open_search(world, seat, window)),
@@ -166,6 +174,7 @@ impl Session {
     ) -> Reply
         ensures label { self.new.label ≡ self.old.label }
         ensures opens { Opens seat window self.old world.old.plain self.new world.new.plain (said_in_line result) }
+        ensures there { StepsThere seat (StepCommand.Open window) world.old world.new (said_in_line result) }
     {
         match world.open_search(seat, window) {
             Ok(number) => {
@@ -189,6 +198,7 @@ impl Session {
     ) -> Reply
         ensures label { self.new.label ≡ self.old.label }
         ensures steps { Steps seat search count self.old world.old.plain self.new world.new.plain (said_in_line result) }
+        ensures there { StepsThere seat (StepCommand.Step search count) world.old world.new (said_in_line result) }
     {
         match go_on(world, seat, search, count) {
             Ok(visit) => {
@@ -211,6 +221,7 @@ impl Session {
     ) -> Said<A>
         ensures label { self.new.label ≡ self.old.label }
         ensures ends { Ends seat search self.old world.old.plain self.new world.new.plain (said_view result) }
+        ensures there { StepsThere seat (StepCommand.Finish search) world.old world.new (said_view result) }
     {
         match finish_open(world, seat, search) {
             Ok(answer) => {
@@ -244,7 +255,8 @@ fn keeps_seat(before: Option<u32>, after: Option<u32>) -> bool
 
 /// Gives up the open search of a session with this seat, if it has both.
 fn drop_open<A: Allocator + Copy>(world: &mut World<A>, seat: Option<u32>, search: Option<u64>)
-    ensures { Drops seat search world.old.plain world.new.plain }
+    ensures drops { Drops seat search world.old.plain world.new.plain }
+    ensures shuts { Shuts seat search world.old world.new }
 {
     if let Some(seat) = seat {
         if let Some(number) = search {

@@ -2,13 +2,14 @@
 ghost use Rattle.std.specs.Prelude.{◌≡◌, ◌≤◌, ◌<◌, ◌+◌, ◌++◌, [], List, None, OnOk, IfOk, IfErr, IfSome, codes, length, option_map, slice_set, slice_index_or, vec_len, vec_capacity, ℕ, Result};
 ghost use Rattle.std.specs.Io.KnownBytes.{Appends};
 ghost use Rattle.std.specs.List.{prefix_len};
+ghost use Rattle.sessions.specs.Indexed.{LabelThere, LineRuns, LineThere, SessionThere, indexed};
 ghost use Rattle.sessions.specs.Scripts.{IsScriptText, LabelTells, LineTells, SessionAnswers, behind, is_not_colon, is_skipped, parts_of, place, script, with_label};
 ghost use Rattle.sessions.specs.Printed.{led, reply_text};
 ghost use Rattle.sessions.specs.Replies.{said_view};
 ghost use Rattle.plain_world.specs.declared.faults.Fault.{Fault as WorldFault};
 ghost use Rattle.search_tree.specs.declared.answers.Tending.{Tending};
 ghost use Rattle.sessions.specs.Stepping.{AllDrop};
-ghost use Rattle.transactions.specs.Index.{slots_of};
+ghost use Rattle.transactions.specs.Index.{IndexedWorld, slots_of};
 ghost use Rattle.transactions.specs.Stepping.{TendsIndex};
 ghost use Rattle.byte_streams.specs.Written.{Took};
 ghost use Rattle.sessions.specs.Streams.{OnMemory, Ran};
@@ -91,7 +92,8 @@ fn place_of(sessions: &[Session], label: &Name) -> usize
 impl<A: Allocator + Copy> Table<A> {
     /// No sessions, and room for those of 64 labels.
     fn new(alloc: A, heap: Global) -> Result<Self, Refused>
-        ensures { IfOk result (λ table. table.sessions.items ≡ []) }
+        ensures sessions { IfOk result (λ table. table.sessions.items ≡ []) }
+        ensures turn { IfOk result (λ table. table.next_slot ≡ 0) }
     {
         let sessions = vec_with_room(alloc, LABEL_LIMIT)?;
         Ok(Table {
@@ -105,7 +107,8 @@ impl<A: Allocator + Copy> Table<A> {
     fn begin_session(&mut self, label: Name, at: usize)
         requires place { at ≡ place label self.old.sessions.items }
         requires room { at < LABEL_LIMIT }
-        ensures { self.new.sessions.items ≡ with_label label self.old.sessions.items }
+        ensures sessions { self.new.sessions.items ≡ with_label label self.old.sessions.items }
+        ensures turn { self.new.next_slot ≡ self.old.next_slot }
     {
         if at == self.sessions.len() {
             self.sessions.push_reserved(Session::new(label));
@@ -115,8 +118,10 @@ impl<A: Allocator + Copy> Table<A> {
     /// Answers what stands behind the label of the session at a place.
     fn answer_at(&mut self, world: &mut World<A>, at: usize, text: &[u8]) -> Said<A>
         requires { at < length self.old.sessions.items }
-        ensures { (session : SessionState) × (self.new.sessions.items ≡ slice_set self.old.sessions.items at session)
-            × ((d : SessionState) → SessionAnswers text.now (slice_index_or self.old.sessions.items at d) world.old.plain session world.new.plain (said_view result)) }
+        ensures turn { self.new.next_slot ≡ self.old.next_slot }
+        ensures answers { (session : SessionState) × (self.new.sessions.items ≡ slice_set self.old.sessions.items at session)
+            × ((d : SessionState) → SessionAnswers text.now (slice_index_or self.old.sessions.items at d) world.old.plain session world.new.plain (said_view result))
+            × ((d : SessionState) → SessionThere text.now (slice_index_or self.old.sessions.items at d) world.old session world.new (said_view result)) }
     {
         let heap = self.heap;
         let session = &mut self.sessions[at];
@@ -127,6 +132,7 @@ impl<A: Allocator + Copy> Table<A> {
     fn tend(&mut self, world: &mut World<A>)
         ensures sessions { self.new.sessions.items ≡ self.old.sessions.items }
         ensures world { world.new.plain ≡ world.old.plain }
+        ensures walks { world.new.walks ≡ world.old.walks }
         ensures index { (answer : Result Tending WorldFault) × TendsIndex world.old.plain self.old.next_slot world.old.index world.new.index answer }
         ensures turn { self.new.next_slot ≡ behind self.old.next_slot (slots_of world.new.index) }
     {
@@ -141,8 +147,10 @@ impl<A: Allocator + Copy> Table<A> {
         line: &[u8],
         writer: &mut W,
     ) -> Result<(), WriteFailed>
-        ensures { (said : List ℕ) × Took result (W.contents writer.old) (W.contents writer.new) said
-            × LineTells line.now (script world.old.plain self.old.sessions.items) (script world.new.plain self.new.sessions.items) said }
+        ensures turn { self.new.next_slot ≡ self.old.next_slot }
+        ensures takes { (said : List ℕ) × Took result (W.contents writer.old) (W.contents writer.new) said
+            × LineTells line.now (script world.old.plain self.old.sessions.items) (script world.new.plain self.new.sessions.items) said
+            × LineThere line.now (indexed world.old self.old.sessions.items self.old.next_slot) self.new.sessions.items world.new said }
     {
         if line.len() > LINE_LIMIT {
             return refuse(Fault::LineTooLong, writer);
@@ -167,8 +175,10 @@ impl<A: Allocator + Copy> Table<A> {
         text: &[u8],
         writer: &mut W,
     ) -> Result<(), WriteFailed>
-        ensures { (said : List ℕ) × Took result (W.contents writer.old) (W.contents writer.new) said
-            × LabelTells label text.now (script world.old.plain self.old.sessions.items) (script world.new.plain self.new.sessions.items) said }
+        ensures turn { self.new.next_slot ≡ self.old.next_slot }
+        ensures takes { (said : List ℕ) × Took result (W.contents writer.old) (W.contents writer.new) said
+            × LabelTells label text.now (script world.old.plain self.old.sessions.items) (script world.new.plain self.new.sessions.items) said
+            × LabelThere label text.now (indexed world.old self.old.sessions.items self.old.next_slot) self.new.sessions.items world.new said }
     {
         let at = place_of(&self.sessions, &label);
         if at >= LABEL_LIMIT {
@@ -199,12 +209,12 @@ fn refuse<W: Write>(fault: Fault, writer: &mut W) -> Result<(), WriteFailed>
 }
 
 impl<A: Allocator + Copy> LineDesk for Table<A> {
-    ghost use Rattle.sessions.specs.Scripts.{LineTells, script};
+    ghost use Rattle.sessions.specs.Indexed.{LineRuns, indexed};
     ghost use Rattle.std.proofs.Common.{rules};
 
     type World = World<A>;
 
-    ghost tells = { λ line old new said. LineTells line (script old.0.plain old.1.sessions.items) (script new.0.plain new.1.sessions.items) said };
+    ghost tells = { λ line old new said. LineRuns line (indexed old.0 old.1.sessions.items old.1.next_slot) (indexed new.0 new.1.sessions.items new.1.next_slot) said };
 
     fn take_line<W: Write>(
         &mut self,
@@ -237,6 +247,8 @@ pub fn run_script<A: Allocator + Copy, R: Read, W: Write>(
         × IsScriptText world.old.plain input world.new.plain said)) }
     ensures ran { (sessions : List SessionState) × (last : WorldData) × Ran LineTells result (script world.old.plain []) (script last sessions)
         (R.remaining reader.old) (R.remaining reader.new) (W.contents writer.old) (W.contents writer.new) × AllDrop sessions last world.new.plain }
+    ensures runs { (sessions : List SessionState) × (slot : ℕ) × (last : IndexedWorld) × Ran LineRuns result (indexed world.old [] 0) (indexed last sessions slot)
+        (R.remaining reader.old) (R.remaining reader.new) (W.contents writer.old) (W.contents writer.new) × AllDrop sessions last.plain world.new.plain }
     ensures idle { IsIdle world.old.plain → IsIdle world.new.plain }
     ensures untouched { IfErr result (λ fault. OnMemory fault ((world.new ≡ world.old) × (reader.new ≡ reader.old) × (writer.new ≡ writer.old))) }
 {

@@ -2,7 +2,8 @@ use Rattle.std.proofs.Common.{IfErr, inl, inr, arith}
 use Rattle.plain_world.specs.declared.steps.Advance.TheVariants as advances
 use Rattle.plain_world.specs.Events.{AdvanceWalk, Advanced, Refused}
 use Rattle.transactions.specs.Refusing.{RefusesGrowth}
-use Rattle.sessions.proofs.CauseLemmas.{walk_so}
+use Rattle.sessions.specs.Causes.{PlacesOut}
+use Rattle.sessions.proofs.CauseLemmas.{places_no_longer, places_refused_out, walk_so, walks_further}
 use Rattle.sessions.proofs.LeavingLemmas.{left_by}
 use Rattle.sessions.proofs.SearchLemmas.{from_same}
 use Rattle.sessions.proofs.CommitLemmas.{advancing}
@@ -12,7 +13,7 @@ use Rattle.sessions.proofs.calls.place_all.Goals as goal
 
 pub returns-in-AllPlaced-clause-places : goal.returns-in-AllPlaced-clause-places
 returns-in-AllPlaced-clause-places g c w subject changes seated start =
-    let so_far = c.loop.invariant w subject changes seated start in
+    let so_far = c.loop.invariant.0 w subject changes seated start in
     let told = rw c.in-AllPlaced.is at c.in_ok-advance.ensures.happens in
     let left = advancing c.args.number c.args.seat w subject seated changes so_far.0 so_far.2 c.advance.new.self.plain (Advanced advances.AllPlaced) (from_same (AdvanceWalk c.args.seat c.args.number) _ _ _ _ so_far.1 told) in
     (so_far.0, left.0, left.1, left.2)
@@ -20,20 +21,24 @@ returns-in-AllPlaced-clause-places g c w subject changes seated start =
 pub returns-in_err-advance-clause-places : goal.returns-in_err-advance-clause-places
 returns-in_err-advance-clause-places g c w subject changes seated start =
     let fault = c.in_err-advance.field-0.0 in
-    let so_far = c.loop.invariant w subject changes seated start in
+    let so_far = c.loop.invariant.0 w subject changes seated start in
     left_by c.from_residual.result fault (PlacesAll c.args.seat c.args.number changes w c.advance.new.self.plain) c.from_residual.ensures.1
     (advancing c.args.number c.args.seat w subject seated changes so_far.0 so_far.2 c.advance.new.self.plain (Refused fault) (from_same (AdvanceWalk c.args.seat c.args.number) _ _ _ _ so_far.1 c.in_err-advance.ensures.happens))
 
 pub loop-preserved : goal.loop-preserved
-loop-preserved g c w subject changes seated start =
-    let so_far = c.loop.invariant w subject changes seated start in
+loop-preserved g c =
     let told = rw c.in-Walked.is at c.in_ok-advance.ensures.happens in
-    let left = advancing c.args.number c.args.seat w subject seated changes so_far.0 so_far.2 c.advance.new.self.plain (Advanced (advances.Walked c.in-Walked.field-0)) (from_same (AdvanceWalk c.args.seat c.args.number) _ _ _ _ so_far.1 told) in
-    (left.0, left.1, left.2, inr left.3)
+    let walked = rw c.in-Walked.is at c.in_ok-advance.ensures.walked in (
+      λ w subject changes seated start.
+          let so_far = c.loop.invariant.0 w subject changes seated start in
+          let left = advancing c.args.number c.args.seat w subject seated changes so_far.0 so_far.2 c.advance.new.self.plain (Advanced (advances.Walked c.in-Walked.field-0)) (from_same (AdvanceWalk c.args.seat c.args.number) _ _ _ _ so_far.1 told) in
+          (left.0, left.1, left.2, inr left.3),
+      walks_further c.args.seat c.args.number c.loop.counter c.args.world.now c.loop.world c.loop.invariant.1 c.advance.new.self c.in-Walked.field-0 (told, walked),
+    )
 
 pub returns-clause-places : goal.returns-clause-places
 returns-clause-places g c w subject changes seated start =
-    let so_far = c.loop.invariant w subject changes seated start in
+    let so_far = c.loop.invariant.0 w subject changes seated start in
     let brings : Brings changes = elim so_far.3 [
       | inl e ↦ absurd (omega (arith, e))
       | inr is ↦ is
@@ -45,3 +50,12 @@ returns-in_err-advance-clause-index g c =
     let fault = c.in_err-advance.field-0.0 in
     left_by c.from_residual.result fault (λ r. IfErr r (RefusesGrowth c.advance.new.self.index)) c.from_residual.ensures.1
     (walk_so c.args.seat c.args.number c.loop.world c.advance.new.self fault c.in_err-advance.ensures.walked c.in_err-advance.ensures.refused)
+
+pub returns-in_err-advance-clause-out : goal.returns-in_err-advance-clause-out
+returns-in_err-advance-clause-out g c =
+    let fault = c.in_err-advance.field-0.0 in
+    left_by c.from_residual.result fault (λ r. IfErr r (PlacesOut c.args.seat c.args.number c.args.world.now)) c.from_residual.ensures.1
+    (places_refused_out c.args.seat c.args.number c.loop.counter c.args.world.now c.loop.world c.loop.invariant.1 c.advance.new.self fault (c.in_err-advance.ensures.happens, c.in_err-advance.ensures.walked))
+
+pub returns-clause-out : goal.returns-clause-out
+returns-clause-out g c = places_no_longer c.args.seat c.args.number c.loop.counter c.args.world.now c.loop.world c.loop.invariant.1 (omega arith)

@@ -13,7 +13,7 @@ returns-in_err-stage-clause-stages g c w subject seated start =
     let changes = c.args.changes.now in
     let change = c.change-item.result in
     let may = may_stage_at changes i change c.requires.distinct c.requires.few c.loop-change-test.true c.change-item.is in
-    let told = from_same (Stage c.args.seat c.args.number change) _ _ _ _ (c.loop-change.invariant w subject seated start) c.in_err-stage.ensures.happens in
+    let told = from_same (Stage c.args.seat c.args.number change) _ _ _ _ (c.loop-change.invariant.0 w subject seated start) c.in_err-stage.ensures.happens in
     let staged = stage_one c.args.number c.args.seat w subject seated (take i changes) 0 change c.stage.new.self.plain (Err c.in_err-stage.field-0.0) may told in
     (let wrong = staged.0 in absurd cc)
 
