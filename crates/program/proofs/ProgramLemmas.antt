@@ -26,22 +26,22 @@ module _ (words : List Words) (held : List ℕ → Option (List ℕ)) (before af
       IsDone.serves files.script.now of_files.0 of_files.1 (subst (λ c. RanScript held c files.script.now before after) (sym of_files.2) ran)
 
   -- or its run broke off
-  pub script_broke : (asked : Asked) (files : ScriptWords) (fault : ProgramFault) → IsAsked words asked → asked ≡ Script files → BrokeOff held (config_name files) files.script.now before after fault
-      → IsFault words held before after fault
-  script_broke asked files fault is_asked is broke =
+  pub script_broke : (closed : List ℕ → Type 0) (asked : Asked) (files : ScriptWords) (fault : ProgramFault) → IsAsked words asked → asked ≡ Script files → BrokeOff held closed (config_name files) files.script.now before after fault
+      → IsFault words held closed before after fault
+  script_broke closed asked files fault is_asked is broke =
       let of_files = subst (IsAsked words) is is_asked in
-      IsFault.script files.script.now fault of_files.0 of_files.1 (subst (λ c. BrokeOff held c files.script.now before after fault) (sym of_files.2) broke)
+      IsFault.script files.script.now fault of_files.0 of_files.1 (subst (λ c. BrokeOff held closed c files.script.now before after fault) (sym of_files.2) broke)
 
 -- the words ask for help
 pub help_asked : (words : List Words) (asked : Asked) (help : Error) → IsAsked words asked → asked ≡ Text help → kind_of help ≡ DisplayHelp → IsAmong DisplayHelp (refusals words)
 help_asked words asked help is_asked is kind = subst (λ k. IsAmong k (refusals words)) kind (subst (IsAsked words) is is_asked)
 
 -- what was answered of the words, read off by cases
-module _ {O : Type 0} (words : List Words) (held : List ℕ → Option (List ℕ)) (written : O → Option (List ℕ)) (output after : O) (result : Result (Option Error) ProgramFault) (text : Option Error) where
-  pub was_done : IsAnswer words held written output after result → result ≡ Ok text → text ≡ None → IsDone words held (written output) (written after)
-  was_done h is none = subst (λ (o : Option Error). IsAnswer words held written output after (Ok o)) none (subst (IsAnswer words held written output after) is h)
+module _ {O : Type 0} (words : List Words) (held : List ℕ → Option (List ℕ)) (closed : List ℕ → Type 0) (written : O → Option (List ℕ)) (output after : O) (result : Result (Option Error) ProgramFault) (text : Option Error) where
+  pub was_done : IsAnswer words held closed written output after result → result ≡ Ok text → text ≡ None → IsDone words held (written output) (written after)
+  was_done h is none = subst (λ (o : Option Error). IsAnswer words held closed written output after (Ok o)) none (subst (IsAnswer words held closed written output after) is h)
 
-  pub was_turned_down : (mistake : Error) → IsAnswer words held written output after result → result ≡ Ok text → text ≡ Some mistake → (kind : ErrorKind) × AreTurnedDown words kind × (after ≡ output)
+  pub was_turned_down : (mistake : Error) → IsAnswer words held closed written output after result → result ≡ Ok text → text ≡ Some mistake → (kind : ErrorKind) × AreTurnedDown words kind × (after ≡ output)
   was_turned_down mistake h is some =
-      let down = subst (λ (o : Option Error). IsAnswer words held written output after (Ok o)) some (subst (IsAnswer words held written output after) is h) in
+      let down = subst (λ (o : Option Error). IsAnswer words held closed written output after (Ok o)) some (subst (IsAnswer words held closed written output after) is h) in
       (kind_of mistake, down.0, down.1)

@@ -17,7 +17,7 @@ use Rattle.program.specs.declared.configs.Config.{Config}
 use Rattle.program.specs.declared.faults.ProgramFault.{ProgramFault}
 
 -- what was read of a file is its configuration
-pub configured : {A : Type 0} (known text : Option (List ℕ)) (config : Config A) → known ≡ text → IfSome known (λ text. FileGives (Ok config) text) →
+pub configured : {A : Type 0} (known text : Option (List ℕ)) (config : Config A) → known ≡ text → FileGives (Ok config) known →
     IfSome text (λ text. IsConfigText (config_data config) text)
 configured known text config same h = subst (λ known. IfSome known (λ text. IsConfigText (config_data config) text)) same h
 
@@ -35,10 +35,10 @@ module _ (held : List ℕ → Option (List ℕ)) (config : Option (List ℕ)) (n
   ran (Err e) is_config same served = tt
 
   -- or it broke off
-  pub broke_off : (result : Result (Unit {0}) ProgramFault) → IsConfigOf held config c → known ≡ held name → IfErr result (IsOfRun c known before after) →
-      IfErr result (BrokeOff held config name before after)
-  broke_off (Ok u) is_config same h = tt
-  broke_off (Err fault) is_config same h = BrokeOff.in_run c is_config (subst (λ known. IsOfRun c known before after fault) same h)
+  pub broke_off : (closed : List ℕ → Type 0) (result : Result (Unit {0}) ProgramFault) → IsConfigOf held config c → known ≡ held name → IfErr result (IsOfRun c known before after) →
+      IfErr result (BrokeOff held closed config name before after)
+  broke_off closed (Ok u) is_config same h = tt
+  broke_off closed (Err fault) is_config same h = BrokeOff.in_run c is_config (subst (λ known. IsOfRun c known before after fault) same h)
 
 -- what is appended stays where the flush that follows keeps what it found
 kept_on : (before mid after : Option (List ℕ)) (said : List ℕ) → Appends before mid said → Keeps mid after → Appends before after said

@@ -8,21 +8,23 @@ use Rattle.program.specs.declared.configs.Config.{Config}
 use Rattle.program.specs.declared.files.FileFault.{FileFault}
 use Rattle.program.specs.declared.files.FileFault.TheVariants as reasons
 use Rattle.program.specs.declared.files.ReadFault.{ReadFault}
-use Rattle.program.specs.declared.files.ReadFault.TheVariants.{TooLong}
+use Rattle.program.specs.declared.files.ReadFault.TheVariants.{NotOpened, Failed, TooLong}
 use Rattle.program.specs.declared.files.TheConstants.{CONFIG_LIMIT}
 
 -- all the bytes that a file had left, where they are known
 abbrev pub IsWhole : Option (List ℕ) → List ℕ → Type 0
 IsWhole left bytes = IfSome left (λ text. bytes ≡ text)
 
--- why a file of these bytes cannot be read: it is too long. That it was not opened, and that a read failed, may come of any
-abbrev pub IsReadFault : ReadFault → List ℕ → Type 0
-IsReadFault TooLong text = CONFIG_LIMIT < length text
-IsReadFault _ text = Unit {0}
+-- why a file that was opened cannot be read, which has these bytes left, where they are known: it is too long. That a read
+-- failed may come of any
+abbrev pub IsReadFault : ReadFault → Option (List ℕ) → Type 0
+IsReadFault (NotOpened failed) left = ⊥
+IsReadFault (Failed failed) left = Unit {0}
+IsReadFault TooLong left = IfSome left (λ text. CONFIG_LIMIT < length text)
 
 -- the bytes that a file had left were not had: want of memory, or they cannot be read
 abbrev pub IsUnread : Option (List ℕ) → FileFault → Type 0
-IsUnread left (reasons.CannotRead fault) = IfSome left (IsReadFault fault)
+IsUnread left (reasons.CannotRead fault) = IsReadFault fault left
 IsUnread left (reasons.Config (Memory refused)) = Unit {0}
 IsUnread left (reasons.Config _) = ⊥
 
@@ -35,8 +37,8 @@ abbrev pub IsConfigFault : ConfigFault → List ℕ → Type 0
 IsConfigFault (Memory refused) text = Unit {0}
 IsConfigFault fault text = (length text ≤ CONFIG_LIMIT) × Fails fault (config_of text)
 
--- What a file of these bytes gives.
-abbrev pub FileGives : {A : Type 0} → Result (Config A) FileFault → List ℕ → Type 0
-FileGives (Ok config) text = IsConfigText (config_data config) text
-FileGives (Err (reasons.CannotRead fault)) text = IsReadFault fault text
-FileGives (Err (reasons.Config fault)) text = IsConfigFault fault text
+-- What a file gives that was opened, and has these bytes left, where they are known.
+abbrev pub FileGives : {A : Type 0} → Result (Config A) FileFault → Option (List ℕ) → Type 0
+FileGives (Ok config) left = IfSome left (λ text. IsConfigText (config_data config) text)
+FileGives (Err (reasons.CannotRead fault)) left = IsReadFault fault left
+FileGives (Err (reasons.Config fault)) left = IfSome left (λ text. IsConfigFault fault text)

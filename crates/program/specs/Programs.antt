@@ -23,14 +23,15 @@ pub data IsDone (words : List Text) (held : List ℕ → Option (List ℕ)) (bef
   -- they ask for help
   helps : IsAmong DisplayHelp (refusals words) → IsDone words held before after
 
--- Why a run of the program with these words ended by a fault. Want of memory for the command line may come of any words.
-pub data IsFault (words : List Text) (held : List ℕ → Option (List ℕ)) (before after : Option (List ℕ)) : ProgramFault → Type 0 where
+-- Why a run of the program with these words ended by a fault. `closed` holds of each name whose file was not opened. Want of
+-- memory for the command line may come of any words.
+pub data IsFault (words : List Text) (held : List ℕ → Option (List ℕ)) (closed : List ℕ → Type 0) (before after : Option (List ℕ)) : ProgramFault → Type 0 where
   -- they ask for a script, and its run broke off
   script : (name : List ℕ) (fault : ProgramFault) → refusals words ≡ [] → word_for (codes "FILE") words ≡ Some name
-      → BrokeOff held (word_for (codes "config") words) name before after fault → IsFault words held before after fault
+      → BrokeOff held closed (word_for (codes "config") words) name before after fault → IsFault words held closed before after fault
   -- they ask for help, which could not be written
-  help : (fault : ProgramFault) → IsAmong DisplayHelp (refusals words) → IsUnwritten fault → IsFault words held before after fault
-  unread : (refused : WordsRefused) → after ≡ before → IsFault words held before after (Words refused)
+  help : (fault : ProgramFault) → IsAmong DisplayHelp (refusals words) → IsUnwritten fault → IsFault words held closed before after fault
+  unread : (refused : WordsRefused) → after ≡ before → IsFault words held closed before after (Words refused)
 
 -- clap turns these words down, for a reason of this kind
 abbrev pub AreTurnedDown : List Text → ErrorKind → Type 0
@@ -38,15 +39,15 @@ AreTurnedDown words kind = IsAmong kind (refusals words) × (kind ≢ DisplayHel
 
 -- What is done with these words, before anything of it is told: what they ask for; or nothing, where clap turns them down
 -- by a text; or a fault came.
-abbrev pub IsAnswer : {O : Type 0} → List Text → (List ℕ → Option (List ℕ)) → (O → Option (List ℕ)) → O → O → Result (Option Error) ProgramFault → Type 0
-IsAnswer words held written output output_after (Ok None) = IsDone words held (written output) (written output_after)
-IsAnswer words held written output output_after (Ok (Some mistake)) = AreTurnedDown words (kind_of mistake) × (output_after ≡ output)
-IsAnswer words held written output output_after (Err fault) = IsFault words held (written output) (written output_after) fault
+abbrev pub IsAnswer : {O : Type 0} → List Text → (List ℕ → Option (List ℕ)) → (List ℕ → Type 0) → (O → Option (List ℕ)) → O → O → Result (Option Error) ProgramFault → Type 0
+IsAnswer words held closed written output output_after (Ok None) = IsDone words held (written output) (written output_after)
+IsAnswer words held closed written output output_after (Ok (Some mistake)) = AreTurnedDown words (kind_of mistake) × (output_after ≡ output)
+IsAnswer words held closed written output output_after (Err fault) = IsFault words held closed (written output) (written output_after) fault
 
 -- What a run of the program with these words leaves, by how it ended. Of one that ended well nothing is on standard error,
 -- and of one that ended by a fault that fault's line, or, where a write of it failed, the line's front.
-abbrev pub IsRun : {O E : Type 0} → List Text → (List ℕ → Option (List ℕ)) → (O → Option (List ℕ)) → O → O → (E → Option (List ℕ)) → E → E → Ended → Type 0
-IsRun words held written output output_after told errors errors_after Well = IsDone words held (written output) (written output_after) × (errors_after ≡ errors)
-IsRun words held written output output_after told errors errors_after (Failed fault line) =
-    IsFault words held (written output) (written output_after) fault × Took line (told errors) (told errors_after) (fault_line fault)
-IsRun words held written output output_after told errors errors_after TurnedDown = (kind : ErrorKind) × AreTurnedDown words kind × (output_after ≡ output)
+abbrev pub IsRun : {O E : Type 0} → List Text → (List ℕ → Option (List ℕ)) → (List ℕ → Type 0) → (O → Option (List ℕ)) → O → O → (E → Option (List ℕ)) → E → E → Ended → Type 0
+IsRun words held closed written output output_after told errors errors_after Well = IsDone words held (written output) (written output_after) × (errors_after ≡ errors)
+IsRun words held closed written output output_after told errors errors_after (Failed fault line) =
+    IsFault words held closed (written output) (written output_after) fault × Took line (told errors) (told errors_after) (fault_line fault)
+IsRun words held closed written output output_after told errors errors_after TurnedDown = (kind : ErrorKind) × AreTurnedDown words kind × (output_after ≡ output)

@@ -1,5 +1,5 @@
 -- By which fault a run of a script may end, and what stands then: the first of those of the configuration, that the script
--- cannot be read, and those of the run. Want of memory, and that a file is not opened or a read of it fails, may come of any.
+-- was not opened, and those of the run. Want of memory, and that a read fails, may come of any.
 use Rattle.std.specs.Prelude.{◌≡◌, ℕ, List, [], Option, None, Some, IfSome, Result, Err}
 use Rattle.std.specs.Io.KnownBytes.{Keeps}
 use Rattle.plain_world.specs.States.{WorldData}
@@ -18,18 +18,19 @@ use Rattle.program.specs.declared.faults.ProgramFault.{ProgramFault}
 use Rattle.program.specs.declared.files.ReadFault.TheVariants.{NotOpened}
 use Rattle.program.specs.declared.faults.ProgramFault.TheVariants.{CannotRead, CannotWrite, Config, World, Run}
 
--- it is told of the file of this name that it was not opened
-abbrev pub IsUnopened : List ℕ → ProgramFault → Type 0
-IsUnopened name (CannotRead told (NotOpened closed)) = told.now ≡ name
-IsUnopened name _ = ⊥
+-- it is told of the file of this name that it was not opened, and it is such a file
+abbrev pub IsUnopened : (List ℕ → Type 0) → List ℕ → ProgramFault → Type 0
+IsUnopened closed name (CannotRead told (NotOpened failed)) = (told.now ≡ name) × closed name
+IsUnopened closed name _ = ⊥
 
 -- a fault of the configuration: the built-in one has none but want of memory
-abbrev pub IsOfConfig : (List ℕ → Option (List ℕ)) → Option (List ℕ) → ProgramFault → Type 0
-IsOfConfig held None (Config (Memory refused)) = Unit {0}
-IsOfConfig held None _ = ⊥
-IsOfConfig held (Some name) (Config fault) = IfSome (held name) (λ text. IsConfigFault fault text)
-IsOfConfig held (Some name) (CannotRead told fault) = (told.now ≡ name) × IfSome (held name) (IsReadFault fault)
-IsOfConfig held (Some name) _ = ⊥
+abbrev pub IsOfConfig : (List ℕ → Option (List ℕ)) → (List ℕ → Type 0) → Option (List ℕ) → ProgramFault → Type 0
+IsOfConfig held closed None (Config (Memory refused)) = Unit {0}
+IsOfConfig held closed None _ = ⊥
+IsOfConfig held closed (Some name) (Config fault) = IfSome (held name) (λ text. IsConfigFault fault text)
+IsOfConfig held closed (Some name) (CannotRead told (NotOpened failed)) = (told.now ≡ name) × closed name
+IsOfConfig held closed (Some name) (CannotRead told fault) = (told.now ≡ name) × IsReadFault fault (held name)
+IsOfConfig held closed (Some name) _ = ⊥
 
 -- how far a run over the world that a configuration opens has come, when it ended so; a flush of the output followed
 pub record CameTo (config : ConfigData) (end : Result (Unit {0}) ServeFault) (input before after : Option (List ℕ)) : Type 0 where
@@ -53,13 +54,14 @@ IsOfRun config input before after (CannotWrite failed) = (end : Result (Unit {0}
 IsOfRun config input before after (Run fault) = (told_as fault ≡ Run fault) × CameTo config (Err fault) input before after
 IsOfRun config input before after _ = ⊥
 
--- A run of the script of a named file ended by this fault. `held` is what the file of a name reads, where that is known.
-pub data BrokeOff (held : List ℕ → Option (List ℕ)) (config : Option (List ℕ)) (script_name : List ℕ) (before after : Option (List ℕ)) (fault : ProgramFault) : Type 0 where
+-- A run of the script of a named file ended by this fault. `held` is what the file of a name reads, where that is known, and
+-- `closed` holds of each name whose file was not opened.
+pub data BrokeOff (held : List ℕ → Option (List ℕ)) (closed : List ℕ → Type 0) (config : Option (List ℕ)) (script_name : List ℕ) (before after : Option (List ℕ)) (fault : ProgramFault) : Type 0 where
   -- there was no configuration
-  unconfigured : IsOfConfig held config fault → after ≡ before → BrokeOff held config script_name before after fault
-  -- there was one, and the script could not be read
-  without_script : (configured : ConfigData) → IsConfigOf held config configured → IsUnopened script_name fault → after ≡ before
-      → BrokeOff held config script_name before after fault
+  unconfigured : IsOfConfig held closed config fault → after ≡ before → BrokeOff held closed config script_name before after fault
+  -- there was one, and the script was not opened
+  without_script : (configured : ConfigData) → IsConfigOf held config configured → IsUnopened closed script_name fault → after ≡ before
+      → BrokeOff held closed config script_name before after fault
   -- there were both
   in_run : (configured : ConfigData) → IsConfigOf held config configured → IsOfRun configured (held script_name) before after fault
-      → BrokeOff held config script_name before after fault
+      → BrokeOff held closed config script_name before after fault

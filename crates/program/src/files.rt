@@ -1,6 +1,6 @@
 //! The file of a configuration.
 
-ghost use Rattle.std.specs.Prelude.{◌≡◌, ◌≤◌, IfOk, IfErr, IfSome, length};
+ghost use Rattle.std.specs.Prelude.{◌≡◌, ◌≤◌, IfOk, IfErr, length};
 ghost use Rattle.program.specs.ConfigFiles.{FileGives, IsUnread, IsWhole};
 
 use crate::config_faults::ConfigFault;
@@ -99,7 +99,7 @@ pub fn read_config_file<A: Allocator + Copy, R: Read>(
     heap: Global,
     file: &mut R,
 ) -> Result<Config<A>, FileFault>
-    ensures { IfSome (R.remaining file.old) (λ text. FileGives result text) }
+    ensures { FileGives result (R.remaining file.old) }
 {
     let text = whole_file(alloc, file)?;
     Ok(read_config(alloc, heap, text.as_slice())?)

@@ -26,8 +26,10 @@ impl Folder for HostFolder<'_> {
 
     type File = File;
 
-    // nothing is known of the host's files
+    // nothing is known of the host's files: neither what one reads, nor which are opened
     ghost holds = { λ folder name. None };
+
+    ghost closed = { λ folder name. Unit {0} };
 
     fn open_file(&self, name: &str) -> Result<File, NotOpened> {
         open_file(self.rt, name)

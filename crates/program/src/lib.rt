@@ -21,7 +21,7 @@ pub use ends::Ended;
 pub use faults::ProgramFault;
 pub use files::{CONFIG_LIMIT, FileFault, ReadFault, read_config_file};
 pub use hosts::HostFolder;
-pub use laws::{configurations_are_one, read_is_spelled};
+pub use laws::{configurations_are_one, limit_in_numbers, read_is_spelled};
 pub use runs::{Folder, run_file, run_named, run_program};
 pub use telling::tell;
 pub use words::{ScriptWords, WordsFault, WordsRefused, host_words};

@@ -31,9 +31,13 @@ pub trait Folder {
     // what the file of a name reads, where that is known
     ghost holds: { Self → List ℕ → Option (List ℕ) };
 
+    // holds of each name whose file was not opened
+    ghost closed: { Self → List ℕ → Type 0 };
+
     /// The file of this name, for reading. An error where it cannot be opened, or is a folder.
     fn open_file(&self, name: &str) -> Result<Self::File, NotOpened>
-        ensures { IfOk result (λ file. Self.File.remaining file ≡ holds self.now name.now) };
+        ensures holds { IfOk result (λ file. Self.File.remaining file ≡ holds self.now name.now) }
+        ensures closed { IfErr result (λ failed. closed self.now name.now) };
 }
 
 /// Runs the script of a file over the world that a configuration opens, and writes the replies.
@@ -66,7 +70,7 @@ fn named_config<'a, F: Folder>(
     folder: &F,
 ) -> Result<Config<Global>, ProgramFault<'a>>
     ensures ok { IfOk result (λ config. IsConfigOf (F.holds folder.now) (Some name.now) (config_data config)) }
-    ensures err { IfErr result (IsOfConfig (F.holds folder.now) (Some name.now)) }
+    ensures err { IfErr result (IsOfConfig (F.holds folder.now) (F.closed folder.now) (Some name.now)) }
 {
     let mut file = match folder.open_file(name) {
         Ok(file) => file,
@@ -86,7 +90,7 @@ fn asked_config<'a, F: Folder>(
     folder: &F,
 ) -> Result<Config<Global>, ProgramFault<'a>>
     ensures ok { IfOk result (λ config. IsConfigOf (F.holds folder.now) (option_map (λ name. name.now) name.entry) (config_data config)) }
-    ensures err { IfErr result (IsOfConfig (F.holds folder.now) (option_map (λ name. name.now) name.entry)) }
+    ensures err { IfErr result (IsOfConfig (F.holds folder.now) (F.closed folder.now) (option_map (λ name. name.now) name.entry)) }
 {
     let Some(name) = name else {
         return match built_in_config(heap, heap) {
@@ -108,7 +112,7 @@ pub fn run_named<'a, F: Folder, W: Write>(
     output: &mut W,
 ) -> Result<(), ProgramFault<'a>>
     ensures ran { OnOk result (RanScript (F.holds folder.now) (option_map (λ name. name.now) words.entry.config) words.entry.script.now (W.contents output.old) (W.contents output.new)) }
-    ensures err { IfErr result (BrokeOff (F.holds folder.now) (option_map (λ name. name.now) words.entry.config) words.entry.script.now (W.contents output.old) (W.contents output.new)) }
+    ensures err { IfErr result (BrokeOff (F.holds folder.now) (F.closed folder.now) (option_map (λ name. name.now) words.entry.config) words.entry.script.now (W.contents output.old) (W.contents output.new)) }
 {
     let config = match asked_config(heap, words.config, folder) {
         Ok(config) => config,
@@ -149,7 +153,7 @@ fn run_asked<'a, F: Folder, O: Write>(
     folder: &F,
     output: &mut O,
 ) -> Result<Option<Error>, ProgramFault<'a>>
-    ensures { IsAnswer (map (λ word. string_bytes word) words.entry.now) (F.holds folder.now) O.contents output.old output.new result }
+    ensures { IsAnswer (map (λ word. string_bytes word) words.entry.now) (F.holds folder.now) (F.closed folder.now) O.contents output.old output.new result }
 {
     match read_words(alloc, words) {
         Ok(Asked::Script(files)) => match run_named(alloc, files, folder, output) {
@@ -175,7 +179,7 @@ pub fn run_program<'a, F: Folder, O: Write, E: Write>(
     output: &mut O,
     errors: &mut E,
 ) -> Ended<'a>
-    ensures { IsRun (map (λ word. string_bytes word) words.entry.now) (F.holds folder.now) O.contents output.old output.new E.contents errors.old errors.new result }
+    ensures { IsRun (map (λ word. string_bytes word) words.entry.now) (F.holds folder.now) (F.closed folder.now) O.contents output.old output.new E.contents errors.old errors.new result }
 {
     match run_asked(alloc, words, folder, output) {
         Ok(None) => Ended::Well,

@@ -37,6 +37,8 @@ impl<'a> Folder for Text<'a> {
 
     ghost holds = { λ folder name. None };
 
+    ghost closed = { λ folder name. Unit {0} };
+
     fn open_file(&self, name: &str) -> Result<FailingReader<'a>, NotOpened> {
         if name != "a.map" {
             return absent(self.host);
@@ -63,6 +65,8 @@ impl<'a> Folder for Two<'a> {
 
     ghost holds = { λ folder name. None };
 
+    ghost closed = { λ folder name. Unit {0} };
+
     fn open_file(&self, name: &str) -> Result<FailingReader<'a>, NotOpened> {
         let bytes = match name {
             "a.json" => self.config,
@@ -83,6 +87,8 @@ impl Folder for Endless {
     type File = CountingReader;
 
     ghost holds = { λ folder name. None };
+
+    ghost closed = { λ folder name. Unit {0} };
 
     fn open_file(&self, _name: &str) -> Result<CountingReader, NotOpened> {
         Ok(CountingReader {
@@ -392,6 +398,8 @@ impl Folder for TooLong {
     type File = LongReader;
 
     ghost holds = { λ folder name. None };
+
+    ghost closed = { λ folder name. Unit {0} };
 
     fn open_file(&self, _name: &str) -> Result<LongReader, NotOpened> {
         Ok(LongReader {

@@ -15,7 +15,7 @@ pub returns-in-Ok-Script : goal.returns-in-Ok-Script
 returns-in-Ok-Script g c =
     let words : List Text = map (λ word. string_bytes word) c.args.words.now in
     let asked = subst (λ r. IfOk r (IsAsked words)) c.in-Ok-Script.is c.read_words.ensures in
-    script_broke words _ _ _ c.in-Ok-Script.field-0 c.in-Ok-Script.files c.in-Err-run_named.fault asked c.in-Ok-Script.field-0-is c.in-Err-run_named.ensures.err
+    script_broke words _ _ _ _ c.in-Ok-Script.field-0 c.in-Ok-Script.files c.in-Err-run_named.fault asked c.in-Ok-Script.field-0-is c.in-Err-run_named.ensures.err
 
 pub returns-in-Ok-Text : goal.returns-in-Ok-Text
 returns-in-Ok-Text g c =
