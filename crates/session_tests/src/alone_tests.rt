@@ -10,61 +10,89 @@ use transactions::World;
 const TWO_POINTS: &str =
     "HELLO north\nADD 1 mast POINT (3 4)\nCOMMIT\nADD 2 mast POINT (3 4)\nSEARCH POINT (3 4)\n";
 
-/// A new run over the same world finds the point that was committed, and no staged list.
-fn check_left(rt: &impl Abort, alloc: Global, world: &mut World<Global>) {
+/// The replies to each number of whole lines.
+const REPLIES: [&str; 6] = [
+    "",
+    "hello north\n",
+    "hello north\nstaged\n",
+    "hello north\nstaged\napplied 1\n",
+    "hello north\nstaged\napplied 1\nstaged\n",
+    ALL_REPLIES,
+];
+
+const ALL_REPLIES: &str =
+    "hello north\nstaged\napplied 1\nstaged\nrows 1\n1 1 north mast POINT (3 4)\n";
+
+/// A new run over the world that so many lines have left finds the point where it was committed, and no staged list.
+fn check_left(rt: &impl Abort, alloc: Global, world: &mut World<Global>, lines: usize) {
     let output = replies(
         rt,
         alloc,
         world,
         "n: HELLO north\nn: COMMIT\nn: SEARCH POINT (3 4)\n",
     );
-    assert_eq!(rt;
-        output.as_slice(),
-        b"n: hello north\nn: error E7\nn: rows 1\nn: 1 1 north mast POINT (3 4)\n".as_slice()
-    );
+    let expected = if lines < 3 {
+        "n: hello north\nn: error E7\nn: rows 0\n"
+    } else {
+        "n: hello north\nn: error E7\nn: rows 1\nn: 1 1 north mast POINT (3 4)\n"
+    };
+    assert_eq!(rt; output.as_slice(), expected.as_bytes(), "after {lines}");
 }
 
-/// The read fails that would give the last line its end.
 #[test]
-fn a_read_fails(rt: HostRuntime) {
-    let mut world = opened(&rt, rt.alloc(), rt.alloc());
-    let mut output = Vec::new(rt.alloc());
-    let mut reader = FailingReader {
-        bytes: TWO_POINTS.as_bytes(),
-        fails_at: TWO_POINTS.len() as u64,
-    };
-    let end = serve_world(rt.alloc(), rt.alloc(), &mut world, &mut reader, &mut output);
-    assert!(rt; matches!(end, Err(ServeFault::Read(_))));
-    assert_eq!(rt;
-        output.as_slice(),
-        b"hello north\nstaged\napplied 1\nstaged\n".as_slice()
-    );
-    check_left(&rt, rt.alloc(), &mut world);
+fn each_read_fails(rt: HostRuntime) {
+    // The last of these reads would tell that the input ends.
+    let mut lines = 0;
+    for at in 0..=TWO_POINTS.len() {
+        let mut world = opened(&rt, rt.alloc(), rt.alloc());
+        let mut output = Vec::new(rt.alloc());
+        let mut reader = FailingReader {
+            bytes: TWO_POINTS.as_bytes(),
+            fails_at: (at as u64).saturating_add(1),
+        };
+        let end = serve_world(rt.alloc(), rt.alloc(), &mut world, &mut reader, &mut output);
+        assert!(rt; matches!(end, Err(ServeFault::Read(_))), "at {at}");
+        assert_eq!(rt;
+            Some(output.as_slice()),
+            REPLIES.get(lines).map(|text| text.as_bytes()),
+            "at {at}"
+        );
+        check_left(&rt, rt.alloc(), &mut world, lines);
+        if TWO_POINTS.as_bytes().get(at) == Some(&b'\n') {
+            lines = lines.saturating_add(1);
+        }
+    }
+    assert_eq!(rt; lines, 5);
 }
 
-/// The write fails that would tell that the second point is staged.
-#[test]
-fn a_write_fails(rt: HostRuntime) {
-    let mut world = opened(&rt, rt.alloc(), rt.alloc());
-    let mut writer = FailingWriter {
-        taken: Vec::new(rt.alloc()),
-        most: 1_000,
-        fails_at: 4,
-        with: Failure::Error,
-    };
-    let end = serve_world(
-        rt.alloc(),
-        rt.alloc(),
-        &mut world,
-        &mut TWO_POINTS.as_bytes(),
-        &mut writer,
-    );
+/// Serves the session into a writer that fails, and a new run over the world that so many lines have left.
+fn serve_into(rt: &impl Abort, alloc: Global, writer: &mut FailingWriter, lines: usize) {
+    let mut world = opened(rt, alloc, alloc);
+    let end = serve_world(alloc, alloc, &mut world, &mut TWO_POINTS.as_bytes(), writer);
     assert!(rt; matches!(end, Err(ServeFault::Write(_))));
-    assert_eq!(rt;
-        writer.taken.as_slice(),
-        b"hello north\nstaged\napplied 1\n".as_slice()
-    );
-    check_left(&rt, rt.alloc(), &mut world);
+    check_left(rt, alloc, &mut world, lines);
+}
+
+#[test]
+fn each_write_fails(rt: HostRuntime) {
+    let mut written = 0;
+    for (at, reply) in ALL_REPLIES.split_inclusive('\n').enumerate() {
+        let mut writer = FailingWriter {
+            taken: Vec::new(rt.alloc()),
+            most: 1_000,
+            fails_at: at as u64 + 1,
+            with: Failure::Error,
+        };
+        // The last two writes are both of the fifth line.
+        serve_into(&rt, rt.alloc(), &mut writer, at.saturating_add(1).min(5));
+        assert_eq!(rt;
+            Some(writer.taken.as_slice()),
+            ALL_REPLIES.as_bytes().get(..written),
+            "at {at}"
+        );
+        written = written.saturating_add(reply.len()).min(ALL_REPLIES.len());
+    }
+    assert_eq!(rt; written, ALL_REPLIES.len());
 }
 
 /// No line is skipped: an empty one and a comment have no command that is known. Behind BYE a new session begins on the

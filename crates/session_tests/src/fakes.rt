@@ -29,7 +29,7 @@ pub const SIXTEEN_ROWS: &str =
 pub const SEVENTEEN_ROWS: &str =
     "n: rows 17\nn: 1 1 north road POINT (1 0)\nn: 2 1 north road POINT (2 0)\nn: 3 1 north road POINT (3 0)\nn: 4 1 north road POINT (4 0)\nn: 5 1 north road POINT (5 0)\nn: 6 1 north road POINT (6 0)\nn: 7 1 north road POINT (7 0)\nn: 8 1 north road POINT (8 0)\nn: 9 1 north road POINT (9 0)\nn: 10 1 north road POINT (10 0)\nn: 11 1 north road POINT (11 0)\nn: 12 1 north road POINT (12 0)\nn: 13 1 north road POINT (13 0)\nn: 14 1 north road POINT (14 0)\nn: 15 1 north road POINT (15 0)\nn: 16 1 north road POINT (16 0)\nn: 17 2 north road POINT (17 0)\n";
 
-/// A reader that gives one byte a call, and fails at a call, counted from 1.
+/// A reader that gives one byte a call. One call fails, counted from 1, or none at 0, and the next goes on.
 #[derive(Drop)]
 pub struct FailingReader<'a> {
     pub bytes: &'a [u8],
@@ -38,10 +38,11 @@ pub struct FailingReader<'a> {
 
 impl Read for FailingReader<'_> {
     fn read(&mut self, buf: &mut [u8]) -> io::Result<usize> {
-        if self.fails_at == 1 {
+        let fails = self.fails_at == 1;
+        self.fails_at = self.fails_at.saturating_sub(1);
+        if fails {
             return Err(ErrorKind::Other.into());
         }
-        self.fails_at = self.fails_at.saturating_sub(1);
         if self.bytes.is_empty() || buf.is_empty() {
             return Ok(0);
         }
@@ -51,7 +52,7 @@ impl Read for FailingReader<'_> {
     }
 }
 
-/// A writer that takes so many bytes a call, and fails at a call, counted from 1.
+/// A writer that takes so many bytes a call. One write fails, counted from 1, or none at 0, and the next goes on.
 #[derive(Drop)]
 pub struct FailingWriter {
     pub taken: Vec<u8>,
@@ -67,9 +68,9 @@ pub enum Failure {
     Error,
     /// It takes no byte.
     Nothing,
-    /// It was interrupted, and the next call goes on.
+    /// It was interrupted.
     Interrupted,
-    /// No write fails, and each flush.
+    /// No write fails, and each flush, which leaves a mark behind what was taken.
     Flush,
 }
 
@@ -92,7 +93,10 @@ impl Write for FailingWriter {
 
     fn flush(&mut self) -> io::Result<()> {
         match self.with {
-            Failure::Flush => Err(ErrorKind::Other.into()),
+            Failure::Flush => {
+                self.taken.extend_from_slice(b"(flush)")?;
+                Err(ErrorKind::Other.into())
+            }
             _ => Ok(()),
         }
     }

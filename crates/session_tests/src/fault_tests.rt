@@ -140,6 +140,65 @@ fn each_byte_fails(rt: HostRuntime) {
     }
 }
 
+/// What leaves two records.
+const RECORDS: &str =
+    "n: HELLO north\nn: ADD 1 mast POINT (3 4)\nn: COMMIT\nn: SEARCH POINT (3 4)\n";
+
+const ROLL: &str = "c: HELLO chief\nc: ROLL\n";
+
+/// What their roll is answered.
+const ROLLED: &str = r#"c: hello chief
+c: rolled 2
+c: {"changes":[{"class":"mast","id":1,"shape":"POINT (3 4)","what":"add"}],"kind":"applied","number":1,"seat":1,"subject":"north","version":1}
+c: {"ids":[1],"kind":"answered","number":2,"seat":1,"subject":"north","window":"POINT (3 4)"}
+"#;
+
+/// Rolls two records into a writer that fails. Its code, and a new run finds that they are taken out.
+fn roll_into(rt: &impl Abort, alloc: Global, writer: &mut FailingWriter) -> Option<&'static str> {
+    let mut world = opened(rt, alloc, alloc);
+    replies(rt, alloc, &mut world, RECORDS);
+    let ended = run_script(alloc, alloc, &mut world, &mut ROLL.as_bytes(), writer);
+    let output = replies(rt, alloc, &mut world, ROLL);
+    assert_eq!(rt;
+        output.as_slice(),
+        b"c: hello chief\nc: rolled 0\n".as_slice()
+    );
+    ended.err().map(|fault| fault.code())
+}
+
+/// Each write of a roll's reply fails in turn, from this one on, where each takes so many bytes: what was written is the
+/// front of the reply, which has more from one time to the next.
+fn fail_each_of_a_roll(rt: &impl Abort, alloc: Global, most: usize, first: u64) {
+    let mut least = "c: hello chief\n".len();
+    for fails_at in first..1_000 {
+        let mut writer = FailingWriter {
+            taken: Vec::new(alloc),
+            most,
+            fails_at,
+            with: Failure::Error,
+        };
+        let code = roll_into(rt, alloc, &mut writer);
+        assert!(rt;
+            ROLLED.as_bytes().starts_with(writer.taken.as_slice()),
+            "at {fails_at}"
+        );
+        assert!(rt; writer.taken.len() >= least, "at {fails_at}");
+        if code.is_none() {
+            assert_eq!(rt; writer.taken.len(), ROLLED.len());
+            return;
+        }
+        assert_eq!(rt; code, Some("V2"), "at {fails_at}");
+        least = writer.taken.len().saturating_add(1);
+    }
+    assert!(rt; false, "each write failed");
+}
+
+#[test]
+fn each_write_of_a_roll_fails(rt: HostRuntime) {
+    fail_each_of_a_roll(&rt, rt.alloc(), 1_000, 2);
+    fail_each_of_a_roll(&rt, rt.alloc(), 1, 16);
+}
+
 #[test]
 fn writes_go_on(rt: HostRuntime) {
     for (most, fails_at) in [(1_000, 0), (1, 0), (7, 0), (1_000, 2), (3, 20)] {

@@ -102,7 +102,7 @@ fn rolled_trails(rt: HostRuntime) -> Result<(), Fail> {
     Ok(())
 }
 
-/// The worked script of a point, without its labels.
+/// The worked script of a point, without its labels; then an empty line, and the end of the session.
 const UNLABELLED: &str =
     "HELLO north\nADD 1 mast POINT (3 4)\nCOMMIT\nSEARCH point(3 4)\nSEARCH POINT (3 5)\n\nBYE\n";
 

@@ -344,16 +344,17 @@ fn policies_too_large(rt: HostRuntime) -> Result<(), Fail> {
     Ok(())
 }
 
-/// The words over the folder of two files, of which the configuration's is none, end with status 1 and this line.
+/// The words over the folder of two files, of which this is the configuration's, end with status 1 and this line.
 fn ends_with(
     rt: &impl Abort,
     host: &HostRuntime,
+    config: &str,
     texts: &[&str],
     line: &str,
 ) -> Result<(), AllocError> {
     let folder = Two {
         host,
-        config: b"{}",
+        config: config.as_bytes(),
         script: OF_INES.as_bytes(),
     };
     check(rt, host.alloc(), texts, &folder, 1, ("", line))
@@ -361,30 +362,32 @@ fn ends_with(
 
 #[test]
 fn files_are_opened_in_turn(rt: HostRuntime) -> Result<(), Fail> {
-    ends_with(
-        &rt,
-        &rt,
-        &["script", "--config", "b.json", "b.map"],
-        "landmap: cannot read b.json\n",
-    )?;
-    ends_with(
-        &rt,
-        &rt,
-        &["script", "--config", "a.json", "b.map"],
-        "landmap: B2\n",
-    )?;
-    ends_with(
-        &rt,
-        &rt,
-        &["script", "--config=a.json", "a.map"],
-        "landmap: B2\n",
-    )?;
-    ends_with(
-        &rt,
-        &rt,
-        &["script", "b.map"],
-        "landmap: cannot read b.map\n",
-    )?;
+    let cases: [(&str, &[&str], &str); 5] = [
+        (
+            "{}",
+            &["script", "--config", "b.json", "b.map"],
+            "landmap: cannot read b.json\n",
+        ),
+        (
+            "{}",
+            &["script", "--config", "a.json", "b.map"],
+            "landmap: B2\n",
+        ),
+        (
+            "{}",
+            &["script", "--config=a.json", "a.map"],
+            "landmap: B2\n",
+        ),
+        (
+            AS_BUILT_IN,
+            &["script", "--config", "a.json", "b.map"],
+            "landmap: cannot read b.map\n",
+        ),
+        ("{}", &["script", "b.map"], "landmap: cannot read b.map\n"),
+    ];
+    for (config, texts, line) in cases {
+        ends_with(&rt, &rt, config, texts, line)?;
+    }
     Ok(())
 }
 
@@ -444,6 +447,27 @@ fn a_read_fails(rt: HostRuntime) -> Result<(), Fail> {
         1,
         ("", "landmap: V3\n"),
     )?;
+    Ok(())
+}
+
+/// Each read of the configuration's file fails in turn; the last would tell its end. The script's file is not there.
+#[test]
+fn a_read_of_the_configuration_fails(rt: HostRuntime) -> Result<(), Fail> {
+    for at in 0..=AS_BUILT_IN.len() {
+        let folder = Text {
+            host: &rt,
+            bytes: AS_BUILT_IN.as_bytes(),
+            fails_at: (at as u64).saturating_add(1),
+        };
+        check(
+            &rt,
+            rt.alloc(),
+            &["script", "--config", "a.map", "b.map"],
+            &folder,
+            1,
+            ("", "landmap: cannot read a.map\n"),
+        )?;
+    }
     Ok(())
 }
 
@@ -526,12 +550,15 @@ fn is_told(rt: &impl Abort, alloc: Global, fault: &ProgramFault<'_>, line: &str)
     assert_eq!(rt; errors.as_slice(), line.as_bytes());
 }
 
-/// The status of a run whose output, or whose standard error, fails so; and what it wrote to the other.
+/// A run whose output fails so ends with status 1 and its line. What the output has taken begins and ends so; nothing where
+/// these are empty.
 fn with_output(
     rt: &impl Abort,
     host: &HostRuntime,
     texts: &[&str],
     with: Failure,
+    begins: &str,
+    ends: &str,
 ) -> Result<(), AllocError> {
     let alloc = host.alloc();
     let folder = Text {
@@ -545,18 +572,40 @@ fn with_output(
     let ended = run_program(alloc, words.as_slice(), &folder, &mut output, &mut errors);
     assert_eq!(rt; ended.status(), 1);
     assert_eq!(rt; errors.as_slice(), b"landmap: cannot write\n".as_slice());
+    let taken = output.taken.as_slice();
+    assert!(rt; taken.starts_with(begins.as_bytes()));
+    assert!(rt; taken.ends_with(ends.as_bytes()));
+    assert_eq!(rt; taken.is_empty(), begins.is_empty());
     Ok(())
 }
 
+/// There is one flush, behind all that is written.
 #[test]
 fn the_output_fails(rt: HostRuntime) -> Result<(), Fail> {
-    for with in [Failure::Error, Failure::Nothing, Failure::Flush] {
-        with_output(&rt, &rt, &["script", "a.map"], with)?;
-        with_output(&rt, &rt, &["--help"], with)?;
+    for with in [Failure::Error, Failure::Nothing] {
+        with_output(&rt, &rt, &["script", "a.map"], with, "", "")?;
+        with_output(&rt, &rt, &["--help"], with, "", "")?;
     }
+    with_output(
+        &rt,
+        &rt,
+        &["script", "a.map"],
+        Failure::Flush,
+        FIRST_REPLIES,
+        "n: rows 0\n(flush)",
+    )?;
+    with_output(
+        &rt,
+        &rt,
+        &["--help"],
+        Failure::Flush,
+        "A map feature server for land agencies",
+        "  2  the command line is wrong\n(flush)",
+    )?;
     Ok(())
 }
 
+/// A run whose standard error fails ends with this status, and writes nothing there.
 fn with_errors(
     rt: &impl Abort,
     host: &HostRuntime,

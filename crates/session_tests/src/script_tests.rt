@@ -110,7 +110,7 @@ fn staged_lists(rt: HostRuntime) {
             "n: HELLO north\nn: ADD 2 a POINT (0 0)\nn: COMMIT\nn: ADD 1 a POINT (0 0)\nn: ADD 2 a POINT (0 0)\nn: ADD 2 a POINT (1 1)\nn: COMMIT\nn: SEARCH POINT (0 0)\n",
             "n: hello north\nn: staged\nn: applied 1\nn: staged\nn: staged\nn: error X5\nn: exists change 2\nn: rows 1\nn: 2 1 north a POINT (0 0)\n",
         ),
-        // Rows come by rising id, and 16 changes fit a list.
+        // Rows come by rising id.
         (
             "n: HELLO north\nn: ADD 3 c POINT (0 0)\nn: ADD 1 a POINT (0 0)\nn: ADD 2 b POINT (1 0)\nn: COMMIT\nn: SEARCH POINT (0 0)\n",
             "n: hello north\nn: staged\nn: staged\nn: staged\nn: applied 1\nn: rows 2\nn: 1 1 north a POINT (0 0)\nn: 3 1 north c POINT (0 0)\n",
