@@ -1,5 +1,5 @@
--- Which faults are the index's, and why it refuses.
-use Rattle.std.proofs.Common.{◌≡◌, ◌⊎◌, ℕ, zero, suc, ◌+◌, ◌*◌, ◌<◌, [], ◌==◌, Bool, true, false, List, Option, None, Some, MatchOption, Result, Ok, Err, IfErr, if◌then◌else◌, refl, sym, ap, subst, ◌∙◌, inl, inr, arith, nat_le, nat_lt, length}
+-- Which faults are the index's, and what searches and lists make of it.
+use Rattle.std.proofs.Common.{◌≡◌, ◌⊎◌, ℕ, zero, suc, ◌+◌, ◌*◌, ◌<◌, ◌==◌, [], Bool, true, false, List, Option, None, Some, MatchOption, Result, Ok, Err, IfErr, if◌then◌else◌, refl, sym, ap, subst, ◌∙◌, inl, inr, arith, nat_le, nat_lt, length}
 use Rattle.std.specs.Prelude.{⊤}
 use Rattle.std.specs.Bool.{MatchBool}
 use Rattle.plane.specs.declared.point.Point.{Point}
@@ -14,40 +14,27 @@ use Rattle.plain_world.specs.declared.faults.Fault.{Fault}
 use Rattle.plain_world.specs.declared.faults.Fault.TheVariants as faults
 use Rattle.plain_world.specs.declared.outcomes.Outcome.{Outcome}
 use Rattle.plain_world.specs.declared.outcomes.Outcome.TheVariants as outcomes
-use Rattle.plain_world.specs.declared.searches.Search.{Search}
 use Rattle.plain_world.specs.declared.settings.TheConstants.{CHANGE_LIMIT, SEARCH_LIMIT, STEP_LIMIT, TRANSACTION_LIMIT}
-use Rattle.plain_world.specs.declared.steps.Advance.{Advance}
 use Rattle.plain_world.specs.declared.steps.Advance.TheVariants.{Walked}
-use Rattle.plain_world.specs.Admitting.{LAST, and_then, given, map_ok, refused_if, owned, search_with, subject_at, own_search, has_answered_ready, may_record, may_go_on, may_finish, may_open, next_search, next_transaction, may_begin, transaction_owned, own_transaction, may_step, may_add, may_stage, all_placed, may_commit}
-use Rattle.plain_world.specs.Events.{Event, OpenSearch, VisitNext, Finish, Begin, Stage, Commit, Happens, Reply, Number, Visited, Refused, Rows, Ended, Done, Applies, CommitsAs, UnlessMemory, Visits, is_want, recorded, reply_of, without_transaction}
-use Rattle.plain_world.specs.Staging.{TransactionData, names, next_placement, placements, staged_in, transaction_with}
+use Rattle.plain_world.specs.Admitting.{LAST, and_then, given, refused_if, subject_at, may_record, may_go_on, may_open, next_search, next_transaction, may_begin, transaction_owned, own_transaction, may_step, may_add, may_stage, all_placed, may_commit}
+use Rattle.plain_world.specs.Answers.{AnswerData}
+use Rattle.plain_world.specs.Events.{Event, OpenSearch, Begin, Stage, Commit, Happens, Reply, Number, Refused, Rows, Ended, Done, Applies, CommitsAs, UnlessMemory, is_want, recorded, reply_of, without_transaction}
+use Rattle.plain_world.specs.Staging.{TransactionData, names, placements, staged_in, transaction_with}
 use Rattle.plain_world.specs.States.{WorldData}
 use Rattle.plain_world.proofs.AdmittedLemmas.{by_if, by_unless}
-use Rattle.search_tree.specs.Advances.{IsAdvance, LacksSlots}
-use Rattle.search_tree.specs.Advances.IsAdvance.{was_placed, overruns, goes_on, is_refused}
-use Rattle.search_tree.specs.Calls.{IsOpen, IsOverrun, IsUntouched}
-use Rattle.search_tree.specs.Splitting.{MayGrow}
-use Rattle.search_tree.specs.Trees.{PlainWalk}
 use Rattle.search_tree.specs.declared.answers.Step.{Step}
-use Rattle.search_tree.specs.declared.answers.Visit.{Visit}
 use Rattle.search_tree.specs.declared.answers.Visit.TheVariants as visits
-use Rattle.search_tree.specs.declared.fault.TreeFault.{TreeFault}
 use Rattle.search_tree.specs.declared.fault.TreeFault.TheVariants as tree
-use Rattle.transactions.specs.Index.{Index, IndexedWorld, frames}
-use Rattle.transactions.specs.Refusing.{GivesUp, RefusesGrowth}
-use Rattle.transactions.specs.Stepping.{VisitsIndex}
-use Rattle.transactions.specs.Walking.{IsWalked, MakesStep, WalksOn, told_step}
-use Rattle.transactions.specs.Walks.{begun as with_place}
+use Rattle.transactions.specs.Index.{Index, IndexedWorld}
+use Rattle.transactions.specs.Stepping.{EndsInIndex, VisitsIndex}
+use Rattle.transactions.specs.Walks.{JourneyData, begun as with_place, ended, if_done}
 use Rattle.sessions.specs.declared.faults.Fault.TheVariants.{BeforeHello}
-use Rattle.sessions.specs.declared.replies.Reply.{Reply as Told}
 use Rattle.sessions.specs.declared.replies.Reply.TheVariants.{Error}
-use Rattle.sessions.specs.Causes.{Advances, CommitsOut, ConcludesOut, IsOwn, IsStaged, OfRefusal, PlacesOut, SearchesOut, SeeksOut, WalksMore, is_of_index}
-use Rattle.sessions.specs.Replies.{fault_reply, line, outcome_reply, told}
-use Rattle.sessions.specs.Services.{Commit as CommitList, Commits, Serves}
-use Rattle.sessions.specs.States.{SoloState, WhereAtRest, begun}
+use Rattle.sessions.specs.Causes.{AdvancesIn, Causes, CommitsIn, ConcludesIn, IsOwn, LetsGo, SearchesIn, SeeksIn, StayBeside, WalksMore, is_of_index}
+use Rattle.sessions.specs.Replies.{SaidData, line, outcome_reply, rows, told}
+use Rattle.sessions.specs.Services.{Commit as CommitList, Commits, Search as SearchFor, Searches, Serves, is_overrun}
+use Rattle.sessions.specs.States.{SoloState, WhereAtRest, IsAtRest, begun}
 use Rattle.sessions.specs.Stepping.{SeesMore}
-use Rattle.sessions.specs.UnderWay.{under}
-use Rattle.sessions.proofs.CommitLemmas.{begins}
 use Rattle.sessions.proofs.SearchLemmas.{want_is}
 
 -- ---- faults that are not the index's
@@ -90,21 +77,8 @@ module _ (Fits : Fault → Type 0) where
 own_subject : (seat : ℕ) (w : WorldData) → Fails IsOwn (subject_at seat w)
 own_subject seat w = fails_given IsOwn (subject_of seat w.seats) refl
 
-own_owned : (seat number : ℕ) (w : WorldData) → Fails IsOwn (own_search seat number w)
-own_owned seat number w = fails_then IsOwn (given (search_with number w.searches)) (owned seat) (fails_given IsOwn _ refl) (λ s. fails_unless IsOwn (s.seat == seat) faults.NotYours s refl)
-
-pub own_go_on : (seat number : ℕ) (w : WorldData) → Fails IsOwn (may_go_on seat number w)
-own_go_on seat number w = fails_then IsOwn (subject_at seat w) (λ _. own_search seat number w) (own_subject seat w) (λ _. own_owned seat number w)
-
 own_record : (w : WorldData) → Fails IsOwn (may_record w)
 own_record w = fails_if IsOwn (nat_le w.limits.records (length w.trail)) faults.TrailFull (Ok tt) refl (fails_ok IsOwn tt)
-
-own_finish : (seat number : ℕ) (w : WorldData) → Fails IsOwn (may_finish seat number w)
-own_finish seat number w =
-    fails_then IsOwn (subject_at seat w) _ (own_subject seat w) (λ subject.
-    fails_then IsOwn (own_search seat number w) _ (own_owned seat number w) (λ s.
-    fails_then IsOwn (has_answered_ready s) _ (fails_unless IsOwn s.ready faults.NotReady tt refl) (λ _.
-    fails_then IsOwn (may_record w) _ (own_record w) (λ _. fails_ok IsOwn (subject, s)))))
 
 own_transaction_fails : (seat number : ℕ) (w : WorldData) → Fails IsOwn (own_transaction seat number w)
 own_transaction_fails seat number w =
@@ -136,11 +110,6 @@ own_wants : (fault : Fault) → is_want fault ≡ true → IsOwn fault
 own_wants = want_fits IsOwn (λ refusal. refl)
 
 -- events that are refused by faults of their own alone
-pub finish_own : (seat number : ℕ) (old new : WorldData) (reply : Reply) → Happens (Finish seat number) old new reply → Answered IsOwn reply
-finish_own seat number old new reply h =
-    by_if (may_finish seat number old) old new reply _ (Answered IsOwn) (λ fault may same. own_finish seat number old fault may)
-    (λ who may d. by_unless old new reply _ (Answered IsOwn) (λ fault want same. own_wants fault want) (λ d. subst (Answered IsOwn) (sym d.2) tt) d) h
-
 pub begin_own : (seat : ℕ) (old new : WorldData) (reply : Reply) → Happens (Begin seat) old new reply → Answered IsOwn reply
 begin_own seat old new reply h =
     by_if (may_begin seat old) old new reply _ (Answered IsOwn) (λ fault may same. own_begin seat old fault may)
@@ -172,63 +141,11 @@ commit_own seat number old new reply h =
     (λ subject may d. by_unless old new reply _ (Answered IsOwn) (λ fault want same. own_wants fault want)
     (λ d. judged_own d.0 seat number subject (staged_in number old.transactions) old new reply d.2) d) h
 
--- ---- growth
-
--- a fault that is not the index's tells nothing of it
-pub growth_own : (index : Index) (fault : Fault) → IsOwn fault → RefusesGrowth index fault
-growth_own index (faults.Tree fault) own = absurd cc
-growth_own index _ own = tt
-
-pub growth_told : (index : Index) {T : Type 0} (make : T → Reply) (r : Result T Fault) → Answered IsOwn (reply_of make r) → IfErr r (RefusesGrowth index)
-growth_told index make (Ok x) own = tt
-growth_told index make (Err fault) own = growth_own index fault own
-
--- an index that is untouched refuses as before
-untouched_so : (t u : Index) (fault : Fault) → IsUntouched frames t u → RefusesGrowth t fault → RefusesGrowth u fault
-untouched_so t u (faults.Tree tree.Full) same refuses =
-    elim refuses [
-      | inl lt ↦ inl (rw same.alike.counts.taken lt)
-      | inr root ↦ inr (
-        record { node = root.0.node; is = rw same.root (same.nodes.look t.root ∙ root.0.is); full = root.0.full },
-        rw same.alike.counts.taken root.1,
-      )
-    ]
-untouched_so t u (faults.Tree tree.TooHigh) same refuses = same.alike.counts.level ∙ refuses
-untouched_so t u (faults.Tree tree.Spent) same refuses = same.alike.counts.counter ∙ refuses
-untouched_so t u _ same refuses = tt
-
-step_so : (t u : Index) (walk after : PlainWalk (List Point)) (fault : Fault) (answer : Result Step TreeFault) → IsAdvance frames t u walk after answer
-    → ◌≡◌ {A = Result Advance Fault} (Err fault) (told_step answer) → RefusesGrowth t fault → RefusesGrowth u fault
-step_so t u walk after fault answer (was_placed is same stays) e refuses = absurd cc
-step_so t u walk after fault answer (overruns waits spent same stays) e refuses = subst (λ (i : Index). RefusesGrowth i fault) (sym same) refuses
-step_so t u walk after fault answer (goes_on step may stepped advanced) e refuses = absurd cc
-step_so t u walk after fault answer (is_refused met may because untouched stays) e refuses = untouched_so t u fault untouched refuses
-
--- an index that refuses a step of a walk refuses it behind the step too
-pub walk_so : (seat number : ℕ) (old new : IndexedWorld) (fault : Fault) → WalksOn seat number old new (Err fault) → RefusesGrowth old.index fault → RefusesGrowth new.index fault
-walk_so seat number old new fault h refuses = go (map_ok next_placement (may_step seat number old.plain)) h
-  where
-    go : (r : Result (Option (ℕ × List Point)) Fault) → IsWalked number r old new (Err fault) → RefusesGrowth new.index fault
-    go (Ok (Some placement)) h = step_so old.index new.index h.walk h.after fault h.answer h.step h.is_told refuses
-    go (Ok None) h = subst (λ (w : IndexedWorld). RefusesGrowth w.index fault) (sym h) refuses
-    go (Err met) h = subst (λ (w : IndexedWorld). RefusesGrowth w.index fault) (sym h) refuses
+pub ends_own : {T : Type 0} (make : T → Reply) (r : Result T Fault) → Answered IsOwn (reply_of make r) → IfErr r IsOwn
+ends_own make (Ok x) own = tt
+ends_own make (Err fault) own = own
 
 -- ---- searches
-
--- a visit that saw more, or was refused since all steps are made, is of a search that may go on
-abbrev IsVisitOf : Reply → Type 0
-IsVisitOf (Visited visits.More) = ⊤
-IsVisitOf (Refused (faults.Tree tree.Overrun)) = ⊤
-IsVisitOf _ = ⊥
-
-may_visit : (seat number : ℕ) (old new : WorldData) (reply : Reply) → IsVisitOf reply → Happens (VisitNext seat number) old new reply → (s : Search) × (may_go_on seat number old ≡ Ok s)
-may_visit seat number old new reply is h =
-    by_if (may_go_on seat number old) old new reply _ (λ reply. IsVisitOf reply → (s : Search) × (may_go_on seat number old ≡ Ok s))
-    (λ fault may same is. absurd (own_visit fault (own_go_on seat number old fault may) is)) (λ s may d is. (s, may)) h is
-  where
-    own_visit : (fault : Fault) → IsOwn fault → IsVisitOf (Refused fault) → ⊥
-    own_visit (faults.Tree fault) own is = cc
-    own_visit _ own is = is
 
 module _ (seat number count : ℕ) (start world : WorldData) (same : world ≡ start) (first old : Index) (seen : SeesMore (may_go_on seat number start) number count first old) where
   -- one visit more
@@ -238,113 +155,88 @@ module _ (seat number count : ℕ) (start world : WorldData) (same : world ≡ s
       subst (λ (n : ℕ). SeesMore (may_go_on seat number start) number n first new) next
       (old, seen, subst (λ (w : WorldData). VisitsIndex (may_go_on seat number w) number old new (Ok visits.More)) same visit)
 
-  out_of : (s : Search) → may_go_on seat number start ≡ Ok s → IsOverrun old number ⊎ (STEP_LIMIT < count) → SeeksOut number first (faults.Tree tree.Overrun)
-  out_of s may why = (s, count, old, subst (λ (r : Result Search Fault). SeesMore r number count first old) may seen, why)
-
   -- the visit is refused
-  pub seeks_refused_out : (after : WorldData) (fault : Fault) → Happens (VisitNext seat number) world after (Refused fault) → GivesUp old number fault → SeeksOut number first fault
-  seeks_refused_out after (faults.Tree tree.Overrun) h why =
-      let of = may_visit seat number start after (Refused (faults.Tree tree.Overrun)) tt (subst (λ (w : WorldData). Happens (VisitNext seat number) w after (Refused (faults.Tree tree.Overrun))) same h) in
-      out_of of.0 of.1 (inl why)
-  seeks_refused_out after _ h why = tt
+  pub seeks_refused_in : {T : Type 0} (new : Index) (fault : Fault) → VisitsIndex (may_go_on seat number world) number old new (Err fault) → SeeksIn {T = T} (may_go_on seat number start) number first new (Err fault)
+  seeks_refused_in new fault visit =
+      (count, old, seen, inl (fault, subst (λ (w : WorldData). VisitsIndex (may_go_on seat number w) number old new (Err fault)) same visit, refl))
+
+  -- the search is ready, and is finished
+  pub seeks_ready_in : {T : Type 0} (mid new : Index) (result : Result T Fault) → VisitsIndex (may_go_on seat number world) number old mid (Ok visits.Ready) → EndsInIndex number mid new result
+      → SeeksIn (may_go_on seat number start) number first new result
+  seeks_ready_in mid new result visit ends =
+      (count, old, seen, inr (inl (mid, subst (λ (w : WorldData). VisitsIndex (may_go_on seat number w) number old mid (Ok visits.Ready)) same visit, ends)))
 
   -- it is waited for no longer
-  pub seeks_no_longer : Happens (VisitNext seat number) start start (Visited visits.More) → STEP_LIMIT < count → SeeksOut number first (faults.Tree tree.Overrun)
-  seeks_no_longer h lt = let of = may_visit seat number start start (Visited visits.More) tt h in out_of of.0 of.1 (inr lt)
-
-pub seeks_own : (number : ℕ) (first : Index) (fault : Fault) → IsOwn fault → SeeksOut number first fault
-seeks_own number first (faults.Tree fault) own = absurd cc
-seeks_own number first _ own = tt
-
-pub seeks_told : (number : ℕ) (first : Index) {T : Type 0} (make : T → Reply) (r : Result T Fault) → Answered IsOwn (reply_of make r) → IfErr r (SeeksOut number first)
-seeks_told number first make (Ok x) own = tt
-seeks_told number first make (Err fault) own = seeks_own number first fault own
-
-pub searches_out : (window : List Point) (old first : Index) (number : ℕ) → IsOpen frames old first window number → (fault : Fault) → SeeksOut number first fault → SearchesOut window old fault
-searches_out window old first number opened (faults.Tree tree.Overrun) out = (number, first, opened, out)
-searches_out window old first number opened _ out = tt
+  pub seeks_no_longer_in : {T : Type 0} → STEP_LIMIT < count → SeeksIn {T = T} (may_go_on seat number start) number first old (Err (faults.Tree tree.Overrun))
+  seeks_no_longer_in lt = (count, old, seen, inr (inr (lt, refl, refl)))
 
 -- a search that does not begin is not given up
-pub open_out : (seat : ℕ) (window : List Point) (index : Index) (old new : WorldData) (reply : Reply) → Happens (OpenSearch seat window) old new reply → Answered (SearchesOut window index) reply
-open_out seat window index old new reply h =
+pub open_kept : (seat : ℕ) (window : List Point) (old new : WorldData) (reply : Reply) → Happens (OpenSearch seat window) old new reply → Answered (λ fault. is_overrun (Refused fault) ≡ false) reply
+open_kept seat window old new reply h =
     by_if (may_open seat old) old new reply _ (Answered Fits) (λ fault may same. fails fault may)
-    (λ number may d. by_unless old new reply _ (Answered Fits) (λ fault want same. want_fits Fits (λ refusal. tt) fault want) (λ d. subst (Answered Fits) (sym d.1) tt) d) h
+    (λ number may d. by_unless old new reply _ (Answered Fits) (λ fault want same. want_fits Fits (λ refusal. refl) fault want) (λ d. subst (Answered Fits) (sym d.1) tt) d) h
   where
     Fits : Fault → Type 0
-    Fits = SearchesOut window index
+    Fits fault = is_overrun (Refused fault) ≡ false
 
     fails : Fails Fits (may_open seat old)
     fails =
-        fails_then Fits (subject_at seat old) _ (fails_given Fits (subject_of seat old.seats) tt) (λ _.
-        fails_if Fits (nat_le SEARCH_LIMIT (length old.searches)) (faults.Tree tree.TooMany) _ tt
-        (fails_if Fits (old.next_search == LAST) (faults.Tree tree.Spent) (Ok old.next_search) tt (fails_ok Fits old.next_search)))
+        fails_then Fits (subject_at seat old) _ (fails_given Fits (subject_of seat old.seats) refl) (λ _.
+        fails_if Fits (nat_le SEARCH_LIMIT (length old.searches)) (faults.Tree tree.TooMany) _ refl
+        (fails_if Fits (old.next_search == LAST) (faults.Tree tree.Spent) (Ok old.next_search) refl (fails_ok Fits old.next_search)))
 
 -- ---- lists
 
 module _ (seat number count : ℕ) (first old : IndexedWorld) (walks : WalksMore seat number count first old) where
   -- one step more
-  pub walks_further : (new : IndexedWorld) (step : Step) → Advances seat number old new (Ok (Walked step)) → WalksMore seat number (count + 1) first new
+  pub walks_further : (new : IndexedWorld) (step : Step) → AdvancesIn seat number old new (Ok (Walked step)) → WalksMore seat number (count + 1) first new
   walks_further new step h =
       let next : suc count ≡ count + 1 = omega arith in
       subst (λ (n : ℕ). WalksMore seat number n first new) next (old, step, walks, h)
 
-  -- the step is refused
-  pub places_refused_out : (new : IndexedWorld) (fault : Fault) → Advances seat number old new (Err fault) → PlacesOut seat number first fault
-  places_refused_out new (faults.Tree fault) h = (count, old, walks, inl (new, h))
-  places_refused_out new _ h = tt
+-- a transaction that may be let go of, once more
+pub lets_go : {T : Type 0} (number : ℕ) (start old new : List JourneyData) (r : Result T Fault) → LetsGo number start old → new ≡ if_done r old (λ _. ended number old) → LetsGo number start new
+lets_go number start old new (Ok x) gone is = (suc gone.0, is ∙ ap (ended number) gone.1)
+lets_go number start old new (Err fault) gone is = (gone.0, is ∙ gone.1)
 
-  -- the walks are waited for no longer
-  pub places_no_longer : CHANGE_LIMIT * (STEP_LIMIT + 1) < count → PlacesOut seat number first (faults.Tree tree.Overrun)
-  places_no_longer lt = (count, old, walks, inr (refl, lt))
+-- what is said of a list that is staged in a transaction, from the transaction's beginning on
+pub commits_in : {T : Type 0} (seat number : ℕ) (changes : List Change) (old mid new : IndexedWorld) (result : Result T Fault) → number ≡ old.plain.next_transaction → mid.index ≡ old.index → mid.walks ≡ with_place number old.walks
+    → ConcludesIn seat number changes (begun old.plain) mid.index mid.walks new result → CommitsIn seat changes old new result
+commits_in seat number changes old mid new result is index walks h =
+    inr (subst (λ (n : ℕ). ConcludesIn seat n changes (begun old.plain) old.index (with_place n old.walks) new result) is (
+      h.0,
+      record { stands = h.1.stands; index_is = h.1.index_is ∙ index; walks_are = h.1.walks_are ∙ walks },
+      h.2,
+      h.3,
+      h.4,
+      h.5,
+      h.6,
+      h.7,
+    ))
 
--- what the index does of a list that is not placed, as the list is staged
-pub places_out : (seat number : ℕ) (changes : List Change) (plain : WorldData) (old first : IndexedWorld) → IsStaged seat number changes plain old.index old.walks first → (fault : Fault)
-    → PlacesOut seat number first fault → ConcludesOut seat number changes plain old fault
-places_out seat number changes plain old first staged (faults.Tree fault) out = (first, staged, out)
-places_out seat number changes plain old first staged _ out = tt
+-- ---- a session's calls
 
-pub concludes_own : (seat number : ℕ) (changes : List Change) (plain : WorldData) (old : IndexedWorld) (fault : Fault) → IsOwn fault → ConcludesOut seat number changes plain old fault
-concludes_own seat number changes plain old (faults.Tree fault) own = absurd cc
-concludes_own seat number changes plain old _ own = tt
+-- a search, as it ends
+module _ (seat : ℕ) (window : List Point) (end : Result AnswerData Fault) (said : SaidData) (shown : said ≡ told rows end) where
+  pub search_so : (old new : SoloState) → old.seat ≡ Some seat → new.seat ≡ old.seat → WhereAtRest old.world new.world (Searches seat window old.world new.world (reply_of Rows end)) → Serves (SearchFor window) old new said
+  search_so old new is same ends =
+      subst (λ (s : Option ℕ). MatchOption s ((new ≡ old) × (said ≡ line (Error BeforeHello))) (λ seat. (new.seat ≡ old.seat)
+      × WhereAtRest old.world new.world ((end : Result AnswerData Fault) × Searches seat window old.world new.world (reply_of Rows end) × (said ≡ told rows end)))) (sym is)
+      (same, λ still. let all = ends still in (all.0, (end, all.1, shown)))
 
-pub concludes_told : (seat number : ℕ) (changes : List Change) (old : IndexedWorld) {T : Type 0} (make : T → Reply) (r : Result T Fault) → Answered IsOwn (reply_of make r)
-    → IfErr r (λ fault. (w : WorldData) (subject : Subject) → subject_at seat w ≡ Ok subject → old.plain ≡ under number seat [] 0 w → ConcludesOut seat number changes w old fault)
-concludes_told seat number changes old make (Ok x) own = tt
-concludes_told seat number changes old make (Err fault) own = λ w subject seated start. concludes_own seat number changes w old fault own
+  pub search_there : (at : Option ℕ) (old new : IndexedWorld) → at ≡ Some seat → SearchesIn seat window old new end → Causes (SearchFor window) at old new said
+  search_there at old new is h =
+      subst (λ (s : Option ℕ). MatchOption s (StayBeside old new) (λ seat. (end : Result AnswerData Fault) × SearchesIn seat window old new end × (said ≡ told rows end))) (sym is) (end, h, shown)
 
-pub commits_own : (changes : List Change) (old : IndexedWorld) (fault : Fault) → IsOwn fault → CommitsOut changes old fault
-commits_own changes old (faults.Tree fault) own = absurd cc
-commits_own changes old _ own = tt
+-- a commit, as it ends
+module _ (seat : ℕ) (changes : List Change) (end : Result Outcome Fault) (said : SaidData) (shown : said ≡ told (λ outcome. line (outcome_reply outcome)) end) where
+  pub commit_so : (old new : SoloState) → old.seat ≡ Some seat → new.seat ≡ old.seat → WhereAtRest old.world new.world (Commits seat changes old.world new.world (reply_of Ended end)) → Serves (CommitList changes) old new said
+  commit_so old new is same ends =
+      subst (λ (s : Option ℕ). MatchOption s ((new ≡ old) × (said ≡ line (Error BeforeHello))) (λ seat. (new.seat ≡ old.seat)
+      × WhereAtRest old.world new.world ((end : Result Outcome Fault) × Commits seat changes old.world new.world (reply_of Ended end) × (said ≡ told (λ outcome. line (outcome_reply outcome)) end)))) (sym is)
+      (same, λ still. let all = ends still in (all.0, (end, all.1, shown)))
 
--- a list that is given up once its transaction has begun
-pub commits_out : (seat number : ℕ) (changes : List Change) (old mid : IndexedWorld) → Happens (Begin seat) old.plain mid.plain (Number number) → mid.index ≡ old.index
-    → mid.walks ≡ with_place number old.walks → (fault : Fault)
-    → ((w : WorldData) (subject : Subject) → subject_at seat w ≡ Ok subject → mid.plain ≡ under number seat [] 0 w → ConcludesOut seat number changes w mid fault) → CommitsOut changes old fault
-commits_out seat number changes old mid h index walks (faults.Tree fault) out =
-    λ still.
-    let started = begins seat old.plain mid.plain number still h in
-    let ends = out (begun old.plain) started.subject started.seated started.stands in (
-      seat,
-      number,
-      ends.0,
-      record { stands = ends.1.stands; index_is = ends.1.index_is ∙ index; walks_are = ends.1.walks_are ∙ walks },
-      ends.2,
-    )
-commits_out seat number changes old mid h index walks _ out = tt
-
--- what holds of a refusal holds of what is told of it
-pub list_refused : (fault : Fault) (Holds : Fault → Type 0) → Holds fault → OfRefusal (line (fault_reply fault)) Holds
-list_refused (faults.Memory refused) Holds h = tt
-list_refused (faults.Tree (tree.Memory refused)) Holds h = tt
-list_refused (faults.Tree (tree.Held search)) Holds h = (search, h)
-list_refused faults.NoSubject Holds h = tt
-list_refused faults.NoPlace Holds h = tt
-list_refused _ Holds h = h
-
--- a commit that comes to nothing
-pub commit_refused : (seat : ℕ) (changes : List Change) (old new : SoloState) (fault : Fault) (told_so : Told) → old.seat ≡ Some seat → new.seat ≡ old.seat
-    → WhereAtRest old.world new.world (Commits seat changes old.world new.world (Refused fault)) → told_so ≡ fault_reply fault → Serves (CommitList changes) old new (line told_so)
-commit_refused seat changes old new fault told_so is same ends shown =
-    subst (λ (s : Option ℕ). MatchOption s ((new ≡ old) × (line told_so ≡ line (Error BeforeHello))) (λ seat. (new.seat ≡ old.seat)
-    × WhereAtRest old.world new.world ((end : Result Outcome Fault) × Commits seat changes old.world new.world (reply_of Ended end) × (line told_so ≡ told (λ outcome. line (outcome_reply outcome)) end)))) (sym is)
-    (same, λ still. let all = ends still in (all.0, (Err fault, all.1, ap line shown)))
+  pub commit_there : (at : Option ℕ) (old new : IndexedWorld) → at ≡ Some seat → (IsAtRest old.plain → CommitsIn seat changes old new end) → Causes (CommitList changes) at old new said
+  commit_there at old new is h =
+      subst (λ (s : Option ℕ). MatchOption s (StayBeside old new) (λ seat. (end : Result Outcome Fault) × (IsAtRest old.plain → CommitsIn seat changes old new end)
+      × (said ≡ told (λ outcome. line (outcome_reply outcome)) end))) (sym is) (end, h, shown)

@@ -320,6 +320,7 @@ pub record Begun (seat : ℕ) (old new : WorldData) (number : ℕ) : Type 0 wher
   pub seated : subject_at seat old ≡ Ok subject
   pub left : (old.next_transaction == LAST) ≡ false
   pub stands : new ≡ under number seat [] 0 (begun old)
+  pub number_is : number ≡ old.next_transaction
 
 pub begins : (seat : ℕ) (old new : WorldData) (number : ℕ) → IsAtRest old → Happens (Begin seat) old new (Number number) → Begun seat old new number
 begins seat old new number still h = go (subject_at seat old) (old.next_transaction == LAST) refl refl (subst (λ (o : WorldData). Happens (Begin seat) o new (Number number)) (closed_same old still.transactions) h)
@@ -332,7 +333,7 @@ begins seat old new number still h = go (subject_at seat old) (old.next_transact
     go (Ok subject) false e l h =
         let d = does _ old.next_transaction (closed old) new (Number number) _ (ap (λ (r : Result Subject Fault). and_then r (λ _. next_transaction (closed old))) e ∙ ap (λ (b : Bool). if b then Err faults.Spent else Ok old.next_transaction) l) h in
         let is : number ≡ old.next_transaction = cc (d.1) in
-        record { subject = subject; seated = e; left = l; stands = d.0 ∙ ap (λ (n : ℕ). under n seat [] 0 (begun old)) (sym is) }
+        record { subject = subject; seated = e; left = l; stands = d.0 ∙ ap (λ (n : ℕ). under n seat [] 0 (begun old)) (sym is); number_is = is }
 
 module _ (seat : ℕ) (changes : List Change) (old mid : WorldData) (number : ℕ) (still : IsAtRest old) (h : Happens (Begin seat) old mid (Number number)) where
   started : Begun seat old mid number

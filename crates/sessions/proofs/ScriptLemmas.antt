@@ -16,7 +16,7 @@ use Rattle.sessions.specs.Services.{Call}
 use Rattle.sessions.specs.States.{SessionState, desk}
 use Rattle.features.specs.declared.actors.Subject.{Subject}
 use Rattle.features.specs.declared.rows.Change.{Change}
-use Rattle.sessions.specs.Stepping.{AllDrop, Drops}
+use Rattle.sessions.specs.Stepping.{AllDrop, AllEnd}
 use Rattle.byte_streams.specs.Written.{Took}
 use Rattle.sessions.specs.Streams.{OnMemory, Ran}
 use Rattle.sessions.specs.declared.streams.ServeFault.{ServeFault}
@@ -53,23 +53,25 @@ script_text_of (Ok u) world last end sessions (Some text) (Some rest) a b run dr
     let whole : text ≡ run.text = run.read ∙ ap (λ (xs : List ℕ). run.text ++ xs) run.at_end ∙ append-nil run.text in
     (run.answered.said, run.answered.written, record { sessions = sessions; last = last; tells = rw whole run.answered.told; drops = drops })
 
-none_drop : (xs : List SessionState) (w : WorldData) → AllDrop (take zero xs) w w
-none_drop [] w = refl
-none_drop (x ∷ xs) w = refl
+-- what comes of the sessions' open searches, one after another
+module _ {W : Type 0} (Ends : Option ℕ → Option ℕ → W → W → Type 0) where
+  none_end : (xs : List SessionState) (w : W) → AllEnd Ends (take zero xs) w w
+  none_end [] w = refl
+  none_end (x ∷ xs) w = refl
 
-drops_next : (xs : List SessionState) (i : ℕ) (x : SessionState) (w mid new : WorldData) → i < length xs → x ≡ slice_index_or xs i x → AllDrop (take i xs) w mid → Drops x.seat x.search mid new
-    → AllDrop (take (suc i) xs) w new
-drops_next [] i x w mid new lt e h d = absurd (omega (arith, lt))
-drops_next (y ∷ xs) zero x w mid new lt e h d =
-    (new, subst (λ (z : SessionState). Drops z.seat z.search w new) e (subst (λ (v : WorldData). Drops x.seat x.search v new) h d), none_drop xs new)
-drops_next (y ∷ xs) (suc i) x w mid new lt e h d = (h.0, h.1, drops_next xs i x h.0 mid new (omega (arith, lt)) e h.2 d)
+  ends_next : (xs : List SessionState) (i : ℕ) (x : SessionState) (w mid new : W) → i < length xs → x ≡ slice_index_or xs i x → AllEnd Ends (take i xs) w mid → Ends x.seat x.search mid new
+      → AllEnd Ends (take (suc i) xs) w new
+  ends_next [] i x w mid new lt e h d = absurd (omega (arith, lt))
+  ends_next (y ∷ xs) zero x w mid new lt e h d =
+      (new, subst (λ (z : SessionState). Ends z.seat z.search w new) e (subst (λ (v : W). Ends x.seat x.search v new) h d), none_end xs new)
+  ends_next (y ∷ xs) (suc i) x w mid new lt e h d = (h.0, h.1, ends_next xs i x h.0 mid new (omega (arith, lt)) e h.2 d)
 
--- one more of the sessions gives up its search
-pub drops_more : (xs : List SessionState) (i : ℕ) (x : SessionState) (w mid new : WorldData) → i < length xs → x ≡ slice_index_or xs i x → AllDrop (take i xs) w mid → Drops x.seat x.search mid new
-    → AllDrop (take (i + 1) xs) w new
-drops_more xs i x w mid new lt e h d =
-    let next : suc i ≡ i + 1 = omega arith in
-    subst (λ (n : ℕ). AllDrop (take n xs) w new) next (drops_next xs i x w mid new lt e h d)
+  -- that of one more of the sessions
+  pub ends_more : (xs : List SessionState) (i : ℕ) (x : SessionState) (w mid new : W) → i < length xs → x ≡ slice_index_or xs i x → AllEnd Ends (take i xs) w mid → Ends x.seat x.search mid new
+      → AllEnd Ends (take (i + 1) xs) w new
+  ends_more xs i x w mid new lt e h d =
+      let next : suc i ≡ i + 1 = omega arith in
+      subst (λ (n : ℕ). AllEnd Ends (take n xs) w new) next (ends_next xs i x w mid new lt e h d)
 
 -- a run that found no memory for its buffers has no sessions, and so gives up nothing
 pub untouched_so : {W D : Type 0} (sessions : D → List SessionState) (tells : List ℕ → W × D → W × D → List ℕ → Type 0) (r : Result (Unit {0}) ServeFault) (old new : W × D) (end : W) (input left a b : Option (List ℕ)) (P Q : Type 0)

@@ -1,25 +1,29 @@
--- What a session's call has to do with the index of a world: why the index refuses it, and that other calls leave it alone.
-use Rattle.std.specs.Prelude.{◌≡◌, ◌⊎◌, ◌<◌, ◌+◌, ◌*◌, ℕ, zero, suc, Bool, true, false, List, Option, None, Some, MatchOption, Result, Ok, Err, ⊤}
-use Rattle.features.specs.declared.rows.Change.{Change}
+-- What a session's call makes of the index of a world, and of the walks: how a search and a list come to be refused there, and
+-- that other calls leave both alone.
+use Rattle.std.specs.Prelude.{◌≡◌, ◌⊎◌, ◌<◌, ◌+◌, ◌*◌, ℕ, zero, suc, Bool, true, false, List, Option, MatchOption, Result, Ok, Err, IfErr}
 use Rattle.plane.specs.declared.point.Point.{Point}
-use Rattle.plain_world.specs.Events.{AdvanceWalk, Advanced, Happens, reply_of}
+use Rattle.features.specs.declared.rows.Change.{Change}
+use Rattle.plain_world.specs.Answers.{AnswerData}
+use Rattle.plain_world.specs.Admitting.{may_go_on}
+use Rattle.plain_world.specs.Events.{AdvanceWalk, Advanced, Happens, Number, OpenSearch, Refused, reply_of}
 use Rattle.plain_world.specs.States.{WorldData}
 use Rattle.plain_world.specs.declared.faults.Fault.{Fault}
 use Rattle.plain_world.specs.declared.faults.Fault.TheVariants as faults
+use Rattle.plain_world.specs.declared.outcomes.Outcome.{Outcome}
 use Rattle.plain_world.specs.declared.searches.Search.{Search as Sought}
 use Rattle.plain_world.specs.declared.settings.TheConstants.{CHANGE_LIMIT, STEP_LIMIT}
 use Rattle.plain_world.specs.declared.steps.Advance.{Advance}
-use Rattle.plain_world.specs.declared.steps.Advance.TheVariants.{Walked}
-use Rattle.search_tree.specs.Calls.{IsOpen, IsOverrun}
+use Rattle.plain_world.specs.declared.steps.Advance.TheVariants.{AllPlaced, Walked}
+use Rattle.search_tree.specs.Calls.{IsOpen}
 use Rattle.search_tree.specs.declared.answers.Step.{Step}
+use Rattle.search_tree.specs.declared.answers.Visit.TheVariants.{Ready}
 use Rattle.search_tree.specs.declared.fault.TreeFault.TheVariants as tree
 use Rattle.transactions.specs.Index.{Index, IndexedWorld, frames}
-use Rattle.transactions.specs.Refusing.{RefusesGrowth}
+use Rattle.transactions.specs.Stepping.{EndsInIndex, VisitsIndex}
 use Rattle.transactions.specs.Walking.{WalksOn}
-use Rattle.transactions.specs.Walks.{JourneyData, begun as with_place}
-use Rattle.sessions.specs.declared.replies.Reply.TheVariants.{Held, Refused}
-use Rattle.sessions.specs.Replies.{SaidData, line}
-use Rattle.sessions.specs.Services.{Call, Hello, Search, Commit, Govern, Explain, Roll, Leave}
+use Rattle.transactions.specs.Walks.{JourneyData, begun as with_place, ended}
+use Rattle.sessions.specs.Replies.{SaidData, line, outcome_reply, rows, told}
+use Rattle.sessions.specs.Services.{Call, Hello, Search, Commit, Govern, Explain, Roll, Leave, is_overrun}
 use Rattle.sessions.specs.States.{IsAtRest, begun}
 use Rattle.sessions.specs.Stepping.{SeesMore}
 use Rattle.sessions.specs.UnderWay.{under}
@@ -33,79 +37,92 @@ is_of_index _ = false
 abbrev pub IsOwn : Fault → Type 0
 IsOwn fault = is_of_index fault ≡ false
 
--- the refusal of the world that is told, if one is
-abbrev pub refusal_in : SaidData → Option Fault
-refusal_in (line (Refused fault)) = Some fault
-refusal_in _ = None
+-- index and walks stay as they are
+abbrev pub StayBeside : IndexedWorld → IndexedWorld → Type 0
+StayBeside old new = (new.index ≡ old.index) × (new.walks ≡ old.walks)
 
--- what holds of the refusal that a list is told: of what it is `held` for, the search is not told
-abbrev pub OfRefusal : SaidData → (Fault → Type 0) → Type 0
-OfRefusal (line (Refused fault)) Holds = Holds fault
-OfRefusal (line Held) Holds = (search : ℕ) × Holds (faults.Tree (tree.Held search))
-OfRefusal _ Holds = ⊤
+-- A search goes on from here: so many visits find more to see, and then one is refused, and that is answered; or the search is
+-- ready, and is finished; or, where these were more visits than a search may make, it is given up (S7).
+abbrev pub SeeksIn : {T : Type 0} → Result Sought Fault → ℕ → Index → Index → Result T Fault → Type 0
+SeeksIn may number first new result =
+    (count : ℕ) × (last : Index) × SeesMore may number count first last
+    × (((fault : Fault) × VisitsIndex may number last new (Err fault) × (result ≡ Err fault))
+    ⊎ (((mid : Index) × VisitsIndex may number last mid (Ok Ready) × EndsInIndex number mid new result)
+    ⊎ ((STEP_LIMIT < count) × (new ≡ last) × (result ≡ Err (faults.Tree tree.Overrun)))))
 
--- A search that goes on from here is given up (S7): it has seen more at each of so many visits, and has made all its steps. A
--- session makes no more visits of a search than one above the limit of steps.
-abbrev pub SeeksOut : ℕ → Index → Fault → Type 0
-SeeksOut number first (faults.Tree tree.Overrun) =
-    (sought : Sought) × (count : ℕ) × (last : Index) × SeesMore (Ok sought) number count first last × (IsOverrun last number ⊎ (STEP_LIMIT < count))
-SeeksOut number first fault = ⊤
+-- a search that was refused ends in the index
+abbrev pub DropsRefused : {T : Type 0} → ℕ → Index → Index → Result T Fault → Type 0
+DropsRefused number old new (Ok x) = new ≡ old
+DropsRefused number old new (Err fault) = (end : Result (Unit {0}) Fault) × EndsInIndex number old new end
 
--- the same of a search from its beginning on
-abbrev pub SearchesOut : List Point → Index → Fault → Type 0
-SearchesOut window old (faults.Tree tree.Overrun) =
-    (number : ℕ) × (first : Index) × IsOpen frames old first window number × SeeksOut number first (faults.Tree tree.Overrun)
-SearchesOut window old fault = ⊤
+-- A search from its beginning on. Where it does not begin, the index stays, and it is not given up.
+abbrev pub SearchesIn : {T : Type 0} → ℕ → List Point → IndexedWorld → IndexedWorld → Result T Fault → Type 0
+SearchesIn seat window old new result =
+    ((fault : Fault) × (result ≡ Err fault) × (is_overrun (Refused fault) ≡ false) × StayBeside old new)
+    ⊎ ((number : ℕ) × (first : IndexedWorld) × Happens (OpenSearch seat window) old.plain first.plain (Number number) × IsOpen frames old.index first.index window number
+    × (mid : Index) × SeeksIn (may_go_on seat number first.plain) number first.index mid result × DropsRefused number mid new.index result × (new.walks ≡ old.walks))
 
 -- a step of a transaction's walk, and what the index does then
-abbrev pub Advances : ℕ → ℕ → IndexedWorld → IndexedWorld → Result Advance Fault → Type 0
-Advances seat number old new result = Happens (AdvanceWalk seat number) old.plain new.plain (reply_of Advanced result) × WalksOn seat number old new result
+abbrev pub AdvancesIn : ℕ → ℕ → IndexedWorld → IndexedWorld → Result Advance Fault → Type 0
+AdvancesIn seat number old new result = Happens (AdvanceWalk seat number) old.plain new.plain (reply_of Advanced result) × WalksOn seat number old new result
 
 -- so many steps of a transaction's walks, one after another
 abbrev pub WalksMore : ℕ → ℕ → ℕ → IndexedWorld → IndexedWorld → Type 0
 WalksMore seat number zero old new = new ≡ old
 WalksMore seat number (suc count) old new =
-    (mid : IndexedWorld) × (step : Step) × WalksMore seat number count old mid × Advances seat number mid new (Ok (Walked step))
+    (mid : IndexedWorld) × (step : Step) × WalksMore seat number count old mid × AdvancesIn seat number mid new (Ok (Walked step))
 
--- The index refuses a list whose walks go on from here: so many steps are made, and the next one is refused so. A session
--- waits for no more steps than the walks of a list have, and for each walk one more.
-abbrev pub PlacesOut : ℕ → ℕ → IndexedWorld → Fault → Type 0
-PlacesOut seat number first (faults.Tree fault) =
+-- The walks of a list go on from here: so many steps are made, and then all is placed; or the next step is refused; or, where
+-- these were more steps than the walks of a list may make, the list is given up (S7).
+abbrev pub PlacesIn : ℕ → ℕ → IndexedWorld → IndexedWorld → Result (Unit {0}) Fault → Type 0
+PlacesIn seat number first new result =
     (count : ℕ) × (last : IndexedWorld) × WalksMore seat number count first last
-    × (((end : IndexedWorld) × Advances seat number last end (Err (faults.Tree fault))) ⊎ ((fault ≡ tree.Overrun) × (CHANGE_LIMIT * (STEP_LIMIT + 1) < count)))
-PlacesOut seat number first fault = ⊤
+    × ((AdvancesIn seat number last new (Ok AllPlaced) × (result ≡ Ok tt))
+    ⊎ (((fault : Fault) × AdvancesIn seat number last new (Err fault) × (result ≡ Err fault))
+    ⊎ ((CHANGE_LIMIT * (STEP_LIMIT + 1) < count) × (new ≡ last) × (result ≡ Err (faults.Tree tree.Overrun)))))
 
--- the changes are staged in a transaction of this world, and nothing of them is placed; index and walks are those of another
+-- the changes are staged in a transaction of this world, and nothing of them is placed; index and walks are these
 pub record IsStaged (seat number : ℕ) (changes : List Change) (plain : WorldData) (index : Index) (walks : List JourneyData) (first : IndexedWorld) : Type 0 where
   pub stands : first.plain ≡ under number seat changes 0 plain
   pub index_is : first.index ≡ index
   pub walks_are : first.walks ≡ walks
 
--- the same of a list that is yet to be staged in a transaction of this world
-abbrev pub ConcludesOut : ℕ → ℕ → List Change → WorldData → IndexedWorld → Fault → Type 0
-ConcludesOut seat number changes plain old (faults.Tree fault) =
-    (first : IndexedWorld) × IsStaged seat number changes plain old.index old.walks first × PlacesOut seat number first (faults.Tree fault)
-ConcludesOut seat number changes plain old fault = ⊤
+-- once its walks have ended so, a list is answered: a refusal of theirs is handed on, and no other of the index comes
+abbrev pub EndsSo : {T : Type 0} → Result (Unit {0}) Fault → Result T Fault → Type 0
+EndsSo (Ok u) result = IfErr result IsOwn
+EndsSo (Err fault) result = result ≡ Err fault
 
--- the same of a list from its beginning on, in a world that is at rest
-abbrev pub CommitsOut : List Change → IndexedWorld → Fault → Type 0
-CommitsOut changes old (faults.Tree fault) =
-    IsAtRest old.plain
-    → (seat : ℕ) × (number : ℕ) × (first : IndexedWorld) × IsStaged seat number changes (begun old.plain) old.index (with_place number old.walks) first
-    × PlacesOut seat number first (faults.Tree fault)
-CommitsOut changes old fault = ⊤
+-- the walks where the transaction of a number is let go of so many times (once is enough)
+abbrev pub let_go : ℕ → ℕ → List JourneyData → List JourneyData
+let_go zero number walks = walks
+let_go (suc count) number walks = ended number (let_go count number walks)
 
--- index and walks stay as they are
-abbrev pub StayBeside : IndexedWorld → IndexedWorld → Type 0
-StayBeside old new = (new.index ≡ old.index) × (new.walks ≡ old.walks)
+-- nothing is let go of among the walks but the transaction of a number
+abbrev pub LetsGo : ℕ → List JourneyData → List JourneyData → Type 0
+LetsGo number old new = (count : ℕ) × (new ≡ let_go count number old)
 
--- Why the index refuses a search (S7), and a list: for S4, S5 and S6 its counts still tell so. Each other call leaves the index as
--- it is.
-abbrev pub Causes : Call → IndexedWorld → IndexedWorld → SaidData → Type 0
-Causes (Search window) old new said = MatchOption (refusal_in said) ⊤ (SearchesOut window old.index)
-Causes (Commit changes) old new said = OfRefusal said (λ fault. RefusesGrowth new.index fault × CommitsOut changes old fault)
-Causes (Hello name) old new said = StayBeside old new
-Causes (Govern document) old new said = StayBeside old new
-Causes (Explain question) old new said = StayBeside old new
-Causes Roll old new said = StayBeside old new
-Causes Leave old new said = StayBeside old new
+-- a list that is staged so is placed as far as it is, and its transaction ends
+abbrev pub ConcludesIn : {T : Type 0} → ℕ → ℕ → List Change → WorldData → Index → List JourneyData → IndexedWorld → Result T Fault → Type 0
+ConcludesIn seat number changes plain index walks new result =
+    (first : IndexedWorld) × IsStaged seat number changes plain index walks first
+    × (mid : IndexedWorld) × (placed : Result (Unit {0}) Fault) × PlacesIn seat number first mid placed × EndsSo placed result
+    × (new.index ≡ mid.index) × LetsGo number mid.walks new.walks
+
+-- a list from its beginning on, in a world that is at rest
+abbrev pub CommitsIn : {T : Type 0} → ℕ → List Change → IndexedWorld → IndexedWorld → Result T Fault → Type 0
+CommitsIn seat changes old new result =
+    ((fault : Fault) × (result ≡ Err fault) × IsOwn fault × StayBeside old new)
+    ⊎ (let number = old.plain.next_transaction in ConcludesIn seat number changes (begun old.plain) old.index (with_place number old.walks) new result)
+
+-- What a call makes of index and walks. Before HELLO, and where it is neither a search nor a commit, both stay as they are.
+abbrev pub Causes : Call → Option ℕ → IndexedWorld → IndexedWorld → SaidData → Type 0
+Causes (Search window) seat old new said =
+    MatchOption seat (StayBeside old new) (λ seat. (end : Result AnswerData Fault) × SearchesIn seat window old new end × (said ≡ told rows end))
+Causes (Commit changes) seat old new said =
+    MatchOption seat (StayBeside old new) (λ seat.
+    (end : Result Outcome Fault) × (IsAtRest old.plain → CommitsIn seat changes old new end) × (said ≡ told (λ outcome. line (outcome_reply outcome)) end))
+Causes (Hello name) seat old new said = StayBeside old new
+Causes (Govern document) seat old new said = StayBeside old new
+Causes (Explain question) seat old new said = StayBeside old new
+Causes Roll seat old new said = StayBeside old new
+Causes Leave seat old new said = StayBeside old new

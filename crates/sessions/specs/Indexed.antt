@@ -1,30 +1,32 @@
--- What the lines of a script have to do with the index of their world: why it refuses them, how far STEP goes, and that a slot
--- is tended behind each line.
-use Rattle.std.specs.Prelude.{◌≡◌, ℕ, nat_lt, List, slice_index_or, slice_set, Option, MatchOption, Result, MatchResult, ⊤}
+-- What the lines of a script make of the index of their world, and of the walks: how it comes to refuse them, how far STEP goes,
+-- and that a slot is tended behind each line.
+use Rattle.std.specs.Prelude.{◌≡◌, ℕ, nat_lt, List, slice_index_or, slice_set, Option, MatchOption, Result, Ok, Err, IfErr, MatchResult}
 use Rattle.std.specs.Bool.{MatchBool}
 use Rattle.features.specs.Names.{name_of}
 use Rattle.features.specs.declared.actors.Subject.{Subject}
 use Rattle.plain_world.specs.Admitting.{may_go_on}
-use Rattle.plain_world.specs.Events.{Done, DropSearch, Happens, reply_of}
+use Rattle.plain_world.specs.Answers.{AnswerData}
+use Rattle.plain_world.specs.Events.{Done, DropSearch, Happens, Refused, Tend, Tended, reply_of}
 use Rattle.plain_world.specs.declared.faults.Fault.{Fault}
 use Rattle.search_tree.specs.declared.answers.Tending.{Tending}
 use Rattle.search_tree.specs.declared.answers.Visit.{Visit}
-use Rattle.transactions.specs.Index.{IndexedWorld, slots_of}
+use Rattle.transactions.specs.Index.{Index, IndexedWorld, slots_of}
+use Rattle.transactions.specs.Refusing.{RefusesGrowth}
 use Rattle.transactions.specs.Stepping.{EndsInIndex, OpensInIndex, TendsIndex}
 use Rattle.sessions.specs.declared.replies.Reply.TheVariants.{Opened}
 use Rattle.sessions.specs.declared.scripts.TheConstants.{LABEL_LIMIT}
 use Rattle.sessions.specs.declared.stepping.StepCommand.{StepCommand}
 use Rattle.sessions.specs.declared.stepping.StepCommand.TheVariants as commands
 use Rattle.sessions.specs.declared.stepping.StepVerb.{StepVerb}
-use Rattle.sessions.specs.Causes.{Causes, SeeksOut, refusal_in}
+use Rattle.sessions.specs.Causes.{Causes, SeeksIn}
 use Rattle.sessions.specs.Desks.{Answers}
 use Rattle.sessions.specs.Lines.{is_too_long}
 use Rattle.sessions.specs.Printed.{said_text}
-use Rattle.sessions.specs.Replies.{SaidData, line, told, visit_reply}
+use Rattle.sessions.specs.Replies.{SaidData, line, rows, told, visit_reply}
 use Rattle.sessions.specs.Scripts.{LineTells, behind, fresh, is_skipped, keeps_seat, parts_of, place, script, with_label}
-use Rattle.sessions.specs.Services.{Call, Serves, solo_subject}
+use Rattle.sessions.specs.Services.{Call, Serves, is_overrun, solo_subject}
 use Rattle.sessions.specs.States.{SessionState, desk, solo}
-use Rattle.sessions.specs.Stepping.{VisitsOn, step_command_at, step_verb_at}
+use Rattle.sessions.specs.Stepping.{AllEnd, VisitsOn, step_command_at, step_verb_at}
 
 -- a world with its index that serves one session, and the number of the session's seat from HELLO on
 pub record Server : Type 0 where
@@ -37,16 +39,20 @@ server world seat = record { world = world; seat = seat }
 abbrev pub asks_for : Server → Option Subject
 asks_for s = solo_subject (solo s.world.plain s.seat)
 
--- what a call makes of it, and what it has to do with the index
+-- what a call makes of it, and of the index
 abbrev pub ServesThere : Call → Server → Server → SaidData → Type 0
-ServesThere call old new said = Serves call (solo old.world.plain old.seat) (solo new.world.plain new.seat) said × Causes call old.world new.world said
+ServesThere call old new said = Serves call (solo old.world.plain old.seat) (solo new.world.plain new.seat) said × Causes call old.seat old.world new.world said
 
 -- the open search of a session with this seat ends, in the index too, if it has both
 abbrev pub Shuts : Option ℕ → Option ℕ → IndexedWorld → IndexedWorld → Type 0
 Shuts at number_open old new =
     MatchOption at (new ≡ old) (λ seat.
     MatchOption number_open (new ≡ old) (λ number.
-    (end : Result (Unit {0}) Fault) × Happens (DropSearch seat number) old.plain new.plain (reply_of (λ _. Done) end) × EndsInIndex number old.index new.index end))
+    (end : Result (Unit {0}) Fault) × Happens (DropSearch seat number) old.plain new.plain (reply_of (λ _. Done) end) × EndsInIndex number old.index new.index end × (new.walks ≡ old.walks)))
+
+-- those of all these sessions, one after another
+abbrev pub AllShut : List SessionState → IndexedWorld → IndexedWorld → Type 0
+AllShut sessions old new = AllEnd Shuts sessions old new
 
 -- a line that a session by itself knows too; a search that is open ends with its session
 abbrev pub TakesThere : List ℕ → SessionState → IndexedWorld → SessionState → IndexedWorld → SaidData → Type 0
@@ -54,16 +60,28 @@ TakesThere text old old_world new new_world said =
     (mid : IndexedWorld) × Answers asks_for ServesThere text (desk old.staged (server old_world old.seat)) (desk new.staged (server mid new.seat)) said
     × MatchBool (keeps_seat old.seat new.seat) (new_world ≡ mid) (Shuts old.seat old.search mid new_world)
 
+-- a search that was given up ends in the index
+abbrev pub DropsGivenUp : {T : Type 0} → ℕ → Index → Index → Result T Fault → Type 0
+DropsGivenUp number old new (Ok x) = new ≡ old
+DropsGivenUp number old new (Err fault) =
+    MatchBool (is_overrun (Refused fault)) ((end : Result (Unit {0}) Fault) × EndsInIndex number old new end) (new ≡ old)
+
+-- a search that is open is finished in the index
+abbrev pub FinishesIn : {T : Type 0} → ℕ → ℕ → IndexedWorld → IndexedWorld → Result T Fault → Type 0
+FinishesIn seat number old new result =
+    (mid : Index) × SeeksIn (may_go_on seat number old.plain) number old.index mid result × DropsGivenUp number mid new.index result
+
 -- A command of a search that goes step by step. OPEN begins it in the index. STEP makes as many visits as it asks for, or fewer,
--- where one before the last finds no more to see, and tells what the last one is answered. FINISH gives it up (S7) only where it
--- has made all its steps.
+-- where one before the last is refused or finds no more to see, and tells what the last one is answered. FINISH goes on until it
+-- is ready, and finishes it.
 abbrev pub StepsThere : ℕ → StepCommand → IndexedWorld → IndexedWorld → SaidData → Type 0
 StepsThere seat (commands.Open window) old new said =
-    (end : Result ℕ Fault) × OpensInIndex window old.index new.index end × (said ≡ told (λ number. line Opened) end)
+    (end : Result ℕ Fault) × OpensInIndex window old.index new.index end × (new.walks ≡ old.walks) × (said ≡ told (λ number. line Opened) end)
 StepsThere seat (commands.Step search count) old new said =
-    (end : Result Visit Fault) × VisitsOn (may_go_on seat search old.plain) search count old.index new.index end
+    (end : Result Visit Fault) × VisitsOn (may_go_on seat search old.plain) search count old.index new.index end × (new.walks ≡ old.walks)
     × (said ≡ told (λ visit. line (visit_reply visit)) end)
-StepsThere seat (commands.Finish search) old new said = MatchOption (refusal_in said) ⊤ (SeeksOut search old.index)
+StepsThere seat (commands.Finish search) old new said =
+    (end : Result AnswerData Fault) × FinishesIn seat search old new end × (new.walks ≡ old.walks) × (said ≡ told rows end)
 
 -- a line whose command is of a search that goes step by step
 abbrev pub TakesStepThere : StepVerb → List ℕ → SessionState → IndexedWorld → IndexedWorld → SaidData → Type 0
@@ -103,11 +121,13 @@ LineThere text old sessions world said =
     (λ parts. MatchOption (name_of parts.0) (world ≡ old.world)
     (λ label. LabelThere label parts.1 old sessions world said))))
 
--- the slot whose turn it is is tended, and the next one's turn comes
+-- the slot whose turn it is is tended, unless the index refuses that, and the next one's turn comes
 pub record TendsNext (old : IndexedWorld) (slot : ℕ) (new : IndexedWorld) (next : ℕ) : Type 0 where
   pub plain : new.plain ≡ old.plain
   pub walks : new.walks ≡ old.walks
   pub answer : Result Tending Fault
+  pub happens : Happens (Tend slot) old.plain new.plain (reply_of Tended answer)
+  pub refused : IfErr answer (RefusesGrowth old.index)
   pub tends : TendsIndex old.plain slot old.index new.index answer
   pub turn : next ≡ behind slot (slots_of new.index)
 

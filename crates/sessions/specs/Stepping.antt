@@ -113,10 +113,14 @@ Drops at number_open old new =
     MatchOption at (new ≡ old) (λ seat.
     MatchOption number_open (new ≡ old) (λ number. (end : EventReply) × Happens (DropSearch seat number) old new end))
 
--- those of all these sessions, one after another
+-- `Ends` comes of each of these sessions, one after another
+abbrev pub AllEnd : {W : Type 0} → (Option ℕ → Option ℕ → W → W → Type 0) → List SessionState → W → W → Type 0
+AllEnd Ends [] old new = new ≡ old
+AllEnd {W = W} Ends (session ∷ sessions) old new = (mid : W) × Ends session.seat session.search old mid × AllEnd Ends sessions mid new
+
+-- the open searches of all these sessions are given up, one after another
 abbrev pub AllDrop : List SessionState → WorldData → WorldData → Type 0
-AllDrop [] old new = new ≡ old
-AllDrop (session ∷ sessions) old new = (mid : WorldData) × Drops session.seat session.search old mid × AllDrop sessions mid new
+AllDrop sessions old new = AllEnd Drops sessions old new
 
 -- What the session has open afterwards.
 

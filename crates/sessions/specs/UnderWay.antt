@@ -1,4 +1,4 @@
--- The calls of a search and of a commit on their way, for the proofs of the calls.
+-- The calls of a search and of a commit on their way.
 use Rattle.std.specs.Prelude.{◌≡◌, ◌⊎◌, ◌<◌, ℕ, Bool, List, [], ◌∷◌, ◌++◌, slice_get, None, Some, Result, Ok, Err}
 use Rattle.plane.specs.declared.point.Point.{Point}
 use Rattle.features.specs.declared.actors.Subject.{Subject}

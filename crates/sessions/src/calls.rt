@@ -7,14 +7,13 @@ ghost use Rattle.audit_trail.specs.Judging.{AreDistinct};
 ghost use Rattle.plain_world.specs.Events.{Ended, Govern, Happens, Number, Roll, Rows, TakenOut, reply_of};
 ghost use Rattle.plain_world.specs.declared.settings.TheConstants.{CHANGE_LIMIT};
 ghost use Rattle.features.specs.declared.actors.Subject.{Subject};
-ghost use Rattle.plain_world.specs.Admitting.{subject_at};
+ghost use Rattle.plain_world.specs.Admitting.{may_go_on, subject_at};
 ghost use Rattle.plain_world.specs.States.{WorldData};
-ghost use Rattle.sessions.specs.Causes.{CommitsOut, ConcludesOut, IsOwn, PlacesOut, SearchesOut, SeeksOut, StayBeside};
+ghost use Rattle.sessions.specs.Causes.{CommitsIn, ConcludesIn, IsOwn, PlacesIn, SearchesIn, SeeksIn, StayBeside};
 ghost use Rattle.sessions.specs.Services.{Searches, Commits};
-ghost use Rattle.sessions.specs.States.{WhereAtRest};
+ghost use Rattle.sessions.specs.States.{IsAtRest, WhereAtRest};
 ghost use Rattle.sessions.specs.Stepping.{Seeks};
 ghost use Rattle.sessions.specs.UnderWay.{Concludes, Places, Stages, under};
-ghost use Rattle.transactions.specs.Refusing.{RefusesGrowth};
 
 use features::{Change, Meter};
 use plane::Shape;
@@ -40,7 +39,7 @@ pub(crate) fn search<A: Allocator + Copy>(
     window: Shape,
 ) -> Result<Answer<A>, Fault>
     ensures searches { WhereAtRest world.old.plain world.new.plain (Searches seat window world.old.plain world.new.plain (reply_of Rows result)) }
-    ensures index { IfErr result (SearchesOut window world.old.index) }
+    ensures index { SearchesIn seat window world.old world.new result }
 {
     let number = world.open_search(seat, window)?;
     match seek(world, seat, number) {
@@ -59,7 +58,8 @@ pub(crate) fn seek<A: Allocator + Copy>(
     number: u64,
 ) -> Result<Answer<A>, Fault>
     ensures seeks { Seeks seat number world.old.plain world.new.plain (reply_of Rows result) }
-    ensures index { IfErr result (SeeksOut number world.old.index) }
+    ensures index { SeeksIn (may_go_on seat number world.old.plain) number world.old.index world.new.index result }
+    ensures walks { world.new.walks ≡ world.old.walks }
 {
     for _ in 0..SEARCH_STEPS {
         match world.visit(seat, number)? {
@@ -85,8 +85,7 @@ pub(crate) fn commit<A: Allocator + Copy>(
     requires distinct { AreDistinct changes.now }
     requires few { length changes.now ≤ CHANGE_LIMIT }
     ensures commits { WhereAtRest world.old.plain world.new.plain (Commits seat changes.now world.old.plain world.new.plain (reply_of Ended result)) }
-    ensures index { IfErr result (RefusesGrowth world.new.index) }
-    ensures out { IfErr result (CommitsOut changes.now world.old) }
+    ensures index { IsAtRest world.old.plain → CommitsIn seat changes.now world.old world.new result }
 {
     let number = world.begin(seat)?;
     match conclude(world, seat, number, changes) {
@@ -108,9 +107,8 @@ fn conclude<A: Allocator + Copy>(
     requires distinct { AreDistinct changes.now }
     requires few { length changes.now ≤ CHANGE_LIMIT }
     ensures concludes { Concludes seat number changes.now world.old.plain world.new.plain (reply_of Ended result) }
-    ensures index { IfErr result (RefusesGrowth world.new.index) }
-    ensures out { IfErr result (λ fault. (w : WorldData) (subject : Subject) → subject_at seat w ≡ Ok subject → world.old.plain ≡ under number seat [] 0 w
-        → ConcludesOut seat number changes.now w world.old fault) }
+    ensures index { (w : WorldData) (subject : Subject) → subject_at seat w ≡ Ok subject → world.old.plain ≡ under number seat [] 0 w
+        → ConcludesIn seat number changes.now w world.old.index world.old.walks world.new result }
 {
     stage_all(world, seat, number, changes)?;
     place_all(world, seat, number)?;
@@ -139,8 +137,7 @@ fn stage_all<A: Allocator>(
 /// Places in the index what the changes of a transaction bring.
 fn place_all<A: Allocator + Copy>(world: &mut World<A>, seat: u32, number: u64) -> Result<(), Fault>
     ensures places { Places seat number world.old.plain world.new.plain result }
-    ensures index { IfErr result (RefusesGrowth world.new.index) }
-    ensures out { IfErr result (PlacesOut seat number world.old) }
+    ensures index { PlacesIn seat number world.old world.new result }
 {
     for _ in 0..WALK_STEPS {
         match world.advance(seat, number)? {

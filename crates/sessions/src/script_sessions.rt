@@ -237,7 +237,8 @@ impl Session {
 
     /// Gives up the open search, if there is one.
     pub(crate) fn drop_search<A: Allocator + Copy>(&self, world: &mut World<A>)
-        ensures { Drops self.now.seat self.now.search world.old.plain world.new.plain }
+        ensures drops { Drops self.now.seat self.now.search world.old.plain world.new.plain }
+        ensures shuts { Shuts self.now.seat self.now.search world.old world.new }
     {
         drop_open(world, self.seat, self.search);
     }

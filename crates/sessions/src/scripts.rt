@@ -2,14 +2,16 @@
 ghost use Rattle.std.specs.Prelude.{◌≡◌, ◌≤◌, ◌<◌, ◌+◌, ◌++◌, [], List, None, OnOk, IfOk, IfErr, IfSome, codes, length, option_map, slice_set, slice_index_or, vec_len, vec_capacity, ℕ, Result};
 ghost use Rattle.std.specs.Io.KnownBytes.{Appends};
 ghost use Rattle.std.specs.List.{prefix_len};
-ghost use Rattle.sessions.specs.Indexed.{LabelThere, LineRuns, LineThere, SessionThere, indexed};
+ghost use Rattle.sessions.specs.Indexed.{AllShut, LabelThere, LineRuns, LineThere, SessionThere, indexed};
 ghost use Rattle.sessions.specs.Scripts.{IsScriptText, LabelTells, LineTells, SessionAnswers, behind, is_not_colon, is_skipped, parts_of, place, script, with_label};
 ghost use Rattle.sessions.specs.Printed.{led, reply_text};
 ghost use Rattle.sessions.specs.Replies.{said_view};
+ghost use Rattle.plain_world.specs.Events.{Happens, Tend, Tended, reply_of};
 ghost use Rattle.plain_world.specs.declared.faults.Fault.{Fault as WorldFault};
 ghost use Rattle.search_tree.specs.declared.answers.Tending.{Tending};
 ghost use Rattle.sessions.specs.Stepping.{AllDrop};
 ghost use Rattle.transactions.specs.Index.{IndexedWorld, slots_of};
+ghost use Rattle.transactions.specs.Refusing.{RefusesGrowth};
 ghost use Rattle.transactions.specs.Stepping.{TendsIndex};
 ghost use Rattle.byte_streams.specs.Written.{Took};
 ghost use Rattle.sessions.specs.Streams.{OnMemory, Ran};
@@ -133,7 +135,8 @@ impl<A: Allocator + Copy> Table<A> {
         ensures sessions { self.new.sessions.items ≡ self.old.sessions.items }
         ensures world { world.new.plain ≡ world.old.plain }
         ensures walks { world.new.walks ≡ world.old.walks }
-        ensures index { (answer : Result Tending WorldFault) × TendsIndex world.old.plain self.old.next_slot world.old.index world.new.index answer }
+        ensures index { (answer : Result Tending WorldFault) × Happens (Tend self.old.next_slot) world.old.plain world.new.plain (reply_of Tended answer)
+            × IfErr answer (RefusesGrowth world.old.index) × TendsIndex world.old.plain self.old.next_slot world.old.index world.new.index answer }
         ensures turn { self.new.next_slot ≡ behind self.old.next_slot (slots_of world.new.index) }
     {
         let _ = world.tend(self.next_slot);
@@ -248,7 +251,7 @@ pub fn run_script<A: Allocator + Copy, R: Read, W: Write>(
     ensures ran { (sessions : List SessionState) × (last : WorldData) × Ran LineTells result (script world.old.plain []) (script last sessions)
         (R.remaining reader.old) (R.remaining reader.new) (W.contents writer.old) (W.contents writer.new) × AllDrop sessions last world.new.plain }
     ensures runs { (sessions : List SessionState) × (slot : ℕ) × (last : IndexedWorld) × Ran LineRuns result (indexed world.old [] 0) (indexed last sessions slot)
-        (R.remaining reader.old) (R.remaining reader.new) (W.contents writer.old) (W.contents writer.new) × AllDrop sessions last.plain world.new.plain }
+        (R.remaining reader.old) (R.remaining reader.new) (W.contents writer.old) (W.contents writer.new) × AllShut sessions last world.new }
     ensures idle { IsIdle world.old.plain → IsIdle world.new.plain }
     ensures untouched { IfErr result (λ fault. OnMemory fault ((world.new ≡ world.old) × (reader.new ≡ reader.old) × (writer.new ≡ writer.old))) }
 {
@@ -261,6 +264,7 @@ pub fn run_script<A: Allocator + Copy, R: Read, W: Write>(
 /// Gives up the open search of each session.
 fn drop_all<A: Allocator + Copy>(sessions: &[Session], world: &mut World<A>)
     ensures drops { AllDrop sessions.now world.old.plain world.new.plain }
+    ensures shuts { AllShut sessions.now world.old world.new }
     ensures none { sessions.now ≡ [] → world.new ≡ world.old }
 {
     for session in sessions {

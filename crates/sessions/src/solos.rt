@@ -63,7 +63,7 @@ impl<'a, A: Allocator + Copy> Service for Solo<'a, A> {
     ghost subject_of = { λ s. solo_subject (solo s.world.now.plain s.seat) };
 
     ghost serves = { λ call old new said. (new.world.ghost_name ≡ old.world.ghost_name) × Serves call (solo old.world.now.plain old.seat) (solo new.world.now.plain new.seat) said
-        × Causes call old.world.now new.world.now said };
+        × Causes call old.seat old.world.now new.world.now said };
 
     fn subject(&self) -> Option<Subject> {
         subject_in(self.world, self.seat)

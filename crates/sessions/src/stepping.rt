@@ -1,9 +1,9 @@
 //! Searches that go step by step: what a line of a script asks of one, and the calls of the world that it needs.
 
-ghost use Rattle.std.specs.Prelude.{◌≡◌, IfErr, option_map};
+ghost use Rattle.std.specs.Prelude.{◌≡◌, option_map};
 ghost use Rattle.plain_world.specs.Admitting.{may_go_on};
 ghost use Rattle.plain_world.specs.Events.{Refused, Rows, reply_of};
-ghost use Rattle.sessions.specs.Causes.{SeeksOut};
+ghost use Rattle.sessions.specs.Indexed.{FinishesIn};
 ghost use Rattle.sessions.specs.Services.{is_overrun};
 ghost use Rattle.sessions.specs.Stepping.{Finishes, GoesOn, VisitsOn, count_at, left_open, step_command_at, step_count, step_verb_at, step_verb_of};
 
@@ -115,6 +115,7 @@ pub(crate) fn go_on<A: Allocator + Copy>(
 ) -> Result<Visit, WorldFault>
     ensures happens { GoesOn seat number steps world.old.plain world.new.plain result }
     ensures index { VisitsOn (may_go_on seat number world.old.plain) number steps world.old.index world.new.index result }
+    ensures walks { world.new.walks ≡ world.old.walks }
 {
     for _ in 0..steps {
         match world.visit(seat, number)? {
@@ -134,7 +135,8 @@ pub(crate) fn finish_open<A: Allocator + Copy>(
     number: u64,
 ) -> Result<Answer<A>, WorldFault>
     ensures finishes { Finishes seat number world.old.plain world.new.plain (reply_of Rows result) }
-    ensures index { IfErr result (SeeksOut number world.old.index) }
+    ensures index { FinishesIn seat number world.old world.new result }
+    ensures walks { world.new.walks ≡ world.old.walks }
 {
     match seek(world, seat, number) {
         Ok(answer) => Ok(answer),

@@ -1,9 +1,8 @@
-use Rattle.std.proofs.Common.{IfErr, inl, inr, arith}
+use Rattle.std.proofs.Common.{refl, inl, inr, arith}
 use Rattle.plain_world.specs.declared.steps.Advance.TheVariants as advances
 use Rattle.plain_world.specs.Events.{AdvanceWalk, Advanced, Refused}
-use Rattle.transactions.specs.Refusing.{RefusesGrowth}
-use Rattle.sessions.specs.Causes.{PlacesOut}
-use Rattle.sessions.proofs.CauseLemmas.{places_no_longer, places_refused_out, walk_so, walks_further}
+use Rattle.sessions.specs.Causes.{PlacesIn}
+use Rattle.sessions.proofs.CauseLemmas.{walks_further}
 use Rattle.sessions.proofs.LeavingLemmas.{left_by}
 use Rattle.sessions.proofs.SearchLemmas.{from_same}
 use Rattle.sessions.proofs.CommitLemmas.{advancing}
@@ -45,17 +44,17 @@ returns-clause-places g c w subject changes seated start =
     ] in
     (brings, inl (so_far.0, so_far.1))
 
+pub returns-in-AllPlaced-clause-index : goal.returns-in-AllPlaced-clause-index
+returns-in-AllPlaced-clause-index g c =
+    let told = rw c.in-AllPlaced.is at c.in_ok-advance.ensures.happens in
+    let walked = rw c.in-AllPlaced.is at c.in_ok-advance.ensures.walked in
+    (c.loop.counter, c.loop.world, c.loop.invariant.1, inl ((told, walked), refl))
+
 pub returns-in_err-advance-clause-index : goal.returns-in_err-advance-clause-index
 returns-in_err-advance-clause-index g c =
     let fault = c.in_err-advance.field-0.0 in
-    left_by c.from_residual.result fault (λ r. IfErr r (RefusesGrowth c.advance.new.self.index)) c.from_residual.ensures.1
-    (walk_so c.args.seat c.args.number c.loop.world c.advance.new.self fault c.in_err-advance.ensures.walked c.in_err-advance.ensures.refused)
+    left_by c.from_residual.result fault (λ r. PlacesIn c.args.seat c.args.number c.args.world.now c.advance.new.self r) c.from_residual.ensures.1
+    (c.loop.counter, c.loop.world, c.loop.invariant.1, inr (inl (fault, (c.in_err-advance.ensures.happens, c.in_err-advance.ensures.walked), refl)))
 
-pub returns-in_err-advance-clause-out : goal.returns-in_err-advance-clause-out
-returns-in_err-advance-clause-out g c =
-    let fault = c.in_err-advance.field-0.0 in
-    left_by c.from_residual.result fault (λ r. IfErr r (PlacesOut c.args.seat c.args.number c.args.world.now)) c.from_residual.ensures.1
-    (places_refused_out c.args.seat c.args.number c.loop.counter c.args.world.now c.loop.world c.loop.invariant.1 c.advance.new.self fault (c.in_err-advance.ensures.happens, c.in_err-advance.ensures.walked))
-
-pub returns-clause-out : goal.returns-clause-out
-returns-clause-out g c = places_no_longer c.args.seat c.args.number c.loop.counter c.args.world.now c.loop.world c.loop.invariant.1 (omega arith)
+pub returns-clause-index : goal.returns-clause-index
+returns-clause-index g c = (c.loop.counter, c.loop.world, c.loop.invariant.1, inr (inr (omega arith, refl, refl)))

@@ -1,7 +1,7 @@
-use Rattle.std.proofs.Common.{IfErr}
+use Rattle.std.proofs.Common.{refl, inl, inr, ◌∙◌}
 use Rattle.plain_world.specs.Events.{Refused}
-use Rattle.sessions.specs.Causes.{SearchesOut}
-use Rattle.sessions.proofs.CauseLemmas.{open_out, searches_out}
+use Rattle.sessions.specs.Causes.{SearchesIn}
+use Rattle.sessions.proofs.CauseLemmas.{open_kept}
 use Rattle.sessions.proofs.LeavingLemmas.{left_by}
 use Rattle.sessions.proofs.SearchLemmas.{search_answered, search_refused}
 use Rattle.sessions.proofs.calls.search.Goals as goal
@@ -16,10 +16,23 @@ returns-in-Ok-clause-searches g c still =
 
 pub returns-in-Err-clause-index : goal.returns-in-Err-clause-index
 returns-in-Err-clause-index g c =
-    searches_out c.args.window c.args.world.now.index c.open_search.new.self.index c.in_ok-number.number c.in_ok-number.ensures.index c.in-Err.fault c.in-Err.ensures.index
+    inr (
+      c.in_ok-number.number,
+      c.open_search.new.self,
+      c.in_ok-number.ensures.happens,
+      c.in_ok-number.ensures.index,
+      c.seek.new.world.index,
+      c.in-Err.ensures.index,
+      (c.drop_search.result, c.drop_search.ensures.index),
+      c.drop_search.ensures.walks ∙ c.seek.ensures.walks ∙ c.open_search.ensures.walks,
+    )
+
+pub returns-in-Ok-clause-index : goal.returns-in-Ok-clause-index
+returns-in-Ok-clause-index g c =
+    inr (c.in_ok-number.number, c.open_search.new.self, c.in_ok-number.ensures.happens, c.in_ok-number.ensures.index, c.seek.new.world.index, c.in-Ok.ensures.index, refl, c.seek.ensures.walks ∙ c.open_search.ensures.walks)
 
 pub returns-in_err-number-clause-index : goal.returns-in_err-number-clause-index
 returns-in_err-number-clause-index g c =
     let fault = c.in_err-number.field-0.0 in
-    left_by c.from_residual.result fault (λ r. IfErr r (SearchesOut c.args.window c.args.world.now.index)) c.from_residual.ensures.1
-    (open_out c.args.seat c.args.window c.args.world.now.index c.args.world.now.plain c.open_search.new.self.plain (Refused fault) c.in_err-number.ensures.happens)
+    left_by c.from_residual.result fault (λ r. SearchesIn c.args.seat c.args.window c.args.world.now c.open_search.new.self r) c.from_residual.ensures.1
+    (inl (fault, refl, open_kept c.args.seat c.args.window c.args.world.now.plain c.open_search.new.self.plain (Refused fault) c.in_err-number.ensures.happens, (c.in_err-number.ensures.index, c.open_search.ensures.walks)))

@@ -1,8 +1,9 @@
-use Rattle.std.proofs.Common.{IfErr, refl, inl, inr, arith}
+use Rattle.std.proofs.Common.{refl, inl, inr, arith, ◌∙◌}
 use Rattle.plain_world.specs.Events.{Rows, VisitNext, reply_of}
-use Rattle.sessions.specs.Causes.{SeeksOut}
+use Rattle.plain_world.specs.Admitting.{may_go_on}
+use Rattle.sessions.specs.Causes.{SeeksIn}
 use Rattle.sessions.specs.Stepping.{Seeks}
-use Rattle.sessions.proofs.CauseLemmas.{finish_own, seeks_further, seeks_no_longer, seeks_refused_out, seeks_told}
+use Rattle.sessions.proofs.CauseLemmas.{seeks_further, seeks_no_longer_in, seeks_ready_in, seeks_refused_in}
 use Rattle.sessions.proofs.LeavingLemmas.{left_by}
 use Rattle.sessions.proofs.SearchLemmas.{from_same, seeks_on}
 use Rattle.sessions.proofs.calls.seek.Goals as goal
@@ -16,18 +17,19 @@ returns-in_err-visit-clause-seeks g c =
 pub returns-in_err-visit-clause-index : goal.returns-in_err-visit-clause-index
 returns-in_err-visit-clause-index g c =
     let fault = c.in_err-visit.field-0.0 in
-    left_by c.from_residual.result fault (λ r. IfErr r (SeeksOut c.args.number c.args.world.now.index)) c.from_residual.ensures.1
-    (seeks_refused_out c.args.seat c.args.number c.loop.counter c.args.world.now.plain c.loop.world.plain c.loop.invariant.0 c.args.world.now.index c.loop.world.index c.loop.invariant.2
-    c.visit.new.self.plain fault c.in_err-visit.ensures.happens c.in_err-visit.ensures.refused)
+    left_by c.from_residual.result fault (λ r. SeeksIn (may_go_on c.args.seat c.args.number c.args.world.now.plain) c.args.number c.args.world.now.index c.visit.new.self.index r) c.from_residual.ensures.1
+    (seeks_refused_in c.args.seat c.args.number c.loop.counter c.args.world.now.plain c.loop.world.plain c.loop.invariant.0 c.args.world.now.index c.loop.world.index c.loop.invariant.2
+    c.visit.new.self.index fault c.in_err-visit.ensures.index)
 
 pub returns-in-Ready-clause-index : goal.returns-in-Ready-clause-index
-returns-in-Ready-clause-index g c = seeks_told c.args.number c.args.world.now.index Rows c.finish.result (finish_own c.args.seat c.args.number _ _ _ c.finish.ensures.happens)
+returns-in-Ready-clause-index g c =
+    let visited = rw c.in-Ready.is at c.in_ok-visit.ensures.index in
+    seeks_ready_in c.args.seat c.args.number c.loop.counter c.args.world.now.plain c.loop.world.plain c.loop.invariant.0 c.args.world.now.index c.loop.world.index c.loop.invariant.2
+    c.visit.new.self.index c.finish.new.self.index c.finish.result visited c.finish.ensures.index
 
 pub returns-clause-index : goal.returns-clause-index
-returns-clause-index g c = elim c.loop.invariant.1 [
-  | inl e ↦ absurd (omega (arith, e))
-  | inr more ↦ seeks_no_longer c.args.seat c.args.number c.loop.counter c.args.world.now.plain c.loop.world.plain c.loop.invariant.0 c.args.world.now.index c.loop.world.index c.loop.invariant.2 more (omega arith)
-]
+returns-clause-index g c =
+    seeks_no_longer_in c.args.seat c.args.number c.loop.counter c.args.world.now.plain c.loop.world.plain c.loop.invariant.0 c.args.world.now.index c.loop.world.index c.loop.invariant.2 (omega arith)
 
 pub loop-preserved : goal.loop-preserved
 loop-preserved g c =
@@ -37,4 +39,5 @@ loop-preserved g c =
       on.0,
       inr on.1,
       seeks_further c.args.seat c.args.number c.loop.counter c.args.world.now.plain c.loop.world.plain c.loop.invariant.0 c.args.world.now.index c.loop.world.index c.loop.invariant.2 c.visit.new.self.index told,
+      c.visit.ensures.walks ∙ c.loop.invariant.3,
     )

@@ -10,3 +10,4 @@ invariant-loop g l =
     (l.world.plain ≡ l.fn.world.plain)
     × ((l.counter ≡ 0) ⊎ Happens (VisitNext l.seat l.number) l.fn.world.plain l.fn.world.plain (Visited visits.More))
     × SeesMore (may_go_on l.seat l.number l.fn.world.plain) l.number l.counter l.fn.world.index l.world.index
+    × (l.world.walks ≡ l.fn.world.walks)

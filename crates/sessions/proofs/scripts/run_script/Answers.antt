@@ -36,8 +36,8 @@ returns-in_err-table-clause-runs g c =
 pub returns-clause-runs : goal.returns-clause-runs
 returns-clause-runs g c =
     let runs = rw (c.in_ok-table.ensures.sessions, c.in_ok-table.ensures.turn) at (ran_along (λ s. indexed s.0 s.1.sessions.items s.1.next_slot) LineRuns c.run_lines-end.result _ _ _ _ _ _ c.run_lines-end.ensures.ran) in
-    let drops = rw c.deref.ensures.value at c.drop_all.ensures.drops in
-    (c.run_lines-end.new.desk.sessions.items, c.run_lines-end.new.desk.next_slot, c.run_lines-end.new.world, runs, drops)
+    let shuts = rw c.deref.ensures.value at c.drop_all.ensures.shuts in
+    (c.run_lines-end.new.desk.sessions.items, c.run_lines-end.new.desk.next_slot, c.run_lines-end.new.world, runs, shuts)
 
 pub returns-clause-idle : goal.returns-clause-idle
 returns-clause-idle g c idle =

@@ -13,7 +13,7 @@ pub returns-clause-served_text : goal.returns-clause-served_text
 returns-clause-served_text g c =
     let see : Solo g.row.A.Denot → SoloState = λ s. solo s.world.now.plain s.seat in
     let lent : Call → Solo g.row.A.Denot → Solo g.row.A.Denot → SaidData → Type 0 =
-    λ call old new said. (new.world.ghost_name ≡ old.world.ghost_name) × Serves call (see old) (see new) said × Causes call old.world.now new.world.now said in
+    λ call old new said. (new.world.ghost_name ≡ old.world.ghost_name) × Serves call (see old) (see new) said × Causes call old.seat old.world.now new.world.now said in
     let run = run_shown see (λ s. s.world.ghost_name) solo_subject lent Serves (λ call old new said h. h.0) (λ call old new said h. h.1)
     c.serve.result _ _ _ (solo c.args.world.now.plain None) (solo _ c.serve.new.service.seat) _ _ _ _ c.serve.ensures.calls (search rules) (search rules) c.serve.ensures.ran.1 in
     (c.serve.new.service.seat, served_text_of solo_subject Serves c.serve.result _ _ _ _ _ _ _ run)
@@ -22,7 +22,7 @@ pub returns-clause-ran : goal.returns-clause-ran
 returns-clause-ran g c =
     let see : Solo g.row.A.Denot → SoloState = λ s. solo s.world.now.plain s.seat in
     let lent : Call → Solo g.row.A.Denot → Solo g.row.A.Denot → SaidData → Type 0 =
-    λ call old new said. (new.world.ghost_name ≡ old.world.ghost_name) × Serves call (see old) (see new) said × Causes call old.world.now new.world.now said in (
+    λ call old new said. (new.world.ghost_name ≡ old.world.ghost_name) × Serves call (see old) (see new) said × Causes call old.seat old.world.now new.world.now said in (
       c.serve.ensures.ran.0,
       c.serve.new.service.seat,
       run_shown see (λ s. s.world.ghost_name) solo_subject lent Serves (λ call old new said h. h.0) (λ call old new said h. h.1)
@@ -34,7 +34,7 @@ returns-clause-runs g c =
     let see : Solo g.row.A.Denot → Server = λ s. server s.world.now s.seat in
     let lent : Call → Solo g.row.A.Denot → Solo g.row.A.Denot → SaidData → Type 0 =
     λ call old new said. (new.world.ghost_name ≡ old.world.ghost_name)
-    × Serves call (solo old.world.now.plain old.seat) (solo new.world.now.plain new.seat) said × Causes call old.world.now new.world.now said in (
+    × Serves call (solo old.world.now.plain old.seat) (solo new.world.now.plain new.seat) said × Causes call old.seat old.world.now new.world.now said in (
       c.serve.ensures.ran.0,
       c.serve.new.service.seat,
       run_shown see (λ s. s.world.ghost_name) asks_for lent ServesThere (λ call old new said h. h.0) (λ call old new said h. (h.1, h.2))
@@ -45,5 +45,5 @@ pub returns-clause-idle : goal.returns-clause-idle
 returns-clause-idle g c still =
     let see : Solo g.row.A.Denot → SoloState = λ s. solo s.world.now.plain s.seat in
     let lent : Call → Solo g.row.A.Denot → Solo g.row.A.Denot → SaidData → Type 0 =
-    λ call old new said. (new.world.ghost_name ≡ old.world.ghost_name) × Serves call (see old) (see new) said × Causes call old.world.now new.world.now said in
+    λ call old new said. (new.world.ghost_name ≡ old.world.ghost_name) × Serves call (see old) (see new) said × Causes call old.seat old.world.now new.world.now said in
     run_idles see (λ s. s.world.ghost_name) lent (λ call old new said h. h.0) (λ call old new said h. h.1) _ _ (solo c.args.world.now.plain None) (solo _ c.serve.new.service.seat) c.serve.ensures.calls (search rules) (search rules) still

@@ -1,3 +1,4 @@
+use Rattle.std.proofs.Common.{◌∙◌}
 use Rattle.sessions.specs.Stepping.{GoesOn, VisitsOn}
 use Rattle.plain_world.specs.Admitting.{may_go_on}
 use Rattle.sessions.proofs.LeavingLemmas.{left_by}
@@ -27,4 +28,5 @@ loop-preserved g c =
     let told = rw c.in-More.is at c.in_ok-visit.ensures.index in (
       finds_one_more c.args.seat c.args.number c.loop.counter c.args.world.now.plain c.loop.world.plain c.visit.new.self.plain c.loop.invariant.0 happens,
       sees_one_more c.args.seat c.args.number c.loop.counter c.args.world.now.plain c.loop.world.plain c.loop.invariant.0 c.args.world.now.index c.loop.world.index c.visit.new.self.index c.loop.invariant.1 told,
+      c.visit.ensures.walks ∙ c.loop.invariant.2,
     )

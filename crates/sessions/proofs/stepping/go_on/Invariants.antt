@@ -1,3 +1,4 @@
+use Rattle.std.proofs.Common.{◌≡◌}
 use Rattle.plain_world.specs.Admitting.{may_go_on}
 use Rattle.sessions.specs.Stepping.{FindsMore, SeesMore}
 use Rattle.sessions.proofs.stepping.go_on.Given as goal
@@ -6,3 +7,4 @@ abbrev pub invariant-loop : goal.invariant-loop
 invariant-loop g l =
     FindsMore l.seat l.number l.counter l.fn.world.plain l.world.plain
     × SeesMore (may_go_on l.seat l.number l.fn.world.plain) l.number l.counter l.fn.world.index l.world.index
+    × (l.world.walks ≡ l.fn.world.walks)

@@ -12,7 +12,7 @@ pub returns-clause-answers : goal.returns-clause-answers
 returns-clause-answers g c =
     let see : Solo g.row.A.Denot → SoloState = λ s. solo s.world.now.plain s.seat in
     let lent : Call → Solo g.row.A.Denot → Solo g.row.A.Denot → SaidData → Type 0 =
-    λ call old new said. (new.world.ghost_name ≡ old.world.ghost_name) × Serves call (see old) (see new) said × Causes call old.world.now new.world.now said in
+    λ call old new said. (new.world.ghost_name ≡ old.world.ghost_name) × Serves call (see old) (see new) said × Causes call old.seat old.world.now new.world.now said in
     session_shown see (λ s. s.world.ghost_name) solo_subject lent Serves (λ call old new said h. h.0) (λ call old new said h. h.1) c.args.text.now
     (desk c.self.inside.staged c.at-solo.result) (desk c.answer-said.new.staged c.answer-said.new.service) (said_view c.answer-said.result)
     c.args.self.now.staged c.answer-said.new.staged (solo c.args.world.now.plain c.args.self.now.seat) _ c.answer-said.ensures (search rules) (search rules) refl (search rules)
@@ -22,7 +22,7 @@ returns-clause-there g c =
     let see : Solo g.row.A.Denot → Server = λ s. server s.world.now s.seat in
     let lent : Call → Solo g.row.A.Denot → Solo g.row.A.Denot → SaidData → Type 0 =
     λ call old new said. (new.world.ghost_name ≡ old.world.ghost_name)
-    × Serves call (solo old.world.now.plain old.seat) (solo new.world.now.plain new.seat) said × Causes call old.world.now new.world.now said in
+    × Serves call (solo old.world.now.plain old.seat) (solo new.world.now.plain new.seat) said × Causes call old.seat old.world.now new.world.now said in
     session_shown see (λ s. s.world.ghost_name) asks_for lent ServesThere (λ call old new said h. h.0) (λ call old new said h. (h.1, h.2)) c.args.text.now
     (desk c.self.inside.staged c.at-solo.result) (desk c.answer-said.new.staged c.answer-said.new.service) (said_view c.answer-said.result)
     c.args.self.now.staged c.answer-said.new.staged (server c.args.world.now c.args.self.now.seat) _ c.answer-said.ensures (search rules) (search rules) refl (search rules)

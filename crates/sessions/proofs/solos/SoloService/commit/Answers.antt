@@ -1,16 +1,29 @@
-use Rattle.std.proofs.Common.{refl}
-use Rattle.transactions.specs.Refusing.{RefusesGrowth}
-use Rattle.sessions.specs.Causes.{CommitsOut}
+use Rattle.std.proofs.Common.{Ok, Err, refl, ap}
+use Rattle.sessions.specs.Replies.{line}
 use Rattle.sessions.specs.States.{solo}
-use Rattle.sessions.proofs.CauseLemmas.{commit_refused, list_refused}
+use Rattle.sessions.proofs.CauseLemmas.{commit_so, commit_there}
 use Rattle.sessions.proofs.solos.SoloService.commit.Goals as goal
+
+pub returns-in-Ok : goal.returns-in-Ok
+returns-in-Ok g c =
+    let s = c.args.self.now in
+    let changes = c.args.changes.now in
+    let end = Ok c.in-Ok.outcome in
+    let said = line c.outcome_reply.result in
+    let shown = ap line c.outcome_reply.ensures in (
+      refl,
+      commit_so c.in-Some.seat changes end said shown (solo s.world.now.plain s.seat) (solo c.commit.new.world.plain s.seat) c.in-Some.is refl c.in-Ok.ensures.commits,
+      commit_there c.in-Some.seat changes end said shown s.seat s.world.now c.commit.new.world c.in-Some.is c.in-Ok.ensures.index,
+    )
 
 pub returns-in-Err : goal.returns-in-Err
 returns-in-Err g c =
     let s = c.args.self.now in
     let changes = c.args.changes.now in
-    let fault = c.in-Err.fault in (
+    let end = Err c.in-Err.fault in
+    let said = line c.fault_reply.result in
+    let shown = ap line c.fault_reply.ensures in (
       refl,
-      commit_refused c.in-Some.seat changes (solo s.world.now.plain s.seat) (solo c.commit.new.world.plain s.seat) fault c.fault_reply.result c.in-Some.is refl c.in-Err.ensures.commits c.fault_reply.ensures,
-      rw c.fault_reply.ensures (list_refused fault (λ fault. RefusesGrowth c.commit.new.world.index fault × CommitsOut changes s.world.now fault) (c.in-Err.ensures.index, c.in-Err.ensures.out)),
+      commit_so c.in-Some.seat changes end said shown (solo s.world.now.plain s.seat) (solo c.commit.new.world.plain s.seat) c.in-Some.is refl c.in-Err.ensures.commits,
+      commit_there c.in-Some.seat changes end said shown s.seat s.world.now c.commit.new.world c.in-Some.is c.in-Err.ensures.index,
     )
