@@ -183,7 +183,9 @@ fn fail_each_of_a_roll(rt: &impl Abort, alloc: Global, most: usize, first: u64) 
             "at {fails_at}"
         );
         assert!(rt; writer.taken.len() >= least, "at {fails_at}");
-        if code.is_none() {
+        if writer.fails_at > 0 {
+            // There are fewer writes.
+            assert_eq!(rt; code, None);
             assert_eq!(rt; writer.taken.len(), ROLLED.len());
             return;
         }
