@@ -1,5 +1,5 @@
 -- Which faults are the index's, and what searches and lists make of it.
-use Rattle.std.proofs.Common.{◌≡◌, ◌⊎◌, ℕ, zero, suc, ◌+◌, ◌*◌, ◌<◌, ◌==◌, [], Bool, true, false, List, Option, None, Some, MatchOption, Result, Ok, Err, IfErr, if◌then◌else◌, refl, sym, ap, subst, ◌∙◌, inl, inr, arith, nat_le, nat_lt, length}
+use Rattle.std.proofs.Common.{◌≡◌, ℕ, suc, ◌+◌, ◌<◌, ◌==◌, Bool, true, false, List, Option, None, Some, MatchOption, Result, Ok, Err, IfErr, if◌then◌else◌, refl, sym, ap, subst, ◌∙◌, inl, inr, arith, nat_le, nat_lt, length}
 use Rattle.std.specs.Prelude.{⊤}
 use Rattle.std.specs.Bool.{MatchBool}
 use Rattle.plane.specs.declared.point.Point.{Point}
@@ -16,10 +16,10 @@ use Rattle.plain_world.specs.declared.outcomes.Outcome.{Outcome}
 use Rattle.plain_world.specs.declared.outcomes.Outcome.TheVariants as outcomes
 use Rattle.plain_world.specs.declared.settings.TheConstants.{CHANGE_LIMIT, SEARCH_LIMIT, STEP_LIMIT, TRANSACTION_LIMIT}
 use Rattle.plain_world.specs.declared.steps.Advance.TheVariants.{Walked}
-use Rattle.plain_world.specs.Admitting.{LAST, and_then, given, refused_if, subject_at, may_record, may_go_on, may_open, next_search, next_transaction, may_begin, transaction_owned, own_transaction, may_step, may_add, may_stage, all_placed, may_commit}
+use Rattle.plain_world.specs.Admitting.{LAST, and_then, given, subject_at, may_record, may_go_on, may_open, may_begin, transaction_owned, own_transaction, may_step, may_stage, all_placed, may_commit}
 use Rattle.plain_world.specs.Answers.{AnswerData}
-use Rattle.plain_world.specs.Events.{Event, OpenSearch, Begin, Stage, Commit, Happens, Reply, Number, Refused, Rows, Ended, Done, Applies, CommitsAs, UnlessMemory, is_want, recorded, reply_of, without_transaction}
-use Rattle.plain_world.specs.Staging.{TransactionData, names, placements, staged_in, transaction_with}
+use Rattle.plain_world.specs.Events.{OpenSearch, Begin, Stage, Commit, Happens, Reply, Refused, Rows, Ended, Applies, CommitsAs, is_want, recorded, reply_of, without_transaction}
+use Rattle.plain_world.specs.Staging.{names, placements, staged_in, transaction_with}
 use Rattle.plain_world.specs.States.{WorldData}
 use Rattle.plain_world.proofs.AdmittedLemmas.{by_if, by_unless}
 use Rattle.search_tree.specs.declared.answers.Step.{Step}
@@ -30,7 +30,7 @@ use Rattle.transactions.specs.Stepping.{EndsInIndex, VisitsIndex}
 use Rattle.transactions.specs.Walks.{JourneyData, begun as with_place, ended, if_done}
 use Rattle.sessions.specs.declared.faults.Fault.TheVariants.{BeforeHello}
 use Rattle.sessions.specs.declared.replies.Reply.TheVariants.{Error}
-use Rattle.sessions.specs.Causes.{AdvancesIn, Causes, CommitsIn, ConcludesIn, IsOwn, LetsGo, SearchesIn, SeeksIn, StayBeside, WalksMore, is_of_index}
+use Rattle.sessions.specs.Causes.{AdvancesIn, Causes, CommitsIn, ConcludesIn, IsOwn, LetsGo, SearchesIn, SeeksIn, StayBeside, WalksMore}
 use Rattle.sessions.specs.Replies.{SaidData, line, outcome_reply, rows, told}
 use Rattle.sessions.specs.Services.{Commit as CommitList, Commits, Search as SearchFor, Searches, Serves, is_overrun}
 use Rattle.sessions.specs.States.{SoloState, WhereAtRest, IsAtRest, begun}

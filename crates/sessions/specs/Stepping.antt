@@ -1,5 +1,5 @@
 -- Searches that go step by step, which lines of a script ask for: OPEN, STEP, FINISH.
-use Rattle.std.specs.Prelude.{◌≡◌, ◌⊎◌, ℕ, ◌<◌, ◌&&◌, zero, suc, Bool, nat_le, List, [], ◌∷◌, codes, Option, None, Some, MatchOption, Result, Ok, Err, if◌then◌else◌}
+use Rattle.std.specs.Prelude.{◌≡◌, ◌⊎◌, ℕ, ◌<◌, ◌&&◌, zero, suc, nat_le, List, [], ◌∷◌, codes, Option, None, Some, MatchOption, Result, Ok, Err, if◌then◌else◌}
 use Rattle.std.specs.Bool.{MatchBool}
 use Rattle.std.specs.Str.{bytes_eq}
 use Rattle.plain_world.specs.declared.faults.Fault.{Fault as WorldFault}

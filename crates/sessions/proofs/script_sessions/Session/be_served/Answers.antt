@@ -4,7 +4,7 @@ use Rattle.sessions.specs.Causes.{Causes}
 use Rattle.sessions.specs.Indexed.{Server, ServesThere, asks_for, server}
 use Rattle.sessions.specs.Replies.{SaidData, said_view}
 use Rattle.sessions.specs.Services.{Call, Serves, solo_subject}
-use Rattle.sessions.specs.States.{SessionState, SoloState, desk, solo}
+use Rattle.sessions.specs.States.{SoloState, desk, solo}
 use Rattle.sessions.proofs.LentLemmas.{session_shown}
 use Rattle.sessions.proofs.script_sessions.Session.be_served.Goals as goal
 
