@@ -1,11 +1,13 @@
 -- The searches that are attached and accepted, gathered in turn.
 use Rattle.std.proofs.Common.{◌≡◌, ℕ, ◌+◌, ◌<◌, ◌≤◌, Bool, true, false, List, [], ◌∷◌, ◌++◌, length, get_or, Contains, Some, sym, ap, subst, ◌∙◌, inl, inr, arith, length-append}
 use Rattle.std.proofs.lemmas.Bool.{cases_eq}
+use Rattle.std.specs.List.Sorted.{IsStrictlyIncreasing}
 use Rattle.std.proofs.lemmas.List.Elements.{Contains-append_left, Contains-push, Contains-push_cases}
 use Rattle.predicate_locks.specs.declared.running.RunningSearch.{RunningSearch}
 use Rattle.predicate_locks.specs.Searches.{Searches, search_at, IsFirstMeeting, NoneMeets, AreMeeting, AllBegunSince}
 use Rattle.predicate_locks.specs.Sound.{IsRising}
-use Rattle.predicate_locks.proofs.SearchLemmas.{placed, find-at, rising-before}
+use Rattle.predicate_locks.proofs.SearchLemmas.{placed, find-at, rising-before, rising-lt}
+use Rattle.predicate_locks.proofs.NumberLemmas.{increasing-pushed}
 
 module _ {Q : Type 0} where
   -- a number that was met: it stands before this place, is attached, and its query is accepted
@@ -19,12 +21,14 @@ module _ {Q : Type 0} where
   -- what was met among the first `count` searches
   pub record AreMet (accepts : Q → Bool → Type 0) (searches : List (RunningSearch Q)) (count : ℕ) (attached met : List ℕ) : Type 0 where
     pub counted : length met ≤ count
+    pub rising : IsStrictlyIncreasing met
     pub listed : (number : ℕ) → Contains met number → IsMet accepts searches count attached number
     pub missed : (k : ℕ) (d : RunningSearch Q) → k < count → Contains attached (get_or searches k d).number → (Contains met (get_or searches k d).number → ⊥) → accepts (get_or searches k d).query false
 
   pub none_met : (accepts : Q → Bool → Type 0) (searches : List (RunningSearch Q)) (attached : List ℕ) → AreMet accepts searches 0 attached []
   none_met accepts searches attached = record {
     counted = omega arith;
+    rising = λ k within. absurd (omega arith);
     listed = λ number held. absurd (omega (arith, held.1));
     missed = λ k d before a b. absurd (omega arith);
   }
@@ -32,10 +36,20 @@ module _ {Q : Type 0} where
   later : (accepts : Q → Bool → Type 0) (searches : List (RunningSearch Q)) (count : ℕ) (attached : List ℕ) (number : ℕ) → IsMet accepts searches count attached number → IsMet accepts searches (count + 1) attached number
   later accepts searches count attached number met = record { place = met.place; before = omega (arith, met.before); same = met.same; is_attached = met.is_attached; accepted = met.accepted }
 
+  -- those that were met have lesser numbers than what stands next
+  below-next : (accepts : Q → Bool → Type 0) (searches : List (RunningSearch Q)) (next count : ℕ) (attached met : List ℕ) (search : RunningSearch Q) → IsRising 0 searches next → count < length searches → ((d : RunningSearch Q) → get_or searches count d ≡ search) → AreMet accepts searches count attached met → (number : ℕ) → Contains met number → number < search.number
+  below-next accepts searches next count attached met search rising within is so_far number contains =
+      let found = so_far.listed number contains in
+      let less = rising-lt 0 searches next rising found.place count search found.before within in
+      let this : (get_or searches count search).number ≡ search.number = ap (λ (s : RunningSearch Q). s.number) (is search) in
+      let that = found.same search in
+      omega (arith, less, this, that)
+
   -- the next one meets
-  pub met_more : (accepts : Q → Bool → Type 0) (searches : List (RunningSearch Q)) (count : ℕ) (attached met : List ℕ) (search : RunningSearch Q) → ((d : RunningSearch Q) → get_or searches count d ≡ search) → AreMet accepts searches count attached met → Contains attached search.number → accepts search.query true → AreMet accepts searches (count + 1) attached (met ++ search.number ∷ [])
-  met_more accepts searches count attached met search is so_far held accepted = record {
+  pub met_more : (accepts : Q → Bool → Type 0) (searches : List (RunningSearch Q)) (next count : ℕ) (attached met : List ℕ) (search : RunningSearch Q) → IsRising 0 searches next → count < length searches → ((d : RunningSearch Q) → get_or searches count d ≡ search) → AreMet accepts searches count attached met → Contains attached search.number → accepts search.query true → AreMet accepts searches (count + 1) attached (met ++ search.number ∷ [])
+  met_more accepts searches next count attached met search rising within is so_far held accepted = record {
     counted = omega (arith, length-append met (search.number ∷ []), so_far.counted);
+    rising = increasing-pushed met search.number so_far.rising (below-next accepts searches next count attached met search rising within is so_far);
     listed = λ number contains. elim (Contains-push_cases met search.number number contains) [
       | inl before ↦ later accepts searches count attached number (so_far.listed number before)
       | inr same ↦ record {
@@ -56,6 +70,7 @@ module _ {Q : Type 0} where
   pub met_same : (accepts : Q → Bool → Type 0) (searches : List (RunningSearch Q)) (count : ℕ) (attached met : List ℕ) (search : RunningSearch Q) → ((d : RunningSearch Q) → get_or searches count d ≡ search) → AreMet accepts searches count attached met → (Contains attached search.number → accepts search.query false) → AreMet accepts searches (count + 1) attached met
   met_same accepts searches count attached met search is so_far refused = record {
     counted = omega (arith, so_far.counted);
+    rising = so_far.rising;
     listed = λ number contains. later accepts searches count attached number (so_far.listed number contains);
     missed = λ k d before is_attached missing. elim (cases_eq k count) [
       | inl last ↦

@@ -1,5 +1,6 @@
 -- Sets of numbers, as lists.
-use Rattle.std.proofs.Common.{◌≡◌, ◌⊎◌, ℕ, ◌<◌, Bool, true, false, cond, List, [], ◌∷◌, ◌++◌, length, get_or, zero, suc, Contains, refl, subst, inl, inr, arith}
+use Rattle.std.proofs.Common.{◌≡◌, ◌⊎◌, ℕ, ◌+◌, ◌<◌, Bool, true, false, cond, List, [], ◌∷◌, ◌++◌, length, get_or, zero, suc, Contains, refl, subst, inl, inr, arith}
+use Rattle.std.specs.List.Sorted.{IsStrictlyIncreasing}
 use Rattle.std.proofs.lemmas.Bool.{cases_eq, ne_eqb}
 use Rattle.std.proofs.lemmas.List.Elements.{Contains-append_left, Contains-push, Contains-push_cases}
 use Rattle.predicate_locks.specs.Numbers.{is_in, with_number, with_numbers, IsUnion}
@@ -16,6 +17,23 @@ Contains-cons_cases head x rest p = by_index p.0 p.1 p.2
     by_index : (k : ℕ) → k < suc (length rest) → get_or (head ∷ rest) k x ≡ x → (head ≡ x) ⊎ Contains rest x
     by_index zero within found = inl found
     by_index (suc k) within found = inr (k, omega arith, found)
+
+-- a greater number behind numbers that rise
+pub increasing-pushed : (numbers : List ℕ) (new : ℕ) → IsStrictlyIncreasing numbers → ((number : ℕ) → Contains numbers number → number < new) → IsStrictlyIncreasing (numbers ++ new ∷ [])
+increasing-pushed [] new rising below k within = absurd (omega arith)
+increasing-pushed (x ∷ []) new rising below zero within = below x (Contains-head x [])
+increasing-pushed (x ∷ []) new rising below (suc k) within = absurd (omega arith)
+increasing-pushed (x ∷ y ∷ rest) new rising below zero within = rising 0 (omega arith)
+increasing-pushed (x ∷ y ∷ rest) new rising below (suc k) within =
+    let later : (j : ℕ) → j + 1 < length (y ∷ rest) → get_or (y ∷ rest) j 0 < get_or (y ∷ rest) (j + 1) 0 = λ j inside. step_on x (y ∷ rest) j (rising (suc j) (omega arith)) in
+    let pushed = increasing-pushed (y ∷ rest) new later (λ number contains. below number (Contains-cons x number (y ∷ rest) contains)) k (omega arith) in
+    let e : suc (k + 1) ≡ suc k + 1 = omega arith in
+    subst (λ n. get_or ((y ∷ rest) ++ new ∷ []) k 0 < get_or (x ∷ ((y ∷ rest) ++ new ∷ [])) n 0) e pushed
+  where
+    step_on : (x : ℕ) (xs : List ℕ) (j : ℕ) → get_or (x ∷ xs) (suc j) 0 < get_or (x ∷ xs) (suc j + 1) 0 → get_or xs j 0 < get_or xs (j + 1) 0
+    step_on x xs j h =
+        let e : suc j + 1 ≡ suc (j + 1) = omega arith in
+        subst (λ n. get_or xs j 0 < get_or (x ∷ xs) n 0) e h
 
 Contains-none : (x : ℕ) → Contains [] x → ⊥
 Contains-none x p = omega (arith, p.1)

@@ -78,20 +78,24 @@ module _ {Q : Type 0} where
   found_at low searches next rising k number search within same read =
       subst (λ (n : ℕ). find_number n searches ≡ Some (get_or searches k search)) (same search) (find-at low searches next rising k search within) ∙ ap Some (sym read)
 
-  -- a smaller number stands before
-  rising-le : (low : ℕ) (searches : List (RunningSearch Q)) (next : ℕ) → IsRising low searches next → (i k : ℕ) (d : RunningSearch Q) → i ≤ k → k < length searches → (get_or searches i d).number ≤ (get_or searches k d).number
-  rising-le low [] next rising i k d order within = absurd (omega arith)
-  rising-le low (search ∷ rest) next rising zero zero d order within = omega arith
-  rising-le low (search ∷ rest) next rising zero (suc k) d order within =
+  -- what stands later has the greater number
+  pub rising-lt : (low : ℕ) (searches : List (RunningSearch Q)) (next : ℕ) → IsRising low searches next → (i k : ℕ) (d : RunningSearch Q) → i < k → k < length searches → (get_or searches i d).number < (get_or searches k d).number
+  rising-lt low [] next rising i k d order within = absurd (omega arith)
+  rising-lt low (search ∷ rest) next rising i zero d order within = absurd (omega arith)
+  rising-lt low (search ∷ rest) next rising zero (suc k) d order within =
       let later = rising-get (search.number + 1) rest next rising.1 k d (omega arith) in
       omega (arith, later)
-  rising-le low (search ∷ rest) next rising (suc i) zero d order within = absurd (omega arith)
-  rising-le low (search ∷ rest) next rising (suc i) (suc k) d order within = rising-le (search.number + 1) rest next rising.1 i k d (omega arith) (omega arith)
+  rising-lt low (search ∷ rest) next rising (suc i) (suc k) d order within = rising-lt (search.number + 1) rest next rising.1 i k d (omega arith) (omega arith)
 
   pub rising-before : (low : ℕ) (searches : List (RunningSearch Q)) (next : ℕ) → IsRising low searches next → (k i : ℕ) (d : RunningSearch Q) → i < length searches → k < length searches → (get_or searches k d).number < (get_or searches i d).number → k < i
   rising-before low searches next rising k i d within also less = elim (cases_lt k i) [
     | inl before ↦ before
-    | inr order ↦ let le = rising-le low searches next rising i k d order also in absurd (omega (arith, le))
+    | inr from ↦ elim (cases_eq i k) [
+      | inl same ↦
+          let e : (get_or searches i d).number ≡ (get_or searches k d).number = ap (λ (at : ℕ). (get_or searches at d).number) same in
+          absurd (omega (arith, e))
+      | inr other ↦ let lt = rising-lt low searches next rising i k d (omega arith) also in absurd (omega (arith, lt))
+    ]
   ]
 
   -- what is found stands somewhere

@@ -1,5 +1,6 @@
 ghost use Rattle.std.specs.Prelude.{◌≡◌, ◌↔◌, ℕ, ◌+◌, ◌<◌, ◌≤◌, [], ◌∷◌, ◌++◌, false, true, length, Contains, slice_index_or, is_some, option_map, IsTrue, IsSome, IsOk, IfOk, IfErr, IfSome, IfNone, OnErr, Some, Ok, Err};
 ghost use Rattle.std.specs.Fn.{FnReturnsAt};
+ghost use Rattle.std.specs.List.Sorted.{IsStrictlyIncreasing};
 ghost use Rattle.predicate_locks.specs.Sound.{IsRising};
 ghost use Rattle.predicate_locks.specs.Searches.{last_number, find_number, search_at, does_run, IsEntered, IsLeft, IsFirstMeeting, NoneMeets, AreMeeting, AllBegunSince};
 ghost use Rattle.memory.specs.Refused.{refused};
@@ -167,7 +168,7 @@ impl<Q: Copy, A: Allocator> Running<Q, A> {
         None
     }
 
-    /// The numbers that are attached and run, and whose query `accepts` accepts.
+    /// The numbers that are attached and run, and whose query `accepts` accepts, each once, by rising number.
     pub fn meeting<F: Fn(&Q) -> bool, B: Allocator>(
         &self,
         attached: &Attached<B>,
@@ -175,6 +176,7 @@ impl<Q: Copy, A: Allocator> Running<Q, A> {
     ) -> ArrayVec<u64, MAX_RUNNING>
         requires { F.IsAlwaysCallable accepts.now }
         ensures meeting { AreMeeting (FnReturnsAt F.Fn accepts.now) self.now attached.now.numbers result.items }
+        ensures rising { IsStrictlyIncreasing result.items }
         ensures limit { length result.items ≤ MAX_RUNNING }
     {
         let mut met = ArrayVec::new();

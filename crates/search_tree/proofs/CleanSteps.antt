@@ -78,6 +78,8 @@ module _ (C : Class) (t : PlainTree C.Key C.Query C.Item) (at : Handle) (may : M
         record {
           invariant = record { shape = shape_cleaned laws sound.invariant.shape cleaned_step; searches = searches_cleaned sound.invariant.shape sound.invariant.searches cleaned_step };
           progress_of_each = sound.progress_of_each;
+          progress_once = sound.progress_once;
+          limited = sound.limited;
         }
 
     pub cleaned_less : IsSound C t → ContentsLess C t sifted (λ pair. IsTrue (kept pair))

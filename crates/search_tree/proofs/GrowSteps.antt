@@ -263,6 +263,8 @@ module _ (C : Class) (t : PlainTree C.Key C.Query C.Item) where
             record {
               invariant = record { shape = shape_grown step sound.invariant.shape; searches = searches_grown sound.invariant.shape sound.invariant.searches step };
               progress_of_each = sound.progress_of_each;
+              progress_once = sound.progress_once;
+              limited = sound.limited;
             }
 
         grown_call : HasMoreNodes C t higher 2 1

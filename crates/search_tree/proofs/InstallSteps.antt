@@ -133,6 +133,8 @@ module _ (C : Class) (t : PlainTree C.Key C.Query C.Item) (e : NewEntry C.Key) (
           record {
             invariant = record { shape = shape_installed laws installed_step sound.invariant.shape; searches = searches_installed laws sound.invariant.shape sound.invariant.searches installed_step };
             progress_of_each = sound.progress_of_each;
+            progress_once = sound.progress_once;
+            limited = sound.limited;
           }
 
       pub installed_same : SameContents C t put_in

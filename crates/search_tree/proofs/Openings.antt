@@ -1,6 +1,7 @@
 -- Searches begin and end.
 use Rattle.std.proofs.Common.{◌≡◌, ◌≢◌, ℕ, ◌==◌, true, false, not, [], ◌∷◌, ◌++◌, ◌+◌, length, length-append, filter, slice_index_or, Option, Some, None, is_some, refl, sym, ap, subst, ◌∙◌, inl, inr}
 use Rattle.std.proofs.lemmas.Bool.{cases_eq}
+use Rattle.std.proofs.lemmas.List.Kept.{AllPairs-filter}
 use Rattle.predicate_locks.specs.Searches.{Searches as RunningSearches, search_at, does_run, IsEntered, IsLeft}
 use Rattle.predicate_locks.specs.declared.running.RunningSearch.{RunningSearch}
 use Rattle.tree_theory.proofs.ContentsKept.{contents_opened, contents_closed}
@@ -12,7 +13,7 @@ use Rattle.std.specs.Option.{option_map}
 use Rattle.search_tree.specs.Calls.{IsOpen, IsShut, found_in, found_of}
 use Rattle.search_tree.specs.Trees.{PlainProgress, PlainTree, IsFirstOf, IsSound, search_of, progress_at, search_in, seen, steps_of, tree_of}
 use Rattle.search_tree.proofs.ListEnds.{read_any}
-use Rattle.search_tree.proofs.ProgressLemmas.{first_read, pushed_here, pushed_other, filtered_here, filtered_none, filtered_other}
+use Rattle.search_tree.proofs.ProgressLemmas.{differ_pushed, first_read, pushed_here, pushed_other, filtered_here, filtered_none, filtered_other}
 
 none_of : {T : Type 0} (o : Option T) → is_some o ≡ false → o ≡ None
 none_of None e = refl
@@ -58,6 +59,8 @@ module _ (C : Class) (t : PlainTree C.Key C.Query C.Item) where
           | inl same ↦ subst (λ n. is_some (progress_at n (t.progress ++ p ∷ [])) ≡ is_some (search_at running n)) same (rw (has.entered.runs, pushed_here t.progress p (absent sound has)) refl)
           | inr other ↦ rw (has.entered.others s (λ e. other (sym e)), pushed_other s t.progress p other) (sound.progress_of_each s)
         ];
+        progress_once = differ_pushed t.progress p (absent sound has) sound.progress_once;
+        limited = sound.limited;
       }
 
   pub opened_call : {running : RunningSearches C.Query} {p : PlainProgress C.Item} {query : C.Query} → IsSound C t → HasEntered running p query → IsOpen C t (with_entered running p) query p.number
@@ -100,6 +103,8 @@ module _ (C : Class) (t : PlainTree C.Key C.Query C.Item) where
           | inl same ↦ subst (λ n. is_some (progress_at n (filter (λ p. not (p.number == number)) t.progress)) ≡ is_some (search_at running n)) (sym same) (rw (left.gone, filtered_here number t.progress) refl)
           | inr other ↦ rw (left.others s other, filtered_other number s t.progress other) (sound.progress_of_each s)
         ];
+        progress_once = AllPairs-filter (λ (p q : PlainProgress C.Item). p.number ≢ q.number) (λ p. not (p.number == number)) t.progress sound.progress_once;
+        limited = sound.limited;
       }
 
   -- a search that callers see runs

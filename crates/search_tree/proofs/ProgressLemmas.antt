@@ -1,7 +1,9 @@
 -- Looking up the progress of searches by their number.
 use Rattle.std.proofs.Common.{◌≡◌, ◌≢◌, ℕ, zero, suc, ◌<◌, ◌==◌, not, List, [], ◌∷◌, ◌++◌, length, filter, slice_index_or, slice_set, Some, None, refl, sym, ap, ◌∙◌, inl, inr, arith}
 use Rattle.std.proofs.lemmas.Bool.{cases_eq, eq-eqb, ne_eqb}
-use Rattle.search_tree.specs.Trees.{PlainProgress, progress_at, IsFirstOf}
+use Rattle.std.proofs.lemmas.List.{length-set}
+use Rattle.std.proofs.lemmas.List.Quantifiers.{all_pairs_push}
+use Rattle.search_tree.specs.Trees.{PlainProgress, progress_at, IsFirstOf, NumbersDiffer}
 
 module _ {Item : Type 0} where
   here : (number : ℕ) (p : PlainProgress Item) (rest : List (PlainProgress Item)) → p.number ≡ number → progress_at number (p ∷ rest) ≡ Some p
@@ -81,3 +83,30 @@ module _ {Item : Type 0} where
       | inr far ↦ later other p _ far ∙ (filtered_other number other rest apart ∙ sym (later other p rest far))
     ])
   ]
+
+  -- what has no number yet comes to those whose numbers differ
+  pub differ_pushed : (ps : List (PlainProgress Item)) (p : PlainProgress Item) → progress_at p.number ps ≡ None → NumbersDiffer ps → NumbersDiffer (ps ++ p ∷ [])
+  differ_pushed ps p none differ = all_pairs_push (λ (a b : PlainProgress Item). a.number ≢ b.number) ps p differ (λ k d within. absent p.number ps none k d within)
+    where
+      absent : (number : ℕ) (qs : List (PlainProgress Item)) → progress_at number qs ≡ None → (k : ℕ) (d : PlainProgress Item) → k < length qs → (slice_index_or qs k d).number ≢ number
+      absent number [] none k d within = absurd (omega arith)
+      absent number (q ∷ rest) none zero d within = λ same. let found = here number q rest same in absurd (cc (found, none))
+      absent number (q ∷ rest) none (suc k) d within = elim (cases_eq q.number number) [
+        | inl same ↦ let found = here number q rest same in absurd (cc (found, none))
+        | inr other ↦ absent number rest (sym (later number q rest other) ∙ none) k d (omega arith)
+      ]
+
+  -- one with the same number takes the place of another
+  pub differ_set : (number : ℕ) (ps : List (PlainProgress Item)) (at : ℕ) (p : PlainProgress Item) → IsFirstOf number ps at → p.number ≡ number → NumbersDiffer ps → NumbersDiffer (slice_set ps at p)
+  differ_set number ps at p first same differ i j d order within =
+      let long = length-set ps at p in
+      let one = numbers_stay ps at (λ d. first.named d ∙ sym same) i d in
+      let other = numbers_stay ps at (λ d. first.named d ∙ sym same) j d in
+      λ e. differ i j d order (omega (arith, long, within)) (sym one ∙ e ∙ other)
+    where
+      numbers_stay : (qs : List (PlainProgress Item)) (place : ℕ) → ((d : PlainProgress Item) → (slice_index_or qs place d).number ≡ p.number) → (k : ℕ) (d : PlainProgress Item) → (slice_index_or (slice_set qs place p) k d).number ≡ (slice_index_or qs k d).number
+      numbers_stay [] place named k d = refl
+      numbers_stay (q ∷ rest) zero named zero d = sym (named d)
+      numbers_stay (q ∷ rest) zero named (suc k) d = refl
+      numbers_stay (q ∷ rest) (suc place) named zero d = refl
+      numbers_stay (q ∷ rest) (suc place) named (suc k) d = numbers_stay rest place named k d

@@ -9,15 +9,15 @@ use lib.Arith.{mod-mul}
 use lib.Count.{ones_cat}
 use native.Mathlib.Nat.{mod-lt, mod-eq_of_lt, two-pow-succ}
 use Rattle.node_arena.specs.declared.handle.Handle.{Handle}
-use Rattle.tree_theory.proofs.ListLemmas.{parted_to_one, parted_to_other}
 use Rattle.tree_theory.proofs.ShapeLists.{parted_sizes}
 use Rattle.tree_theory.specs.Changes.{IsHalved}
 use Rattle.tree_theory.specs.Lists.{Parted}
-use Rattle.tree_theory.specs.Lists.Parted.{none}
+use Rattle.tree_theory.specs.Lists.Parted.{none as no_parts, to_one, to_other}
 use Rattle.tree_theory.specs.Nodes.{PlainBody, entries_of, children_of}
 use Rattle.tree_theory.specs.Nodes.PlainBody.{Leaf, Inner}
 use Rattle.tree_theory.specs.declared.TheConstants.{NODE_SIZE}
-use Rattle.search_tree.specs.Halvings.{IsPickedOut, IsShared}
+use Rattle.search_tree.specs.Halvings.{GoBySides, IsPickedOut, IsShared}
+use Rattle.search_tree.specs.Halvings.GoBySides.{none, goes, stays}
 use Rattle.search_tree.specs.Halvings.IsPickedOut.{of_entries}
 use Rattle.search_tree.proofs.ListEnds.{take_one}
 use Rattle.search_tree.proofs.Zips.{length_aligned, zip_keys}
@@ -61,25 +61,29 @@ ones_not mask n unset =
 
 -- the first n elements of a list are shared out
 pub record IsSharedUpTo {T : Type 0} (mask n : ℕ) (first left right : List T) : Type 0 where
-  pub parted : Parted first left right
+  pub sides : GoBySides mask 0 first left right
   pub long : length first ≡ n
   pub many : length right ≡ count_ones (mask % 2 ^ n)
-  pub goes : (place : ℕ) (x : T) → slice_get first place ≡ Some x → IsBitSet mask place → Contains right x
-  pub stays : (place : ℕ) (x : T) → slice_get first place ≡ Some x → (IsBitSet mask place → ⊥) → Contains left x
-
--- what stands in a list with one element more
-pushed_cases : {T : Type 0} (xs : List T) (y x : T) (i : ℕ) → slice_get (xs ++ y ∷ []) i ≡ Some x → (slice_get xs i ≡ Some x) ⊎ ((i ≡ length xs) × (y ≡ x))
-pushed_cases [] y x zero e = inr (refl, cc e)
-pushed_cases [] y x (suc i) e = absurd (cc e)
-pushed_cases (z ∷ xs) y x zero e = inl e
-pushed_cases (z ∷ xs) y x (suc i) e = elim (pushed_cases xs y x i e) [
-  | inl before ↦ inl before
-  | inr last ↦ let at = last.0 in inr (omega (arith, at), last.1)
-]
 
 module _ {T : Type 0} (mask : ℕ) where
+  -- one element more, of this place
+  last_goes : {place n : ℕ} {first left right : List T} (x : T) → place + length first ≡ n → IsBitSet mask n → GoBySides mask place first left right → GoBySides mask place (first ++ x ∷ []) left (right ++ x ∷ [])
+  last_goes {place = place} x at set none = let here : place + 0 ≡ place = omega arith in goes (subst (λ k. IsBitSet mask k) (sym at ∙ here) set) none
+  last_goes {place = place} x at set (goes {whole = whole} bit rest) = let next : place + 1 + length whole ≡ place + suc (length whole) = omega arith in goes bit (last_goes x (next ∙ at) set rest)
+  last_goes {place = place} x at set (stays {whole = whole} bit rest) = let next : place + 1 + length whole ≡ place + suc (length whole) = omega arith in stays bit (last_goes x (next ∙ at) set rest)
+
+  last_stays : {place n : ℕ} {first left right : List T} (x : T) → place + length first ≡ n → (IsBitSet mask n → ⊥) → GoBySides mask place first left right → GoBySides mask place (first ++ x ∷ []) (left ++ x ∷ []) right
+  last_stays {place = place} x at unset none = let here : place + 0 ≡ place = omega arith in stays (subst (λ k. IsBitSet mask k → ⊥) (sym at ∙ here) unset) none
+  last_stays {place = place} x at unset (goes {whole = whole} bit rest) = let next : place + 1 + length whole ≡ place + suc (length whole) = omega arith in goes bit (last_stays x (next ∙ at) unset rest)
+  last_stays {place = place} x at unset (stays {whole = whole} bit rest) = let next : place + 1 + length whole ≡ place + suc (length whole) = omega arith in stays bit (last_stays x (next ∙ at) unset rest)
+
+  pub parted_by_sides : {place : ℕ} {whole left right : List T} → GoBySides mask place whole left right → Parted whole left right
+  parted_by_sides none = no_parts
+  parted_by_sides (goes bit rest) = to_other (parted_by_sides rest)
+  parted_by_sides (stays bit rest) = to_one (parted_by_sides rest)
+
   pub shared_none : (left right : List T) → left ≡ [] → right ≡ [] → IsSharedUpTo mask 0 [] left right
-  shared_none left right no_left no_right = rw (no_left, no_right) (record { parted = none; long = refl; many = sym (ap count_ones nothing ∙ no_bit); goes = λ place x at set. absurd (cc at); stays = λ place x at unset. absurd (cc at) })
+  shared_none left right no_left no_right = rw (no_left, no_right) (record { sides = none; long = refl; many = sym (ap count_ones nothing ∙ no_bit) })
     where
       nothing : mask % 2 ^ 0 ≡ 0
       nothing = omega arith
@@ -91,19 +95,7 @@ module _ {T : Type 0} (mask : ℕ) where
       let counted = ones_set mask n set in
       let long = s.long in
       let many = s.many in
-      record {
-        parted = parted_to_other x s.parted;
-        long = omega (arith, longer, long);
-        many = omega (arith, more, counted, many);
-        goes = λ place y at bit. elim (pushed_cases first x y place at) [
-          | inl before ↦ Contains-append_left right (x ∷ []) y (s.goes place y before bit)
-          | inr last ↦ subst (Contains (right ++ x ∷ [])) last.1 (Contains-push right x)
-        ];
-        stays = λ place y at not. elim (pushed_cases first x y place at) [
-          | inl before ↦ s.stays place y before not
-          | inr last ↦ absurd (not (subst (λ k. IsBitSet mask k) (sym (last.0 ∙ s.long)) set))
-        ];
-      }
+      record { sides = last_goes x (omega (arith, long)) set s.sides; long = omega (arith, longer, long); many = omega (arith, more, counted, many) }
 
   pub shared_left : (n : ℕ) (first left right : List T) (x : T) → (IsBitSet mask n → ⊥) → IsSharedUpTo mask n first left right → IsSharedUpTo mask (n + 1) (first ++ x ∷ []) (left ++ x ∷ []) right
   shared_left n first left right x unset s =
@@ -111,29 +103,17 @@ module _ {T : Type 0} (mask : ℕ) where
       let counted = ones_not mask n unset in
       let long = s.long in
       let many = s.many in
-      record {
-        parted = parted_to_one x s.parted;
-        long = omega (arith, longer, long);
-        many = omega (arith, counted, many);
-        goes = λ place y at bit. elim (pushed_cases first x y place at) [
-          | inl before ↦ s.goes place y before bit
-          | inr last ↦ absurd (unset (subst (λ k. IsBitSet mask k) (last.0 ∙ s.long) bit))
-        ];
-        stays = λ place y at not. elim (pushed_cases first x y place at) [
-          | inl before ↦ Contains-append_left left (x ∷ []) y (s.stays place y before not)
-          | inr last ↦ subst (Contains (left ++ x ∷ [])) last.1 (Contains-push left x)
-        ];
-      }
+      record { sides = last_stays x (omega (arith, long)) unset s.sides; long = omega (arith, longer, long); many = omega (arith, counted, many) }
 
   -- neither part has more than there were
   pub right_fits : (n : ℕ) (first left right : List T) → IsSharedUpTo mask n first left right → length right ≤ n
-  right_fits n first left right s = let sizes = parted_sizes s.parted in let long = s.long in omega (arith, sizes, long)
+  right_fits n first left right s = let sizes = parted_sizes (parted_by_sides s.sides) in let long = s.long in omega (arith, sizes, long)
 
   pub left_fits : (n : ℕ) (first left right : List T) → IsSharedUpTo mask n first left right → length left ≤ n
-  left_fits n first left right s = let sizes = parted_sizes s.parted in let long = s.long in omega (arith, sizes, long)
+  left_fits n first left right s = let sizes = parted_sizes (parted_by_sides s.sides) in let long = s.long in omega (arith, sizes, long)
 
   pub shared_all : (whole left right : List T) → mask < 2 ^ 16 → IsSharedUpTo mask 16 whole left right → IsShared mask whole left right
-  shared_all whole left right fits s = record { parted = s.parted; many = s.many ∙ ap count_ones (mod-eq_of_lt fits); goes = s.goes; stays = s.stays }
+  shared_all whole left right fits s = record { sides = s.sides; many = s.many ∙ ap count_ones (mod-eq_of_lt fits) }
 
 -- ---- a list of keys and a list of children
 
@@ -166,15 +146,17 @@ module _ {K : Type 0} (mask : ℕ) where
 module _ {Key Item : Type 0} (mask : ℕ) (least : 4 ≤ count_ones mask) (most : count_ones mask ≤ 12) where
   pub halved_leaf : (whole left right : List (ℕ × Item)) → length whole ≡ NODE_SIZE → IsShared mask whole left right → IsHalved {Key = Key} {Item = Item} (Leaf whole) (Leaf left) (Leaf right)
   halved_leaf whole left right long s =
-      let sizes = parted_sizes s.parted in
+      let parted = parted_by_sides mask s.sides in
+      let sizes = parted_sizes parted in
       let many = s.many in
-      record { pairs = s.parted; entries = none; one_filled = omega (arith, sizes, many, long, most); other_filled = omega (arith, many, least) }
+      record { pairs = parted; entries = no_parts; one_filled = omega (arith, sizes, many, long, most); other_filled = omega (arith, many, least) }
 
   pub halved_inner : (whole left right : List (Key × Handle)) → length whole ≡ NODE_SIZE → IsShared mask whole left right → IsHalved {Key = Key} {Item = Item} (Inner whole) (Inner left) (Inner right)
   halved_inner whole left right long s =
-      let sizes = parted_sizes s.parted in
+      let parted = parted_by_sides mask s.sides in
+      let sizes = parted_sizes parted in
       let many = s.many in
-      record { pairs = none; entries = s.parted; one_filled = omega (arith, sizes, many, long, most); other_filled = omega (arith, many, least) }
+      record { pairs = no_parts; entries = parted; one_filled = omega (arith, sizes, many, long, most); other_filled = omega (arith, many, least) }
 
 zip_parts : {Key : Type 0} (entries : List (Key × Handle)) → zip (map (λ entry. entry.0) entries) (map (λ entry. entry.1) entries) ≡ entries
 zip_parts [] = refl

@@ -133,6 +133,8 @@ module _ (C : Class) (t : PlainTree C.Key C.Query C.Item) (nodes : Slots (Node C
         record {
           invariant = record { shape = shape_split split_step sound.invariant.shape; searches = searches_split sound.invariant.shape sound.invariant.searches split_step };
           progress_of_each = sound.progress_of_each;
+          progress_once = sound.progress_once;
+          limited = sound.limited;
         }
 
     root_level_stays : IsSound C t → level_of (value_at nodes t.root) ≡ level_of (value_at t.nodes t.root)

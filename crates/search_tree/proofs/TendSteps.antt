@@ -78,6 +78,8 @@ module _ (C : Class) (t : PlainTree C.Key C.Query C.Item) where
         record {
           invariant = record { shape = shape_freed freed_step sound.invariant.shape; searches = searches_freed sound.invariant.shape sound.invariant.searches freed_step };
           progress_of_each = sound.progress_of_each;
+          progress_once = sound.progress_once;
+          limited = sound.limited;
         }
 
     pub freed_same : SameContents C t let_go
@@ -144,6 +146,8 @@ module _ (C : Class) (t : PlainTree C.Key C.Query C.Item) where
         record {
           invariant = record { shape = shape_retired retired_step sound.invariant.shape; searches = searches_retired sound.invariant.shape sound.invariant.searches retired_step };
           progress_of_each = sound.progress_of_each;
+          progress_once = sound.progress_once;
+          limited = sound.limited;
         }
 
     pub retired_same : SameContents C t let_out

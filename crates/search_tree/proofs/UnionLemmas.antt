@@ -1,5 +1,5 @@
 -- Unions of keys, taken one by one.
-use Rattle.std.proofs.Common.{◌≡◌, ℕ, ◌+◌, List, [], ◌∷◌, ◌++◌, Contains, map, take, length, slice_get, Some, refl, sym, subst, inl, inr}
+use Rattle.std.proofs.Common.{◌≡◌, ◌≢◌, ℕ, ◌+◌, ◌<◌, List, [], ◌∷◌, ◌++◌, Contains, map, take, length, slice_get, Some, refl, sym, subst, inl, inr, arith}
 use Rattle.std.proofs.lemmas.List.{map-append}
 use Rattle.std.proofs.lemmas.List.Elements.{Contains-append_cases}
 use Rattle.node_arena.specs.declared.handle.Handle.{Handle}
@@ -38,40 +38,46 @@ module _ (C : Class) where
       let key_here = map_in (λ (p : ℕ × C.Item). C.key_of p.1) pairs pair (got_in pairs i pair here) in
       rw (take_one pairs i pair here, map-append (λ (p : ℕ × C.Item). C.key_of p.1) (take i pairs) (pair ∷ [])) (union_next laws (keys_of pairs) (keys_of (take i pairs)) union (C.key_of pair.1) key_here before)
 
+  some_of : {T : Type 0} (key_of : T → C.Key) (xs : List T) → map key_of xs ≢ [] → 0 < length xs
+  some_of key_of [] some = absurd (some refl)
+  some_of key_of (x ∷ xs) some = omega arith
+
+  none_of : {T : Type 0} (key_of : T → C.Key) (xs : List T) → map key_of xs ≡ [] → length xs ≡ 0
+  none_of key_of [] e = refl
+  none_of key_of (x ∷ xs) e = absurd (cc (e))
+
   -- the key for a leaf's entry, and for an inner node's
   pub leaf_key : (pairs : List (ℕ × C.Item)) (old key : C.Key) → IsUnionFor C (map (λ (pair : ℕ × C.Item). C.key_of pair.1) pairs) old key → IsKeyFor C (Leaf pairs) old key
-  leaf_key pairs old key (inl union) =
-      inl (record {
-        covers = record {
-          pairs = λ pair is_in. union.covers (C.key_of pair.1) (map_in (λ (p : ℕ × C.Item). C.key_of p.1) pairs pair is_in);
-          entries = λ entry is_in. absurd (nothing_in entry is_in);
-        };
-        least = λ cover covers. union.least cover (λ k is_in.
-            let from = map_from (λ (p : ℕ × C.Item). C.key_of p.1) pairs k is_in in
-            subst (C.Covers cover) from.is (covers.pairs from.from from.is_in));
-      })
-  leaf_key pairs old key (inr none) = inr (no_pairs pairs none.0, none.1)
-    where
-      no_pairs : (ps : List (ℕ × C.Item)) → map (λ (pair : ℕ × C.Item). C.key_of pair.1) ps ≡ [] → length ps ≡ 0
-      no_pairs [] e = refl
-      no_pairs (p ∷ ps) e = absurd (cc (e))
+  leaf_key pairs old key (inl (some, union)) =
+      inl (
+        some_of (λ (p : ℕ × C.Item). C.key_of p.1) pairs some,
+        record {
+          covers = record {
+            pairs = λ pair is_in. union.covers (C.key_of pair.1) (map_in (λ (p : ℕ × C.Item). C.key_of p.1) pairs pair is_in);
+            entries = λ entry is_in. absurd (nothing_in entry is_in);
+          };
+          least = λ cover covers. union.least cover (λ k is_in.
+              let from = map_from (λ (p : ℕ × C.Item). C.key_of p.1) pairs k is_in in
+              subst (C.Covers cover) from.is (covers.pairs from.from from.is_in));
+        },
+      )
+  leaf_key pairs old key (inr none) = inr (none_of (λ (p : ℕ × C.Item). C.key_of p.1) pairs none.0, none.1)
 
   pub inner_key : (entries : List (C.Key × Handle)) (old key : C.Key) → IsUnionFor C (map (λ (entry : C.Key × Handle). entry.0) entries) old key → IsKeyFor C (Inner entries) old key
-  inner_key entries old key (inl union) =
-      inl (record {
-        covers = record {
-          pairs = λ pair is_in. absurd (nothing_in pair is_in);
-          entries = λ entry is_in. union.covers entry.0 (map_in (λ (e : C.Key × Handle). e.0) entries entry is_in);
-        };
-        least = λ cover covers. union.least cover (λ k is_in.
-            let from = map_from (λ (e : C.Key × Handle). e.0) entries k is_in in
-            subst (C.Covers cover) from.is (covers.entries from.from from.is_in));
-      })
-  inner_key entries old key (inr none) = inr (no_entries entries none.0, none.1)
-    where
-      no_entries : (es : List (C.Key × Handle)) → map (λ (entry : C.Key × Handle). entry.0) es ≡ [] → length es ≡ 0
-      no_entries [] e = refl
-      no_entries (x ∷ es) e = absurd (cc (e))
+  inner_key entries old key (inl (some, union)) =
+      inl (
+        some_of (λ (e : C.Key × Handle). e.0) entries some,
+        record {
+          covers = record {
+            pairs = λ pair is_in. absurd (nothing_in pair is_in);
+            entries = λ entry is_in. union.covers entry.0 (map_in (λ (e : C.Key × Handle). e.0) entries entry is_in);
+          };
+          least = λ cover covers. union.least cover (λ k is_in.
+              let from = map_from (λ (e : C.Key × Handle). e.0) entries k is_in in
+              subst (C.Covers cover) from.is (covers.entries from.from from.is_in));
+        },
+      )
+  inner_key entries old key (inr none) = inr (none_of (λ (e : C.Key × Handle). e.0) entries none.0, none.1)
 
   pub body_key_leaf : (body : Body C) (pairs : List (ℕ × C.Item)) (old key : C.Key) → body ≡ Leaf pairs → IsUnionFor C (map (λ (pair : ℕ × C.Item). C.key_of pair.1) (pairs_of body)) old key → IsKeyFor C body old key
   body_key_leaf body pairs old key is union = subst (λ b. IsKeyFor C b old key) (sym is) (leaf_key pairs old key (subst (λ b. IsUnionFor C (map (λ (pair : ℕ × C.Item). C.key_of pair.1) (pairs_of b)) old key) is union))

@@ -17,7 +17,7 @@ use Rattle.search_tree.specs.Arenas.{AreSame, IsChanged}
 use Rattle.search_tree.specs.Calls.{IsAlike, IsFurther, IsUntouched}
 use Rattle.search_tree.specs.Trees.{PlainProgress, PlainTree, IsFirstOf, IsSound, SameButRoom, search_of, search_in, steps_in, steps_of, progress_at, seen, is_empty, tree_of, level_of}
 use Rattle.search_tree.specs.Visits.{HasVisited}
-use Rattle.search_tree.proofs.ProgressLemmas.{first_read, set_here, set_other}
+use Rattle.search_tree.proofs.ProgressLemmas.{differ_set, first_read, set_here, set_other}
 use Rattle.search_tree.proofs.TreeSteps.{same_tree, visit_step, visited_seen, visited_gone}
 
 module _ (C : Class) (t : PlainTree C.Key C.Query C.Item) (at search : ℕ) where
@@ -39,6 +39,8 @@ module _ (C : Class) (t : PlainTree C.Key C.Query C.Item) (at search : ℕ) wher
       record {
         invariant = step_keeps laws sound.invariant (visit_step C t at search run p q nodes runs first reads visited);
         progress_of_each = each_still p q first reads (visited.number ∙ named) sound;
+        progress_once = differ_set search t.progress at q first (visited.number ∙ named) sound.progress_once;
+        limited = sound.limited;
       }
 
   -- where only the room has changed
@@ -64,6 +66,8 @@ module _ (C : Class) (t : PlainTree C.Key C.Query C.Item) (at search : ℕ) wher
       record {
         invariant = record { shape = shape_closed sound.invariant.shape step; searches = searches_closed sound.invariant.shape sound.invariant.searches step };
         progress_of_each = each_still p q first reads number sound;
+        progress_once = differ_set search t.progress at q first number sound.progress_once;
+        limited = sound.limited;
       }
 
   roomier_alike : (p q : PlainProgress C.Item) (nodes : Slots (Node C)) → IsFirstOf search t.progress at → ((d : PlainProgress C.Item) → slice_index_or t.progress at d ≡ p) → AreSame t.nodes nodes → SameButRoom p q → IsSound C t → IsAlike C t (changed nodes q)

@@ -58,6 +58,8 @@ module _ (C : Class) (t : PlainTree C.Key C.Query C.Item) (nodes : Slots (Node C
       record {
         invariant = record { shape = shape_placed laws sound.invariant.shape step; searches = searches_placed sound.invariant.shape sound.invariant.searches step };
         progress_of_each = sound.progress_of_each;
+        progress_once = sound.progress_once;
+        limited = sound.limited;
       }
 
   placed_call : (at : Handle) (pair : ℕ × C.Item) → MayPlace C t at pair → IsChanged t.nodes nodes at (λ n. record n { body = Leaf (pairs_of n.body ++ pair ∷ []) }) → HasPlaced C t now pair
@@ -101,6 +103,8 @@ module _ (C : Class) (t : PlainTree C.Key C.Query C.Item) (nodes : Slots (Node C
       record {
         invariant = record { shape = shape_joined sound.invariant.shape step; searches = searches_joined laws sound.invariant.shape sound.invariant.searches step };
         progress_of_each = sound.progress_of_each;
+        progress_once = sound.progress_once;
+        limited = sound.limited;
       }
 
   pub joined_call : (at : Handle) (more : List ℕ) → MayJoinAll C t at more → IsChanged t.nodes nodes at (λ n. record n { attached = filter (does_run t.running) (with_numbers more n.attached) }) → HasJoined C t now at more
@@ -127,6 +131,8 @@ module _ (C : Class) (t : PlainTree C.Key C.Query C.Item) (nodes : Slots (Node C
       record {
         invariant = record { shape = shape_closed sound.invariant.shape step; searches = searches_closed sound.invariant.shape sound.invariant.searches step };
         progress_of_each = sound.progress_of_each;
+        progress_once = sound.progress_once;
+        limited = sound.limited;
       }
 
   pub same_call : AreSame t.nodes nodes → IsSound C t → IsAlike C t now
@@ -180,6 +186,8 @@ module _ (C : Class) (t : PlainTree C.Key C.Query C.Item) (nodes : Slots (Node C
       record {
         invariant = record { shape = shape_enlarged laws sound.invariant.shape step; searches = searches_enlarged sound.invariant.shape sound.invariant.searches step };
         progress_of_each = sound.progress_of_each;
+        progress_once = sound.progress_once;
+        limited = sound.limited;
       }
 
   pub enlarged_call : (p : Handle) (place : ℕ) (old key : C.Key) (child : Handle) → MayEnlarge C t p place old key child → IsChanged t.nodes nodes p (λ n. record n { body = Inner (slice_set (entries_of n.body) place (C.united old key, child)) }) → IsAlike C t now

@@ -1,17 +1,20 @@
 -- How a list is shared out to two by a mask, and what a full node has by the mask that the class picks.
-use Rattle.std.specs.Prelude.{◌≡◌, ℕ, List, Some, Contains, IsBitSet, length, count_ones, map, slice_get}
+use Rattle.std.specs.Prelude.{◌≡◌, ◌+◌, ◌∷◌, ℕ, List, [], IsBitSet, length, count_ones, map}
 use Rattle.node_arena.specs.declared.handle.Handle.{Handle}
-use Rattle.tree_theory.specs.Lists.{Parted}
 use Rattle.tree_theory.specs.Nodes.{PlainBody}
 use Rattle.tree_theory.specs.Nodes.PlainBody.{Leaf, Inner}
 
--- each element goes to one of the two lists, which keep their order: right where the bit of its place is set, and else
--- left. So as many go right as bits are set
+-- The elements of a list, whose first one has this place: each goes to one of the two others, which keep their order, right
+-- where the bit of its place is set, and else left.
+pub data GoBySides {T : Type 0} (mask : ℕ) : ℕ → List T → List T → List T → Type 0 where
+  none : {place : ℕ} → GoBySides mask place [] [] []
+  goes : {place : ℕ} {x : T} {whole left right : List T} → IsBitSet mask place → GoBySides mask (place + 1) whole left right → GoBySides mask place (x ∷ whole) left (x ∷ right)
+  stays : {place : ℕ} {x : T} {whole left right : List T} → (IsBitSet mask place → ⊥) → GoBySides mask (place + 1) whole left right → GoBySides mask place (x ∷ whole) (x ∷ left) right
+
+-- a list is shared out to two others by a mask: as many go right as bits are set
 pub record IsShared {T : Type 0} (mask : ℕ) (whole left right : List T) : Type 0 where
-  pub parted : Parted whole left right
+  pub sides : GoBySides mask 0 whole left right
   pub many : length right ≡ count_ones mask
-  pub goes : (place : ℕ) (x : T) → slice_get whole place ≡ Some x → IsBitSet mask place → Contains right x
-  pub stays : (place : ℕ) (x : T) → slice_get whole place ≡ Some x → (IsBitSet mask place → ⊥) → Contains left x
 
 -- what a node has is parted as the class picks by its keys, those of a leaf's items or those of an inner node's entries:
 -- the right part is the last one

@@ -76,7 +76,7 @@ module _ (C : Class) (t : PlainTree C.Key C.Query C.Item) where
     pub pairs : List (ℕ × C.Item)
     pub body : node.body ≡ Leaf pairs
 
-  -- a retired node that no running search can come to any more
+  -- a retired node, at whose stamp or later every running search began
   pub record MayFree (at : Handle) : Type 0 where
     pub node : Node C
     pub is : value_at t.nodes at ≡ Some node

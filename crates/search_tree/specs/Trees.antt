@@ -1,5 +1,5 @@
 -- The tree as its contracts see it.
-use Rattle.std.specs.Prelude.{◌≡◌, ◌≢◌, ◌==◌, ◌+◌, ◌<◌, ◌≤◌, ℕ, Bool, true, false, [], ◌∷◌, ◌++◌, List, length, slice_index_or, Option, None, Some, is_some, if◌then◌else◌}
+use Rattle.std.specs.Prelude.{◌≡◌, ◌≢◌, ◌==◌, ◌+◌, ◌<◌, ◌≤◌, ℕ, AllPairs, Bool, true, false, [], ◌∷◌, ◌++◌, List, length, slice_index_or, Option, None, Some, is_some, if◌then◌else◌}
 use Rattle.std.specs.Option.{option_map}
 use Rattle.node_arena.specs.Slots.{Slots, value_at, slot_count, taken_count}
 use Rattle.node_arena.specs.declared.handle.Handle.{Handle}
@@ -11,6 +11,7 @@ use Rattle.tree_theory.specs.KeyClasses.{Class}
 use Rattle.tree_theory.specs.Nodes.{PlainBody, PlainNode, PlainSearch, Tree}
 use Rattle.tree_theory.specs.Nodes.PlainBody.{Leaf, Inner}
 use Rattle.tree_theory.specs.declared.TheConstants.{NODE_SIZE}
+use Rattle.search_tree.specs.declared.tree.TheConstants.{MAX_STEPS}
 use Rattle.tree_theory.specs.declared.place.Place.TheVariants.{Root}
 
 module _ {Key Item : Type 0} where
@@ -59,6 +60,10 @@ module _ {Item : Type 0} where
   abbrev pub steps_of : Option (PlainProgress Item) → ℕ
   steps_of None = 0
   steps_of (Some progress) = progress.steps
+
+  -- no number stands twice
+  abbrev pub NumbersDiffer : List (PlainProgress Item) → Type 0
+  NumbersDiffer ps = AllPairs (λ (p q : PlainProgress Item). p.number ≢ q.number) ps
 
   -- the first place that has the number
   pub record IsFirstOf (number : ℕ) (ps : List (PlainProgress Item)) (at : ℕ) : Type 0 where
@@ -146,8 +151,10 @@ module _ (C : Class) where
   -- what every tree keeps
   pub record IsSound (t : PlainTree C.Key C.Query C.Item) : Type 0 where
     pub invariant : Invariant (tree_of t)
-    -- each search that runs has its progress, and no other
+    -- each search that runs has its progress, and no other; and has it once
     pub progress_of_each : (s : ℕ) → is_some (progress_at s t.progress) ≡ is_some (search_at t.running s)
+    pub progress_once : NumbersDiffer t.progress
+    pub limited : t.limit ≤ MAX_STEPS
 
   -- a tree that nobody has called yet: it has no pairs and no searches, its root is its one node, in the first slot, and
   -- each slot starts at this generation. The root is a leaf that has nothing yet, and has the counter's number

@@ -1,5 +1,5 @@
 -- The union of several keys.
-use Rattle.std.specs.Prelude.{◌≡◌, ◌⊎◌, List, [], Contains}
+use Rattle.std.specs.Prelude.{◌≡◌, ◌≢◌, ◌⊎◌, List, [], Contains}
 use Rattle.tree_theory.specs.KeyClasses.{Class}
 
 -- it covers each key, and whatever covers each of them covers it
@@ -9,4 +9,4 @@ pub record IsUnionOf (C : Class) (keys : List C.Key) (union : C.Key) : Type 0 wh
 
 -- the union of these keys, or the old key where there is none
 abbrev pub IsUnionFor : (C : Class) → List C.Key → C.Key → C.Key → Type 0
-IsUnionFor C keys old union = IsUnionOf C keys union ⊎ ((keys ≡ []) × (union ≡ old))
+IsUnionFor C keys old union = ((keys ≢ []) × IsUnionOf C keys union) ⊎ ((keys ≡ []) × (union ≡ old))

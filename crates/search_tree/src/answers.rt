@@ -29,7 +29,7 @@ pub enum Step {
 pub enum Tending {
     /// There was nothing to do.
     Idle,
-    /// A retired node that no search remembers is gone.
+    /// A retired node is gone, since every running search began at its stamp or later.
     Freed,
     /// A right node got its entry.
     Installed,

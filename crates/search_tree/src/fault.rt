@@ -6,6 +6,7 @@ ghost use Rattle.search_tree.specs.Faults.{code_of};
 
 use memory::Refused;
 use predicate_locks::LockFault;
+use std::error::Error;
 use std::fmt;
 
 /// Why a tree refuses a step. A refused step is not counted, and changes nothing that callers see; S7 alone ends its own search, and
@@ -66,6 +67,8 @@ impl fmt::Display for TreeFault {
         f.write_str(self.code())
     }
 }
+
+impl Error for TreeFault {}
 
 /// What was refused where `predicate_locks` found no memory, which is all that it refuses here.
 pub(crate) fn refusal_in(fault: LockFault) -> Refused

@@ -25,7 +25,7 @@ use tree_theory::{KeyClass, NODE_SIZE, Place};
 /// What is to be done at a node.
 pub(crate) enum Due<K> {
     Nothing,
-    /// It is retired, and no running search can come to it any more.
+    /// It is retired, and every running search began at its stamp or later.
     Free,
     /// It is marked, and its right node can have an entry.
     Install(NewEntry<K>),

@@ -127,24 +127,44 @@ fn look<A: Allocator + Copy>(
     }
 }
 
+// Makes a tree where allocation number `at` is refused, by `new` or by `starting_at`; whether that came about.
+fn new_refused<B: Allocator>(
+    rt: &impl Abort,
+    memory: &Refusing<B>,
+    at: u64,
+    starting: bool,
+) -> bool {
+    memory.refuse(at);
+    let made: Result<Tree<Frames, _>, TreeFault> = if starting {
+        Tree::starting_at(memory, 7, 8, 9, 10)
+    } else {
+        Tree::new(memory)
+    };
+    if !memory.has_refused() {
+        assert!(rt; made.is_ok() && at > 1, "nothing was refused");
+        return false;
+    }
+    let Err(fault) = made else {
+        panic!(rt; "a refusal was not answered");
+    };
+    assert_eq!(rt; fault.code(), "S8");
+    true
+}
+
 #[test]
 fn each_allocation_of_new_refused(rt: HostRuntime) -> Result<(), Fail> {
     let memory = Refusing::new(rt.alloc(), 0);
-    for at in 1..20 {
-        memory.refuse(at);
-        let made: Result<Tree<Frames, _>, TreeFault> = Tree::new(&memory);
-        if !memory.has_refused() {
-            assert!(rt; made.is_ok() && at > 1, "nothing was refused");
-            return Ok(());
+    for starting in [false, true] {
+        for at in 1..20 {
+            if !new_refused(&rt, &memory, at, starting) {
+                break;
+            }
+            assert!(rt; at < 19, "each allocation was refused");
+            // The same call succeeds now.
+            assert!(rt; finds(&rt, &mut filled(&rt, &memory, 1), 1));
         }
-        let Err(fault) = made else {
-            panic!(rt; "a refusal was not answered");
-        };
-        assert_eq!(rt; fault.code(), "S8");
-        // The same call succeeds now.
-        assert!(rt; finds(&rt, &mut filled(&rt, &memory, 1), 1));
     }
-    panic!(rt; "each allocation was refused");
+    Ok(())
 }
 
 // Opens a search where allocation number `at` is refused; whether that came about.

@@ -305,6 +305,17 @@ fn last_step<A: Allocator + Copy>(
     last
 }
 
+// At how many slots a round of tending is refused with S6. No pair is kept.
+fn slots_at_the_counters_end<A: Allocator>(tree: &mut Tree<Frames, A>) -> u32 {
+    let mut refused: u32 = 0;
+    for slot in 0..tree.slots() {
+        if tree.tend(slot, &KeepOne { key: 0 }) == Err(TreeFault::Spent) {
+            refused = refused.saturating_add(1);
+        }
+    }
+    refused
+}
+
 #[test]
 fn no_install_at_the_counters_end(rt: HostRuntime) -> Result<(), Fail> {
     let made = Tree::starting_at(rt.alloc(), 0, u64::MAX, 1, 1_000);
@@ -320,6 +331,9 @@ fn no_install_at_the_counters_end(rt: HostRuntime) -> Result<(), Fail> {
         assert_eq!(rt; (last, tree.slots()), (Some(Step::Split), 4));
         assert!(rt; tree.advance(&mut walk) == Err(TreeFault::Spent));
         assert!(rt; tree.advance(&mut walk) == Err(TreeFault::Spent));
+        // Tending is refused the same entry. The other leaf loses its pairs, and then is not retired either.
+        assert_eq!(rt; slots_at_the_counters_end(&mut tree), 1);
+        assert_eq!(rt; slots_at_the_counters_end(&mut tree), 2);
         return Ok(());
     }
     panic!(rt; "no install is refused");

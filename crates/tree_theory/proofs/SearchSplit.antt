@@ -198,7 +198,7 @@ module _ {C : Class} where
 
   -- the new key of an entry is covered by the old one
   pub key_covered : (laws : Laws C) (body : Body C) (old key : C.Key) → CoversBody C old body → IsKeyFor C body old key → C.Covers old key
-  key_covered laws body old key covers (inl union) = union.least old covers
+  key_covered laws body old key covers (inl filled) = filled.1.least old covers
   key_covered laws body old key covers (inr same) = rw (same.1) (laws.reflexive old)
 
   pub searches_installed : {t u : Tree C} {p l r : Handle} → Laws C → Shape t → Searches t → IsInstalled t u p l r → Searches u

@@ -30,12 +30,12 @@ settles_marked {p = p} {now = now} (settles_right e was is) marked = let no : fa
 module _ {C : Class} where
   -- a key that covers a body covers the key that is made for it
   pub key_for_below : Laws C → (body : Body C) (old key : C.Key) → IsKeyFor C body old key → CoversBody C old body → C.Covers old key
-  key_for_below laws body old key (inl union) covers = union.least old covers
+  key_for_below laws body old key (inl filled) covers = filled.1.least old covers
   key_for_below laws body old key (inr empty) covers = subst (C.Covers old) (sym empty.1) (laws.reflexive old)
 
   -- which covers the body
   pub key_for_covers : (body : Body C) (old key : C.Key) → IsKeyFor C body old key → CoversBody C key body
-  key_for_covers body old key (inl union) = union.covers
+  key_for_covers body old key (inl filled) = filled.1.covers
   key_for_covers (Leaf pairs) old key (inr empty) =
       record { pairs = λ pair has. let lt = has.1 in let none = empty.0 in absurd (omega arith); entries = λ entry has. absurd (nothing_in entry has) }
   key_for_covers (Inner entries) old key (inr empty) =

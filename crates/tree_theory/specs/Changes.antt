@@ -25,7 +25,7 @@ pub record IsUnion (C : Class) (body : Body C) (key : C.Key) : Type 0 where
 
 -- the key of a node's entry: the union of its keys, or the old key where the node is empty
 abbrev pub IsKeyFor : (C : Class) → Body C → C.Key → C.Key → Type 0
-IsKeyFor C body old key = IsUnion C body key ⊎ ((size_of body ≡ 0) × (key ≡ old))
+IsKeyFor C body old key = ((0 < size_of body) × IsUnion C body key) ⊎ ((size_of body ≡ 0) × (key ≡ old))
 
 module _ {C : Class} where
   -- What stays.

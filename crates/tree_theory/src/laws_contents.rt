@@ -24,7 +24,8 @@ pub fn steps_and_contents<C: KeyClass>()
     ensures split { (t u : Tree (class_of C.covered C.may_match C.is_match C.key_with C.united)) (h r : Handle) (xs : List (ℕ × C.Item)) → IsSplit t u h r → IsContents t xs → IsContents u xs }
     ensures grown { (t u : Tree (class_of C.covered C.may_match C.is_match C.key_with C.united)) (a b : Handle) (xs : List (ℕ × C.Item)) → IsGrown t u a b → IsContents t xs → IsContents u xs }
     ensures installed { (t u : Tree (class_of C.covered C.may_match C.is_match C.key_with C.united)) (p l r : Handle) (xs : List (ℕ × C.Item)) → IsInstalled t u p l r → IsContents t xs → IsContents u xs }
-    ensures cleaned { (t u : Tree (class_of C.covered C.may_match C.is_match C.key_with C.united)) (kept : List (ℕ × C.Item)) (h : Handle) (before after : List (ℕ × C.Item)) → Shape t → IsCleaned t u (Contains kept) h → IsContents t before → IsContents u after → LosesPairs (Contains kept) before after }
+    ensures cleaned { (t u : Tree (class_of C.covered C.may_match C.is_match C.key_with C.united)) (kept : List (ℕ × C.Item)) (h : Handle) (before : List (ℕ × C.Item)) → Shape t → IsCleaned t u (Contains kept) h → IsContents t before
+        → (after : List (ℕ × C.Item)) × IsContents u after × LosesPairs (Contains kept) before after }
     ensures retired { (t u : Tree (class_of C.covered C.may_match C.is_match C.key_with C.united)) (l p : Handle) (xs : List (ℕ × C.Item)) → IsRetired t u l p → IsContents t xs → IsContents u xs }
     ensures freed { (t u : Tree (class_of C.covered C.may_match C.is_match C.key_with C.united)) (h : Handle) (xs : List (ℕ × C.Item)) → Shape t → IsFreed t u h → IsContents t xs → IsContents u xs }
     ensures started { (u : Tree (class_of C.covered C.may_match C.is_match C.key_with C.united)) → IsStarted u → IsContents u [] }

@@ -1,4 +1,4 @@
-//! The theory of the search tree: what a tree of nodes keeps under any interleaving of its steps, and why no search misses anything. Nothing here runs but the plain data and the trait of the keys.
+//! The theory of the search tree: what a tree of nodes keeps under any interleaving of its steps, and why no search misses anything. What runs of it: the plain data, the trait of the keys, and the bits of masks.
 #![tactic(auto)]
 
 mod key_class;

@@ -1,4 +1,4 @@
-use Rattle.tree_theory.proofs.ContentsKept.{contents_unique, contents_have, contents_opened, contents_closed, contents_visited, contents_visited_gone, contents_placed, contents_joined, contents_enlarged, contents_installed, contents_cleaned, contents_retired, contents_freed, contents_started}
+use Rattle.tree_theory.proofs.ContentsKept.{contents_unique, contents_have, contents_opened, contents_closed, contents_visited, contents_visited_gone, contents_placed, contents_joined, contents_enlarged, contents_installed, contents_sifted, contents_retired, contents_freed, contents_started}
 use Rattle.tree_theory.proofs.ContentsSplit.{contents_split, contents_grown}
 use Rattle.tree_theory.proofs.laws_contents.steps_and_contents.Goals as goal
 
@@ -17,7 +17,7 @@ returns g c =
       split = λ t u h r xs. contents_split;
       grown = λ t u a b xs. contents_grown;
       installed = λ t u p l r xs. contents_installed;
-      cleaned = λ t u kept h before after. contents_cleaned;
+      cleaned = λ t u kept h before. contents_sifted;
       retired = λ t u l p xs. contents_retired;
       freed = λ t u h xs. contents_freed;
       started = λ u. contents_started;

@@ -16,6 +16,8 @@ invariant_of-result g c =
         searches = λ s. rw c.in_ok-running.ensures refl;
       });
       progress_of_each = λ s. rw (c.in_ok-running.ensures, c.new.ensures.items) refl;
+      progress_once = rw c.new.ensures.items (λ i j d order within. absurd (omega arith));
+      limited = c.requires;
     }
 
 pub returns-clause-ok : goal.returns-clause-ok
