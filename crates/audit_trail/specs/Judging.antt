@@ -81,7 +81,7 @@ JudgedFrom number document features subject (change ∷ changes) judgement =
 abbrev pub Judged : PlainState → Subject → List Change → Judgement → Type 0
 Judged state subject changes judgement = JudgedFrom 1 state.decider.document state.features subject changes judgement
 
--- a denial comes with the question that was denied, by that rule or since none applied; no other cause has a question
+-- a denial comes with the question that was denied, by that rule or without one; no other cause has a question
 abbrev pub IsFounded : DocumentData → Cause → Option Question → Type 0
 IsFounded document (Denied rule) None = ⊥
 IsFounded document (Denied rule) (Some question) = Denies document question rule

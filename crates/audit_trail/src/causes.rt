@@ -5,7 +5,7 @@ use combining::Question;
 /// Why a change fails.
 #[derive(Clone, Copy, Debug, PartialEq, Eq)]
 pub enum Cause {
-    /// The policy in force denies it: by its first deciding rule, or since none applied.
+    /// The policy in force denies it: by its first deciding rule, or without one, since none applied or by default.
     Denied(Option<u32>),
     /// A feature of the id is there already.
     Exists,

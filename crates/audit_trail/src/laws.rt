@@ -13,7 +13,7 @@ use crate::causes::Judgement;
 use features::{Change, Feature, Subject};
 
 /// At a state one list of rows is listed for a subject and a window, and a list of changes is judged in one way. A denial
-/// comes with a question that the document denies, by the rule that it names or since none applied.
+/// comes with a question that the document denies, by the rule that it names or without one.
 pub fn answers_are_one()
     ensures rows { (state : PlainState) (subject : Subject) (window : List Point) (rows others : List Feature) →
         Listed state subject window rows → Listed state subject window others → rows ≡ others }

@@ -26,11 +26,11 @@ pub record Rules (document : DocumentData) (question : Question) (ruling : Rulin
 abbrev pub Permits : DocumentData → Question → Type 0
 Permits document question = (rule : Option ℕ) × Rules document question (Permit rule)
 
--- the ruling of a denial: by the rule of this number, or since none applied
+-- the ruling of a denial: by the rule of this number, or without a rule, since none applied or by default
 abbrev pub denying : Option ℕ → Ruling
 denying (Some rule) = DeniedBy rule
 denying None = NoneApplied
 
--- a document denies what is asked: by a rule, or since none applied
+-- a document denies what is asked: by a rule, or without one
 abbrev pub Denies : DocumentData → Question → Option ℕ → Type 0
 Denies document question rule = Rules document question (denying rule)

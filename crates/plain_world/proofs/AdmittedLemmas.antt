@@ -1,13 +1,14 @@
 -- Events that were admitted, by what they answer.
-use Rattle.std.proofs.Common.{◌≡◌, ℕ, ◌==◌, Bool, true, false, IsTrue, List, [], ◌∷◌, Some, Result, Ok, Err, if◌then◌else◌, refl, sym, ap, subst, ◌∙◌, arith}
+use Rattle.std.proofs.Common.{◌≡◌, ℕ, ◌==◌, nat_lt, Bool, true, false, IsTrue, List, [], ◌∷◌, Some, Result, Ok, Err, if◌then◌else◌, refl, sym, ap, subst, ◌∙◌, arith}
 use Rattle.std.specs.Bool.{MatchBool}
 use Rattle.std.proofs.lemmas.Bool.Decides.{nat_tests}
 use Rattle.features.specs.declared.actors.Subject.{Subject}
 use Rattle.audit_trail.specs.Legal.{subject_of, IsSeated}
+use Rattle.audit_trail.specs.declared.trails.TheConstants.{FIRST_LIMIT}
 use Rattle.plain_world.specs.declared.faults.Fault.{Fault}
 use Rattle.plain_world.specs.declared.faults.Fault.TheVariants as faults
 use Rattle.plain_world.specs.declared.searches.Search.{Search}
-use Rattle.plain_world.specs.Admitting.{and_then, given, subject_at, stewarded, owned, own_search, has_answered_ready, may_record, may_finish, transaction_owned, own_transaction, all_placed, may_commit, edition_left, may_govern}
+use Rattle.plain_world.specs.Admitting.{and_then, given, subject_at, stewarded, owned, own_search, has_answered_ready, may_record, may_finish, transaction_owned, own_transaction, all_placed, may_commit, edition_left, may_govern, next_first, refused_if, may_roll}
 use Rattle.plain_world.specs.Events.{Reply, Number, Done, Visited, Advanced, Tended, Rows, Ended, TakenOut, Refused, If, UnlessMemory, is_want}
 use Rattle.plain_world.specs.Staging.{TransactionData, transaction_with, staged_in}
 use Rattle.plain_world.specs.States.{WorldData}
@@ -124,6 +125,13 @@ steward_true s u = go s.steward
     go : (b : Bool) → (if b then Ok tt else Err faults.NotSteward) ≡ Ok u → IsTrue b
     go true e = refl
     go false e = absurd cc
+
+-- who takes the trail out has the seat, and is a steward
+pub roller : (seat : ℕ) (w : WorldData) (u : Unit {0}) → may_roll seat w ≡ Ok u → (subject : Subject) × IsSeated seat w.seats subject × IsTrue subject.steward
+roller seat w u e =
+    let a = and_then_ok (subject_at seat w) (λ subject. and_then (stewarded subject) (λ _. refused_if (nat_lt FIRST_LIMIT (next_first w)) faults.Spent)) u e in
+    let b = and_then_ok (stewarded a.0) (λ _. refused_if (nat_lt FIRST_LIMIT (next_first w)) faults.Spent) u a.2 in
+    (a.0, given_ok (subject_of seat w.seats) a.0 a.1, steward_true a.0 b.0 b.1)
 
 -- who governs has the seat, and is a steward
 pub governor : (seat : ℕ) (w : WorldData) (subject : Subject) → may_govern seat w ≡ Ok subject → IsSeated seat w.seats subject × IsTrue subject.steward

@@ -1,5 +1,7 @@
 -- What an answer, a governed edition and a piece that is rolled out come from.
-use Rattle.std.proofs.Common.{◌≡◌, ℕ, List, refl, sym, ap, subst, ◌∙◌}
+use Rattle.std.proofs.Common.{◌≡◌, ℕ, IsTrue, List, refl, sym, ap, subst, ◌∙◌}
+use Rattle.features.specs.declared.actors.Subject.{Subject}
+use Rattle.audit_trail.specs.Legal.{IsSeated}
 use Rattle.policy_text.specs.Documents.{DocumentData}
 use Rattle.plain_world.specs.Admitting.{may_finish, may_govern, may_roll}
 use Rattle.plain_world.specs.Answers.{AnswerData}
@@ -7,7 +9,7 @@ use Rattle.plain_world.specs.Events.{Event, Finish, Govern, Roll, Reply, Number,
 use Rattle.plain_world.specs.Laws.{IsExact, Accounts, IsStewards, LeadsOn}
 use Rattle.plain_world.specs.Rolls.{RolledData}
 use Rattle.plain_world.specs.States.{WorldData, IsSoundWorld}
-use Rattle.plain_world.proofs.AdmittedLemmas.{admitted, finisher, governor}
+use Rattle.plain_world.proofs.AdmittedLemmas.{admitted, finisher, governor, roller}
 use Rattle.plain_world.proofs.RunLemmas.{sound_run}
 
 -- after any run the trail accounts for the state
@@ -51,6 +53,12 @@ policy_stewards seat document edition mid new happens =
       ap (λ (w : WorldData). w.state.features) d.2.1,
       ap (λ (w : WorldData). w.state.version) d.2.1,
     )
+
+-- who takes the trail out is a steward
+pub piece_stewards : (seat : ℕ) (mid new : WorldData) (piece : RolledData) → Happens (Roll seat) mid new (TakenOut piece) → (subject : Subject) × IsSeated seat mid.seats subject × IsTrue subject.steward
+piece_stewards seat mid new piece happens =
+    let d = admitted (may_roll seat mid) mid new (TakenOut piece) _ refl happens in
+    roller seat mid d.0 d.1
 
 pub piece_leads_on : (seat : ℕ) (mid new : WorldData) (piece : RolledData) → IsSoundWorld mid → Happens (Roll seat) mid new (TakenOut piece) → LeadsOn mid new piece
 piece_leads_on seat mid new piece sound happens =

@@ -14,3 +14,4 @@ pub mod SoundLemmas
 pub mod RunLemmas
 pub mod FindingLemmas
 pub mod EventLemmas
+pub mod SettingsLemmas

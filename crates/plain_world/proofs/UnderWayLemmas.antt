@@ -161,7 +161,7 @@ open_number seat w number e =
     go false true h = absurd cc
     go false false h = cc
 
-begin_number : (seat : ℕ) (w : WorldData) (number : ℕ) → may_begin seat w ≡ Ok number → number ≡ w.next_transaction
+pub begin_number : (seat : ℕ) (w : WorldData) (number : ℕ) → may_begin seat w ≡ Ok number → number ≡ w.next_transaction
 begin_number seat w number e =
     let a = and_then_ok (subject_at seat w) (λ _. next_transaction w) number e in
     go (nat_le TRANSACTION_LIMIT (length w.transactions)) (w.next_transaction == LAST) a.2

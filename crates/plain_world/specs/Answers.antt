@@ -28,7 +28,7 @@ pub record DenialData : Type 0 where
   pub decider : DeciderData
   pub rule : Option ℕ
 
--- what every denial shows by itself: the decider that it carries denies the question, by that rule or since none applied
+-- what every denial shows by itself: the decider that it carries denies the question, by that rule or without one
 abbrev pub IsDenial : DenialData → Type 0
 IsDenial denial = Denies denial.decider.document denial.question denial.rule
 

@@ -10,3 +10,4 @@ pub mod Admitting
 pub mod Finding
 pub mod Events
 pub mod Laws
+pub mod Settings

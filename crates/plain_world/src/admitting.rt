@@ -71,6 +71,7 @@ impl<A: Allocator> PlainWorld<A> {
         ensures value { result ≡ next_search self.now }
         ensures few { OnOk result (length self.now.searches < SEARCH_LIMIT) }
         ensures left { IfOk result (λ number. number < u64.MAX) }
+        ensures next { IfOk result (λ number. number ≡ self.now.next_search) }
     {
         if self.searches.len() >= SEARCH_LIMIT {
             return Err(Fault::Tree(TreeFault::TooMany));
@@ -87,6 +88,7 @@ impl<A: Allocator> PlainWorld<A> {
         ensures value { result ≡ may_open seat self.now }
         ensures few { OnOk result (length self.now.searches < SEARCH_LIMIT) }
         ensures left { IfOk result (λ number. number < u64.MAX) }
+        ensures next { IfOk result (λ number. number ≡ self.now.next_search) }
     {
         self.subject_at(seat)?;
         self.next_search()

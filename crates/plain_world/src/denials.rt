@@ -12,8 +12,8 @@ use memory::{Refused, another};
 use std::marker::Model;
 use std::sync::Arc;
 
-/// That the policy denies what a change asks: the question, the decider, and the first deciding rule, or that none
-/// applied. Only a world makes one.
+/// That the policy denies what a change asks: the question, the decider, and the first deciding rule, or that no rule
+/// decided it. Only a world makes one.
 #[derive(Debug, Drop)]
 pub struct Denial {
     question: Question,
@@ -39,7 +39,7 @@ impl Model for Denial {
 impl Denial {
     ghost use Rattle.decision.specs.Rulings.{Denies};
 
-    /// What was asked. The decider that the denial carries denies it, by the rule that it names or since none applied.
+    /// What was asked. The decider that the denial carries denies it, by the rule that it names, or without one: since none applied, or by default.
     pub fn question(&self) -> Question
         ensures value { result ≡ self.now.question }
         ensures denied { Denies self.now.decider.document self.now.question self.now.rule }
@@ -54,7 +54,7 @@ impl Denial {
         &self.decider
     }
 
-    /// The number of the first deciding rule in document order; none where no rule applied.
+    /// The number of the first deciding rule in document order; none where no rule decided it: none applied, or it is denied by default.
     pub fn rule(&self) -> Option<u32>
         ensures { result ≡ self.now.rule }
     {

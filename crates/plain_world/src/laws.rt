@@ -1,6 +1,6 @@
 //! Laws over runs. The functions do nothing: each is its contract.
 
-ghost use Rattle.std.specs.Prelude.{◌≡◌, ◌⊎◌, ℕ, ◌++◌, List, Some};
+ghost use Rattle.std.specs.Prelude.{◌≡◌, ◌⊎◌, ℕ, ◌++◌, IsTrue, List, Some};
 ghost use Rattle.features.specs.Rows.{IsSortedById};
 ghost use Rattle.policy_text.specs.Documents.{DocumentData};
 ghost use Rattle.decision.specs.Deciders.{DeciderData};
@@ -11,6 +11,7 @@ ghost use Rattle.plain_world.specs.Answers.{AnswerData};
 ghost use Rattle.plain_world.specs.Events.{Event, Finish, Commit, Govern, Roll, Reply, Number, Rows, Ended, TakenOut, Happens, Refused, Run};
 ghost use Rattle.plain_world.specs.Laws.{IsExact, Accounts, EndsAs, IsStewards, LeadsOn, AddsAlone, Leaves, IsAsked, IsOrdered, IsUnderWay, records_out, in_force, outcome_of};
 ghost use Rattle.plain_world.specs.Rolls.{RolledData};
+ghost use Rattle.plain_world.specs.Settings.{IsSettled};
 ghost use Rattle.plain_world.specs.Staging.{TransactionData, transaction_with};
 ghost use Rattle.plain_world.specs.States.{WorldData, IsSoundWorld, opened};
 ghost use Rattle.plain_world.specs.declared.faults.Fault.{Fault};
@@ -33,8 +34,8 @@ pub fn every_answer_is_exact()
 {}
 
 /// Whatever happened before, the outcome of a commit is the judgement of the staged list there and then: it is applied as a
-/// whole under the next version, or nothing changes. A denial is there exactly where the first change that is turned away
-/// is denied, by the decider then in force.
+/// whole under the next version, or neither features, version nor policy change. A denial is there exactly where the first
+/// change that is turned away is denied, by the decider then in force.
 pub fn every_outcome_is_the_judgement()
     ensures { (old mid new : WorldData) (before : List (Event × Reply)) (seat number : ℕ) (outcome : Outcome)
         → IsSoundWorld old → Run old before mid → Happens (Commit seat number) mid new (Ended outcome)
@@ -52,6 +53,18 @@ pub fn every_policy_is_a_stewards()
 pub fn every_piece_leads_on()
     ensures { (old mid new : WorldData) (before : List (Event × Reply)) (seat : ℕ) (piece : RolledData)
         → IsSoundWorld old → Run old before mid → Happens (Roll seat) mid new (TakenOut piece) → LeadsOn mid new piece }
+{}
+
+/// The trail is taken out for a steward alone.
+pub fn every_roll_is_a_stewards()
+    ensures { (old new : WorldData) (seat : ℕ) (piece : RolledData) → Happens (Roll seat) old new (TakenOut piece)
+        → (subject : Subject) × IsSeated seat old.seats subject × IsTrue subject.steward }
+{}
+
+/// No number of a search or of a transaction is given twice: what begins gets the next one, and the one above it is next then.
+/// No event changes who may have a seat, the opening decider, where numbers started, or the limits.
+pub fn numbers_are_given_once()
+    ensures { (event : Event) (old new : WorldData) (reply : Reply) → Happens event old new reply → IsSettled event old new reply }
 {}
 
 /// An answer, an outcome and a governed edition add their own record to the trail and change the state as it says; a roll takes

@@ -30,19 +30,19 @@ impl<A: Allocator> PlainWorld<A> {
         Ok(self.seats.len() as u32)
     }
 
-    /// Takes in a search that the index has opened for a seat. It takes no memory.
-    pub fn enter_search(&mut self, seat: u32, number: u64, window: Shape)
+    /// Takes in a search that the index has opened for a seat, under the next number. It takes no memory.
+    pub fn enter_search(&mut self, seat: u32, window: Shape)
         requires few { length self.old.searches < SEARCH_LIMIT }
-        requires left { number < u64.MAX }
-        ensures { self.new ≡ record self.old { searches = self.old.searches ++ record { number = number; seat = seat; window = window; ready = false } ∷ []; next_search = number + 1 } }
+        requires left { self.old.next_search < u64.MAX }
+        ensures { self.new ≡ record self.old { searches = self.old.searches ++ record { number = self.old.next_search; seat = seat; window = window; ready = false } ∷ []; next_search = self.old.next_search + 1 } }
     {
         self.searches.push(Search {
-            number,
+            number: self.next_search,
             seat,
             window,
             ready: false,
         });
-        self.next_search = number + 1;
+        self.next_search += 1;
     }
 
     /// Marks a search as one that has answered Ready.
@@ -76,8 +76,8 @@ impl<A: Allocator + Copy> PlainWorld<A> {
     /// force and at the shapes that stand in the store, and is written to the trail. X1 where the seat was not given or no
     /// such search runs, X2 where it is another seat's, X3 where it has not answered Ready, X10 where the trail is full, X12
     /// where a growth is refused. The meter counts at most a tick for each pair that was found, and none where the call is
-    /// refused before X12. The body looks each id that was found up once; neither that nor that nothing else is read from
-    /// the store a clause says.
+    /// refused before X12. The body looks each id that was found up once, and at the store's first row, which costs no
+    /// tick; what it reads no clause says.
     pub fn finish(
         &mut self,
         seat: u32,

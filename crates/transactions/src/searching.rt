@@ -50,7 +50,7 @@ impl<A: Allocator + Copy> World<A> {
         let number = self.plain.may_open(seat)?;
         match self.index.open_search(window) {
             Ok(_) => {
-                self.plain.enter_search(seat, number, window);
+                self.plain.enter_search(seat, window);
                 Ok(number)
             }
             Err(fault) => match refusal_of(fault) {
