@@ -27,3 +27,4 @@ pub mod Sharing
 pub mod Adoptions
 pub mod SplitSteps
 pub mod GrowSteps
+pub mod OneCase

@@ -1,8 +1,7 @@
 -- Lists that are shared out by a mask.
 use Rattle.std.specs.Prelude.{count_ones}
-use Rattle.std.proofs.Common.{◌≡◌, ◌≢◌, ◌⊎◌, ℕ, zero, suc, ◌+◌, ◌*◌, ◌/◌, ◌%◌, ◌^◌, ◌<◌, ◌≤◌, List, [], ◌∷◌, ◌++◌, length, slice_get, slice_index_or, take, take_all, zip, map, Option, Some, Contains, IsBitSet, refl, sym, ap, subst, ◌∙◌, inl, inr, arith}
+use Rattle.std.proofs.Common.{◌≡◌, ◌≢◌, ℕ, zero, suc, ◌+◌, ◌*◌, ◌/◌, ◌%◌, ◌^◌, ◌<◌, ◌≤◌, List, [], ◌∷◌, ◌++◌, length, slice_get, slice_index_or, take, take_all, zip, map, Option, Some, IsBitSet, refl, sym, ap, subst, ◌∙◌, arith}
 use Rattle.std.proofs.lemmas.List.{length_push}
-use Rattle.std.proofs.lemmas.List.Elements.{Contains-append_left, Contains-push}
 use Rattle.std.proofs.lemmas.Nat.{pow_pos, bit_set_by_shift}
 use Rattle.std.proofs.lemmas.Nat.Bits.{shr_and_one}
 use lib.Arith.{mod-mul}

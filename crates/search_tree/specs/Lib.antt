@@ -18,3 +18,4 @@ pub mod Cases
 pub mod Nexts
 pub mod Advances
 pub mod Halvings
+pub mod Answering

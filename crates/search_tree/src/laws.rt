@@ -1,0 +1,20 @@
+//! What follows from the definitions alone. A function here does nothing: it is its contract.
+
+ghost use Rattle.node_arena.specs.declared.handle.Handle.{Handle};
+ghost use Rattle.search_tree.specs.Answering.{HasEnds, AnswersAlike};
+ghost use Rattle.search_tree.specs.Cases.{TakesStep};
+ghost use Rattle.search_tree.specs.Trees.{PlainTree};
+ghost use Rattle.search_tree.specs.declared.answers.Step.{Step};
+ghost use Rattle.search_tree.specs.declared.fault.TreeFault.{TreeFault};
+ghost use Rattle.std.specs.Prelude.{ℕ, Result};
+ghost use Rattle.tree_theory.specs.KeyClasses.{class_of};
+
+use tree_theory::KeyClass;
+
+/// A step of a walk has one answer, want of memory aside: of the cases in which a walk may be, at most one can be said of a tree, of the node where the walk stands and of its item. (Of entries of equal penalties any may be the one by which it goes down.)
+pub fn steps_answer_alike<C: KeyClass>()
+    ensures { (t u v : PlainTree C.Key C.Query C.Item) (at one other : Handle) (pair : ℕ × C.Item) (a b : Result Step TreeFault)
+        → HasEnds u → HasEnds v
+        → TakesStep (class_of C.covered C.may_match C.is_match C.key_with C.united) t u at one C.growth C.second_growth C.picks pair a
+        → TakesStep (class_of C.covered C.may_match C.is_match C.key_with C.united) t v at other C.growth C.second_growth C.picks pair b → AnswersAlike a b }
+{}
