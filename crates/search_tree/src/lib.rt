@@ -3,26 +3,16 @@
 
 mod advancing;
 mod answers;
-mod descending;
 mod descents;
-mod entries;
 mod fault;
 mod growing;
-mod halves;
 mod installing;
 mod joining;
-mod keeper;
-mod keys;
 mod needs;
 mod nexts;
-mod node;
 mod opening;
-mod penalties;
-mod progress;
 mod rooms;
-mod setters;
 mod splitting;
-mod standing;
 mod starting;
 mod tending;
 mod tree;
@@ -32,6 +22,6 @@ mod walking;
 
 pub use answers::{Step, Tending, Visit};
 pub use fault::TreeFault;
-pub use keeper::Keeper;
 pub use tree::{MAX_STEPS, Tree};
+pub use tree_nodes::Keeper;
 pub use walk::Walk;
