@@ -14,12 +14,12 @@ use Rattle.search_tree.specs.Cases.BeginsWith.{has_room, under_linked, under_roo
 use Rattle.search_tree.specs.Cases.Change.{Linking}
 use Rattle.search_tree.specs.Dues.{LacksEntry}
 use Rattle.search_tree.specs.Nexts.{ComesTo, IsChange, IsMarkedFrom, LooksFrom, MayMake, room_by_place}
-use Rattle.search_tree.specs.Standings.{IsMarkedUnder}
+use Rattle.tree_nodes.specs.Standings.{IsMarkedUnder}
 use Rattle.search_tree.specs.Trees.{PlainTree, IsSound}
 use Rattle.search_tree.specs.declared.installing.NewEntry.{NewEntry}
 use Rattle.search_tree.specs.declared.rooms.Room.{Room}
 use Rattle.search_tree.specs.declared.rooms.Room.TheVariants.{Install, Split, Grow, Behind, Nothing}
-use Rattle.search_tree.proofs.TendSteps.{some_one}
+use Rattle.tree_nodes.proofs.ListEnds.{some_one}
 
 module _ (C : Class) (t : PlainTree C.Key C.Query C.Item) where
   pub looks_lower : (low high : ℕ) (room : Room C.Key) → low ≤ high → LooksFrom C t high room → LooksFrom C t low room

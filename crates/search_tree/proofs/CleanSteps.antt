@@ -12,11 +12,13 @@ use Rattle.tree_theory.specs.Lists.{Picked}
 use Rattle.tree_theory.specs.Lists.Parted.{to_one, to_other}
 use Rattle.tree_theory.specs.Nodes.{Node, pairs_of}
 use Rattle.tree_theory.specs.Nodes.PlainBody.{Leaf}
-use Rattle.search_tree.specs.Arenas.{IsChanged, Holds}
+use Rattle.tree_nodes.specs.Arenas.{IsChanged, Holds}
 use Rattle.search_tree.specs.Tends.{HasTended, ContentsLess, MayClean}
-use Rattle.search_tree.specs.Trees.{PlainTree, IsSound, IsLeaf, tree_of}
+use Rattle.search_tree.specs.Trees.{PlainTree, IsSound, tree_of}
+use Rattle.tree_nodes.specs.Bodies.{IsLeaf}
 use Rattle.search_tree.specs.declared.answers.Tending.TheVariants.{Cleaned}
-use Rattle.search_tree.proofs.TendSteps.{some_one, level_stays}
+use Rattle.tree_nodes.proofs.ListEnds.{some_one}
+use Rattle.search_tree.proofs.TendSteps.{level_stays}
 
 module _ {T : Type 0} (f : T → Bool) where
   picked_more : (x : T) (xs picked : List T) → Picked (λ y. IsTrue (f y)) xs picked → f x ≡ true → Picked (λ y. IsTrue (f y)) (x ∷ xs) (x ∷ picked)

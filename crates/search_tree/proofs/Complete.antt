@@ -7,7 +7,8 @@ use Rattle.tree_theory.proofs.Ready.{misses_nothing}
 use Rattle.tree_theory.specs.KeyClasses.{Class, Laws}
 use Rattle.tree_theory.specs.Nodes.{Search}
 use Rattle.search_tree.specs.Calls.{IsComplete, found_in, found_of}
-use Rattle.search_tree.specs.Trees.{PlainTree, SeenSearch, IsSound, is_empty, search_of, progress_at, seen, tree_of}
+use Rattle.search_tree.specs.Trees.{PlainTree, SeenSearch, IsSound, search_of, progress_at, seen, tree_of}
+use Rattle.tree_nodes.specs.Progresses.{is_empty}
 
 -- a list that tells to be empty is
 pub nothing_left : {T : Type 0} (xs : List T) → is_empty xs ≡ true → xs ≡ []

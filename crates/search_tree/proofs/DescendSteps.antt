@@ -7,7 +7,8 @@ use Rattle.tree_theory.specs.KeyClasses.{Class}
 use Rattle.tree_theory.specs.Nodes.{Node, entries_of}
 use Rattle.tree_theory.specs.Walks.{Done}
 use Rattle.search_tree.specs.Trees.{PlainTree, tree_of}
-use Rattle.search_tree.specs.Walks.{AreLed, HasJoinedBelow, HasMore, MayDescend, MayEnlarge, MayJoinBelow, MoreAttached}
+use Rattle.tree_nodes.specs.Descents.{AreLed}
+use Rattle.search_tree.specs.Walks.{HasJoinedBelow, HasMore, MayDescend, MayEnlarge, MayJoinBelow, MoreAttached}
 use Rattle.search_tree.specs.declared.descents.WayDown.{WayDown}
 use Rattle.search_tree.proofs.DescentLemmas.{held_or_not}
 

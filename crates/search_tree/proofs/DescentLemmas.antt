@@ -13,12 +13,14 @@ use Rattle.tree_theory.specs.Nodes.{PlainNode, Node, Search, entries_of, is_mark
 use Rattle.tree_theory.specs.Walks.{Done}
 use Rattle.tree_theory.specs.declared.place.Place.{Place}
 use Rattle.tree_theory.specs.declared.place.Place.TheVariants.{Unlinked}
-use Rattle.search_tree.specs.Arenas.{Holds, IsChanged}
+use Rattle.tree_nodes.specs.Arenas.{Holds, IsChanged}
 use Rattle.search_tree.specs.Calls.{IsAlike, IsUntouched}
-use Rattle.search_tree.specs.Trees.{PlainProgress, PlainTree, IsSound, progress_at, tree_of}
-use Rattle.search_tree.specs.Walks.{HasMore, MoreAttached, MayJoinAll, HasJoined, MayJoinBelow, HasJoinedBelow, marked_right}
+use Rattle.tree_nodes.specs.Progresses.{PlainProgress}
+use Rattle.search_tree.specs.Trees.{PlainTree, IsSound, progress_at, tree_of}
+use Rattle.search_tree.specs.Walks.{HasMore, MoreAttached, MayJoinAll, HasJoined, MayJoinBelow, HasJoinedBelow}
+use Rattle.tree_nodes.specs.Descents.{marked_right}
 use Rattle.search_tree.proofs.Kept.{all_join, with_all_kept}
-use Rattle.search_tree.proofs.TendSteps.{some_one}
+use Rattle.tree_nodes.proofs.ListEnds.{some_one}
 use Rattle.search_tree.proofs.WalkSteps.{joined_sound, joined_call}
 
 -- a node that is not linked has no mark

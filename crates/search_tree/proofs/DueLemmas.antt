@@ -1,5 +1,5 @@
 -- What tending finds due at nodes is due there, and what it does not find is not.
-use Rattle.std.proofs.Common.{◌≡◌, ◌↔◌, ℕ, zero, suc, ◌+◌, ◌<◌, ◌≤◌, arith, Bool, true, false, List, [], ◌∷◌, Contains, IsTrue, IfNone, length, map, slice_get, Option, None, Some, refl, ap, sym, subst, ◌∙◌, ⊎_elim}
+use Rattle.std.proofs.Common.{◌≡◌, ◌↔◌, ℕ, ◌+◌, ◌<◌, ◌≤◌, arith, Bool, true, false, List, [], Contains, IsTrue, IfNone, length, map, slice_get, Option, None, Some, refl, ap, sym, subst, ◌∙◌, ⊎_elim}
 use Rattle.std.proofs.lemmas.Bool.{cases_lt}
 use Rattle.std.proofs.lemmas.List.{length-map}
 use Rattle.std.proofs.lemmas.Option.{slice_get_within}
@@ -7,11 +7,12 @@ use Rattle.node_arena.specs.Slots.{value_at}
 use Rattle.node_arena.specs.declared.handle.Handle.{Handle}
 use Rattle.predicate_locks.specs.Searches.{AllBegunSince}
 use Rattle.search_tree.proofs.NeedLemmas.{at_rest}
-use Rattle.search_tree.proofs.TendSteps.{some_one}
+use Rattle.tree_nodes.proofs.ListEnds.{some_one, place_in}
 use Rattle.search_tree.specs.Dues.{LacksEntry, IsUnneeded, HasUnkept, NothingDue}
 use Rattle.search_tree.specs.Needs.{stamp_at}
-use Rattle.search_tree.specs.Trees.{PlainTree, IsInner, IsSound}
-use Rattle.tree_theory.proofs.ListLemmas.{nothing_in, in_cases, map_in, got_in}
+use Rattle.search_tree.specs.Trees.{PlainTree, IsSound}
+use Rattle.tree_nodes.specs.Bodies.{IsInner}
+use Rattle.tree_theory.proofs.ListLemmas.{nothing_in, map_in, got_in}
 use Rattle.tree_theory.specs.KeyClasses.{Class}
 use Rattle.tree_theory.specs.Nodes.{Body, Node, PlainBody, is_marked, children_of, entries_of, pairs_of, size_of}
 use Rattle.tree_theory.specs.Nodes.PlainBody.{Leaf, Inner}
@@ -22,11 +23,6 @@ use Rattle.tree_theory.specs.declared.place.Place.TheVariants.{Linked, Retired}
 pub on_none : {T P : Type 0} (o : Option T) → P → IfNone o P
 on_none None p = p
 on_none (Some x) p = tt
-
--- what a list contains stands at a place of it
-pub place_in : {T : Type 0} (xs : List T) (x : T) → Contains xs x → (i : ℕ) × (slice_get xs i ≡ Some x)
-place_in [] x has = absurd (nothing_in x has)
-place_in (y ∷ xs) x has = ⊎_elim (λ e. (zero, ap (λ z. Some z) e)) (λ later. let rest = place_in xs x later in (suc rest.0, rest.1)) (in_cases y xs x has)
 
 pub there_below : {K : Type 0} (entries : List (K × Handle)) (keys : List K) (children : List Handle) (place : ℕ) (child : Handle) → keys ≡ map (λ (e : K × Handle). e.0) entries → children ≡ map (λ (e : K × Handle). e.1) entries → slice_get children place ≡ Some child → place < length keys
 there_below {K} entries keys children place child keys_are children_are there =

@@ -15,14 +15,15 @@ use Rattle.tree_theory.specs.KeyClasses.{Class}
 use Rattle.tree_theory.specs.Nodes.{PlainBody, PlainNode, Body, Node, children_of, size_of, place_under, under}
 use Rattle.tree_theory.specs.declared.TheConstants.{NODE_SIZE, TOP_LEVEL}
 use Rattle.tree_theory.specs.declared.place.Place.TheVariants.{Root}
-use Rattle.search_tree.specs.Arenas.{AreSame, Holds}
+use Rattle.tree_nodes.specs.Arenas.{AreSame, Holds}
 use Rattle.search_tree.specs.Calls.{IsUntouched}
-use Rattle.search_tree.specs.Halvings.{IsPickedOut}
-use Rattle.search_tree.specs.Splitting.{HasGrown, HasMoreNodes, HasPutBelow, IsFullRoot, IsLower, IsPutOver, MayGrow, MayRise, below}
+use Rattle.tree_nodes.specs.Halvings.{IsPickedOut}
+use Rattle.search_tree.specs.Splitting.{HasGrown, HasMoreNodes, HasPutBelow, IsFullRoot, IsLower, MayGrow, MayRise}
+use Rattle.tree_nodes.specs.NewNodes.{IsPutOver, below}
 use Rattle.search_tree.specs.Trees.{PlainTree, IsSound, level_of, tree_of}
 use Rattle.search_tree.specs.declared.fault.TreeFault.{TreeFault}
 use Rattle.search_tree.proofs.SplitSteps.{nothing_there, more_after}
-use Rattle.search_tree.proofs.TendSteps.{some_one}
+use Rattle.tree_nodes.proofs.ListEnds.{some_one}
 use Rattle.search_tree.proofs.WalkSteps.{same_sound, untouched_call}
 
 -- where a change leaves nothing, nothing was

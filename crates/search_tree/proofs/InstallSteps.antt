@@ -16,13 +16,15 @@ use Rattle.tree_theory.specs.Nodes.PlainBody.{Inner}
 use Rattle.tree_theory.specs.declared.TheConstants.{NODE_SIZE}
 use Rattle.tree_theory.specs.declared.place.Place.{Place}
 use Rattle.tree_theory.specs.declared.place.Place.TheVariants.{Linked, Unlinked}
-use Rattle.search_tree.specs.Arenas.{IsChanged, Holds}
+use Rattle.tree_nodes.specs.Arenas.{IsChanged, Holds}
 use Rattle.search_tree.specs.Calls.{SameContents}
 use Rattle.search_tree.specs.Tends.{HasTended, MayInstall}
-use Rattle.search_tree.specs.Trees.{PlainTree, IsSound, IsInner, tree_of}
+use Rattle.search_tree.specs.Trees.{PlainTree, IsSound, tree_of}
+use Rattle.tree_nodes.specs.Bodies.{IsInner}
 use Rattle.search_tree.specs.declared.answers.Tending.TheVariants.{Installed}
 use Rattle.search_tree.specs.declared.installing.NewEntry.{NewEntry}
-use Rattle.search_tree.proofs.TendSteps.{some_one, level_stays}
+use Rattle.tree_nodes.proofs.ListEnds.{some_one}
+use Rattle.search_tree.proofs.TendSteps.{level_stays}
 
 -- a linked node is not an unlinked one
 places_apart : (place : Place) (p l : Handle) → place ≡ Linked p true → place ≡ Unlinked l → ⊥

@@ -8,7 +8,8 @@ use Rattle.tree_theory.proofs.ListLemmas.{first_in, later_in, in_cases, in_one, 
 use Rattle.tree_theory.specs.Changes.{Numbers}
 use Rattle.tree_theory.specs.KeyClasses.{Class}
 use Rattle.tree_theory.specs.Nodes.{PlainSearch, Search}
-use Rattle.search_tree.specs.Trees.{PlainProgress, PlainTree, search_of, progress_at, tree_of}
+use Rattle.tree_nodes.specs.Progresses.{PlainProgress}
+use Rattle.search_tree.specs.Trees.{PlainTree, search_of, progress_at, tree_of}
 
 module _ {T : Type 0} (f : T → Bool) where
   pub filter_keeps : (xs : List T) (x : T) → Contains xs x → f x ≡ true → Contains (filter f xs) x

@@ -4,10 +4,11 @@ use Rattle.std.proofs.lemmas.Option.{get_or_from_slice_get}
 use Rattle.node_arena.specs.Slots.{value_at}
 use Rattle.node_arena.specs.declared.handle.Handle.{Handle}
 use Rattle.predicate_locks.specs.Searches.{AllBegunSince}
-use Rattle.search_tree.proofs.ListEnds.{both_at}
+use Rattle.tree_nodes.proofs.ListEnds.{both_at}
 use Rattle.search_tree.specs.Needs.{stamp_at, stamp_in}
 use Rattle.search_tree.specs.Tends.{MayClean, MayFree, MayInstall, MayRetire}
-use Rattle.search_tree.specs.Trees.{PlainTree, IsInner, IsLeaf, IsSound}
+use Rattle.search_tree.specs.Trees.{PlainTree, IsSound}
+use Rattle.tree_nodes.specs.Bodies.{IsInner, IsLeaf}
 use Rattle.tree_theory.specs.Changes.{IsKeyFor}
 use Rattle.tree_theory.specs.KeyClasses.{Class}
 use Rattle.tree_theory.specs.Nodes.{Body, Node, PlainNode, children_of, entries_of, size_of}

@@ -14,16 +14,16 @@ use Rattle.tree_theory.specs.declared.place.Place.TheVariants.{Linked, Root}
 use Rattle.search_tree.specs.Advances.{IsHeldBy}
 use Rattle.search_tree.specs.Cases.{Change, IsAtLeaf, IsFree, IsWayDown, MakesRoom, Wants}
 use Rattle.search_tree.specs.Nexts.{ComesTo, IsChange, LooksFrom}
-use Rattle.search_tree.specs.Penalties.{IsBest}
-use Rattle.search_tree.specs.Standings.{IsHere, IsUnlinked}
-use Rattle.search_tree.specs.Trees.{PlainTree, IsInner, IsLeaf, IsSound, seen, tree_of}
+use Rattle.tree_nodes.specs.Penalties.{IsBest}
+use Rattle.tree_nodes.specs.Standings.{IsHere, IsUnlinked}
+use Rattle.search_tree.specs.Trees.{PlainTree, IsSound, seen, tree_of}
+use Rattle.tree_nodes.specs.Bodies.{IsInner, IsLeaf}
 use Rattle.search_tree.specs.Walks.{IsHolder, MayDescend, MayPlace, NoneHolds}
 use Rattle.search_tree.specs.declared.rooms.Room.{Room}
 use Rattle.search_tree.specs.declared.rooms.Room.TheVariants.{Behind}
 use Rattle.search_tree.proofs.CaseLemmas.{looks_left, looks_lower}
 use Rattle.search_tree.proofs.DescentLemmas.{known}
-use Rattle.search_tree.proofs.ListEnds.{both_at, filled, get_some}
-use Rattle.search_tree.proofs.TendSteps.{some_one}
+use Rattle.tree_nodes.proofs.ListEnds.{both_at, filled, get_some, some_one}
 
 module _ (C : Class) (t : PlainTree C.Key C.Query C.Item) (sound : IsSound C t) where
   -- the node where a walk stands may take its item's key

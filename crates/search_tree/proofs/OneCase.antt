@@ -16,13 +16,13 @@ use Rattle.search_tree.specs.Cases.BeginsWith.{has_room, under_linked, under_roo
 use Rattle.search_tree.specs.Cases.Answers.{links, counter_ends, parts, no_slot, no_memory, grows, no_slots, top_level, no_memory_to_grow}
 use Rattle.search_tree.specs.Cases.TakesStep.{begins_anew, climbs, descends, wants_memory, is_held, places, makes}
 use Rattle.search_tree.specs.Dues.{LacksEntry}
-use Rattle.search_tree.specs.Standings.{IsAside, IsCoveredBy, IsHere, IsNowhere, IsUnlinked}
+use Rattle.tree_nodes.specs.Standings.{IsAside, IsCoveredBy, IsHere, IsNowhere, IsUnlinked}
 use Rattle.search_tree.specs.Trees.{PlainTree, root_level, level_of}
 use Rattle.search_tree.specs.Walks.{IsHolder}
 use Rattle.search_tree.specs.declared.answers.Step.{Step}
 use Rattle.search_tree.specs.declared.fault.TreeFault.{TreeFault}
 use Rattle.search_tree.specs.declared.fault.TreeFault.TheVariants.{Held}
-use Rattle.search_tree.proofs.TendSteps.{some_one}
+use Rattle.tree_nodes.proofs.ListEnds.{some_one}
 
 -- ---- how a node stands, as a number: gone or retired, unlinked, the root, or linked
 

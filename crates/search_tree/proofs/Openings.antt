@@ -11,8 +11,9 @@ use Rattle.tree_theory.specs.Changes.{IsOpened, IsClosed}
 use Rattle.tree_theory.specs.KeyClasses.{Class}
 use Rattle.std.specs.Option.{option_map}
 use Rattle.search_tree.specs.Calls.{IsOpen, IsShut, found_in, found_of}
-use Rattle.search_tree.specs.Trees.{PlainProgress, PlainTree, IsFirstOf, IsSound, search_of, progress_at, search_in, seen, steps_of, tree_of}
-use Rattle.search_tree.proofs.ListEnds.{read_any}
+use Rattle.tree_nodes.specs.Progresses.{PlainProgress}
+use Rattle.search_tree.specs.Trees.{PlainTree, IsFirstOf, IsSound, search_of, progress_at, search_in, seen, steps_of, tree_of}
+use Rattle.tree_nodes.proofs.ListEnds.{read_any}
 use Rattle.search_tree.proofs.ProgressLemmas.{differ_pushed, first_read, pushed_here, pushed_other, filtered_here, filtered_none, filtered_other}
 
 none_of : {T : Type 0} (o : Option T) → is_some o ≡ false → o ≡ None

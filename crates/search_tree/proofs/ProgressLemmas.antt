@@ -3,7 +3,8 @@ use Rattle.std.proofs.Common.{◌≡◌, ◌≢◌, ℕ, zero, suc, ◌<◌, ◌
 use Rattle.std.proofs.lemmas.Bool.{cases_eq, eq-eqb, ne_eqb}
 use Rattle.std.proofs.lemmas.List.{length-set}
 use Rattle.std.proofs.lemmas.List.Quantifiers.{all_pairs_push}
-use Rattle.search_tree.specs.Trees.{PlainProgress, progress_at, IsFirstOf, NumbersDiffer}
+use Rattle.tree_nodes.specs.Progresses.{PlainProgress}
+use Rattle.search_tree.specs.Trees.{progress_at, IsFirstOf, NumbersDiffer}
 
 module _ {Item : Type 0} where
   here : (number : ℕ) (p : PlainProgress Item) (rest : List (PlainProgress Item)) → p.number ≡ number → progress_at number (p ∷ rest) ≡ Some p

@@ -11,10 +11,11 @@ use Rattle.tree_theory.specs.Changes.{IsHalved, IsSplit}
 use Rattle.tree_theory.specs.KeyClasses.{Class}
 use Rattle.tree_theory.specs.Nodes.{PlainBody, PlainNode, Node, children_of, under}
 use Rattle.tree_theory.specs.declared.place.Place.TheVariants.{Linked}
-use Rattle.search_tree.specs.Arenas.{IsChanged, AreSame}
+use Rattle.tree_nodes.specs.Arenas.{IsChanged, AreSame}
 use Rattle.search_tree.specs.Calls.{IsUntouched}
-use Rattle.search_tree.specs.Halvings.{IsPickedOut}
-use Rattle.search_tree.specs.Splitting.{HasMoreNodes, HasSplit, IsPutOver, MoreTaken, left_of, right_of}
+use Rattle.tree_nodes.specs.Halvings.{IsPickedOut}
+use Rattle.search_tree.specs.Splitting.{HasMoreNodes, HasSplit}
+use Rattle.tree_nodes.specs.NewNodes.{IsPutOver, MoreTaken, left_of, right_of}
 use Rattle.search_tree.specs.Trees.{PlainTree, IsSound, level_of, tree_of}
 use Rattle.search_tree.specs.declared.fault.TreeFault.{TreeFault}
 use Rattle.search_tree.proofs.WalkSteps.{same_sound, untouched_call}

@@ -15,17 +15,15 @@ use Rattle.tree_theory.specs.KeyClasses.{Class}
 use Rattle.tree_theory.specs.Nodes.{PlainNode, Node, entries_of, size_of}
 use Rattle.tree_theory.specs.Nodes.PlainBody.{Leaf, Inner}
 use Rattle.tree_theory.specs.declared.place.Place.TheVariants.{Retired as AtRest}
-use Rattle.search_tree.specs.Arenas.{IsChanged, Holds}
+use Rattle.tree_nodes.specs.Arenas.{IsChanged, Holds}
 use Rattle.search_tree.specs.Calls.{SameContents}
 use Rattle.search_tree.specs.Tends.{HasTended, MayFree, MayRetire, slots_freed}
-use Rattle.search_tree.specs.Trees.{PlainTree, IsSound, IsInner, progress_at, level_of, tree_of}
+use Rattle.search_tree.specs.Trees.{PlainTree, IsSound, progress_at, level_of, tree_of}
+use Rattle.tree_nodes.specs.Bodies.{IsInner}
 use Rattle.search_tree.specs.declared.answers.Tending.TheVariants.{Freed, Retired}
 use Rattle.search_tree.proofs.Kept.{parts_of}
 use Rattle.predicate_locks.specs.Searches.{search_at}
-
--- what an option holds
-pub some_one : {T : Type 0} {o : Option T} {a b : T} → o ≡ Some a → o ≡ Some b → a ≡ b
-some_one {a = a} {b = b} one other = let same : Some a ≡ Some b = sym one ∙ other in cc (same)
+use Rattle.tree_nodes.proofs.ListEnds.{some_one}
 
 on_there : {T P : Type 0} (o : Option T) (x : T) → o ≡ Some x → OnSome o P → P
 on_there (Some y) x e given = given

@@ -10,8 +10,9 @@ use Rattle.tree_theory.specs.KeyClasses.{Class}
 use Rattle.tree_theory.specs.Nodes.{Node, Search, Tree}
 use Rattle.tree_theory.specs.Runs.{IsStep}
 use Rattle.tree_theory.specs.Runs.IsStep.{visits, visits_gone}
-use Rattle.search_tree.specs.Trees.{PlainProgress, PlainTree, IsFirstOf, search_of, tree_of}
-use Rattle.search_tree.specs.Visits.{HasVisited, HasSeenAt, IsGoneAt}
+use Rattle.tree_nodes.specs.Progresses.{PlainProgress}
+use Rattle.search_tree.specs.Trees.{PlainTree, IsFirstOf, search_of, tree_of}
+use Rattle.tree_nodes.specs.Visits.{HasVisited, HasSeenAt, IsGoneAt}
 use Rattle.search_tree.proofs.Kept.{with_one_kept, one_joins}
 use Rattle.search_tree.proofs.ProgressLemmas.{first_read, set_here, set_other}
 

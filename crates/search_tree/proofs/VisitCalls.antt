@@ -8,9 +8,10 @@ use Rattle.tree_theory.specs.KeyClasses.{Class, Laws}
 use Rattle.tree_theory.specs.Nodes.{Node}
 use Rattle.predicate_locks.specs.Searches.{last_number}
 use Rattle.search_tree.specs.Calls.{IsFurther, IsOverrun, IsReadyIn, IsUnderWay, MayStep}
-use Rattle.search_tree.specs.Trees.{PlainProgress, PlainTree, IsFirstOf, IsSound, search_in, steps_in, steps_of, is_empty, progress_at}
-use Rattle.search_tree.specs.Visits.{HasVisited}
-use Rattle.search_tree.proofs.ListEnds.{read_any, read_self}
+use Rattle.tree_nodes.specs.Progresses.{PlainProgress, is_empty}
+use Rattle.search_tree.specs.Trees.{PlainTree, IsFirstOf, IsSound, search_in, steps_in, steps_of, progress_at}
+use Rattle.tree_nodes.specs.Visits.{HasVisited}
+use Rattle.tree_nodes.proofs.ListEnds.{read_any, read_self}
 use Rattle.search_tree.proofs.ProgressLemmas.{first_read}
 use Rattle.search_tree.proofs.VisitSteps.{visited_sound, visited_call}
 

@@ -13,10 +13,11 @@ use Rattle.tree_theory.proofs.ShapeKept.{shape_closed}
 use Rattle.tree_theory.proofs.Steps.{step_keeps}
 use Rattle.tree_theory.specs.KeyClasses.{Class, Laws}
 use Rattle.tree_theory.specs.Nodes.{Node}
-use Rattle.search_tree.specs.Arenas.{AreSame, IsChanged}
+use Rattle.tree_nodes.specs.Arenas.{AreSame, IsChanged}
 use Rattle.search_tree.specs.Calls.{IsAlike, IsFurther, IsUntouched}
-use Rattle.search_tree.specs.Trees.{PlainProgress, PlainTree, IsFirstOf, IsSound, SameButRoom, search_of, search_in, steps_in, steps_of, progress_at, seen, is_empty, tree_of, level_of}
-use Rattle.search_tree.specs.Visits.{HasVisited}
+use Rattle.tree_nodes.specs.Progresses.{PlainProgress, SameButRoom, is_empty}
+use Rattle.search_tree.specs.Trees.{PlainTree, IsFirstOf, IsSound, search_of, search_in, steps_in, steps_of, progress_at, seen, tree_of, level_of}
+use Rattle.tree_nodes.specs.Visits.{HasVisited}
 use Rattle.search_tree.proofs.ProgressLemmas.{differ_set, first_read, set_here, set_other}
 use Rattle.search_tree.proofs.TreeSteps.{same_tree, visit_step, visited_seen, visited_gone}
 

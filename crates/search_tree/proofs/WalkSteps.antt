@@ -18,13 +18,14 @@ use Rattle.tree_theory.specs.KeyClasses.{Class, Laws}
 use Rattle.tree_theory.specs.Nodes.{Node, Search, entries_of, pairs_of, size_of}
 use Rattle.tree_theory.specs.Nodes.PlainBody.{Leaf, Inner}
 use Rattle.search_tree.specs.Advances.{HasPlacedBehindNone}
-use Rattle.search_tree.specs.Arenas.{IsChanged, AreSame, Holds}
+use Rattle.tree_nodes.specs.Arenas.{IsChanged, AreSame, Holds}
 use Rattle.search_tree.specs.Calls.{IsAlike, IsUntouched}
-use Rattle.search_tree.specs.Trees.{PlainTree, SeenSearch, IsSound, IsInner, level_of, search_in, search_of, seen, progress_at, tree_of}
+use Rattle.search_tree.specs.Trees.{PlainTree, SeenSearch, IsSound, level_of, search_in, search_of, seen, progress_at, tree_of}
+use Rattle.tree_nodes.specs.Bodies.{IsInner}
 use Rattle.search_tree.specs.Walks.{MayPlace, HasEnlarged, HasPlaced, MayJoinAll, HasJoined, MayEnlarge}
 use Rattle.search_tree.proofs.Complete.{nothing_left}
 use Rattle.search_tree.proofs.Kept.{Parts, parts_of, with_all_kept}
-use Rattle.search_tree.proofs.TendSteps.{some_one}
+use Rattle.tree_nodes.proofs.ListEnds.{some_one}
 use Rattle.search_tree.proofs.TreeSteps.{same_tree}
 use Rattle.search_tree.proofs.VisitSteps.{level_kept}
 

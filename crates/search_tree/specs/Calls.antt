@@ -8,7 +8,8 @@ use Rattle.search_tree.specs.declared.answers.Visit.{Visit}
 use Rattle.search_tree.specs.declared.answers.Visit.TheVariants.{More, Ready}
 use Rattle.search_tree.specs.declared.fault.TreeFault.{TreeFault}
 use Rattle.search_tree.specs.declared.fault.TreeFault.TheVariants.{NoSearch, Overrun, Memory}
-use Rattle.search_tree.specs.Trees.{PlainProgress, PlainTree, IsFirstOf, is_empty, SeenSearch, search_in, steps_in, tree_of, root_level}
+use Rattle.tree_nodes.specs.Progresses.{PlainProgress, is_empty}
+use Rattle.search_tree.specs.Trees.{PlainTree, IsFirstOf, SeenSearch, search_in, steps_in, tree_of, root_level}
 use Rattle.node_arena.specs.Slots.{taken_count, slot_count}
 use Rattle.node_arena.specs.declared.handle.Handle.{Handle}
 use Rattle.tree_theory.specs.Changes.{IsOpened, IsClosed, IsVisited, IsVisitedGone, SameNodes, SameSearches}

@@ -7,10 +7,11 @@ use Rattle.node_arena.specs.declared.handle.Handle.{Handle}
 use Rattle.predicate_locks.specs.Searches.{last_number}
 use Rattle.search_tree.specs.Calls.{IsUntouched}
 use Rattle.search_tree.specs.Dues.{LacksEntry}
-use Rattle.search_tree.specs.Penalties.{IsBest}
+use Rattle.tree_nodes.specs.Penalties.{IsBest}
 use Rattle.search_tree.specs.Splitting.{HasGrown, HasSplit}
-use Rattle.search_tree.specs.Standings.{IsAside, IsHere, IsNowhere, IsUnlinked}
-use Rattle.search_tree.specs.Trees.{PlainTree, IsLeaf, root_level, tree_of}
+use Rattle.tree_nodes.specs.Standings.{IsAside, IsHere, IsNowhere, IsUnlinked}
+use Rattle.search_tree.specs.Trees.{PlainTree, root_level, tree_of}
+use Rattle.tree_nodes.specs.Bodies.{IsLeaf}
 use Rattle.search_tree.specs.Walks.{HasDescended, IsHolder, NoneHolds}
 use Rattle.search_tree.specs.declared.answers.Step.{Step}
 use Rattle.search_tree.specs.declared.answers.Step.TheVariants.{Moved, Split, Installed, Restarted, Placed}

@@ -6,7 +6,7 @@ use Rattle.search_tree.specs.Advances.{IsHeldBy}
 use Rattle.search_tree.specs.Cases.{Answers, Change, BeginsWith, IsAtLeaf, IsFree, IsWayDown, Wants}
 use Rattle.search_tree.specs.Cases.Change.{Linking, Parting, Growing}
 use Rattle.search_tree.specs.Splitting.{MayGrow, MaySplit}
-use Rattle.search_tree.specs.Standings.{IsAside, IsNowhere}
+use Rattle.tree_nodes.specs.Standings.{IsAside, IsNowhere}
 use Rattle.search_tree.specs.Tends.{MayInstall}
 use Rattle.search_tree.specs.Trees.{PlainTree}
 use Rattle.search_tree.specs.Walks.{IsHolder, MayDescend, MayPlace}

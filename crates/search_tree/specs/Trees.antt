@@ -1,5 +1,5 @@
 -- The tree as its contracts see it.
-use Rattle.std.specs.Prelude.{◌≡◌, ◌≢◌, ◌==◌, ◌+◌, ◌<◌, ◌≤◌, ℕ, AllPairs, Bool, true, false, [], ◌∷◌, ◌++◌, List, length, slice_index_or, Option, None, Some, is_some, if◌then◌else◌}
+use Rattle.std.specs.Prelude.{◌≡◌, ◌≢◌, ◌==◌, ◌<◌, ◌≤◌, ℕ, AllPairs, Bool, [], ◌∷◌, List, length, slice_index_or, Option, None, Some, is_some, if◌then◌else◌}
 use Rattle.std.specs.Option.{option_map}
 use Rattle.node_arena.specs.Slots.{Slots, value_at, slot_count, taken_count}
 use Rattle.node_arena.specs.declared.handle.Handle.{Handle}
@@ -8,48 +8,14 @@ use Rattle.predicate_locks.specs.declared.running.RunningSearch.{RunningSearch}
 use Rattle.tree_theory.specs.Contents.{IsContents}
 use Rattle.tree_theory.specs.Invariant.{Invariant}
 use Rattle.tree_theory.specs.KeyClasses.{Class}
-use Rattle.tree_theory.specs.Nodes.{PlainBody, PlainNode, PlainSearch, Tree}
-use Rattle.tree_theory.specs.Nodes.PlainBody.{Leaf, Inner}
-use Rattle.tree_theory.specs.declared.TheConstants.{NODE_SIZE}
+use Rattle.tree_theory.specs.Nodes.{PlainNode, PlainSearch, Tree}
 use Rattle.search_tree.specs.declared.tree.TheConstants.{MAX_STEPS}
-use Rattle.tree_theory.specs.declared.place.Place.TheVariants.{Root}
-
-module _ {Key Item : Type 0} where
-  abbrev pub IsLeaf : PlainBody Key Item → Type 0
-  IsLeaf body = (pairs : List (ℕ × Item)) × (body ≡ Leaf pairs)
-
-  abbrev pub IsInner : PlainBody Key Item → Type 0
-  IsInner body = (entries : List (Key × Handle)) × (body ≡ Inner entries)
-
-  -- the root of a tree that has nothing yet
-  abbrev pub first_leaf : ℕ → PlainNode Key Item
-  first_leaf seq =
-      record {
-        level = 0;
-        body = Leaf [];
-        seq = seq;
-        right = None;
-        place = Root;
-        attached = [];
-      }
+use Rattle.tree_nodes.specs.Progresses.{PlainProgress, is_empty}
+use Rattle.tree_nodes.specs.NewNodes.{first_leaf}
 
 abbrev pub level_of : {Key Item : Type 0} → Option (PlainNode Key Item) → ℕ
 level_of None = 0
 level_of (Some node) = node.level
-
--- how far a search has come: its steps, the nodes that it has yet to visit, what it has found, and how many
--- of both there is memory for, those it has included
-pub record PlainProgress (Item : Type 0) : Type 0 where
-  pub number : ℕ
-  pub steps : ℕ
-  pub stack : List (Handle × ℕ)
-  pub found : List (ℕ × Item)
-  pub stack_places : ℕ
-  pub found_places : ℕ
-
--- the list ends with this element
-abbrev pub IsLast : {T : Type 0} → List T → T → Type 0
-IsLast {T} xs last = (rest : List T) × (xs ≡ rest ++ last ∷ [])
 
 module _ {Item : Type 0} where
   -- the progress of the search with this number
@@ -70,15 +36,6 @@ module _ {Item : Type 0} where
     pub within : at < length ps
     pub named : (d : PlainProgress Item) → (slice_index_or ps at d).number ≡ number
     pub before : (k : ℕ) (d : PlainProgress Item) → k < at → (slice_index_or ps k d).number ≢ number
-
-  -- the same progress, whatever the room
-  abbrev pub SameButRoom : PlainProgress Item → PlainProgress Item → Type 0
-  SameButRoom old new = new ≡ record old { stack_places = new.stack_places; found_places = new.found_places }
-
-  -- one visit more takes no memory
-  pub record HasVisitRoom (p : PlainProgress Item) : Type 0 where
-    pub stack : length p.stack + NODE_SIZE + 1 ≤ p.stack_places
-    pub found : length p.found + NODE_SIZE ≤ p.found_places
 
 -- the nodes, the counter, the running searches and how far they have come, and the limit of steps
 pub record PlainTree (Key Query Item : Type 0) : Type 0 where
@@ -115,10 +72,6 @@ pub record SeenSearch (Query Item : Type 0) : Type 0 where
   pub query : Query
   pub found : List (ℕ × Item)
   pub ready : Bool
-
-abbrev pub is_empty : {T : Type 0} → List T → Bool
-is_empty [] = true
-is_empty (x ∷ xs) = false
 
 abbrev pub seen : {Query Item : Type 0} → PlainSearch Query Item → SeenSearch Query Item
 seen search = record { query = search.query; found = search.found; ready = is_empty search.stack }

@@ -1,5 +1,5 @@
 -- What a step of a walk needs, and what it leaves.
-use Rattle.std.specs.Prelude.{◌≡◌, ◌≢◌, ◌⊎◌, ◌++◌, ◌∷◌, ◌<◌, ℕ, List, [], Contains, Option, None, Some, if◌then◌else◌, filter, length, slice_get}
+use Rattle.std.specs.Prelude.{◌≡◌, ◌≢◌, ◌⊎◌, ◌++◌, ◌∷◌, ◌<◌, ℕ, List, [], Contains, Some, filter, length, slice_get}
 use Rattle.node_arena.specs.Slots.{Slots, value_at}
 use Rattle.node_arena.specs.declared.handle.Handle.{Handle}
 use Rattle.predicate_locks.specs.Numbers.{with_numbers}
@@ -8,14 +8,15 @@ use Rattle.predicate_locks.specs.declared.running.RunningSearch.{RunningSearch}
 use Rattle.tree_theory.specs.Changes.{IsEnlarged, MayTake, MayJoin, Numbers}
 use Rattle.tree_theory.specs.Contents.{IsContents}
 use Rattle.tree_theory.specs.KeyClasses.{Class}
-use Rattle.tree_theory.specs.Nodes.{PlainNode, Node, entries_of, is_marked}
+use Rattle.tree_theory.specs.Nodes.{Node, entries_of}
 use Rattle.tree_theory.specs.Nodes.PlainBody.{Leaf, Inner}
 use Rattle.tree_theory.specs.Walks.{Done}
 use Rattle.tree_theory.specs.declared.TheConstants.{NODE_SIZE}
-use Rattle.search_tree.specs.Arenas.{IsChanged}
+use Rattle.tree_nodes.specs.Arenas.{IsChanged}
 use Rattle.search_tree.specs.Calls.{IsAlike, SameCounts}
 use Rattle.search_tree.specs.Trees.{PlainTree, search_in, steps_in, tree_of}
 use Rattle.search_tree.specs.declared.descents.WayDown.{WayDown}
+use Rattle.tree_nodes.specs.Descents.{IsNotLed, AreLed, marked_right}
 
 module _ (C : Class) (s : Searches C.Query) (attached : List ℕ) (item : C.Item) where
   -- the search of this number runs, is attached and looks for the item, and none of a lesser number does
@@ -29,31 +30,6 @@ module _ (C : Class) (s : Searches C.Query) (attached : List ℕ) (item : C.Item
   -- no running search that is attached looks for the item
   abbrev pub NoneHolds : Type 0
   NoneHolds = (number : ℕ) (search : RunningSearch C.Query) → search_at s number ≡ Some search → Contains attached number → C.Matches item search.query → ⊥
-
-module _ (C : Class) (s : Searches C.Query) (old : C.Key) where
-  -- a search runs that this key does not lead on
-  pub record IsNotLed (number : ℕ) : Type 0 where
-    pub search : RunningSearch C.Query
-    pub runs : search_at s number ≡ Some search
-    pub inconsistent : C.Consistent old search.query → ⊥
-
-  -- a search runs and is attached, and this wider key leads it on
-  pub record IsLedOn (wider : C.Key) (attached : List ℕ) (number : ℕ) : Type 0 where
-    pub search : RunningSearch C.Query
-    pub runs : search_at s number ≡ Some search
-    pub is_attached : Contains attached number
-    pub consistent : C.Consistent wider search.query
-
-  -- the attached searches that run and that a wider key leads on, but not the old one: those alone, and all of them
-  pub record AreLed (wider : C.Key) (attached led : List ℕ) : Type 0 where
-    pub listed : (number : ℕ) → Contains led number → IsNotLed number
-    pub led_on : (number : ℕ) → Contains led number → IsLedOn wider attached number
-    pub missed : (number : ℕ) (search : RunningSearch C.Query) → search_at s number ≡ Some search → Contains attached number → (Contains led number → ⊥) → C.Consistent wider search.query → C.Consistent old search.query
-
--- the right node of a marked node
-abbrev pub marked_right : {Key Item : Type 0} → Option (PlainNode Key Item) → Option Handle
-marked_right None = None
-marked_right (Some node) = if is_marked node.place then node.right else None
 
 module _ (C : Class) (t : PlainTree C.Key C.Query C.Item) where
   -- a leaf with room may take the pair: its entry covers the item, and no search that is done with it looks for the item

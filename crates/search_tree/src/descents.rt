@@ -4,17 +4,18 @@ ghost use Rattle.std.specs.Prelude.{◌≡◌, ◌≤◌, Some, OnOk, OnErr, len
 ghost use Rattle.node_arena.specs.Slots.{value_at};
 ghost use Rattle.predicate_locks.specs.declared.TheConstants.{MAX_RUNNING};
 ghost use Rattle.search_tree.specs.Calls.{IsAlike, IsUntouched};
-ghost use Rattle.search_tree.specs.Walks.{AreLed, HasDescended, MayDescend};
+ghost use Rattle.tree_nodes.specs.Descents.{AreLed};
+ghost use Rattle.search_tree.specs.Walks.{HasDescended, MayDescend};
 ghost use Rattle.tree_theory.specs.KeyClasses.{class_of};
 ghost use Rattle.tree_theory.specs.Nodes.{PlainNode};
 
-use crate::descending::led_searches;
 use crate::tree::Tree;
 use arrayvec::ArrayVec;
 use memory::Refused;
 use node_arena::Handle;
 use predicate_locks::MAX_RUNNING;
 use std::alloc::Allocator;
+use tree_nodes::led_searches;
 use tree_theory::KeyClass;
 
 /// An entry by which a walk goes down: where it stands, its key, and the child that it names.

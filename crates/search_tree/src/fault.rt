@@ -1,11 +1,9 @@
 //! Why a tree refuses a step.
 
 ghost use Rattle.std.specs.Prelude.{◌≡◌, Some};
-ghost use Rattle.memory.specs.Refused.{refused};
 ghost use Rattle.search_tree.specs.Faults.{code_of};
 
 use memory::Refused;
-use predicate_locks::LockFault;
 use std::error::Error;
 use std::fmt;
 
@@ -69,13 +67,3 @@ impl fmt::Display for TreeFault {
 }
 
 impl Error for TreeFault {}
-
-/// What was refused where `predicate_locks` found no memory, which is all that it refuses here.
-pub(crate) fn refusal_in(fault: LockFault) -> Refused
-    requires { fault ≡ LockFault.Memory refused }
-{
-    let LockFault::Memory(refusal) = fault else {
-        unreachable!();
-    };
-    refusal
-}

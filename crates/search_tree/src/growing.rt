@@ -4,26 +4,23 @@ ghost use Rattle.std.specs.Prelude.{◌≡◌, ◌≢◌, ◌↔◌, ◌⊎◌, 
 ghost use Rattle.memory.specs.Refused.{refused};
 ghost use Rattle.node_arena.specs.Slots.{value_at, taken_count, HasRoomFor};
 ghost use Rattle.node_arena.specs.declared.TheConstants.{MAX_SLOTS};
-ghost use Rattle.search_tree.specs.Arenas.{AreSame};
-ghost use Rattle.search_tree.specs.Bodies.{plain_body};
+ghost use Rattle.tree_nodes.specs.Arenas.{AreSame};
+ghost use Rattle.tree_nodes.specs.Bodies.{plain_body};
 ghost use Rattle.search_tree.specs.Calls.{IsUntouched};
-ghost use Rattle.search_tree.specs.Splitting.{HasGrown, HasMoreNodes, HasPutBelow, IsFullRoot, IsLower, MayGrow, MayRise, below};
+ghost use Rattle.search_tree.specs.Splitting.{HasGrown, HasMoreNodes, HasPutBelow, IsFullRoot, IsLower, MayGrow, MayRise};
+ghost use Rattle.tree_nodes.specs.NewNodes.{below};
 ghost use Rattle.search_tree.specs.Trees.{level_of, root_level};
 ghost use Rattle.tree_theory.specs.KeyClasses.{class_of};
 ghost use Rattle.tree_theory.specs.Nodes.{size_of};
 ghost use Rattle.tree_theory.specs.declared.TheConstants.{TOP_LEVEL};
 
-use crate::entries::Entries;
 use crate::fault::TreeFault;
-use crate::halves::{Halves, shared_out};
-use crate::keys::key_for;
-use crate::node::{Body, TreeNode};
-use crate::setters::{Nodes, rise};
-use crate::splitting::{make_slots, put_over};
+use crate::splitting::make_slots;
 use crate::tree::Tree;
 use memory::{Refused, copied};
 use node_arena::Handle;
 use std::alloc::Allocator;
+use tree_nodes::{Body, Entries, Halves, Nodes, TreeNode, key_for, put_over, rise, shared_out};
 use tree_theory::{KeyClass, TOP_LEVEL};
 
 // A node that is to stand below the root, with the key of its entry and the handles of its children.

@@ -8,10 +8,10 @@ ghost use Rattle.tree_theory.specs.Changes.{IsInstalled};
 ghost use Rattle.tree_theory.specs.KeyClasses.{class_of};
 
 use crate::answers::Tending;
-use crate::setters::{push_entry, set_key, set_place, set_seq};
 use crate::tree::Tree;
 use node_arena::Handle;
 use std::alloc::Allocator;
+use tree_nodes::{push_entry, set_key, set_place, set_seq};
 use tree_theory::{KeyClass, Place};
 
 /// An entry for a right node, and what becomes of its left node's entry, which stands at the place.

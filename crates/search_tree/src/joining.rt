@@ -4,15 +4,15 @@ ghost use Rattle.std.specs.Prelude.{◌≡◌, ◌≤◌, Some, OnOk, OnErr, len
 ghost use Rattle.node_arena.specs.Slots.{value_at};
 ghost use Rattle.predicate_locks.specs.declared.TheConstants.{MAX_ROOM};
 ghost use Rattle.search_tree.specs.Calls.{IsAlike};
-ghost use Rattle.search_tree.specs.Walks.{MayJoinAll, HasEnlarged, HasJoined, MayJoinBelow, HasJoinedBelow, MayEnlarge, marked_right as right_of_marked};
+ghost use Rattle.search_tree.specs.Walks.{MayJoinAll, HasEnlarged, HasJoined, MayJoinBelow, HasJoinedBelow, MayEnlarge};
+ghost use Rattle.tree_nodes.specs.Descents.{marked_right as right_of_marked};
 ghost use Rattle.tree_theory.specs.KeyClasses.{class_of};
 
-use crate::descending::marked_right;
-use crate::setters::{joined, set_attached, set_key};
 use crate::tree::Tree;
 use memory::Refused;
 use node_arena::Handle;
 use std::alloc::Allocator;
+use tree_nodes::{joined, marked_right, set_attached, set_key};
 use tree_theory::KeyClass;
 
 impl<C: KeyClass, A: Allocator + Copy> Tree<C, A> {

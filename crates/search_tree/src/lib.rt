@@ -3,27 +3,17 @@
 
 mod advancing;
 mod answers;
-mod descending;
 mod descents;
-mod entries;
 mod fault;
 mod growing;
-mod halves;
 mod installing;
 mod joining;
-mod keeper;
-mod keys;
 mod laws;
 mod needs;
 mod nexts;
-mod node;
 mod opening;
-mod penalties;
-mod progress;
 mod rooms;
-mod setters;
 mod splitting;
-mod standing;
 mod starting;
 mod tending;
 mod tree;
@@ -33,7 +23,7 @@ mod walking;
 
 pub use answers::{Step, Tending, Visit};
 pub use fault::TreeFault;
-pub use keeper::Keeper;
 pub use laws::steps_answer_alike;
 pub use tree::{MAX_STEPS, Tree};
+pub use tree_nodes::Keeper;
 pub use walk::Walk;

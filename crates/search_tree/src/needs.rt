@@ -2,24 +2,20 @@
 
 ghost use Rattle.std.specs.Prelude.{◌≡◌, ◌↔◌, ◌<◌, ℕ, false, [], None, Some, IsTrue, IsSome, IfSome, IfNone, slice_get};
 ghost use Rattle.tree_theory.specs.Nodes.PlainBody.{Leaf};
-ghost use Rattle.node_arena.specs.declared.handle.Handle.{Handle};
 ghost use Rattle.node_arena.specs.Slots.{value_at};
 ghost use Rattle.search_tree.specs.Dues.{HasUnkept, IsFirstDue, IsUnneeded, LacksEntry};
 ghost use Rattle.search_tree.specs.Needs.{MayDo, stamp_at, stamp_in};
 ghost use Rattle.search_tree.specs.Tends.{MayClean, MayInstall, MayRetire};
-ghost use Rattle.search_tree.specs.Trees.{IsLeaf, IsInner};
+ghost use Rattle.tree_nodes.specs.Bodies.{IsLeaf, IsInner};
 ghost use Rattle.tree_theory.specs.KeyClasses.{class_of};
 ghost use Rattle.tree_theory.specs.Nodes.{size_of};
 ghost use Rattle.tree_theory.specs.declared.TheConstants.{NODE_SIZE};
 
 use crate::installing::NewEntry;
-use crate::keeper::Keeper;
-use crate::keys::key_for;
-use crate::node::TreeNode;
-use crate::setters::Nodes;
 use crate::tree::Tree;
 use node_arena::Handle;
 use std::alloc::Allocator;
+use tree_nodes::{Keeper, Nodes, TreeNode, key_for, parent_of, place_among};
 use tree_theory::{KeyClass, NODE_SIZE, Place};
 
 /// What is to be done at a node.
@@ -198,28 +194,4 @@ fn has_room<K: Copy, I: Copy, A: Allocator>(node: &TreeNode<K, I, A>) -> bool
         return false;
     }
     node.size() < NODE_SIZE
-}
-
-// The parent of a node at this place, where it is marked or not as told.
-pub(crate) fn parent_of(place: Place, wanted: bool) -> Option<Handle>
-    ensures some { IfSome result (λ parent. place ≡ Place.Linked parent wanted) }
-    ensures none { IfNone result ((parent : Handle) → place ≡ Place.Linked parent wanted → ⊥) }
-{
-    match place {
-        Place::Linked { parent, marked } if marked == wanted => Some(parent),
-        _ => None,
-    }
-}
-
-/// Where a child stands among others.
-pub(crate) fn place_among(children: &[Handle], child: Handle) -> Option<usize>
-    ensures some { IfSome result (λ place. slice_get children.now place ≡ Some child) }
-    ensures none { IfNone result ((place : ℕ) → slice_get children.now place ≡ Some child → ⊥) }
-{
-    for (place, other) in children.iter().enumerate() {
-        if *other == child {
-            return Some(place);
-        }
-    }
-    None
 }

@@ -4,20 +4,19 @@ ghost use Rattle.std.specs.Prelude.{◌≡◌, Some};
 ghost use Rattle.node_arena.specs.Slots.{value_at};
 ghost use Rattle.search_tree.specs.Cases.{IsAtLeaf, IsFree, IsWayDown};
 ghost use Rattle.search_tree.specs.Nexts.{IsNext, MayGo};
-ghost use Rattle.search_tree.specs.Standings.{IsHere};
-ghost use Rattle.search_tree.specs.Trees.{IsInner};
+ghost use Rattle.tree_nodes.specs.Standings.{IsHere};
+ghost use Rattle.tree_nodes.specs.Bodies.{IsInner};
 ghost use Rattle.search_tree.specs.Walks.{MayDescend};
 ghost use Rattle.tree_theory.specs.KeyClasses.{class_of};
 ghost use Rattle.tree_theory.specs.Nodes.{PlainNode};
 
 use crate::descents::WayDown;
-use crate::penalties::best_entry;
 use crate::rooms::Room;
-use crate::standing::{Standing, standing_at};
 use crate::tree::Tree;
 use crate::walking::holder_of;
 use node_arena::Handle;
 use std::alloc::Allocator;
+use tree_nodes::{Standing, best_entry, standing_at};
 use tree_theory::KeyClass;
 
 /// What is next for a walk.

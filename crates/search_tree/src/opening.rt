@@ -9,11 +9,11 @@ ghost use Rattle.search_tree.specs.Trees.{IsFirstOf, progress_at};
 ghost use Rattle.tree_theory.specs.KeyClasses.{class_of};
 
 use crate::fault::TreeFault;
-use crate::progress::Progress;
 use crate::tree::Tree;
 use memory::GrowVec;
 use predicate_locks::MAX_RUNNING;
 use std::alloc::Allocator;
+use tree_nodes::Progress;
 use tree_theory::KeyClass;
 
 impl<C: KeyClass, A: Allocator + Copy> Tree<C, A> {

@@ -11,10 +11,10 @@ ghost use Rattle.tree_theory.specs.Nodes.{PlainNode, size_of};
 ghost use Rattle.tree_theory.specs.declared.TheConstants.{NODE_SIZE};
 
 use crate::installing::NewEntry;
-use crate::needs::parent_of;
 use crate::tree::Tree;
 use node_arena::Handle;
 use std::alloc::Allocator;
+use tree_nodes::parent_of;
 use tree_theory::{KeyClass, Place, TOP_LEVEL};
 
 /// What makes room where a node is full, or brings that nearer.

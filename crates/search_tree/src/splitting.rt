@@ -1,25 +1,21 @@
 //! A full node splits.
 
-ghost use Rattle.std.specs.Prelude.{◌≡◌, ◌↔◌, ◌⊎◌, ◌+◌, ◌<◌, ◌≤◌, false, Some, Err, IfOk, IfErr, OnOk, OnErr};
+ghost use Rattle.std.specs.Prelude.{◌≡◌, ◌↔◌, ◌⊎◌, ◌+◌, ◌<◌, ◌≤◌, Some, Err, IfOk, IfErr, OnOk, OnErr};
 ghost use Rattle.memory.specs.Refused.{refused};
-ghost use Rattle.node_arena.specs.Slots.{value_at, taken_count, HasRoomFor, IsGiven, CountsGiven};
+ghost use Rattle.node_arena.specs.Slots.{value_at, taken_count, HasRoomFor};
 ghost use Rattle.node_arena.specs.declared.TheConstants.{MAX_SLOTS, MOST_RESERVED};
-ghost use Rattle.node_arena.specs.declared.handle.Handle.{Handle};
-ghost use Rattle.search_tree.specs.Arenas.{AreSame};
+ghost use Rattle.tree_nodes.specs.Arenas.{AreSame};
 ghost use Rattle.search_tree.specs.Calls.{IsUntouched};
-ghost use Rattle.search_tree.specs.Splitting.{HasMoreNodes, HasSplit, IsFullLinked, IsPutOver, MaySplit, MoreTaken};
-ghost use Rattle.search_tree.specs.Walks.{marked_right as right_of_marked};
+ghost use Rattle.search_tree.specs.Splitting.{HasMoreNodes, HasSplit, IsFullLinked, MaySplit};
+ghost use Rattle.tree_nodes.specs.Descents.{marked_right as right_of_marked};
 ghost use Rattle.tree_theory.specs.KeyClasses.{class_of};
 
 use crate::fault::TreeFault;
-use crate::halves::{Halves, shared_out};
-use crate::needs::parent_of;
-use crate::node::TreeNode;
-use crate::setters::{Nodes, adopt, leave_left};
 use crate::tree::Tree;
 use memory::{Refused, copied};
-use node_arena::{Arena, ArenaFault, Handle};
+use node_arena::{ArenaFault, Handle};
 use std::alloc::Allocator;
+use tree_nodes::{Halves, Nodes, leave_left, parent_of, put_over, shared_out};
 use tree_theory::KeyClass;
 
 impl<C: KeyClass, A: Allocator + Copy> Tree<C, A> {
@@ -101,33 +97,4 @@ fn split_node<C: KeyClass, A: Allocator + Copy>(
     let right = put_over(nodes, right, &moved);
     leave_left(nodes, at, parent, right, left);
     Ok(right)
-}
-
-// Puts a node in over these children, where there is room for one node more.
-pub(crate) fn put_over<K: Copy, I: Copy, A: Allocator>(
-    nodes: &mut Nodes<K, I, A>,
-    node: TreeNode<K, I, A>,
-    children: &[Handle],
-) -> Handle
-    requires { HasRoomFor nodes.old 1 }
-    ensures put { IsPutOver nodes.old nodes.new node children.now result }
-    ensures more { MoreTaken nodes.old nodes.new 1 }
-    ensures places { nodes.new.places ≡ nodes.old.places }
-{
-    let at = put_in(nodes, node);
-    adopt(nodes, children, at);
-    at
-}
-
-// Puts a node in, for which there is room.
-fn put_in<T: Drop, A: Allocator>(nodes: &mut Arena<T, A>, node: T) -> Handle
-    requires { HasRoomFor nodes.old 1 }
-    ensures given { IsGiven nodes.old nodes.new result node }
-    ensures counts { CountsGiven nodes.old nodes.new result }
-    ensures places { nodes.new.places ≡ nodes.old.places }
-{
-    let Ok(handle) = nodes.insert(node) else {
-        unreachable!();
-    };
-    handle
 }

@@ -13,12 +13,11 @@ ghost use Rattle.tree_theory.specs.KeyClasses.{class_of};
 
 use crate::answers::Tending;
 use crate::fault::TreeFault;
-use crate::keeper::Keeper;
 use crate::needs::Due;
-use crate::setters::{keep, remove_entry, set_place};
 use crate::tree::Tree;
 use node_arena::Handle;
 use std::alloc::Allocator;
+use tree_nodes::{Keeper, keep, remove_entry, set_place};
 use tree_theory::{KeyClass, Place};
 
 impl<C: KeyClass, A: Allocator> Tree<C, A> {

@@ -6,14 +6,13 @@ ghost use Rattle.node_arena.specs.Slots.{slot_count, taken_count, IsGiven, Count
 ghost use Rattle.search_tree.specs.Trees.{IsFirst};
 ghost use Rattle.tree_theory.specs.KeyClasses.{class_of};
 
-use crate::fault::{TreeFault, refusal_in};
-use crate::node::TreeNode;
-use crate::progress::Progress;
+use crate::fault::TreeFault;
 use memory::Refused;
 use node_arena::{Arena, ArenaFault, Handle};
 use predicate_locks::Running;
 use std::alloc::Allocator;
 use std::marker::Model;
+use tree_nodes::{Progress, TreeNode, refusal_in};
 use tree_theory::KeyClass;
 
 /// The highest limit of the steps that a search or a walk makes, and that of a tree which is told no other.

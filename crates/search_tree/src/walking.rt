@@ -7,11 +7,11 @@ ghost use Rattle.search_tree.specs.Walks.{IsHolder, NoneHolds, MayPlace};
 ghost use Rattle.tree_theory.specs.Changes.{IsPlaced};
 ghost use Rattle.tree_theory.specs.KeyClasses.{class_of};
 
-use crate::setters::push_pair;
 use crate::tree::Tree;
 use node_arena::Handle;
 use predicate_locks::{Attached, Running};
 use std::alloc::Allocator;
+use tree_nodes::push_pair;
 use tree_theory::KeyClass;
 
 /// The least number of a running search that is attached and looks for the item.

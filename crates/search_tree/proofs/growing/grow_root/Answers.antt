@@ -1,5 +1,5 @@
 use Rattle.std.proofs.Common.{sym}
-use Rattle.search_tree.specs.Bodies.{plain_body}
+use Rattle.tree_nodes.specs.Bodies.{plain_body}
 use Rattle.search_tree.proofs.GrowSteps.{same_full, may_rise, root_low, grown_done}
 use Rattle.search_tree.proofs.growing.grow_root.Goals as goal
 

@@ -1,5 +1,5 @@
 use Rattle.std.proofs.Common.{◌≢◌, ℕ, ◌<◌, slice_index_or}
-use Rattle.search_tree.specs.Trees.{PlainProgress}
+use Rattle.tree_nodes.specs.Progresses.{PlainProgress}
 use Rattle.search_tree.proofs.opening.place_of.Given as goal
 
 abbrev pub invariant-loop-at : goal.invariant-loop-at

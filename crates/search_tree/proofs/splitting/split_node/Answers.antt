@@ -1,5 +1,5 @@
 use Rattle.std.proofs.Common.{sym, ◌∙◌}
-use Rattle.search_tree.specs.Bodies.{plain_body}
+use Rattle.tree_nodes.specs.Bodies.{plain_body}
 use Rattle.search_tree.proofs.SplitSteps.{split_done}
 use Rattle.search_tree.proofs.splitting.split_node.Goals as goal
 

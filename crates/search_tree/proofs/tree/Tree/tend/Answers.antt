@@ -3,7 +3,7 @@ use Rattle.node_arena.specs.Slots.{value_at}
 use Rattle.search_tree.specs.Dues.{AnswersFirst}
 use Rattle.search_tree.specs.Tends.{StepsAt}
 use Rattle.tree_theory.specs.KeyClasses.{class_of}
-use Rattle.search_tree.proofs.TendSteps.{some_one}
+use Rattle.tree_nodes.proofs.ListEnds.{some_one}
 use Rattle.search_tree.proofs.tree.Tree.tend.Goals as goal
 
 pub returns-in-Some-clause-first : goal.returns-in-Some-clause-first

@@ -2,7 +2,7 @@ use Rattle.std.proofs.Common.{refl, sym, ◌∙◌}
 use Rattle.std.proofs.lemmas.Grind.{get_or-set_at}
 use Rattle.predicate_locks.specs.Searches.{search_at}
 use Rattle.tree_theory.specs.KeyClasses.{Laws, class_of}
-use Rattle.search_tree.proofs.ListEnds.{read_any}
+use Rattle.tree_nodes.proofs.ListEnds.{read_any}
 use Rattle.search_tree.proofs.VisitCalls.{no_query, on_err, same_ready, runs_somewhere, after_visit, visit_call}
 use Rattle.search_tree.proofs.VisitSteps.{roomier_sound, roomier_call}
 use Rattle.search_tree.proofs.tree.Tree.visit_at.Goals as goal

@@ -1,6 +1,0 @@
-use Rattle.std.proofs.Common.{take, zip}
-use Rattle.search_tree.proofs.Sharing.{IsSharedUpTo}
-use Rattle.search_tree.proofs.halves.share_entries.Given as goal
-
-abbrev pub invariant-loop-place : goal.invariant-loop-place
-invariant-loop-place g l = IsSharedUpTo l.mask l.place (take l.place (zip l.keys l.children)) l.left l.right

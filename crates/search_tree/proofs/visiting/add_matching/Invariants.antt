@@ -1,7 +1,0 @@
-use Rattle.std.proofs.Common.{take}
-use Rattle.tree_theory.specs.KeyClasses.{class_of}
-use Rattle.search_tree.specs.Visits.{HasMatching}
-use Rattle.search_tree.proofs.visiting.add_matching.Given as goal
-
-abbrev pub invariant-loop-pair : goal.invariant-loop-pair
-invariant-loop-pair g l = HasMatching (class_of g.C.KeyClass.covered g.C.KeyClass.may_match g.C.KeyClass.is_match g.C.KeyClass.key_with g.C.KeyClass.united) l.query (take l.pair-index l.pair-items) l.fn.progress l.progress

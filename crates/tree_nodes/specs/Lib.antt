@@ -1,0 +1,11 @@
+pub mod Rooms
+pub mod Arenas
+pub mod Bodies
+pub mod NewNodes
+pub mod Progresses
+pub mod Visits
+pub mod Unions
+pub mod Halvings
+pub mod Penalties
+pub mod Descents
+pub mod Standings

@@ -1,0 +1,66 @@
+//! What a walk reads before it goes down: the searches that a wider key leads to a child, and the child's right node.
+
+ghost use Rattle.std.specs.Prelude.{◌≡◌, ◌≤◌, false, IsTrue, length};
+ghost use Rattle.node_arena.specs.Slots.{value_at};
+ghost use Rattle.predicate_locks.specs.declared.TheConstants.{MAX_RUNNING};
+ghost use Rattle.tree_nodes.specs.Descents.{AreLed, marked_right as right_of_marked};
+ghost use Rattle.tree_theory.specs.KeyClasses.{class_of};
+ghost use Rattle.tree_theory.specs.Nodes.{is_marked as has_mark};
+
+use crate::setters::Nodes;
+use arrayvec::ArrayVec;
+use node_arena::Handle;
+use predicate_locks::{Attached, MAX_RUNNING, Running};
+use std::alloc::Allocator;
+use tree_theory::{KeyClass, Place};
+
+/// The searches that are attached, run, and are led on by a wider key, but not by the old one.
+pub fn led_searches<C: KeyClass, A: Allocator>(
+    running: &Running<C::Query, A>,
+    attached: &Attached<A>,
+    old: C::Key,
+    wider: C::Key,
+) -> ArrayVec<u64, MAX_RUNNING>
+    ensures led { AreLed (class_of C.covered C.may_match C.is_match C.key_with C.united) running.now old wider attached.now.numbers result.items }
+    ensures few { length result.items ≤ MAX_RUNNING }
+{
+    running.meeting(
+        attached,
+        &|query: &C::Query| is_led::<C>(old, wider, *query),
+    )
+}
+
+// Whether the wider key leads a search with this query on, and the old one does not.
+fn is_led<C: KeyClass>(old: C::Key, wider: C::Key, query: C::Query) -> bool
+    ensures led { IsTrue result → C.may_match old query → ⊥ }
+    ensures wider { IsTrue result → C.may_match wider query }
+    ensures not_led { result ≡ false → C.may_match wider query → C.may_match old query }
+{
+    C::consistent(wider, query) && !C::consistent(old, query)
+}
+
+/// The right node of a marked node.
+pub fn marked_right<K: Copy, I: Copy, A: Allocator>(
+    nodes: &Nodes<K, I, A>,
+    at: Handle,
+) -> Option<Handle>
+    ensures { result ≡ right_of_marked (value_at nodes.now at) }
+{
+    match nodes.get(at) {
+        Some(node) => {
+            if is_marked(node.place()) {
+                node.right()
+            } else {
+                None
+            }
+        }
+        None => None,
+    }
+}
+
+// Whether a node at this place is marked.
+fn is_marked(place: Place) -> bool
+    ensures { result ≡ has_mark place }
+{
+    matches!(place, Place::Linked { marked: true, .. })
+}

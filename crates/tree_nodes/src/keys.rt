@@ -1,0 +1,52 @@
+//! The keys that entries for nodes are to have.
+
+ghost use Rattle.std.specs.Prelude.{map};
+ghost use Rattle.tree_nodes.specs.Unions.{IsUnionFor};
+ghost use Rattle.tree_theory.specs.Changes.{IsKeyFor};
+ghost use Rattle.tree_theory.specs.KeyClasses.{class_of};
+
+use crate::node::TreeNode;
+use std::alloc::Allocator;
+use tree_theory::KeyClass;
+
+/// The key for a node's entry: the union of all that the node has, and the old key where it has nothing.
+pub fn key_for<C: KeyClass, A: Allocator>(
+    node: &TreeNode<C::Key, C::Item, A>,
+    old: C::Key,
+) -> C::Key
+    ensures { IsKeyFor (class_of C.covered C.may_match C.is_match C.key_with C.united) node.now.body old result }
+{
+    if node.is_leaf() {
+        union_of_items::<C>(node.pairs(), old)
+    } else {
+        union_of::<C>(node.keys(), old)
+    }
+}
+
+// The union of these keys, and the old one where there is none.
+fn union_of<C: KeyClass>(keys: &[C::Key], old: C::Key) -> C::Key
+    ensures { IsUnionFor (class_of C.covered C.may_match C.is_match C.key_with C.united) keys.now old result }
+{
+    if keys.is_empty() {
+        return old;
+    }
+    let mut union = keys[0];
+    for key in keys {
+        union = C::union(union, *key);
+    }
+    union
+}
+
+// The union of the keys of these items, and the old key where there is none.
+fn union_of_items<C: KeyClass>(pairs: &[(u64, C::Item)], old: C::Key) -> C::Key
+    ensures { IsUnionFor (class_of C.covered C.may_match C.is_match C.key_with C.united) (map (λ pair. C.key_with pair.1) pairs.now) old result }
+{
+    if pairs.is_empty() {
+        return old;
+    }
+    let mut union = C::key_of(pairs[0].1);
+    for pair in pairs {
+        union = C::union(union, C::key_of(pair.1));
+    }
+    union
+}
