@@ -181,6 +181,13 @@ finds_all w t number s found h is ready complete =
         (complete seen.0 seen.1 (seen.3 ∙ ready) h.contents h.are_contents (feature.id, feature.shape) has.0 (subst (λ (query : List Point). Meet feature.shape query) (sym seen.2) meet)))
         (go features has.1 seen)
 
+-- a search that is entered under the next number
+pub entered : (seat number : ℕ) (window : List Point) (w v : WorldData) → number ≡ w.next_search
+    → v ≡ record w { searches = w.searches ++ record { number = w.next_search; seat = seat; window = window; ready = false } ∷ []; next_search = w.next_search + 1 }
+    → v ≡ record w { searches = w.searches ++ record { number = number; seat = seat; window = window; ready = false } ∷ []; next_search = number + 1 }
+entered seat number window w v next is =
+    is ∙ ap (λ (n : ℕ). record w { searches = w.searches ++ record { number = n; seat = seat; window = window; ready = false } ∷ []; next_search = n + 1 }) (sym next)
+
 -- a search that is opened
 pub world_opened : (seat number search : ℕ) (window : List Point) (w v : WorldData) (t u : Index) (js : List JourneyData) → may_open seat w ≡ Ok number
     → v ≡ record w { searches = w.searches ++ record { number = number; seat = seat; window = window; ready = false } ∷ []; next_search = number + 1 } → IsOpen frames t u window search → IsWorld (indexed w t js) → IsWorld (indexed v u js)

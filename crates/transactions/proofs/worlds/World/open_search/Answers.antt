@@ -1,11 +1,12 @@
 use Rattle.std.proofs.Common.{sym, ◌∙◌}
-use Rattle.transactions.proofs.WorldLemmas.{index_of, opened_there, world_opened}
+use Rattle.transactions.proofs.WorldLemmas.{entered, index_of, opened_there, world_opened}
 use Rattle.transactions.proofs.worlds.World.open_search.Goals as goal
 
 pub invariant_of-self : goal.invariant_of-self
 invariant_of-self g c =
     world_opened c.args.seat c.in_ok-number.number c.in-Ok.field-0 c.args.window c.self.inside.plain c.enter_search.new.self c.self.inside.index c.open_search.new.self c.self.inside.walks
-    (sym c.may_open.ensures.value ∙ c.in_ok-number.was) c.enter_search.ensures c.in-Ok.ensures.ok c.self.invariant
+    (sym c.may_open.ensures.value ∙ c.in_ok-number.was)
+    (entered c.args.seat c.in_ok-number.number c.args.window c.self.inside.plain c.enter_search.new.self c.in_ok-number.ensures.next c.enter_search.ensures) c.in-Ok.ensures.ok c.self.invariant
 
 pub returns-in-Ok-clause-index : goal.returns-in-Ok-clause-index
 returns-in-Ok-clause-index g c =
