@@ -1,5 +1,5 @@
 -- No event gives a number twice, nor changes what a world was opened with.
-use Rattle.std.proofs.Common.{◌≡◌, ℕ, ◌+◌, ◌==◌, nat_lt, Bool, true, false, List, length, Option, None, Some, MatchOption, refl, sym, ap, subst, ◌∙◌}
+use Rattle.std.proofs.Common.{◌≡◌, ℕ, ◌+◌, ◌==◌, nat_lt, Bool, true, false, List, length, Option, None, Some, MatchOption, sym, ap, subst}
 use Rattle.std.specs.Bool.{MatchBool}
 use Rattle.plane.specs.declared.point.Point.{Point}
 use Rattle.features.specs.declared.actors.Subject.{Subject}
@@ -16,7 +16,7 @@ use Rattle.plain_world.specs.declared.steps.Advance.TheVariants as advances
 use Rattle.search_tree.specs.declared.answers.Step.TheVariants as steps
 use Rattle.search_tree.specs.declared.answers.Visit.TheVariants as visits
 use Rattle.plain_world.specs.Admitting.{LAST, may_sit, may_open, may_go_on, may_finish, may_begin, may_step, may_stage, may_commit, may_govern, may_roll}
-use Rattle.plain_world.specs.Events.{Event, TakeSeat, OpenSearch, VisitNext, Finish, DropSearch, Begin, Stage, AdvanceWalk, Commit, Abort, Govern, Tend, Roll, Reply, Number, Visited, Advanced, Tended, Ended, Refused, is_memory, Happens, Sees, Walks, Visits, Advances, Applies, CommitsAs, Tends, recorded, without_transaction}
+use Rattle.plain_world.specs.Events.{Event, TakeSeat, OpenSearch, VisitNext, Finish, DropSearch, Begin, Stage, AdvanceWalk, Commit, Abort, Govern, Tend, Roll, Reply, Visited, Advanced, Tended, Ended, Refused, is_memory, Happens, Sees, Walks, Visits, Advances, CommitsAs, Tends, recorded, without_transaction}
 use Rattle.plain_world.specs.Settings.{IsSettled, settings}
 use Rattle.plain_world.specs.Staging.{TransactionData, next_placement, staged_in}
 use Rattle.plain_world.specs.States.{WorldData}

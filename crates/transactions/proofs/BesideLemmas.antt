@@ -1,5 +1,5 @@
 -- Events that leave the index alone: what it owes to the world stays.
-use Rattle.std.proofs.Common.{◌≡◌, ℕ, ◌+◌, ◌≤◌, ◌==◌, nat_lt, Bool, true, false, List, [], ◌∷◌, ◌++◌, length, map, Option, Some, None, Ok, Err, if◌then◌else◌, refl, sym, ap, subst, ◌∙◌, arith}
+use Rattle.std.proofs.Common.{◌≡◌, ℕ, ◌+◌, ◌≤◌, ◌==◌, nat_lt, Bool, true, false, List, length, Some, Ok, Err, if◌then◌else◌, refl, sym, ap, subst, ◌∙◌, arith}
 use Rattle.std.specs.Bool.{MatchBool}
 use Rattle.std.specs.Option.{option_map}
 use Rattle.std.proofs.lemmas.Bool.Decides.{nat_tests}
@@ -10,16 +10,14 @@ use Rattle.features.specs.Changes.{after}
 use Rattle.policy_text.specs.Documents.{DocumentData}
 use Rattle.audit_trail.specs.declared.causes.Judgement.{Judgement}
 use Rattle.audit_trail.specs.declared.causes.Judgement.TheVariants as judgements
-use Rattle.audit_trail.specs.Judging.{Judged}
 use Rattle.audit_trail.specs.Records.{applied}
-use Rattle.plain_world.specs.declared.faults.Fault.{Fault}
 use Rattle.plain_world.specs.declared.faults.Fault.TheVariants as faults
 use Rattle.plain_world.specs.declared.outcomes.Outcome.TheVariants as outcomes
 use Rattle.plain_world.specs.declared.searches.Search.{Search}
 use Rattle.plain_world.specs.Admitting.{LAST, and_then, subject_at, own_transaction, all_placed, may_record, may_sit, may_begin, may_step, may_stage, may_commit, may_govern, may_roll, search_with}
-use Rattle.plain_world.specs.Events.{Event, TakeSeat, Begin, Stage, Commit, Abort, Govern, Roll, Reply, Ended, Refused, Happens, Applies, CommitsAs, recorded, without_transaction}
+use Rattle.plain_world.specs.Events.{TakeSeat, Begin, Stage, Commit, Abort, Govern, Roll, Reply, Ended, Refused, Happens, Applies, CommitsAs, recorded, without_transaction}
 use Rattle.plain_world.specs.Laws.{IsUnderWay}
-use Rattle.plain_world.specs.Staging.{TransactionData, transaction_with, placements, staged_in, with_step, staged, ended}
+use Rattle.plain_world.specs.Staging.{TransactionData, transaction_with, placements, staged_in}
 use Rattle.plain_world.specs.States.{WorldData}
 use Rattle.plain_world.proofs.AdmittedLemmas.{by_if, by_unless, own_open, staged_of}
 use Rattle.plain_world.proofs.RunLemmas.{and_then_ok}

@@ -1,5 +1,5 @@
 -- Pairs that are among others: those of the features, and those of what is placed.
-use Rattle.std.proofs.Common.{◌≡◌, ℕ, ◌≤◌, ◌+◌, ◌==◌, nat_lt, not, zero, suc, Bool, true, false, List, [], ◌∷◌, ◌++◌, length, take, filter, Option, Some, None, if◌then◌else◌, refl, sym, ap, subst, ◌∙◌, arith}
+use Rattle.std.proofs.Common.{◌≡◌, ℕ, ◌≤◌, ◌+◌, ◌==◌, nat_lt, not, zero, suc, Bool, true, false, List, [], ◌∷◌, ◌++◌, length, take, Option, Some, if◌then◌else◌, refl, sym, ap, subst, ◌∙◌, arith}
 use Rattle.std.specs.List.{Contains, slice_get}
 use Rattle.std.proofs.lemmas.Bool.Decides.{nat_tests}
 use Rattle.std.proofs.lemmas.List.{take-append-le}
