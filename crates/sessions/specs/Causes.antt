@@ -5,7 +5,7 @@ use Rattle.plane.specs.declared.point.Point.{Point}
 use Rattle.features.specs.declared.rows.Change.{Change}
 use Rattle.plain_world.specs.Answers.{AnswerData}
 use Rattle.plain_world.specs.Admitting.{may_go_on}
-use Rattle.plain_world.specs.Events.{AdvanceWalk, Advanced, Happens, Number, OpenSearch, Refused, reply_of}
+use Rattle.plain_world.specs.Events.{AdvanceWalk, Advanced, Begin, Happens, Number, OpenSearch, Refused, reply_of}
 use Rattle.plain_world.specs.States.{WorldData}
 use Rattle.plain_world.specs.declared.faults.Fault.{Fault}
 use Rattle.plain_world.specs.declared.faults.Fault.TheVariants as faults
@@ -23,7 +23,7 @@ use Rattle.transactions.specs.Stepping.{EndsInIndex, VisitsIndex}
 use Rattle.transactions.specs.Walking.{WalksOn}
 use Rattle.transactions.specs.Walks.{JourneyData, begun as with_place, ended}
 use Rattle.sessions.specs.Replies.{SaidData, line, outcome_reply, rows, told}
-use Rattle.sessions.specs.Services.{Call, Hello, Search, Commit, Govern, Explain, Roll, Leave, is_overrun}
+use Rattle.sessions.specs.Services.{Call, Hello, Search, Commit, Govern, Explain, Roll, Leave}
 use Rattle.sessions.specs.States.{IsAtRest, begun}
 use Rattle.sessions.specs.Stepping.{SeesMore}
 use Rattle.sessions.specs.UnderWay.{under}
@@ -55,10 +55,10 @@ abbrev pub DropsRefused : {T : Type 0} → ℕ → Index → Index → Result T 
 DropsRefused number old new (Ok x) = new ≡ old
 DropsRefused number old new (Err fault) = (end : Result (Unit {0}) Fault) × EndsInIndex number old new end
 
--- A search from its beginning on. Where it does not begin, the index stays, and it is not given up.
+-- A search from its beginning on. Where the world refuses that it begins, the index stays.
 abbrev pub SearchesIn : {T : Type 0} → ℕ → List Point → IndexedWorld → IndexedWorld → Result T Fault → Type 0
 SearchesIn seat window old new result =
-    ((fault : Fault) × (result ≡ Err fault) × (is_overrun (Refused fault) ≡ false) × StayBeside old new)
+    ((fault : Fault) × (result ≡ Err fault) × Happens (OpenSearch seat window) old.plain new.plain (Refused fault) × StayBeside old new)
     ⊎ ((number : ℕ) × (first : IndexedWorld) × Happens (OpenSearch seat window) old.plain first.plain (Number number) × IsOpen frames old.index first.index window number
     × (mid : Index) × SeeksIn (may_go_on seat number first.plain) number first.index mid result × DropsRefused number mid new.index result × (new.walks ≡ old.walks))
 
@@ -108,10 +108,10 @@ ConcludesIn seat number changes plain index walks new result =
     × (mid : IndexedWorld) × (placed : Result (Unit {0}) Fault) × PlacesIn seat number first mid placed × EndsSo placed result
     × (new.index ≡ mid.index) × LetsGo number mid.walks new.walks
 
--- a list from its beginning on, in a world that is at rest
+-- A list from its beginning on, in a world that is at rest. Where the world refuses that its transaction begins, the index stays.
 abbrev pub CommitsIn : {T : Type 0} → ℕ → List Change → IndexedWorld → IndexedWorld → Result T Fault → Type 0
 CommitsIn seat changes old new result =
-    ((fault : Fault) × (result ≡ Err fault) × IsOwn fault × StayBeside old new)
+    ((fault : Fault) × (result ≡ Err fault) × Happens (Begin seat) old.plain new.plain (Refused fault) × StayBeside old new)
     ⊎ (let number = old.plain.next_transaction in ConcludesIn seat number changes (begun old.plain) old.index (with_place number old.walks) new result)
 
 -- What a call makes of index and walks. Before HELLO, and where it is neither a search nor a commit, both stay as they are.

@@ -1,8 +1,7 @@
 use Rattle.std.proofs.Common.{Ok, Err, refl, inl, ◌∙◌}
-use Rattle.plain_world.specs.Events.{Refused}
 use Rattle.sessions.specs.Causes.{CommitsIn}
 use Rattle.sessions.specs.States.{begun}
-use Rattle.sessions.proofs.CauseLemmas.{begin_own, commits_in, lets_go}
+use Rattle.sessions.proofs.CauseLemmas.{commits_in, lets_go}
 use Rattle.sessions.proofs.LeavingLemmas.{left_by}
 use Rattle.sessions.proofs.CommitLemmas.{begins, commit_ended, commit_refused}
 use Rattle.sessions.proofs.calls.commit.Goals as goal
@@ -40,4 +39,4 @@ pub returns-in_err-number-clause-index : goal.returns-in_err-number-clause-index
 returns-in_err-number-clause-index g c still =
     let fault = c.in_err-number.field-0.0 in
     left_by c.from_residual.result fault (λ r. CommitsIn c.args.seat c.args.changes.now c.args.world.now c.begin.new.self r) c.from_residual.ensures.1
-    (inl (fault, refl, begin_own c.args.seat c.args.world.now.plain c.begin.new.self.plain (Refused fault) c.in_err-number.ensures.happens, (c.begin.ensures.index, c.in_err-number.ensures.walks)))
+    (inl (fault, refl, c.in_err-number.ensures.happens, (c.begin.ensures.index, c.in_err-number.ensures.walks)))

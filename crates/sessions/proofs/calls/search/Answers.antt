@@ -1,7 +1,5 @@
 use Rattle.std.proofs.Common.{refl, inl, inr, ◌∙◌}
-use Rattle.plain_world.specs.Events.{Refused}
 use Rattle.sessions.specs.Causes.{SearchesIn}
-use Rattle.sessions.proofs.CauseLemmas.{open_kept}
 use Rattle.sessions.proofs.LeavingLemmas.{left_by}
 use Rattle.sessions.proofs.SearchLemmas.{search_answered, search_refused}
 use Rattle.sessions.proofs.calls.search.Goals as goal
@@ -35,4 +33,4 @@ pub returns-in_err-number-clause-index : goal.returns-in_err-number-clause-index
 returns-in_err-number-clause-index g c =
     let fault = c.in_err-number.field-0.0 in
     left_by c.from_residual.result fault (λ r. SearchesIn c.args.seat c.args.window c.args.world.now c.open_search.new.self r) c.from_residual.ensures.1
-    (inl (fault, refl, open_kept c.args.seat c.args.window c.args.world.now.plain c.open_search.new.self.plain (Refused fault) c.in_err-number.ensures.happens, (c.in_err-number.ensures.index, c.open_search.ensures.walks)))
+    (inl (fault, refl, c.in_err-number.ensures.happens, (c.in_err-number.ensures.index, c.open_search.ensures.walks)))
