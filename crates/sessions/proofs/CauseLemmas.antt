@@ -14,11 +14,11 @@ use Rattle.plain_world.specs.declared.faults.Fault.{Fault}
 use Rattle.plain_world.specs.declared.faults.Fault.TheVariants as faults
 use Rattle.plain_world.specs.declared.outcomes.Outcome.{Outcome}
 use Rattle.plain_world.specs.declared.outcomes.Outcome.TheVariants as outcomes
-use Rattle.plain_world.specs.declared.settings.TheConstants.{CHANGE_LIMIT, SEARCH_LIMIT, STEP_LIMIT, TRANSACTION_LIMIT}
+use Rattle.plain_world.specs.declared.settings.TheConstants.{CHANGE_LIMIT, STEP_LIMIT}
 use Rattle.plain_world.specs.declared.steps.Advance.TheVariants.{Walked}
-use Rattle.plain_world.specs.Admitting.{LAST, and_then, given, subject_at, may_record, may_go_on, may_open, may_begin, transaction_owned, own_transaction, may_step, may_stage, all_placed, may_commit}
+use Rattle.plain_world.specs.Admitting.{LAST, and_then, given, subject_at, may_record, may_go_on, transaction_owned, own_transaction, may_step, may_stage, all_placed, may_commit}
 use Rattle.plain_world.specs.Answers.{AnswerData}
-use Rattle.plain_world.specs.Events.{OpenSearch, Begin, Stage, Commit, Happens, Reply, Refused, Rows, Ended, Applies, CommitsAs, is_want, recorded, reply_of, without_transaction}
+use Rattle.plain_world.specs.Events.{Stage, Commit, Happens, Reply, Refused, Rows, Ended, Applies, CommitsAs, is_want, recorded, reply_of, without_transaction}
 use Rattle.plain_world.specs.Staging.{names, placements, staged_in, transaction_with}
 use Rattle.plain_world.specs.States.{WorldData}
 use Rattle.plain_world.proofs.AdmittedLemmas.{by_if, by_unless}
@@ -32,7 +32,7 @@ use Rattle.sessions.specs.declared.faults.Fault.TheVariants.{BeforeHello}
 use Rattle.sessions.specs.declared.replies.Reply.TheVariants.{Error}
 use Rattle.sessions.specs.Causes.{AdvancesIn, Causes, CommitsIn, ConcludesIn, IsOwn, LetsGo, SearchesIn, SeeksIn, StayBeside, WalksMore}
 use Rattle.sessions.specs.Replies.{SaidData, line, outcome_reply, rows, told}
-use Rattle.sessions.specs.Services.{Commit as CommitList, Commits, Search as SearchFor, Searches, Serves, is_overrun}
+use Rattle.sessions.specs.Services.{Commit as CommitList, Commits, Search as SearchFor, Searches, Serves}
 use Rattle.sessions.specs.States.{SoloState, WhereAtRest, IsAtRest, begun}
 use Rattle.sessions.specs.Stepping.{SeesMore}
 use Rattle.sessions.proofs.SearchLemmas.{want_is}
@@ -93,12 +93,6 @@ own_stage seat number change w =
     fails_if IsOwn (nat_le CHANGE_LIMIT (length t.changes)) faults.TooManyChanges _ refl
     (fails_if IsOwn (names (change_id change) t.changes) faults.NamedTwice (Ok tt) refl (fails_ok IsOwn tt)))
 
-own_begin : (seat : ℕ) (w : WorldData) → Fails IsOwn (may_begin seat w)
-own_begin seat w =
-    fails_then IsOwn (subject_at seat w) _ (own_subject seat w) (λ _.
-    fails_if IsOwn (nat_le TRANSACTION_LIMIT (length w.transactions)) faults.TooMany _ refl
-    (fails_if IsOwn (w.next_transaction == LAST) faults.Spent (Ok w.next_transaction) refl (fails_ok IsOwn w.next_transaction)))
-
 own_commit : (seat number : ℕ) (w : WorldData) → Fails IsOwn (may_commit seat number w)
 own_commit seat number w =
     fails_then IsOwn (subject_at seat w) _ (own_subject seat w) (λ subject.
@@ -110,11 +104,6 @@ own_wants : (fault : Fault) → is_want fault ≡ true → IsOwn fault
 own_wants = want_fits IsOwn (λ refusal. refl)
 
 -- events that are refused by faults of their own alone
-pub begin_own : (seat : ℕ) (old new : WorldData) (reply : Reply) → Happens (Begin seat) old new reply → Answered IsOwn reply
-begin_own seat old new reply h =
-    by_if (may_begin seat old) old new reply _ (Answered IsOwn) (λ fault may same. own_begin seat old fault may)
-    (λ number may d. by_unless old new reply _ (Answered IsOwn) (λ fault want same. own_wants fault want) (λ d. subst (Answered IsOwn) (sym d.1) tt) d) h
-
 pub stage_own : (seat number : ℕ) (change : Change) (old new : WorldData) (reply : Reply) → Happens (Stage seat number change) old new reply → Answered IsOwn reply
 stage_own seat number change old new reply h =
     by_if (may_stage seat number change old) old new reply _ (Answered IsOwn) (λ fault may same. own_stage seat number change old fault may) (λ u may d. subst (Answered IsOwn) (sym d.1) tt) h
@@ -169,21 +158,6 @@ module _ (seat number count : ℕ) (start world : WorldData) (same : world ≡ s
   -- it is waited for no longer
   pub seeks_no_longer_in : {T : Type 0} → STEP_LIMIT < count → SeeksIn {T = T} (may_go_on seat number start) number first old (Err (faults.Tree tree.Overrun))
   seeks_no_longer_in lt = (count, old, seen, inr (inr (lt, refl, refl)))
-
--- a search that does not begin is not given up
-pub open_kept : (seat : ℕ) (window : List Point) (old new : WorldData) (reply : Reply) → Happens (OpenSearch seat window) old new reply → Answered (λ fault. is_overrun (Refused fault) ≡ false) reply
-open_kept seat window old new reply h =
-    by_if (may_open seat old) old new reply _ (Answered Fits) (λ fault may same. fails fault may)
-    (λ number may d. by_unless old new reply _ (Answered Fits) (λ fault want same. want_fits Fits (λ refusal. refl) fault want) (λ d. subst (Answered Fits) (sym d.1) tt) d) h
-  where
-    Fits : Fault → Type 0
-    Fits fault = is_overrun (Refused fault) ≡ false
-
-    fails : Fails Fits (may_open seat old)
-    fails =
-        fails_then Fits (subject_at seat old) _ (fails_given Fits (subject_of seat old.seats) refl) (λ _.
-        fails_if Fits (nat_le SEARCH_LIMIT (length old.searches)) (faults.Tree tree.TooMany) _ refl
-        (fails_if Fits (old.next_search == LAST) (faults.Tree tree.Spent) (Ok old.next_search) refl (fails_ok Fits old.next_search)))
 
 -- ---- lists
 

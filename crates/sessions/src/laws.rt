@@ -9,6 +9,7 @@ ghost use Rattle.sessions.specs.States.{Desk, IsAtRest, IsIdle, SoloState};
 ghost use Rattle.sessions.specs.declared.scripts.TheConstants.{LABEL_LIMIT};
 ghost use Rattle.sessions.specs.declared.streams.TheConstants.{LINE_LIMIT, READ_LIMIT};
 ghost use Rattle.plain_world.specs.States.{WorldData, opened};
+ghost use Rattle.plain_world.specs.declared.settings.TheConstants.{CHANGE_LIMIT, SEARCH_LIMIT, SEAT_LIMIT, STEP_LIMIT, TRANSACTION_LIMIT};
 
 use features::Subject;
 use transactions::{Limits, Starts};
@@ -26,9 +27,16 @@ pub fn lines_leave_worlds_at_rest()
     ensures alone { (text : List ℕ) (old new : Desk SoloState) (said : List ℕ) → AloneTells solo_subject Serves text old new said → IsAtRest old.service.world → IsAtRest new.service.world }
 {}
 
-/// The limits that the definitions name, in numbers: labels of a script, bytes of a line without its end, and reads of a run.
+/// The limits that the definitions name, in numbers. Of lines: labels of a script, bytes of a line without its end, reads of a
+/// run. Of the world that serves them: seats in its life, searches that run at once, transactions that are open at once,
+/// changes of a list, and steps of a search or of the walk for one change, which are also the most that STEP takes.
 pub fn limits_in_numbers()
     ensures labels { LABEL_LIMIT ≡ 64 }
     ensures line { LINE_LIMIT ≡ 65536 }
     ensures reads { READ_LIMIT ≡ 16777216 }
+    ensures seats { SEAT_LIMIT ≡ 1024 }
+    ensures searches { SEARCH_LIMIT ≡ 16 }
+    ensures transactions { TRANSACTION_LIMIT ≡ 64 }
+    ensures changes { CHANGE_LIMIT ≡ 16 }
+    ensures steps { STEP_LIMIT ≡ 1000000 }
 {}
