@@ -13,7 +13,7 @@ use Rattle.program.specs.declared.ends.Ended.{Ended}
 use Rattle.program.specs.declared.ends.Ended.TheVariants.{Well, Failed, TurnedDown}
 use Rattle.program.specs.declared.faults.ProgramFault.{ProgramFault}
 use Rattle.program.specs.declared.faults.ProgramFault.TheVariants.{Words}
-use Rattle.program.specs.declared.words.WordsRefused.{WordsRefused}
+use Rattle.program.specs.declared.command_line.WordsRefused.{WordsRefused}
 
 -- What these words ask for is done. `held` is what the file of a name reads, where that is known.
 pub data IsDone (words : List Text) (held : List ℕ → Option (List ℕ)) (before after : Option (List ℕ)) : Type 0 where

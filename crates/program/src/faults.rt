@@ -2,9 +2,9 @@
 
 ghost use Rattle.std.specs.Prelude.{◌≡◌};
 
+use crate::command_line::WordsRefused;
 use crate::config_faults::ConfigFault;
 use crate::files::ReadFault;
-use crate::words::WordsRefused;
 use byte_streams::WriteFailed;
 use memory::Refused;
 use sessions::ServeFault;

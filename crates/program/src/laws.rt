@@ -4,6 +4,10 @@ ghost use Rattle.std.specs.Prelude.{◌≡◌, ℕ, List, Ok};
 ghost use Rattle.program.specs.Configs.{ConfigData, config_of};
 ghost use Rattle.program.specs.Spelling.{Spells};
 ghost use Rattle.program.specs.declared.files.TheConstants.{CONFIG_LIMIT};
+ghost use Rattle.features.specs.declared.actors.TheConstants.{SUBJECT_LIMIT};
+ghost use Rattle.features.specs.declared.tables.TheConstants.{FEATURE_LIMIT};
+ghost use Rattle.audit_trail.specs.declared.trails.TheConstants.{RECORD_LIMIT};
+ghost use Rattle.plain_world.specs.declared.settings.TheConstants.{STEP_LIMIT};
 
 /// What a text is read as is the configuration that it spells; and whatever it spells, it is read as.
 pub fn read_is_spelled()
@@ -16,7 +20,12 @@ pub fn configurations_are_one()
     ensures { (text : List ℕ) (a b : ConfigData) → Spells text a → Spells text b → a ≡ b }
 {}
 
-/// The limit that the definitions name, in numbers: bytes of a configuration's file.
-pub fn limit_in_numbers()
-    ensures { CONFIG_LIMIT ≡ 16777216 }
+/// The limits that the definitions name, in numbers: bytes of a configuration's file, its subjects, and, of the world that it
+/// opens, features, records of the trail, and steps of a search or of the walk for one change.
+pub fn limits_in_numbers()
+    ensures file { CONFIG_LIMIT ≡ 16777216 }
+    ensures subjects { SUBJECT_LIMIT ≡ 64 }
+    ensures features { FEATURE_LIMIT ≡ 100000 }
+    ensures records { RECORD_LIMIT ≡ 1048576 }
+    ensures steps { STEP_LIMIT ≡ 1000000 }
 {}

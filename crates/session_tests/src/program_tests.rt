@@ -50,12 +50,13 @@ impl<'a> Folder for Text<'a> {
     }
 }
 
-/// A folder with two files, `a.json` and `a.map`.
+/// A folder with two files, `a.json` and `a.map`. One read of the latter fails, counted from 1, or none at 0.
 #[derive(Drop)]
 struct Two<'a> {
     host: &'a HostRuntime,
     config: &'a [u8],
     script: &'a [u8],
+    fails_at: u64,
 }
 
 impl<'a> Folder for Two<'a> {
@@ -68,12 +69,12 @@ impl<'a> Folder for Two<'a> {
     ghost closed = { λ folder name. Unit {0} };
 
     fn open_file(&self, name: &str) -> Result<FailingReader<'a>, NotOpened> {
-        let bytes = match name {
-            "a.json" => self.config,
-            "a.map" => self.script,
+        let (bytes, fails_at) = match name {
+            "a.json" => (self.config, 0),
+            "a.map" => (self.script, self.fails_at),
             _ => return absent(self.host),
         };
-        Ok(FailingReader { bytes, fails_at: 0 })
+        Ok(FailingReader { bytes, fails_at })
     }
 }
 
@@ -198,6 +199,7 @@ fn configured(
         host,
         config: config.as_bytes(),
         script: script.as_bytes(),
+        fails_at: 0,
     };
     let words = ["script", "--config", "a.json", "a.map"];
     check(rt, host.alloc(), &words, &folder, 0, (replies, ""))
@@ -227,6 +229,7 @@ fn misconfigured(
         host,
         config: config.as_bytes(),
         script: OF_INES.as_bytes(),
+        fails_at: 0,
     };
     let line = format!(in host.alloc(); "landmap: {code}\n")?;
     let words = ["script", "--config", "a.json", "a.map"];
@@ -356,6 +359,7 @@ fn ends_with(
         host,
         config: config.as_bytes(),
         script: OF_INES.as_bytes(),
+        fails_at: 0,
     };
     check(rt, host.alloc(), texts, &folder, 1, ("", line))
 }
@@ -468,6 +472,26 @@ fn a_read_of_the_configuration_fails(rt: HostRuntime) -> Result<(), Fail> {
             ("", "landmap: cannot read a.map\n"),
         )?;
     }
+    Ok(())
+}
+
+/// The configuration is read, and the first read of the script's file fails: nothing is told of the configuration's.
+#[test]
+fn a_read_of_the_script_fails(rt: HostRuntime) -> Result<(), Fail> {
+    let folder = Two {
+        host: &rt,
+        config: AS_BUILT_IN.as_bytes(),
+        script: FIRST_POINT.as_bytes(),
+        fails_at: 1,
+    };
+    check(
+        &rt,
+        rt.alloc(),
+        &["script", "--config", "a.json", "a.map"],
+        &folder,
+        1,
+        ("", "landmap: V1\n"),
+    )?;
     Ok(())
 }
 

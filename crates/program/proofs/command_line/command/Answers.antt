@@ -3,7 +3,7 @@ use Rattle.std.proofs.lemmas.Result.{IfOk-weaker}
 use Rattle.clap.specs.Simple.{Shape, app_of_fields, on_top}
 use Rattle.clap.specs.Words.{App, app_of, new_app, shape_of, with_subcommand}
 use Rattle.program.specs.CommandLine.{script_line}
-use Rattle.program.proofs.words.command.Goals as goal
+use Rattle.program.proofs.command_line.command.Goals as goal
 
 abbrev strict : App → App
 strict a = on_top (λ (s : Shape). record s { subcommand_required = true; arg_required_else_help = true }) a

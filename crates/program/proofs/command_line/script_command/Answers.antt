@@ -6,7 +6,7 @@ use Rattle.clap.specs.declared.builder.command.Command.{Command}
 use Rattle.clap.specs.declared.builder.command.Command.TheOpen.{Command-F}
 use Rattle.clap.specs.declared.builder.command.Command.TheViews.{out-Command as fields_of}
 use Rattle.program.specs.CommandLine.{config_rule, file_rule}
-use Rattle.program.proofs.words.script_command.Goals as goal
+use Rattle.program.proofs.command_line.script_command.Goals as goal
 
 pub returns-clause-app : goal.returns-clause-app
 returns-clause-app c =

@@ -1,0 +1,11 @@
+use Rattle.std.proofs.Common.{ap, sym, map, string_bytes, List, [], ◌≡◌, ◌∙◌}
+use Rattle.clap.specs.Words.{App, Text, app_of, fault_of, is_simple, is_simple_and_free, subcommand_of}
+use Rattle.program.specs.CommandLine.{command_line, refusals}
+use Rattle.program.proofs.command_line.clap_reading.Goals as goal
+
+pub returns-in-Ok-try_get_matches_from : goal.returns-in-Ok-try_get_matches_from
+returns-in-Ok-try_get_matches_from c =
+    let words : List Text = map (λ word. string_bytes word) c.args.words.now in
+    let app : app_of c.in-Ok.command ≡ command_line = c.in-Ok.ensures in
+    let refused : refusals words ≡ [] = sym (ap (λ (a : App). fault_of a words) app) ∙ c.in-Ok-try_get_matches_from.ensures.kinds (ap is_simple_and_free app) in
+    (refused, (c.in-Ok-try_get_matches_from.ensures.matches (ap is_simple app)).1 ∙ ap (λ (a : App). subcommand_of a words) app)
