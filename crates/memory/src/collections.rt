@@ -1,33 +1,12 @@
-ghost use Rattle.std.specs.Prelude.{◌≡◌, ◌≤◌, ◌++◌, ◌∷◌, [], None, OnOk, OnErr, IfOk, IfErr};
+ghost use Rattle.std.specs.Prelude.{◌≡◌, [], None, OnOk, OnErr, IfOk, IfErr};
 ghost use Rattle.std.specs.Io.Buffered.{writer_inner, writer_buffer};
 ghost use Rattle.indexmap.specs.IndexMap.{get, insert_entry, IsUnchanged};
-ghost use Rattle.smallvec.specs.SmallVec.{small_vec_len, HasRoomFor};
 
 use crate::refused::{NotStored, Refused};
 use indexmap::IndexMap;
-use smallvec::SmallVec;
 use std::alloc::Allocator;
-use std::default::MadeWith;
 use std::hash::{BuildHasher, Hash};
 use std::io::{BufWriter, Write};
-
-/// Appends a value to a small vector, or hands it back.
-pub fn small_store<T: MadeWith<A> + Drop, const N: usize, A: Allocator + Copy>(
-    list: &mut SmallVec<T, N, A>,
-    value: T,
-) -> Result<(), NotStored<T>>
-    ensures ok { OnOk result (list.new.items ≡ list.old.items ++ value ∷ []) }
-    ensures err { OnErr result (list.new ≡ list.old) }
-    ensures value_returned { IfErr result (λ failed. failed.value ≡ value) }
-{
-    match list.push(value) {
-        Ok(()) => Ok(()),
-        Err(failed) => Err(NotStored {
-            value: failed.value,
-            refusal: Refused::seen(),
-        }),
-    }
-}
 
 /// Puts a value under a key of a map that keeps its order, or hands both back.
 pub fn put<K: Eq + Hash + Drop, V, S: BuildHasher, A: Allocator>(

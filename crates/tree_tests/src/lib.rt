@@ -1,7 +1,6 @@
-//! Tests of the search tree and of what it stands on, and callers of the arena.
+//! Tests of the search tree and of what it stands on.
 #![tactic(auto)]
 
-pub mod arena_uses;
 #[cfg(test)]
 mod node_arena_tests;
 #[cfg(test)]
