@@ -18,15 +18,15 @@ use Rattle.audit_trail.specs.Records.{applied}
 use Rattle.audit_trail.proofs.AcceptedLemmas.{can_apply, distinct_push}
 use Rattle.audit_trail.proofs.ListingLemmas.{listed_sorted}
 use Rattle.plain_world.specs.declared.faults.Fault.TheVariants as faults
-use Rattle.search_tree.specs.declared.fault.TreeFault.TheVariants as tree
+use Rattle.tree_answers.specs.declared.fault.TreeFault.TheVariants as tree
 use Rattle.plain_world.specs.declared.outcomes.Outcome.TheVariants as outcomes
 use Rattle.plain_world.specs.declared.searches.Search.{Search}
 use Rattle.plain_world.specs.declared.settings.Limits.{Limits}
 use Rattle.plain_world.specs.declared.settings.Starts.{Starts}
 use Rattle.plain_world.specs.declared.settings.TheConstants.{SEAT_LIMIT, CHANGE_LIMIT}
 use Rattle.plain_world.specs.declared.steps.Advance.TheVariants as advances
-use Rattle.search_tree.specs.declared.answers.Step.TheVariants as steps
-use Rattle.search_tree.specs.declared.answers.Visit.TheVariants as visits
+use Rattle.tree_answers.specs.declared.answers.Step.TheVariants as steps
+use Rattle.tree_answers.specs.declared.answers.Visit.TheVariants as visits
 use Rattle.plain_world.specs.Admitting.{LAST, subject_at, own_transaction, may_add, may_sit, may_open, may_go_on, may_finish, may_begin, may_step, may_stage, may_commit, may_govern, may_roll}
 use Rattle.plain_world.specs.Answers.{AnswerData}
 use Rattle.plain_world.specs.Events.{Event, TakeSeat, OpenSearch, VisitNext, Finish, DropSearch, Begin, Stage, AdvanceWalk, Commit, Abort, Govern, Tend, Roll, Reply, Visited, Advanced, Tended, Rows, Ended, Refused, is_memory, Happens, Run, Sees, Walks, Visits, Advances, Applies, CommitsAs, Tends, recorded, without_transaction}

@@ -14,13 +14,13 @@ use Rattle.audit_trail.specs.Legal.{subject_of, IsSeated}
 use Rattle.audit_trail.specs.Records.{applied}
 use Rattle.plain_world.specs.declared.faults.Fault.{Fault}
 use Rattle.plain_world.specs.declared.faults.Fault.TheVariants as faults
-use Rattle.search_tree.specs.declared.fault.TreeFault.TheVariants as tree
+use Rattle.tree_answers.specs.declared.fault.TreeFault.TheVariants as tree
 use Rattle.plain_world.specs.declared.outcomes.Outcome.TheVariants as outcomes
 use Rattle.plain_world.specs.declared.searches.Search.{Search}
 use Rattle.plain_world.specs.declared.settings.TheConstants.{SEAT_LIMIT}
 use Rattle.plain_world.specs.declared.steps.Advance.TheVariants as advances
-use Rattle.search_tree.specs.declared.answers.Step.TheVariants as steps
-use Rattle.search_tree.specs.declared.answers.Visit.TheVariants as visits
+use Rattle.tree_answers.specs.declared.answers.Step.TheVariants as steps
+use Rattle.tree_answers.specs.declared.answers.Visit.TheVariants as visits
 use Rattle.plain_world.specs.Admitting.{LAST, and_then, given, placed, subject_at, stewarded, may_sit, may_open, may_go_on, own_search, has_answered_ready, may_record, may_finish, may_begin, own_transaction, all_placed, may_step, may_stage, may_commit, may_govern, may_roll}
 use Rattle.plain_world.specs.Events.{Event, TakeSeat, OpenSearch, VisitNext, Finish, DropSearch, Begin, Stage, AdvanceWalk, Commit, Abort, Govern, Tend, Roll, Reply, Visited, Advanced, Tended, Ended, Refused, If, is_memory, Happens, Run, Sees, Walks, Visits, Advances, Finishes, Applies, CommitsAs, Governs, Rolls, Tends, recorded, without_transaction}
 use Rattle.plain_world.specs.Staging.{TransactionData, next_placement, staged_in}

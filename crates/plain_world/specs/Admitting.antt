@@ -8,7 +8,7 @@ use Rattle.audit_trail.specs.Legal.{subject_of}
 use Rattle.audit_trail.specs.declared.trails.TheConstants.{FIRST_LIMIT}
 use Rattle.plain_world.specs.declared.faults.Fault.{Fault}
 use Rattle.plain_world.specs.declared.faults.Fault.TheVariants.{NoSuch, NotYours, NotReady, NotPlaced, NamedTwice, TooManyChanges, NotSteward, Spent, Tree, TrailFull, NoSubject, NoPlace, TooMany}
-use Rattle.search_tree.specs.declared.fault.TreeFault.TheVariants as tree
+use Rattle.tree_answers.specs.declared.fault.TreeFault.TheVariants as tree
 use Rattle.plain_world.specs.declared.searches.Search.{Search}
 use Rattle.plain_world.specs.declared.settings.TheConstants.{SEAT_LIMIT, SEARCH_LIMIT, TRANSACTION_LIMIT, CHANGE_LIMIT}
 use Rattle.plain_world.specs.Staging.{TransactionData, transaction_with, placements, names}

@@ -2,7 +2,7 @@
 use Rattle.std.specs.Prelude.{ℕ, List, codes}
 use Rattle.plain_world.specs.declared.faults.Fault.{Fault}
 use Rattle.plain_world.specs.declared.faults.Fault.TheVariants as faults
-use Rattle.search_tree.specs.Faults.{code_of}
+use Rattle.tree_answers.specs.Faults.{code_of}
 
 -- of a refusal of the index the index's own code
 abbrev pub fault_code : Fault → List ℕ

@@ -18,7 +18,7 @@ use Rattle.audit_trail.specs.Records.{PlainState, DeedData, answered, applied, t
 use Rattle.combining.specs.declared.questions.Question.{Question}
 use Rattle.plain_world.specs.declared.faults.Fault.{Fault}
 use Rattle.plain_world.specs.declared.faults.Fault.TheVariants as faults
-use Rattle.search_tree.specs.declared.fault.TreeFault.TheVariants as tree
+use Rattle.tree_answers.specs.declared.fault.TreeFault.TheVariants as tree
 use Rattle.plain_world.specs.declared.outcomes.Outcome.{Outcome}
 use Rattle.plain_world.specs.declared.outcomes.Outcome.TheVariants as outcomes
 use Rattle.plain_world.specs.declared.searches.Search.{Search}

@@ -13,8 +13,8 @@ use crate::staging::{Transaction, names, placement_count, transaction_in};
 use crate::worlds::PlainWorld;
 use audit_trail::FIRST_LIMIT;
 use features::{Change, Name, Subject};
-use search_tree::TreeFault;
 use std::alloc::Allocator;
+use tree_answers::TreeFault;
 
 impl<A: Allocator> PlainWorld<A> {
     /// The subject of a name, if there is a place for it.

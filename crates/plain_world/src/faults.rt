@@ -4,8 +4,8 @@ ghost use Rattle.std.specs.Prelude.{◌≡◌};
 
 use features::StoreFault;
 use memory::Refused;
-use search_tree::TreeFault;
 use std::fmt;
+use tree_answers::TreeFault;
 
 /// Why a world refuses a call. A refused call changes nothing that is served or under way, save that an overrun ends the search, or
 /// the transaction whose walk it was.

@@ -8,8 +8,8 @@ use crate::staging::Transaction;
 use crate::worlds::PlainWorld;
 use features::{Change, Meter, Store};
 use plane::Shape;
-use search_tree::Keeper;
 use std::alloc::Allocator;
+use tree_answers::Keeper;
 
 impl<A: Allocator> Keeper<Shape> for PlainWorld<A> {
     ghost use Rattle.plain_world.specs.Keeping.{is_kept};

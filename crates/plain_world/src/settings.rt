@@ -2,7 +2,7 @@
 
 use audit_trail::{FIRST_LIMIT, RECORD_LIMIT};
 use features::FEATURE_LIMIT;
-use search_tree::MAX_STEPS;
+use tree_answers::MAX_STEPS;
 
 /// Where the numbers of a world start.
 #[derive(Clone, Copy, Debug, PartialEq, Eq)]

@@ -1,6 +1,6 @@
 //! What `advance` answers.
 
-use search_tree::Step;
+use tree_answers::Step;
 
 /// What `advance` answers.
 #[derive(Clone, Copy, Debug, PartialEq, Eq)]

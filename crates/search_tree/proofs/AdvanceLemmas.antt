@@ -13,9 +13,9 @@ use Rattle.search_tree.specs.Cases.Change.{Linking, Parting, Growing}
 use Rattle.search_tree.specs.Cases.TakesStep.{makes}
 use Rattle.search_tree.specs.Nexts.{ComesTo, IsChange, Makes}
 use Rattle.search_tree.specs.Trees.{PlainTree, root_level}
-use Rattle.search_tree.specs.declared.answers.Step.{Step}
-use Rattle.search_tree.specs.declared.fault.TreeFault.{TreeFault}
-use Rattle.search_tree.specs.declared.fault.TreeFault.TheVariants.{Full, Memory, Spent, TooHigh}
+use Rattle.tree_answers.specs.declared.answers.Step.{Step}
+use Rattle.tree_answers.specs.declared.fault.TreeFault.{TreeFault}
+use Rattle.tree_answers.specs.declared.fault.TreeFault.TheVariants.{Full, Memory, Spent, TooHigh}
 use Rattle.search_tree.specs.declared.rooms.Room.{Room}
 use Rattle.search_tree.specs.declared.rooms.Room.TheVariants.{Install, Split, Grow, Behind, Nothing}
 use Rattle.tree_theory.specs.KeyClasses.{Class}

@@ -16,7 +16,7 @@ use Rattle.tree_nodes.specs.Arenas.{IsChanged, Holds}
 use Rattle.search_tree.specs.Tends.{HasTended, ContentsLess, MayClean}
 use Rattle.search_tree.specs.Trees.{PlainTree, IsSound, tree_of}
 use Rattle.tree_nodes.specs.Bodies.{IsLeaf}
-use Rattle.search_tree.specs.declared.answers.Tending.TheVariants.{Cleaned}
+use Rattle.tree_answers.specs.declared.answers.Tending.TheVariants.{Cleaned}
 use Rattle.tree_nodes.proofs.ListEnds.{some_one}
 use Rattle.search_tree.proofs.TendSteps.{level_stays}
 

@@ -21,7 +21,7 @@ use Rattle.tree_nodes.specs.Halvings.{IsPickedOut}
 use Rattle.search_tree.specs.Splitting.{HasGrown, HasMoreNodes, HasPutBelow, IsFullRoot, IsLower, MayGrow, MayRise}
 use Rattle.tree_nodes.specs.NewNodes.{IsPutOver, below}
 use Rattle.search_tree.specs.Trees.{PlainTree, IsSound, level_of, tree_of}
-use Rattle.search_tree.specs.declared.fault.TreeFault.{TreeFault}
+use Rattle.tree_answers.specs.declared.fault.TreeFault.{TreeFault}
 use Rattle.search_tree.proofs.SplitSteps.{nothing_there, more_after}
 use Rattle.tree_nodes.proofs.ListEnds.{some_one}
 use Rattle.search_tree.proofs.WalkSteps.{same_sound, untouched_call}

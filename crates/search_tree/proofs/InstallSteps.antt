@@ -21,7 +21,7 @@ use Rattle.search_tree.specs.Calls.{SameContents}
 use Rattle.search_tree.specs.Tends.{HasTended, MayInstall}
 use Rattle.search_tree.specs.Trees.{PlainTree, IsSound, tree_of}
 use Rattle.tree_nodes.specs.Bodies.{IsInner}
-use Rattle.search_tree.specs.declared.answers.Tending.TheVariants.{Installed}
+use Rattle.tree_answers.specs.declared.answers.Tending.TheVariants.{Installed}
 use Rattle.search_tree.specs.declared.installing.NewEntry.{NewEntry}
 use Rattle.tree_nodes.proofs.ListEnds.{some_one}
 use Rattle.search_tree.proofs.TendSteps.{level_stays}

@@ -19,9 +19,9 @@ use Rattle.search_tree.specs.Dues.{LacksEntry}
 use Rattle.tree_nodes.specs.Standings.{IsAside, IsCoveredBy, IsHere, IsNowhere, IsUnlinked}
 use Rattle.search_tree.specs.Trees.{PlainTree, root_level, level_of}
 use Rattle.search_tree.specs.Walks.{IsHolder}
-use Rattle.search_tree.specs.declared.answers.Step.{Step}
-use Rattle.search_tree.specs.declared.fault.TreeFault.{TreeFault}
-use Rattle.search_tree.specs.declared.fault.TreeFault.TheVariants.{Held}
+use Rattle.tree_answers.specs.declared.answers.Step.{Step}
+use Rattle.tree_answers.specs.declared.fault.TreeFault.{TreeFault}
+use Rattle.tree_answers.specs.declared.fault.TreeFault.TheVariants.{Held}
 use Rattle.tree_nodes.proofs.ListEnds.{some_one}
 
 -- ---- how a node stands, as a number: gone or retired, unlinked, the root, or linked

@@ -17,7 +17,7 @@ use Rattle.tree_nodes.specs.Halvings.{IsPickedOut}
 use Rattle.search_tree.specs.Splitting.{HasMoreNodes, HasSplit}
 use Rattle.tree_nodes.specs.NewNodes.{IsPutOver, MoreTaken, left_of, right_of}
 use Rattle.search_tree.specs.Trees.{PlainTree, IsSound, level_of, tree_of}
-use Rattle.search_tree.specs.declared.fault.TreeFault.{TreeFault}
+use Rattle.tree_answers.specs.declared.fault.TreeFault.{TreeFault}
 use Rattle.search_tree.proofs.WalkSteps.{same_sound, untouched_call}
 
 -- where nothing stands, no node does

@@ -20,7 +20,7 @@ use Rattle.search_tree.specs.Calls.{SameContents}
 use Rattle.search_tree.specs.Tends.{HasTended, MayFree, MayRetire, slots_freed}
 use Rattle.search_tree.specs.Trees.{PlainTree, IsSound, progress_at, level_of, tree_of}
 use Rattle.tree_nodes.specs.Bodies.{IsInner}
-use Rattle.search_tree.specs.declared.answers.Tending.TheVariants.{Freed, Retired}
+use Rattle.tree_answers.specs.declared.answers.Tending.TheVariants.{Freed, Retired}
 use Rattle.search_tree.proofs.Kept.{parts_of}
 use Rattle.predicate_locks.specs.Searches.{search_at}
 use Rattle.tree_nodes.proofs.ListEnds.{some_one}

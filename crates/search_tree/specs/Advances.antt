@@ -8,11 +8,11 @@ use Rattle.search_tree.specs.Splitting.{HasMoreNodes, MayGrow}
 use Rattle.search_tree.specs.Tends.{HasTended}
 use Rattle.search_tree.specs.Trees.{PlainTree, PlainWalk, SeenSearch, search_in, root_level}
 use Rattle.search_tree.specs.Walks.{HasPlaced}
-use Rattle.search_tree.specs.declared.answers.Step.{Step}
-use Rattle.search_tree.specs.declared.answers.Step.TheVariants.{Moved, Split, Installed, Restarted, Placed}
-use Rattle.search_tree.specs.declared.answers.Tending.TheVariants.{Installed as GotEntry}
-use Rattle.search_tree.specs.declared.fault.TreeFault.{TreeFault}
-use Rattle.search_tree.specs.declared.fault.TreeFault.TheVariants.{NoSearch, TooMany, Held, Full, TooHigh, Spent, Overrun, Memory}
+use Rattle.tree_answers.specs.declared.answers.Step.{Step}
+use Rattle.tree_answers.specs.declared.answers.Step.TheVariants.{Moved, Split, Installed, Restarted, Placed}
+use Rattle.tree_answers.specs.declared.answers.Tending.TheVariants.{Installed as GotEntry}
+use Rattle.tree_answers.specs.declared.fault.TreeFault.{TreeFault}
+use Rattle.tree_answers.specs.declared.fault.TreeFault.TheVariants.{NoSearch, TooMany, Held, Full, TooHigh, Spent, Overrun, Memory}
 use Rattle.tree_theory.specs.KeyClasses.{Class}
 use Rattle.tree_theory.specs.declared.TheConstants.{TOP_LEVEL}
 

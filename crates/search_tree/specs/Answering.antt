@@ -4,9 +4,9 @@ use Rattle.node_arena.specs.Slots.{taken_count}
 use Rattle.node_arena.specs.declared.TheConstants.{MAX_SLOTS}
 use Rattle.predicate_locks.specs.Searches.{last_number}
 use Rattle.search_tree.specs.Trees.{PlainTree}
-use Rattle.search_tree.specs.declared.answers.Step.{Step}
-use Rattle.search_tree.specs.declared.fault.TreeFault.{TreeFault}
-use Rattle.search_tree.specs.declared.fault.TreeFault.TheVariants.{Memory}
+use Rattle.tree_answers.specs.declared.answers.Step.{Step}
+use Rattle.tree_answers.specs.declared.fault.TreeFault.{TreeFault}
+use Rattle.tree_answers.specs.declared.fault.TreeFault.TheVariants.{Memory}
 
 -- a tree whose counter is a number of 64 bits, and which takes no more slots than there are, as each tree in hand
 pub record HasEnds {Key Query Item : Type 0} (t : PlainTree Key Query Item) : Type 0 where

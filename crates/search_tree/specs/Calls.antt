@@ -4,10 +4,10 @@ use Rattle.std.specs.Option.{option_map}
 use Rattle.memory.specs.declared.refused.Refused.{Refused}
 use Rattle.predicate_locks.specs.Searches.{last_number, search_at}
 use Rattle.predicate_locks.specs.declared.running.RunningSearch.{RunningSearch}
-use Rattle.search_tree.specs.declared.answers.Visit.{Visit}
-use Rattle.search_tree.specs.declared.answers.Visit.TheVariants.{More, Ready}
-use Rattle.search_tree.specs.declared.fault.TreeFault.{TreeFault}
-use Rattle.search_tree.specs.declared.fault.TreeFault.TheVariants.{NoSearch, Overrun, Memory}
+use Rattle.tree_answers.specs.declared.answers.Visit.{Visit}
+use Rattle.tree_answers.specs.declared.answers.Visit.TheVariants.{More, Ready}
+use Rattle.tree_answers.specs.declared.fault.TreeFault.{TreeFault}
+use Rattle.tree_answers.specs.declared.fault.TreeFault.TheVariants.{NoSearch, Overrun, Memory}
 use Rattle.tree_nodes.specs.Progresses.{PlainProgress, is_empty}
 use Rattle.search_tree.specs.Trees.{PlainTree, IsFirstOf, SeenSearch, search_in, steps_in, tree_of, root_level}
 use Rattle.node_arena.specs.Slots.{taken_count, slot_count}

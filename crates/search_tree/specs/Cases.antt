@@ -13,10 +13,10 @@ use Rattle.tree_nodes.specs.Standings.{IsAside, IsHere, IsNowhere, IsUnlinked}
 use Rattle.search_tree.specs.Trees.{PlainTree, root_level, tree_of}
 use Rattle.tree_nodes.specs.Bodies.{IsLeaf}
 use Rattle.search_tree.specs.Walks.{HasDescended, IsHolder, NoneHolds}
-use Rattle.search_tree.specs.declared.answers.Step.{Step}
-use Rattle.search_tree.specs.declared.answers.Step.TheVariants.{Moved, Split, Installed, Restarted, Placed}
-use Rattle.search_tree.specs.declared.fault.TreeFault.{TreeFault}
-use Rattle.search_tree.specs.declared.fault.TreeFault.TheVariants.{Held, Full, TooHigh, Spent, Memory}
+use Rattle.tree_answers.specs.declared.answers.Step.{Step}
+use Rattle.tree_answers.specs.declared.answers.Step.TheVariants.{Moved, Split, Installed, Restarted, Placed}
+use Rattle.tree_answers.specs.declared.fault.TreeFault.{TreeFault}
+use Rattle.tree_answers.specs.declared.fault.TreeFault.TheVariants.{Held, Full, TooHigh, Spent, Memory}
 use Rattle.tree_theory.specs.Changes.{IsInstalled, IsPlaced}
 use Rattle.tree_theory.specs.KeyClasses.{Class}
 use Rattle.tree_theory.specs.Nodes.{Node, size_of}

@@ -4,9 +4,9 @@ use Rattle.node_arena.specs.Slots.{value_at}
 use Rattle.node_arena.specs.declared.handle.Handle.{Handle}
 use Rattle.search_tree.specs.Tends.{MayFree}
 use Rattle.search_tree.specs.Trees.{PlainTree}
-use Rattle.search_tree.specs.declared.answers.Tending.{Tending}
-use Rattle.search_tree.specs.declared.answers.Tending.TheVariants.{Idle, Freed, Installed, Cleaned, Retired}
-use Rattle.search_tree.specs.declared.fault.TreeFault.{TreeFault}
+use Rattle.tree_answers.specs.declared.answers.Tending.{Tending}
+use Rattle.tree_answers.specs.declared.answers.Tending.TheVariants.{Idle, Freed, Installed, Cleaned, Retired}
+use Rattle.tree_answers.specs.declared.fault.TreeFault.{TreeFault}
 use Rattle.search_tree.specs.declared.needs.Due.{Due}
 use Rattle.search_tree.specs.declared.needs.Due.TheVariants.{Nothing, Free, Install, Clean, Retire}
 use Rattle.tree_theory.specs.KeyClasses.{Class}

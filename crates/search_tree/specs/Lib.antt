@@ -1,4 +1,3 @@
-pub mod Faults
 pub mod Trees
 pub mod Calls
 pub mod States

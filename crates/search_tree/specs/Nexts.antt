@@ -11,8 +11,8 @@ use Rattle.search_tree.specs.Tends.{MayInstall}
 use Rattle.search_tree.specs.Trees.{PlainTree}
 use Rattle.search_tree.specs.Walks.{IsHolder, MayDescend, MayPlace}
 use Rattle.search_tree.specs.declared.advancing.Arrival.{Arrival}
-use Rattle.search_tree.specs.declared.answers.Step.{Step}
-use Rattle.search_tree.specs.declared.fault.TreeFault.{TreeFault}
+use Rattle.tree_answers.specs.declared.answers.Step.{Step}
+use Rattle.tree_answers.specs.declared.fault.TreeFault.{TreeFault}
 use Rattle.search_tree.specs.declared.nexts.Next.{Next}
 use Rattle.search_tree.specs.declared.nexts.Next.TheVariants.{Restart, Climb, Descend, Hold, Place, Make}
 use Rattle.search_tree.specs.declared.rooms.Room.{Room}

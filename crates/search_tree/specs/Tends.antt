@@ -5,8 +5,8 @@ use Rattle.node_arena.specs.declared.handle.Handle.{Handle}
 use Rattle.predicate_locks.specs.Searches.{AllBegunSince}
 use Rattle.search_tree.specs.Calls.{SameContents}
 use Rattle.search_tree.specs.Trees.{PlainTree, search_in, steps_in, root_level, tree_of}
-use Rattle.search_tree.specs.declared.answers.Tending.{Tending}
-use Rattle.search_tree.specs.declared.answers.Tending.TheVariants.{Idle, Freed, Installed, Cleaned, Retired}
+use Rattle.tree_answers.specs.declared.answers.Tending.{Tending}
+use Rattle.tree_answers.specs.declared.answers.Tending.TheVariants.{Idle, Freed, Installed, Cleaned, Retired}
 use Rattle.search_tree.specs.declared.installing.NewEntry.{NewEntry}
 use Rattle.tree_theory.specs.Changes.{IsKeyFor, IsFreed, IsInstalled, IsCleaned, IsRetired}
 use Rattle.tree_theory.specs.Contents.{IsContents, LosesPairs}

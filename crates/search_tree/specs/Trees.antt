@@ -9,7 +9,7 @@ use Rattle.tree_theory.specs.Contents.{IsContents}
 use Rattle.tree_theory.specs.Invariant.{Invariant}
 use Rattle.tree_theory.specs.KeyClasses.{Class}
 use Rattle.tree_theory.specs.Nodes.{PlainNode, PlainSearch, Tree}
-use Rattle.search_tree.specs.declared.tree.TheConstants.{MAX_STEPS}
+use Rattle.tree_answers.specs.declared.limits.TheConstants.{MAX_STEPS}
 use Rattle.tree_nodes.specs.Progresses.{PlainProgress, is_empty}
 use Rattle.tree_nodes.specs.NewNodes.{first_leaf}
 

@@ -7,14 +7,13 @@ ghost use Rattle.search_tree.specs.Cases.{TakesStep};
 ghost use Rattle.search_tree.specs.Nexts.{IsChange, Makes, MayMake, answer_in, place_in};
 ghost use Rattle.tree_theory.specs.KeyClasses.{class_of};
 
-use crate::answers::Step;
-use crate::fault::TreeFault;
 use crate::nexts::Next;
 use crate::rooms::Room;
 use crate::tree::Tree;
 use crate::walk::Walk;
 use node_arena::Handle;
 use std::alloc::Allocator;
+use tree_answers::{Step, TreeFault};
 use tree_theory::KeyClass;
 
 /// What a step of a walk answers, and where the walk stands then.

@@ -14,12 +14,12 @@ ghost use Rattle.tree_theory.specs.KeyClasses.{class_of};
 ghost use Rattle.tree_theory.specs.Nodes.{size_of};
 ghost use Rattle.tree_theory.specs.declared.TheConstants.{TOP_LEVEL};
 
-use crate::fault::TreeFault;
 use crate::splitting::make_slots;
 use crate::tree::Tree;
 use memory::{Refused, copied};
 use node_arena::Handle;
 use std::alloc::Allocator;
+use tree_answers::TreeFault;
 use tree_nodes::{Body, Entries, Halves, Nodes, TreeNode, key_for, put_over, rise, shared_out};
 use tree_theory::{KeyClass, TOP_LEVEL};
 

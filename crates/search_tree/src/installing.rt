@@ -7,10 +7,10 @@ ghost use Rattle.search_tree.specs.Trees.{tree_of};
 ghost use Rattle.tree_theory.specs.Changes.{IsInstalled};
 ghost use Rattle.tree_theory.specs.KeyClasses.{class_of};
 
-use crate::answers::Tending;
 use crate::tree::Tree;
 use node_arena::Handle;
 use std::alloc::Allocator;
+use tree_answers::Tending;
 use tree_nodes::{push_entry, set_key, set_place, set_seq};
 use tree_theory::{KeyClass, Place};
 

@@ -4,8 +4,8 @@ ghost use Rattle.node_arena.specs.declared.handle.Handle.{Handle};
 ghost use Rattle.search_tree.specs.Answering.{HasEnds, AnswersAlike};
 ghost use Rattle.search_tree.specs.Cases.{TakesStep};
 ghost use Rattle.search_tree.specs.Trees.{PlainTree};
-ghost use Rattle.search_tree.specs.declared.answers.Step.{Step};
-ghost use Rattle.search_tree.specs.declared.fault.TreeFault.{TreeFault};
+ghost use Rattle.tree_answers.specs.declared.answers.Step.{Step};
+ghost use Rattle.tree_answers.specs.declared.fault.TreeFault.{TreeFault};
 ghost use Rattle.std.specs.Prelude.{ℕ, Result};
 ghost use Rattle.tree_theory.specs.KeyClasses.{class_of};
 

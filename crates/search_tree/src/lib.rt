@@ -2,9 +2,7 @@
 #![tactic(auto)]
 
 mod advancing;
-mod answers;
 mod descents;
-mod fault;
 mod growing;
 mod installing;
 mod joining;
@@ -21,9 +19,7 @@ mod visiting;
 mod walk;
 mod walking;
 
-pub use answers::{Step, Tending, Visit};
-pub use fault::TreeFault;
 pub use laws::steps_answer_alike;
-pub use tree::{MAX_STEPS, Tree};
-pub use tree_nodes::Keeper;
+pub use tree::Tree;
+pub use tree_answers::{Keeper, MAX_STEPS, Step, Tending, TreeFault, Visit};
 pub use walk::Walk;

@@ -15,7 +15,8 @@ use crate::installing::NewEntry;
 use crate::tree::Tree;
 use node_arena::Handle;
 use std::alloc::Allocator;
-use tree_nodes::{Keeper, Nodes, TreeNode, key_for, parent_of, place_among};
+use tree_answers::Keeper;
+use tree_nodes::{Nodes, TreeNode, key_for, parent_of, place_among};
 use tree_theory::{KeyClass, NODE_SIZE, Place};
 
 /// What is to be done at a node.

@@ -8,11 +8,11 @@ ghost use Rattle.search_tree.specs.Calls.{IsOpen, IsShut, IsComplete, found_in};
 ghost use Rattle.search_tree.specs.Trees.{IsFirstOf, progress_at};
 ghost use Rattle.tree_theory.specs.KeyClasses.{class_of};
 
-use crate::fault::TreeFault;
 use crate::tree::Tree;
 use memory::GrowVec;
 use predicate_locks::MAX_RUNNING;
 use std::alloc::Allocator;
+use tree_answers::TreeFault;
 use tree_nodes::Progress;
 use tree_theory::KeyClass;
 

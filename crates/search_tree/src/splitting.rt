@@ -10,11 +10,11 @@ ghost use Rattle.search_tree.specs.Splitting.{HasMoreNodes, HasSplit, IsFullLink
 ghost use Rattle.tree_nodes.specs.Descents.{marked_right as right_of_marked};
 ghost use Rattle.tree_theory.specs.KeyClasses.{class_of};
 
-use crate::fault::TreeFault;
 use crate::tree::Tree;
 use memory::{Refused, copied};
 use node_arena::{ArenaFault, Handle};
 use std::alloc::Allocator;
+use tree_answers::TreeFault;
 use tree_nodes::{Halves, Nodes, leave_left, parent_of, put_over, shared_out};
 use tree_theory::KeyClass;
 

@@ -11,13 +11,12 @@ ghost use Rattle.search_tree.specs.Trees.{tree_of};
 ghost use Rattle.tree_theory.specs.Changes.{IsFreed, IsCleaned, IsRetired};
 ghost use Rattle.tree_theory.specs.KeyClasses.{class_of};
 
-use crate::answers::Tending;
-use crate::fault::TreeFault;
 use crate::needs::Due;
 use crate::tree::Tree;
 use node_arena::Handle;
 use std::alloc::Allocator;
-use tree_nodes::{Keeper, keep, remove_entry, set_place};
+use tree_answers::{Keeper, Tending, TreeFault};
+use tree_nodes::{keep, remove_entry, set_place};
 use tree_theory::{KeyClass, Place};
 
 impl<C: KeyClass, A: Allocator> Tree<C, A> {

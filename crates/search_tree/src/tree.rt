@@ -6,17 +6,14 @@ ghost use Rattle.node_arena.specs.Slots.{slot_count, taken_count, IsGiven, Count
 ghost use Rattle.search_tree.specs.Trees.{IsFirst};
 ghost use Rattle.tree_theory.specs.KeyClasses.{class_of};
 
-use crate::fault::TreeFault;
 use memory::Refused;
 use node_arena::{Arena, ArenaFault, Handle};
 use predicate_locks::Running;
 use std::alloc::Allocator;
 use std::marker::Model;
+use tree_answers::{MAX_STEPS, TreeFault};
 use tree_nodes::{Progress, TreeNode, refusal_in};
 use tree_theory::KeyClass;
-
-/// The highest limit of the steps that a search or a walk makes, and that of a tree which is told no other.
-pub const MAX_STEPS: u64 = 1_000_000;
 
 /// An index of items under keys of the class `C`, in which searches and walks go on at the same time, step by step.
 #[derive(Drop)]

@@ -6,12 +6,11 @@ ghost use Rattle.search_tree.specs.States.{IsState};
 ghost use Rattle.tree_nodes.specs.Progresses.{is_empty};
 ghost use Rattle.tree_theory.specs.KeyClasses.{class_of};
 
-use crate::answers::Visit;
-use crate::fault::TreeFault;
 use crate::opening::place_of;
 use crate::tree::Tree;
 use memory::Refused;
 use std::alloc::Allocator;
+use tree_answers::{TreeFault, Visit};
 use tree_nodes::{Progress, visit_last};
 use tree_theory::KeyClass;
 

@@ -4,9 +4,9 @@ ghost use Rattle.std.specs.Prelude.{◌≡◌, ◌<◌, false};
 ghost use Rattle.predicate_locks.specs.Searches.{last_number};
 ghost use Rattle.node_arena.specs.declared.handle.Handle.{Handle};
 
-use crate::answers::Step;
 use node_arena::Handle;
 use std::marker::Model;
+use tree_answers::Step;
 
 /// A pair on its way from the root to its leaf. Between two steps it stands at a node, and is kept by the caller alone: a tree does not know of it.
 #[derive(Drop)]

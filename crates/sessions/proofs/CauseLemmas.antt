@@ -22,9 +22,9 @@ use Rattle.plain_world.specs.Events.{Stage, Commit, Happens, Reply, Refused, Row
 use Rattle.plain_world.specs.Staging.{names, placements, staged_in, transaction_with}
 use Rattle.plain_world.specs.States.{WorldData}
 use Rattle.plain_world.proofs.AdmittedLemmas.{by_if, by_unless}
-use Rattle.search_tree.specs.declared.answers.Step.{Step}
-use Rattle.search_tree.specs.declared.answers.Visit.TheVariants as visits
-use Rattle.search_tree.specs.declared.fault.TreeFault.TheVariants as tree
+use Rattle.tree_answers.specs.declared.answers.Step.{Step}
+use Rattle.tree_answers.specs.declared.answers.Visit.TheVariants as visits
+use Rattle.tree_answers.specs.declared.fault.TreeFault.TheVariants as tree
 use Rattle.transactions.specs.Index.{Index, IndexedWorld}
 use Rattle.transactions.specs.Stepping.{EndsInIndex, VisitsIndex}
 use Rattle.transactions.specs.Walks.{JourneyData, begun as with_place, ended, if_done}

@@ -14,12 +14,12 @@ use Rattle.audit_trail.specs.Judging.{AreDistinct, Judged}
 use Rattle.audit_trail.specs.Records.{applied, turned_away}
 use Rattle.plain_world.specs.declared.faults.Fault.{Fault}
 use Rattle.plain_world.specs.declared.faults.Fault.TheVariants as faults
-use Rattle.search_tree.specs.declared.fault.TreeFault.TheVariants as tree
+use Rattle.tree_answers.specs.declared.fault.TreeFault.TheVariants as tree
 use Rattle.plain_world.specs.declared.outcomes.Outcome.{Outcome}
 use Rattle.plain_world.specs.declared.outcomes.Outcome.TheVariants as outcomes
 use Rattle.plain_world.specs.declared.settings.TheConstants.{CHANGE_LIMIT}
 use Rattle.plain_world.specs.declared.steps.Advance.TheVariants as advances
-use Rattle.search_tree.specs.declared.answers.Step.TheVariants as steps
+use Rattle.tree_answers.specs.declared.answers.Step.TheVariants as steps
 use Rattle.plain_world.specs.Admitting.{LAST, and_then, given, transaction_owned, subject_at, own_transaction, may_step, may_add, all_placed, may_record, may_commit, next_transaction}
 use Rattle.plain_world.specs.Answers.{denial_of}
 use Rattle.plain_world.specs.Events.{Begin, Stage, AdvanceWalk, Commit, Abort, Happens, Reply, Number, Done, Advanced, Ended, Refused, UnlessMemory, NoReadySeeks, Walks, Advances, Applies, CommitsAs, Commits as CommitsEvent, is_memory, is_want, recorded, reply_of, without_transaction}

@@ -6,9 +6,9 @@ use Rattle.features.specs.declared.actors.Subject.{Subject}
 use Rattle.audit_trail.specs.Legal.{subject_of}
 use Rattle.audit_trail.proofs.LegalLemmas.{subject_of-append}
 use Rattle.plain_world.specs.declared.faults.Fault.TheVariants as faults
-use Rattle.search_tree.specs.declared.fault.TreeFault.TheVariants as tree
+use Rattle.tree_answers.specs.declared.fault.TreeFault.TheVariants as tree
 use Rattle.plain_world.specs.declared.searches.Search.{Search}
-use Rattle.search_tree.specs.declared.answers.Visit.TheVariants as visits
+use Rattle.tree_answers.specs.declared.answers.Visit.TheVariants as visits
 use Rattle.plain_world.specs.Admitting.{and_then, given, owned, search_with, may_go_on, may_finish}
 use Rattle.plain_world.specs.Answers.{AnswerData}
 use Rattle.plain_world.specs.Events.{Event, VisitNext, Finish, DropSearch, Happens, Reply, Visited, Rows, Refused, is_memory, Sees, Finishes, with_ready, without_search}

@@ -10,10 +10,10 @@ use Rattle.features.specs.declared.actors.Subject.{Subject}
 use Rattle.audit_trail.specs.Legal.{subject_of}
 use Rattle.plain_world.specs.declared.faults.Fault.{Fault as WorldFault}
 use Rattle.plain_world.specs.declared.faults.Fault.TheVariants as refusals
-use Rattle.search_tree.specs.declared.fault.TreeFault.TheVariants as tree
+use Rattle.tree_answers.specs.declared.fault.TreeFault.TheVariants as tree
 use Rattle.plain_world.specs.declared.searches.Search.{Search}
-use Rattle.search_tree.specs.declared.answers.Visit.{Visit}
-use Rattle.search_tree.specs.declared.answers.Visit.TheVariants as visits
+use Rattle.tree_answers.specs.declared.answers.Visit.{Visit}
+use Rattle.tree_answers.specs.declared.answers.Visit.TheVariants as visits
 use Rattle.plain_world.specs.Answers.{AnswerData}
 use Rattle.plain_world.specs.Events.{OpenSearch, VisitNext, DropSearch, Happens, Reply as EventReply, Number, Visited, Rows, Refused, reply_of}
 use Rattle.plain_world.specs.States.{WorldData}

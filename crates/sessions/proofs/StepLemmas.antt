@@ -3,8 +3,8 @@ use Rattle.std.proofs.Common.{◌≡◌, ℕ, zero, suc, ◌+◌, ◌<◌, List,
 use Rattle.std.specs.Bool.{MatchBool}
 use Rattle.features.specs.declared.rows.Change.{Change}
 use Rattle.plain_world.specs.declared.faults.Fault.{Fault}
-use Rattle.search_tree.specs.declared.answers.Visit.{Visit}
-use Rattle.search_tree.specs.declared.answers.Visit.TheVariants as visits
+use Rattle.tree_answers.specs.declared.answers.Visit.{Visit}
+use Rattle.tree_answers.specs.declared.answers.Visit.TheVariants as visits
 use Rattle.plain_world.specs.Admitting.{may_go_on}
 use Rattle.plain_world.specs.Events.{VisitNext, Happens, Visited, Refused}
 use Rattle.plain_world.specs.States.{WorldData}

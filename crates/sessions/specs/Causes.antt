@@ -15,9 +15,9 @@ use Rattle.plain_world.specs.declared.settings.TheConstants.{CHANGE_LIMIT, STEP_
 use Rattle.plain_world.specs.declared.steps.Advance.{Advance}
 use Rattle.plain_world.specs.declared.steps.Advance.TheVariants.{AllPlaced, Walked}
 use Rattle.search_tree.specs.Calls.{IsOpen}
-use Rattle.search_tree.specs.declared.answers.Step.{Step}
-use Rattle.search_tree.specs.declared.answers.Visit.TheVariants.{Ready}
-use Rattle.search_tree.specs.declared.fault.TreeFault.TheVariants as tree
+use Rattle.tree_answers.specs.declared.answers.Step.{Step}
+use Rattle.tree_answers.specs.declared.answers.Visit.TheVariants.{Ready}
+use Rattle.tree_answers.specs.declared.fault.TreeFault.TheVariants as tree
 use Rattle.transactions.specs.Index.{Index, IndexedWorld, frames}
 use Rattle.transactions.specs.Stepping.{EndsInIndex, VisitsIndex}
 use Rattle.transactions.specs.Walking.{WalksOn}

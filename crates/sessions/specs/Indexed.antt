@@ -8,8 +8,8 @@ use Rattle.plain_world.specs.Admitting.{may_go_on}
 use Rattle.plain_world.specs.Answers.{AnswerData}
 use Rattle.plain_world.specs.Events.{Done, DropSearch, Happens, Refused, Tend, Tended, reply_of}
 use Rattle.plain_world.specs.declared.faults.Fault.{Fault}
-use Rattle.search_tree.specs.declared.answers.Tending.{Tending}
-use Rattle.search_tree.specs.declared.answers.Visit.{Visit}
+use Rattle.tree_answers.specs.declared.answers.Tending.{Tending}
+use Rattle.tree_answers.specs.declared.answers.Visit.{Visit}
 use Rattle.transactions.specs.Index.{Index, IndexedWorld, slots_of}
 use Rattle.transactions.specs.Refusing.{RefusesGrowth}
 use Rattle.transactions.specs.Stepping.{EndsInIndex, OpensInIndex, TendsIndex}

@@ -13,11 +13,11 @@ use Rattle.plain_world.specs.Answers.{AnswerData, DenialData}
 use Rattle.plain_world.specs.Rolls.{RolledData}
 use Rattle.plain_world.specs.declared.faults.Fault.{Fault as WorldFault}
 use Rattle.plain_world.specs.declared.faults.Fault.TheVariants as refusals
-use Rattle.search_tree.specs.declared.fault.TreeFault.TheVariants as tree
+use Rattle.tree_answers.specs.declared.fault.TreeFault.TheVariants as tree
 use Rattle.plain_world.specs.declared.outcomes.Outcome.{Outcome}
 use Rattle.plain_world.specs.declared.outcomes.Outcome.TheVariants as outcomes
-use Rattle.search_tree.specs.declared.answers.Visit.{Visit}
-use Rattle.search_tree.specs.declared.answers.Visit.TheVariants as visits
+use Rattle.tree_answers.specs.declared.answers.Visit.{Visit}
+use Rattle.tree_answers.specs.declared.answers.Visit.TheVariants as visits
 use Rattle.sessions.specs.declared.faults.Fault.TheVariants.{NoSubject, NoPlace}
 use Rattle.sessions.specs.declared.replies.Reply.{Reply}
 use Rattle.sessions.specs.declared.replies.Reply.TheVariants.{Applied, Denied, Absent, Exists, Stale, Held, More, Ready, Permitted, Forbidden, Memory, Error, Unread, Refused}

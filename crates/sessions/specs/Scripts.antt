@@ -6,7 +6,7 @@ use Rattle.std.specs.List.{prefix_len}
 use Rattle.plane.specs.declared.point.Point.{Point}
 use Rattle.features.specs.Names.{name_of}
 use Rattle.plain_world.specs.declared.faults.Fault.{Fault as WorldFault}
-use Rattle.search_tree.specs.declared.answers.Visit.{Visit}
+use Rattle.tree_answers.specs.declared.answers.Visit.{Visit}
 use Rattle.plain_world.specs.Answers.{AnswerData}
 use Rattle.plain_world.specs.Events.{OpenSearch, Happens, Number, Rows, reply_of}
 use Rattle.sessions.specs.declared.faults.Fault.TheVariants.{BeforeHello, LineTooLong, NoLabel}

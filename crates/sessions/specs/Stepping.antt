@@ -4,10 +4,10 @@ use Rattle.std.specs.Bool.{MatchBool}
 use Rattle.std.specs.Str.{bytes_eq}
 use Rattle.plain_world.specs.declared.faults.Fault.{Fault as WorldFault}
 use Rattle.plain_world.specs.declared.faults.Fault.TheVariants as refusals
-use Rattle.search_tree.specs.declared.fault.TreeFault.TheVariants as tree
+use Rattle.tree_answers.specs.declared.fault.TreeFault.TheVariants as tree
 use Rattle.plain_world.specs.declared.settings.TheConstants.{STEP_LIMIT}
-use Rattle.search_tree.specs.declared.answers.Visit.{Visit}
-use Rattle.search_tree.specs.declared.answers.Visit.TheVariants as visits
+use Rattle.tree_answers.specs.declared.answers.Visit.{Visit}
+use Rattle.tree_answers.specs.declared.answers.Visit.TheVariants as visits
 use Rattle.plain_world.specs.Events.{VisitNext, Finish, DropSearch, Happens, Reply as EventReply, Visited, Refused, reply_of}
 use Rattle.plain_world.specs.States.{WorldData}
 use Rattle.plain_world.specs.declared.searches.Search.{Search}

@@ -5,7 +5,7 @@ use Rattle.features.specs.declared.actors.Subject.{Subject}
 use Rattle.features.specs.declared.rows.Change.{Change}
 use Rattle.plain_world.specs.declared.faults.Fault.{Fault}
 use Rattle.plain_world.specs.declared.faults.Fault.TheVariants as faults
-use Rattle.search_tree.specs.declared.fault.TreeFault.TheVariants as tree
+use Rattle.tree_answers.specs.declared.fault.TreeFault.TheVariants as tree
 use Rattle.plain_world.specs.Admitting.{subject_at}
 use Rattle.plain_world.specs.Events.{Commit, Reply, Refused, Happens, NoReadySeeks}
 use Rattle.plain_world.specs.Staging.{placements}

@@ -8,7 +8,7 @@ ghost use Rattle.sessions.specs.Printed.{led, reply_text};
 ghost use Rattle.sessions.specs.Replies.{said_view};
 ghost use Rattle.plain_world.specs.Events.{Happens, Tend, Tended, reply_of};
 ghost use Rattle.plain_world.specs.declared.faults.Fault.{Fault as WorldFault};
-ghost use Rattle.search_tree.specs.declared.answers.Tending.{Tending};
+ghost use Rattle.tree_answers.specs.declared.answers.Tending.{Tending};
 ghost use Rattle.sessions.specs.Stepping.{AllDrop};
 ghost use Rattle.transactions.specs.Index.{IndexedWorld, slots_of};
 ghost use Rattle.transactions.specs.Refusing.{RefusesGrowth};

@@ -12,10 +12,10 @@ use Rattle.plain_world.specs.States.{WorldData}
 use Rattle.search_tree.specs.Advances.{HasPlacedBehindNone, IsAdvance, MayRefuse, MayWalk, is_placed}
 use Rattle.search_tree.specs.Cases.{TakesStep}
 use Rattle.search_tree.specs.Trees.{PlainWalk}
-use Rattle.search_tree.specs.declared.answers.Step.{Step}
-use Rattle.search_tree.specs.declared.answers.Step.TheVariants as steps
-use Rattle.search_tree.specs.declared.fault.TreeFault.{TreeFault}
-use Rattle.search_tree.specs.declared.fault.TreeFault.TheVariants as tree
+use Rattle.tree_answers.specs.declared.answers.Step.{Step}
+use Rattle.tree_answers.specs.declared.answers.Step.TheVariants as steps
+use Rattle.tree_answers.specs.declared.fault.TreeFault.{TreeFault}
+use Rattle.tree_answers.specs.declared.fault.TreeFault.TheVariants as tree
 use Rattle.transactions.specs.Index.{Index, IndexedWorld, IsWorld, Serves, frames}
 use Rattle.transactions.specs.Refusing.{RefusesGrowth, is_overrun, told}
 use Rattle.transactions.specs.Walking.{IsWalked, WalksOn, after_step, area_growth, margin_growth, next_walk, told_step}

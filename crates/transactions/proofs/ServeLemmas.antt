@@ -22,9 +22,9 @@ use Rattle.search_tree.specs.Advances.{HasPlacedBehindNone}
 use Rattle.search_tree.specs.Calls.{SameContents, IsOpen, IsShut, IsFurther}
 use Rattle.search_tree.specs.Tends.{HasTended, ContentsTended}
 use Rattle.search_tree.specs.Trees.{IsFirst, SeenSearch, search_in}
-use Rattle.search_tree.specs.declared.fault.TreeFault.{TreeFault}
-use Rattle.search_tree.specs.declared.answers.Tending.{Tending}
-use Rattle.search_tree.specs.declared.answers.Tending.TheVariants.{Idle, Freed, Installed, Cleaned, Retired}
+use Rattle.tree_answers.specs.declared.fault.TreeFault.{TreeFault}
+use Rattle.tree_answers.specs.declared.answers.Tending.{Tending}
+use Rattle.tree_answers.specs.declared.answers.Tending.TheVariants.{Idle, Freed, Installed, Cleaned, Retired}
 use Rattle.transactions.specs.Index.{Index, Serves, frames, seen_there, told_here}
 use Rattle.transactions.proofs.KeptLemmas.{world_kept}
 use Rattle.transactions.proofs.PairLemmas.{features_more, placements_more, placed_more}

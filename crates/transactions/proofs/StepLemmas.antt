@@ -22,12 +22,12 @@ use Rattle.search_tree.specs.Advances.IsAdvance.{was_placed, overruns as walk_ov
 use Rattle.search_tree.specs.Calls.{IsOverrun, IsVisit}
 use Rattle.search_tree.specs.Calls.IsVisit.{none_runs, was_ready, overruns, goes_on, wants_memory}
 use Rattle.search_tree.specs.Trees.{PlainWalk, SeenSearch, search_in}
-use Rattle.search_tree.specs.declared.answers.Step.{Step}
-use Rattle.search_tree.specs.declared.answers.Step.TheVariants as steps
-use Rattle.search_tree.specs.declared.answers.Visit.{Visit}
-use Rattle.search_tree.specs.declared.answers.Visit.TheVariants as visits
-use Rattle.search_tree.specs.declared.fault.TreeFault.{TreeFault}
-use Rattle.search_tree.specs.declared.fault.TreeFault.TheVariants as tree
+use Rattle.tree_answers.specs.declared.answers.Step.{Step}
+use Rattle.tree_answers.specs.declared.answers.Step.TheVariants as steps
+use Rattle.tree_answers.specs.declared.answers.Visit.{Visit}
+use Rattle.tree_answers.specs.declared.answers.Visit.TheVariants as visits
+use Rattle.tree_answers.specs.declared.fault.TreeFault.{TreeFault}
+use Rattle.tree_answers.specs.declared.fault.TreeFault.TheVariants as tree
 use Rattle.transactions.specs.Index.{Index, Serves, frames}
 use Rattle.transactions.specs.Refusing.{RefusesGrowth, is_overrun, told}
 use Rattle.transactions.specs.Walks.{IsWalkFor}

@@ -34,8 +34,8 @@ use Rattle.plain_world.proofs.EventLemmas.{admitted as admits}
 use Rattle.plain_world.proofs.OrderLemmas.{opened_ordered, ordered_event}
 use Rattle.plain_world.proofs.UnderWayLemmas.{open_number, opened_way, way_event}
 use Rattle.search_tree.specs.Advances.{HasPlacedBehindNone}
-use Rattle.search_tree.specs.declared.answers.Step.TheVariants as steps
-use Rattle.search_tree.specs.declared.fault.TreeFault.TheVariants as tree
+use Rattle.tree_answers.specs.declared.answers.Step.TheVariants as steps
+use Rattle.tree_answers.specs.declared.fault.TreeFault.TheVariants as tree
 use Rattle.search_tree.specs.Calls.{IsComplete, IsOpen, IsShut}
 use Rattle.search_tree.specs.Trees.{IsFirst, PlainWalk, SeenSearch, search_in}
 use Rattle.transactions.specs.Index.{HasFeatures, Index, IndexedWorld, IsWorld, Serves, frames}

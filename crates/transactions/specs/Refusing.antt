@@ -7,8 +7,8 @@ use Rattle.plain_world.specs.declared.faults.Fault.TheVariants as faults
 use Rattle.search_tree.specs.Advances.{LacksSlots}
 use Rattle.search_tree.specs.Calls.{IsOverrun}
 use Rattle.search_tree.specs.Trees.{root_level}
-use Rattle.search_tree.specs.declared.fault.TreeFault.{TreeFault}
-use Rattle.search_tree.specs.declared.fault.TreeFault.TheVariants as tree
+use Rattle.tree_answers.specs.declared.fault.TreeFault.{TreeFault}
+use Rattle.tree_answers.specs.declared.fault.TreeFault.TheVariants as tree
 use Rattle.tree_theory.specs.declared.TheConstants.{TOP_LEVEL}
 use Rattle.transactions.specs.Index.{Index, frames}
 

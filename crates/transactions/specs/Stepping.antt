@@ -10,10 +10,10 @@ use Rattle.plain_world.specs.States.{WorldData}
 use Rattle.search_tree.specs.Calls.{IsOpen, IsShut, IsVisit}
 use Rattle.search_tree.specs.Dues.{AnswersFirst}
 use Rattle.search_tree.specs.Tends.{ContentsTended, HasTended, StepsAt}
-use Rattle.search_tree.specs.declared.answers.Tending.{Tending}
-use Rattle.search_tree.specs.declared.answers.Tending.TheVariants.{Idle}
-use Rattle.search_tree.specs.declared.answers.Visit.{Visit}
-use Rattle.search_tree.specs.declared.fault.TreeFault.{TreeFault}
+use Rattle.tree_answers.specs.declared.answers.Tending.{Tending}
+use Rattle.tree_answers.specs.declared.answers.Tending.TheVariants.{Idle}
+use Rattle.tree_answers.specs.declared.answers.Visit.{Visit}
+use Rattle.tree_answers.specs.declared.fault.TreeFault.{TreeFault}
 use Rattle.transactions.specs.Index.{Index, frames}
 use Rattle.transactions.specs.Refusing.{told}
 

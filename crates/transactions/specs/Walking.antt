@@ -13,8 +13,8 @@ use Rattle.plain_world.specs.Staging.{next_placement}
 use Rattle.search_tree.specs.Advances.{IsAdvance, MayWalk, is_placed}
 use Rattle.search_tree.specs.Cases.{TakesStep}
 use Rattle.search_tree.specs.Trees.{PlainWalk}
-use Rattle.search_tree.specs.declared.answers.Step.{Step}
-use Rattle.search_tree.specs.declared.fault.TreeFault.{TreeFault}
+use Rattle.tree_answers.specs.declared.answers.Step.{Step}
+use Rattle.tree_answers.specs.declared.fault.TreeFault.{TreeFault}
 use Rattle.transactions.specs.Index.{Index, IndexedWorld, frames}
 use Rattle.transactions.specs.Refusing.{is_overrun, told}
 use Rattle.transactions.specs.Walks.{JourneyData, ended, walk_of, with_walk}

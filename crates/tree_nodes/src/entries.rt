@@ -4,11 +4,11 @@ ghost use Rattle.std.specs.Prelude.{◌≡◌, ◌∷◌, ◌++◌, ◌<◌, ◌
 ghost use Rattle.node_arena.specs.declared.handle.Handle.{Handle};
 ghost use Rattle.tree_theory.specs.declared.TheConstants.{NODE_SIZE};
 
-use crate::keeper::Keeper;
 use memory::{GrowVec, Refused, vec_with_places};
 use node_arena::Handle;
 use std::alloc::Allocator;
 use std::marker::Model;
+use tree_answers::Keeper;
 use tree_theory::NODE_SIZE;
 
 /// The entries of an inner node: a key for each child. Keys and children stand in two lists, so that a search goes over the keys alone.

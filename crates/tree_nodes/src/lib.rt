@@ -4,7 +4,6 @@
 mod descending;
 mod entries;
 mod halves;
-mod keeper;
 mod keys;
 mod node;
 mod penalties;
@@ -19,7 +18,6 @@ mod standing;
 pub use descending::{led_searches, marked_right};
 pub use entries::{Entries, Pairs};
 pub use halves::{Halves, shared_out};
-pub use keeper::Keeper;
 pub use keys::key_for;
 pub use node::{Body, TreeNode};
 pub use penalties::best_entry;

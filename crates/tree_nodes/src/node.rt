@@ -12,13 +12,13 @@ ghost use Rattle.tree_nodes.specs.Bodies.{plain_body, IsLeaf, IsInner};
 ghost use Rattle.tree_nodes.specs.NewNodes.{below, left_of, right_of, first_leaf};
 
 use crate::entries::{Entries, Pairs};
-use crate::keeper::Keeper;
 use crate::refusals::refusal_in;
 use memory::Refused;
 use node_arena::Handle;
 use predicate_locks::{Attached, Running};
 use std::alloc::Allocator;
 use std::marker::Model;
+use tree_answers::Keeper;
 use tree_theory::{NODE_SIZE, Place};
 
 /// What a node has.

@@ -13,12 +13,12 @@ ghost use Rattle.tree_theory.specs.Nodes.PlainBody.{Leaf, Inner};
 ghost use Rattle.tree_theory.specs.declared.TheConstants.{NODE_SIZE, TOP_LEVEL};
 
 use crate::entries::Entries;
-use crate::keeper::Keeper;
 use crate::node::{Body, TreeNode};
 use memory::Refused;
 use node_arena::{Arena, Handle};
 use predicate_locks::{Attached, Running};
 use std::alloc::Allocator;
+use tree_answers::Keeper;
 use tree_theory::Place;
 
 /// The nodes of a tree.

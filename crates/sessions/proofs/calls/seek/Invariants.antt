@@ -1,5 +1,5 @@
 use Rattle.std.proofs.Common.{◌≡◌, ◌⊎◌}
-use Rattle.search_tree.specs.declared.answers.Visit.TheVariants as visits
+use Rattle.tree_answers.specs.declared.answers.Visit.TheVariants as visits
 use Rattle.plain_world.specs.Admitting.{may_go_on}
 use Rattle.plain_world.specs.Events.{Happens, VisitNext, Visited}
 use Rattle.sessions.specs.Stepping.{SeesMore}

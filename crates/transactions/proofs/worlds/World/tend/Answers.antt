@@ -1,8 +1,8 @@
 use Rattle.std.proofs.Common.{◌≡◌, Result, sym, ap, ◌∙◌}
 use Rattle.predicate_locks.specs.Searches.{last_number}
 use Rattle.plain_world.specs.declared.faults.Fault.{Fault}
-use Rattle.search_tree.specs.declared.answers.Tending.{Tending}
-use Rattle.search_tree.specs.declared.fault.TreeFault.{TreeFault}
+use Rattle.tree_answers.specs.declared.answers.Tending.{Tending}
+use Rattle.tree_answers.specs.declared.fault.TreeFault.{TreeFault}
 use Rattle.transactions.specs.Stepping.{told_as}
 use Rattle.transactions.proofs.ServeLemmas.{serves_after_tending}
 use Rattle.transactions.proofs.TendLemmas.{tends_as, told_spent}

@@ -1,9 +1,9 @@
 use Rattle.std.proofs.Common.{Ok, Err, refl, sym, ap, ◌∙◌}
 use Rattle.plain_world.specs.Events.{VisitNext, Visited, Refused}
 use Rattle.plain_world.specs.declared.faults.Fault.TheVariants as faults
-use Rattle.search_tree.specs.declared.answers.Visit.TheVariants as visits
-use Rattle.search_tree.specs.declared.fault.TreeFault.{TreeFault}
-use Rattle.search_tree.specs.declared.fault.TreeFault.TheVariants as tree
+use Rattle.tree_answers.specs.declared.answers.Visit.TheVariants as visits
+use Rattle.tree_answers.specs.declared.fault.TreeFault.{TreeFault}
+use Rattle.tree_answers.specs.declared.fault.TreeFault.TheVariants as tree
 use Rattle.transactions.specs.Refusing.{told}
 use Rattle.transactions.proofs.SearchLemmas.{has_number}
 use Rattle.transactions.proofs.StepLemmas.{visited_as, visit_ends, visit_wants, ready_happens, overrun_happens, want_happens}

@@ -1,6 +1,6 @@
 use Rattle.std.specs.Prelude.{ℕ, List, codes}
-use Rattle.search_tree.specs.declared.fault.TreeFault.{TreeFault}
-use Rattle.search_tree.specs.declared.fault.TreeFault.TheVariants.{NoSearch, TooMany, Held, Full, TooHigh, Spent, Overrun, Memory}
+use Rattle.tree_answers.specs.declared.fault.TreeFault.{TreeFault}
+use Rattle.tree_answers.specs.declared.fault.TreeFault.TheVariants.{NoSearch, TooMany, Held, Full, TooHigh, Spent, Overrun, Memory}
 
 -- the code that stands for a fault
 abbrev pub code_of : TreeFault → List ℕ

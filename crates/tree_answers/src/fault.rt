@@ -1,7 +1,7 @@
 //! Why a tree refuses a step.
 
 ghost use Rattle.std.specs.Prelude.{◌≡◌, Some};
-ghost use Rattle.search_tree.specs.Faults.{code_of};
+ghost use Rattle.tree_answers.specs.Faults.{code_of};
 
 use memory::Refused;
 use std::error::Error;
@@ -30,7 +30,7 @@ pub enum TreeFault {
 }
 
 impl From<Refused> for TreeFault {
-    ghost use Rattle.search_tree.specs.declared.fault.TreeFault.TheVariants.{Memory};
+    ghost use Rattle.tree_answers.specs.declared.fault.TreeFault.TheVariants.{Memory};
 
     ghost from_gives = { λ refused fault. fault ≡ Memory refused };
 
