@@ -8,6 +8,13 @@ use crate::failures::WriteFailed;
 use std::fmt::Display;
 use std::io::{ErrorKind, Write};
 
+/// A writer was flushed. Only `flush` makes one, and only where the writer's own flush has answered that it is done, so an
+/// answer that carries one was not given before its last flush.
+#[derive(Debug, Drop, PartialEq, Eq)]
+pub struct Flushed {
+    seal: (),
+}
+
 /// One call of the writer, and how many of the bytes it took: none where it was interrupted.
 fn write_some<W: Write>(bytes: &[u8], writer: &mut W) -> Result<usize, WriteFailed>
     ensures { WriteTook result (W.contents writer.old) (W.contents writer.new) bytes.now }
@@ -38,11 +45,11 @@ pub fn write_whole<W: Write>(bytes: &[u8], writer: &mut W) -> Result<(), WriteFa
 }
 
 /// Flushes the writer. `WriteFailed` where it answers an error.
-pub fn flush<W: Write>(writer: &mut W) -> Result<(), WriteFailed>
+pub fn flush<W: Write>(writer: &mut W) -> Result<Flushed, WriteFailed>
     ensures { Keeps (W.contents writer.old) (W.contents writer.new) }
 {
     match writer.flush() {
-        Ok(()) => Ok(()),
+        Ok(()) => Ok(Flushed { seal: () }),
         Err(_) => Err(WriteFailed::seen()),
     }
 }
