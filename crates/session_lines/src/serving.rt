@@ -58,7 +58,7 @@ impl<S: Service> LineDesk for Alone<S> {
 /// Serves one session to the end of the input: each line is answered as a script answers it, without labels; OPEN, STEP and
 /// FINISH, which scripts alone know, are E2. No line is skipped: an empty one has no command. After BYE a new session may
 /// begin. `alloc` serves the buffers, `heap` the documents that are read. Faults and what stands after them are those of
-/// `run_script`.
+/// `run_lines`.
 pub fn serve<S: Service, A: Allocator, R: Read, W: Write>(
     alloc: A,
     heap: Global,
