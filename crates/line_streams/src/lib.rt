@@ -1,8 +1,6 @@
-//! Lines from any reader, answered to any writer.
+//! Lines from any reader, answered to any writer, and what stands when a run of them has ended.
 #![tactic(auto)]
 
-mod laws;
 mod streams;
 
-pub use laws::limits_in_numbers;
 pub use streams::{LINE_LIMIT, LineDesk, Next, READ_LIMIT, ServeFault, run_lines};
