@@ -9,4 +9,4 @@ mod writing;
 pub use failures::{NotOpened, ReadFailed, WriteFailed};
 pub use files::open_file;
 pub use reading::{Turns, read_some};
-pub use writing::{Flushed, flush, write_shown, write_whole};
+pub use writing::{Flushed, flush, let_go, write_shown, write_whole};

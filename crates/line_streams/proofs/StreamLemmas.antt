@@ -22,7 +22,7 @@ use Rattle.line_streams.specs.declared.streams.Stop.{Stop}
 use Rattle.line_streams.specs.declared.streams.Stop.TheVariants.{Ended, Failed}
 use Rattle.byte_streams.specs.declared.reading.Turns.{Turns}
 use Rattle.line_streams.specs.Lines.{is_feed, is_too_long, ended, lines_of, whole_ended, whole_lines_of}
-use Rattle.line_streams.specs.Streams.{LinesTell, GoesOn, NeverEnds, StreamEnds, StreamTells, TookLine, Answered, StopsAs, Stopped, Ran, RanSoFar, RanToEnd, RanToStop, RanWell, IsLine, held_of, held_with, fed, ArePieces, Passed, PassedToStop, Passes, StoppedAt, TookOne, TookLast, IsFlushed, Concludes}
+use Rattle.line_streams.specs.Streams.{LinesTell, GoesOn, NeverEnds, StreamEnds, StreamTells, Answered, Stopped, Ran, RanSoFar, RanToEnd, RanToStop, RanWell, IsLine, held_of, held_with, fed, ArePieces, Passed, PassedToStop, Passes, StoppedAt, TookOne, TookLast, IsFlushed, Concludes}
 use Rattle.byte_streams.specs.Written.{Took}
 use Rattle.byte_streams.proofs.WrittenLemmas.{appends_then}
 
@@ -312,38 +312,6 @@ module _ {S : Type 0} (tell : List ℕ → S → S → List ℕ → Next → Typ
     written = at.written;
   }
 
-  -- what a desk did with a line
-  abbrev pub TakesLine : Result Next WriteFailed → List ℕ → S → S → Option (List ℕ) → Option (List ℕ) → Type 0
-  TakesLine answer line old new a b = (said : List ℕ) × (next : Next) × TookLine answer a b said next × tell line old new said next
-
-  pub took_on : (answer : Result Next WriteFailed) (line : List ℕ) (old new : S) (a b : Option (List ℕ)) → answer ≡ Ok Line → TakesLine answer line old new a b
-      → (said : List ℕ) × Appends a b said × GoesOn tell line old new said
-  took_on answer line old new a b is told = let at = rw is at told in (at.0, at.2.0, rw (at.2.1) (at.3))
-
-  pub took_end : (answer : Result Next WriteFailed) (line : List ℕ) (old new : S) (a b : Option (List ℕ)) → answer ≡ Ok End → TakesLine answer line old new a b → StoppedAt tell Ended line old new a b
-  took_end answer line old new a b is told = let at = rw is at told in record {
-    said = at.0;
-    next = at.1;
-    told = at.3;
-    front = at.0;
-    left = [];
-    parts = sym (append-nil at.0);
-    stops = (sym at.2.1, refl);
-    written = at.2.0;
-  }
-
-  pub took_part : (answer : Result Next WriteFailed) (failed : WriteFailed) (line : List ℕ) (old new : S) (a b : Option (List ℕ)) → answer ≡ Err failed → TakesLine answer line old new a b → StoppedAt tell (Failed failed) line old new a b
-  took_part answer failed line old new a b is told = let at = rw is at told in record {
-    said = at.0;
-    next = at.1;
-    told = at.3;
-    front = at.2.0.0;
-    left = at.2.0.1;
-    parts = at.2.0.2;
-    stops = tt;
-    written = at.2.0.3;
-  }
-
   -- ---- bytes that are taken
 
   pub nothing_passed : (old : S) (a : Option (List ℕ)) → Passed tell [] old old [] a a
@@ -499,7 +467,7 @@ module _ {S : Type 0} (tell : List ℕ → S → S → List ℕ → Next → Typ
 
   pub gave_up : (turns : Turns) (old new : S) (held : List ℕ) (count : ℕ) (start left a b c : Option (List ℕ)) → Standing old new held count start left a b → Keeps b c → turns.made ≡ count → count ≤ READ_LIMIT → READ_LIMIT ≤ count
       → (run : RanSoFar tell old new start left a c) × (READ_LIMIT ≤ length run.text) × (turns.made ≡ READ_LIMIT)
-  unfolding ran_so_far
+  unfolding ran_so_far stands_kept
   gave_up turns old new held count start left a b c stands kept made within all_turns = (
     ran_so_far old new held count start left left a c (stands_kept old new held count start left a b c stands kept) (keeps_none left),
     omega (arith, stands.enough, all_turns),
@@ -645,16 +613,23 @@ told_so : {S : Type 0} (tell shown : List ℕ → S → S → List ℕ → Type 
 told_so tell shown each old new [] said told = told
 told_so tell shown each old new (line ∷ lines) said told = (told.0, told.1, told.2, each line old told.0 told.1 told.3, told.4, told_so tell shown each told.0 new lines told.2 told.5)
 
+abbrev goes_on : Next → Type 0
+goes_on Line = Unit {0}
+goes_on End = ⊥
+
 -- a run that ended well has written what all lines of its known input are answered
 pub lines_told : {S T : Type 0} (tell : List ℕ → S → S → List ℕ → Type 0) (r : Result T ServeFault) (old new : S) (input left a b : Option (List ℕ)) → Ran (NeverEnds tell) r old new input left a b
     → OnOk r (IfSome input (λ text. (said : List ℕ) × Appends a b said × LinesTell tell old (lines_of text) new said))
 lines_told tell (Err e) old new input left a b run = tt
 lines_told tell (Ok done) old new None left a b run = tt
-lines_told {T = T} tell (Ok done) old new (Some text) left a b run = go (stream_told (NeverEnds tell) (Ok {T} {ServeFault} done) old new (Some text) left a b run)
+lines_told {T = T} tell (Ok done) old new (Some text) left a b run = go (stream_told (NeverEnds tell) ended old new (Some text) left a b run)
   where
+    ended : Result T ServeFault
+    ended = Ok done
+
     go : ((said : List ℕ) × Appends a b said × StreamTells (NeverEnds tell) old (lines_of text) new said) → (said : List ℕ) × Appends a b said × LinesTell tell old (lines_of text) new said
     go (said, written, inl told) = (said, written, told_so (GoesOn (NeverEnds tell)) tell (λ line x y s h. h.0) old new (lines_of text) said told)
-    go (said, written, inr ends) = absurd (ends.told_last.1)
+    go (said, written, inr ends) = absurd (subst goes_on (sym ends.told_last.1) tt)
 
 -- ---- states that are seen as others
 
@@ -729,17 +704,17 @@ ran_along see tell r old new input left a b run =
 
 -- what every line keeps, a run keeps, however it ends
 module _ {S : Type 0} (tell : List ℕ → S → S → List ℕ → Next → Type 0) (Kept : S → S → Type 0) (same : (s : S) → Kept s s)
-    (then : (a b c : S) → Kept a b → Kept b c → Kept a c) (each : (text : List ℕ) (old new : S) (said : List ℕ) (next : Next) → tell text old new said next → Kept old new) where
+    (chain : (a b c : S) → Kept a b → Kept b c → Kept a c) (each : (text : List ℕ) (old new : S) (said : List ℕ) (next : Next) → tell text old new said next → Kept old new) where
   lines_keep : (lines : List (List ℕ)) (old new : S) (said : List ℕ) → LinesTell (GoesOn tell) old lines new said → Kept old new
   lines_keep [] old new said told = subst (λ (s : S). Kept old s) (sym told.0) (same old)
-  lines_keep (text ∷ lines) old new said told = then old told.0 new (each text old told.0 told.1 Line told.3) (lines_keep lines told.0 new told.2 told.5)
+  lines_keep (text ∷ lines) old new said told = chain old told.0 new (each text old told.0 told.1 Line told.3) (lines_keep lines told.0 new told.2 told.5)
 
   so_far_keeps : (old new : S) (input left a b : Option (List ℕ)) → RanSoFar tell old new input left a b → Kept old new
   so_far_keeps old new input left a b run = lines_keep _ old new run.answered.said run.answered.told
 
   stop_keeps : (stop : Stop) (old new : S) (input left a b : Option (List ℕ)) → RanToStop tell stop old new input left a b → Kept old new
   stop_keeps stop old new input left a b run =
-      then old run.stopped.mid new (lines_keep run.stopped.firsts old run.stopped.mid run.stopped.said run.stopped.told)
+      chain old run.stopped.mid new (lines_keep run.stopped.firsts old run.stopped.mid run.stopped.said run.stopped.told)
       (each run.stopped.last run.stopped.mid new run.stopped.more run.stopped.next run.stopped.told_last)
 
   well_keeps : (old new : S) (input left a b : Option (List ℕ)) → RanWell tell old new input left a b → Kept old new

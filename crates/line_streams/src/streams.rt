@@ -1,6 +1,7 @@
 //! Lines from any reader, answered to any writer. What a line is answered is not known here.
-ghost use Rattle.std.specs.Prelude.{◌≡◌, ℕ, ◌≤◌, ◌++◌, ◌∷◌, [], List, true, IfOk, IfErr, vec_len, vec_capacity};
+ghost use Rattle.std.specs.Prelude.{◌≡◌, ℕ, ◌≤◌, ◌++◌, ◌∷◌, [], List, Option, true, IfOk, IfErr, vec_len, vec_capacity};
 ghost use Rattle.std.specs.Io.BufRead.{strip_last};
+ghost use Rattle.byte_streams.specs.Written.{Took};
 ghost use Rattle.line_streams.specs.Lines.{is_too_long, lines_of};
 ghost use Rattle.line_streams.specs.Streams.{Concludes, IsLine, OnMemory, Passes, Ran, TookLast, TookLine, TookOne, held_of, held_with};
 ghost use Rattle.line_streams.specs.declared.streams.TheConstants.{HELD};
@@ -102,8 +103,23 @@ pub enum Next {
     End,
 }
 
+impl Next {
+    /// Says so of the stream behind a line whose answer was written, or not.
+    pub fn behind(self, written: Result<(), WriteFailed>) -> Result<Next, WriteFailed>
+        ensures { (before after : Option (List ℕ)) (said : List ℕ) → Took written before after said
+            → TookLine result before after said self }
+    {
+        match written {
+            Ok(()) => Ok(self),
+            Err(failed) => Err(failed),
+        }
+    }
+}
+
 /// What answers lines, over a world of its own kind.
 pub trait LineDesk {
+    ghost use Rattle.line_streams.specs.declared.streams.Next.{Next};
+
     /// What the lines are about, which stays when the desk is gone.
     type World;
 
@@ -118,11 +134,13 @@ pub trait LineDesk {
         line: &[u8],
         writer: &mut W,
     ) -> Result<Next, WriteFailed>
-        ensures { (said : List ℕ) × (next : Next) × TookLine result (W.contents writer.old) (W.contents writer.new) said next
+        ensures { (said : List ℕ) × (next : Next)
+            × TookLine result (W.contents writer.old) (W.contents writer.new) said next
             × tells line.now (world.old, self.old) (world.new, self.new) said next };
 
     // lines that are too long are answered alike
-    ghost long_alike: { (line other : List ℕ) (old new : Self.World × Self) (said : List ℕ) (next : Next) → is_too_long line ≡ true → is_too_long other ≡ true
+    ghost long_alike: { (line other : List ℕ) (old new : Self.World × Self) (said : List ℕ) (next : Next)
+        → is_too_long line ≡ true → is_too_long other ≡ true
         → tells line old new said next → tells other old new said next };
 }
 
@@ -189,7 +207,8 @@ fn answer_line<D: LineDesk, W: Write>(
     line: &[u8],
     writer: &mut W,
 ) -> Result<(), Stop>
-    ensures { TookOne D.tells result line.now (world.old, desk.old) (world.new, desk.new) (W.contents writer.old) (W.contents writer.new) }
+    ensures { TookOne D.tells result line.now (world.old, desk.old) (world.new, desk.new)
+        (W.contents writer.old) (W.contents writer.new) }
 {
     match desk.take_line(world, line, writer) {
         Ok(Next::Line) => Ok(()),
@@ -263,10 +282,10 @@ fn conclude<W: Write>(end: Result<(), Stop>, writer: &mut W) -> Result<Flushed, 
 
 /// Reads lines to the end of the input, or to the line that ends the stream, and has the desk answer each. A line ends with a
 /// line feed, or with the input; a return right before the line feed is dropped. Behind a line that ends the stream no
-/// further one is answered, and nothing more is read. The writer is flushed before each read, and before the run ends
-/// other than by a write that failed. Takes memory for one line before anything is read, and none later. Faults: `Memory` where that is
-/// refused; `Read` and `Write` where a read or a write fails, or a flush; `TooManyTurns` after 16,777,216 reads of which
-/// none failed or ended the input.
+/// further one is answered, and nothing more is read. The writer is flushed before each read, and before the run ends other
+/// than by a write that failed. Takes memory for one line before anything is read, and none later. Faults: `Memory` where
+/// that is refused; `Read` and `Write` where a read or a write fails, or a flush; `TooManyTurns` after 16,777,216 reads of
+/// which none failed or ended the input.
 pub fn run_lines<D: LineDesk, A: Allocator, R: Read, W: Write>(
     alloc: A,
     desk: &mut D,

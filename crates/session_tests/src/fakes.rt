@@ -102,9 +102,10 @@ impl Write for FailingWriter {
     }
 }
 
-/// A reader that gives one byte a call, a line feed, so many times, and counts its calls.
+/// A reader that gives one byte a call, this one, so many times, and counts its calls.
 #[derive(Drop)]
 pub struct CountingReader {
+    pub gives: u8,
     pub left: u64,
     pub calls: u64,
 }
@@ -116,7 +117,7 @@ impl Read for CountingReader {
             return Ok(0);
         }
         self.left -= 1;
-        buf[0] = b'\n';
+        buf[0] = self.gives;
         Ok(1)
     }
 }

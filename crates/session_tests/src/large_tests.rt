@@ -111,7 +111,7 @@ fn served(
     let lines = rounds(alloc, version, 30, "")?;
     let mut output = Vec::new(alloc);
     let end = serve_world(alloc, alloc, world, &mut lines.as_bytes(), &mut output);
-    assert_eq!(rt; end, Ok(()));
+    assert!(rt; end.is_ok());
     let applied = format!(in alloc; "applied {}\n", version.saturating_add(59))?;
     assert!(rt; output.ends_with(applied.as_bytes()));
     Ok(world.slots())

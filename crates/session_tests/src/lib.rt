@@ -22,4 +22,6 @@ mod script_tests;
 #[cfg(test)]
 mod step_tests;
 #[cfg(test)]
+mod stream_tests;
+#[cfg(test)]
 mod worlds;

@@ -93,6 +93,7 @@ impl Folder for Endless {
 
     fn open_file(&self, _name: &str) -> Result<CountingReader, NotOpened> {
         Ok(CountingReader {
+            gives: b'\n',
             left: u64::MAX,
             calls: 0,
         })
@@ -603,7 +604,7 @@ fn with_output(
     Ok(())
 }
 
-/// There is one flush, behind all that is written.
+/// A script is flushed before its first read, and once more where that failed; help behind all that is written.
 #[test]
 fn the_output_fails(rt: HostRuntime) -> Result<(), Fail> {
     for with in [Failure::Error, Failure::Nothing] {
@@ -615,8 +616,8 @@ fn the_output_fails(rt: HostRuntime) -> Result<(), Fail> {
         &rt,
         &["script", "a.map"],
         Failure::Flush,
-        FIRST_REPLIES,
-        "n: rows 0\n(flush)",
+        "(flush)",
+        "(flush)(flush)",
     )?;
     with_output(
         &rt,

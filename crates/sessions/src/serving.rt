@@ -11,6 +11,7 @@ ghost use Rattle.session_lines.specs.Desks.{desk};
 ghost use Rattle.line_streams.specs.Streams.{OnMemory, Ran};
 
 use crate::solos::Solo;
+use byte_streams::Flushed;
 use line_streams::ServeFault;
 use session_lines::serve;
 use std::alloc::{Allocator, Global};
@@ -26,7 +27,7 @@ pub fn serve_world<A: Allocator + Copy, R: Read, W: Write>(
     world: &mut World<A>,
     reader: &mut R,
     writer: &mut W,
-) -> Result<(), ServeFault>
+) -> Result<Flushed, ServeFault>
     ensures served_text { (seat : Option ℕ) × OnOk result (IfSome (R.remaining reader.old) (λ input. (said : List ℕ) × Appends (W.contents writer.old) (W.contents writer.new) said
         × IsServedText solo_subject Serves (solo world.old.plain None) input (solo world.new.plain seat) said)) }
     ensures ran { (staged : List Change) × (seat : Option ℕ) × Ran (LineTells solo_subject Serves) result (desk [] (solo world.old.plain None)) (desk staged (solo world.new.plain seat))

@@ -12,4 +12,4 @@ returns-then-is_empty g c begun whole holds =
 pub returns : goal.returns
 returns g c begun whole holds =
     let some : 0 < length c.args.held.now.bytes.items = grind (arith, nat_tests, c.if-is_empty.ensures, c.args.held.now.bytes.ok.0) in
-    last_took g.D.LineDesk.tells c.take_line.result g.met.D.LineDesk.long_alike begun c.args.held.now.bytes.items _ _ _ _ _ whole holds some c.as_slice.ensures.value c.take_line.ensures
+    last_took g.D.LineDesk.tells c.answer_line.result g.met.D.LineDesk.long_alike begun c.args.held.now.bytes.items _ _ _ _ _ whole holds some c.as_slice.ensures.value c.answer_line.ensures

@@ -1,6 +1,6 @@
 use Rattle.std.proofs.Common.{◌+◌, ◌++◌, sym, ap, ◌∙◌, take, drop, append_assoc, append-nil, take-append-drop}
 use Rattle.std.proofs.lemmas.List.{take_more, take_all}
-use Rattle.line_streams.proofs.StreamLemmas.{begun_passed, broken_more, passed_more}
+use Rattle.line_streams.proofs.StreamLemmas.{begun_passed, stopped_more, passed_more}
 use Rattle.line_streams.proofs.streams.take_bytes.Goals as goal
 
 pub loop-byte-init : goal.loop-byte-init
@@ -12,7 +12,7 @@ returns-in_err-take_byte g c begun whole holds =
     let bytes = c.args.bytes.now in
     let so_far = c.loop-byte.invariant begun whole holds in
     let parts = sym (take-append-drop (i + 1) bytes) ∙ ap (λ t. t ++ drop (i + 1) bytes) (take_more bytes i 0 c.loop-byte-test.true) ∙ append_assoc (take i bytes) _ (drop (i + 1) bytes) in
-    broken_more g.D.LineDesk.tells c.from_residual.result c.from_residual.ensures.0 begun (take i bytes) _ (drop (i + 1) bytes) bytes _ _ _ _ _ _ _ _ parts so_far (c.in_err-take_byte.ensures so_far.begun so_far.open_line so_far.holds)
+    stopped_more g.D.LineDesk.tells c.from_residual.result _ c.from_residual.ensures.1 begun (take i bytes) _ (drop (i + 1) bytes) bytes _ _ _ _ _ _ _ _ parts so_far (c.in_err-take_byte.ensures so_far.begun so_far.open_line so_far.holds)
 
 pub loop-byte-preserved : goal.loop-byte-preserved
 loop-byte-preserved g c begun whole holds =
