@@ -1,10 +1,8 @@
-//! Tests of session lines and scripts over a world, of configurations, and of the program.
+//! Tests of session lines and scripts over a world.
 #![tactic(auto)]
 
 #[cfg(test)]
 mod alone_tests;
-#[cfg(test)]
-mod config_tests;
 #[cfg(test)]
 mod fakes;
 #[cfg(test)]
@@ -15,8 +13,6 @@ mod large_tests;
 mod line_end_tests;
 #[cfg(test)]
 mod line_tests;
-#[cfg(test)]
-mod program_tests;
 #[cfg(test)]
 mod script_tests;
 #[cfg(test)]

@@ -1,8 +1,6 @@
 //! The program's exit statuses, and what it writes.
-use crate::fakes::{
-    CountingReader, FIRST_POINT, FIRST_REPLIES, FailingReader, FailingWriter, Failure, LongReader,
-};
 use byte_streams::{NotOpened, open_file};
+use failing_streams::{CountingReader, FailingReader, FailingWriter, Failure, LongReader};
 use program::{
     CONFIG_LIMIT, ConfigFault, Ended, Folder, ProgramFault, built_in_config, run_file, run_program,
     tell,
@@ -12,6 +10,14 @@ use std::alloc::{AllocError, Global};
 use std::io::Read;
 use std::process::Abort;
 use std::test::Fail;
+
+/// The worked script of a point that is added and found again.
+const FIRST_POINT: &str =
+    "n: HELLO north\nn: ADD 1 mast POINT (3 4)\nn: COMMIT\nn: SEARCH point(3 4)\nn: SEARCH POINT (3 5)\n";
+
+/// Its replies.
+const FIRST_REPLIES: &str =
+    "n: hello north\nn: staged\nn: applied 1\nn: rows 1\nn: 1 1 north mast POINT (3 4)\nn: rows 0\n";
 
 /// What the host tells of a file that is not there.
 fn absent<'a>(host: &HostRuntime) -> Result<FailingReader<'a>, NotOpened> {

@@ -1,40 +1,14 @@
+//! A trail's records and their lines, and how lists of changes are judged.
+use crate::parts::{document, name, point, square};
 use audit_trail::{
     Cause, Deed, Judgement, RECORD_LIMIT, Record, Refusal, Trail, TrailFault, judge,
 };
 use decision::Decider;
 use features::{Change, Name, Store, Subject};
-use plane::{Point, Shape};
-use policy_text::read_document;
 use std::alloc::{AllocError, Global};
 use std::process::Abort;
 use std::sync::Arc;
 use std::test::Fail;
-
-fn name(rt: &impl Abort, text: &str) -> Name {
-    let name = Name::new(text.as_bytes());
-    assert!(rt; name.is_some(), "{text}");
-    name.unwrap()
-}
-
-fn point(rt: &impl Abort, x: i32, y: i32) -> Shape {
-    let shape = Shape::point(Point { x, y });
-    assert!(rt; shape.is_ok());
-    shape.unwrap()
-}
-
-/// The square of the side 4 at the origin.
-fn square(rt: &impl Abort) -> Shape {
-    let ring = [
-        Point { x: 0, y: 0 },
-        Point { x: 4, y: 0 },
-        Point { x: 4, y: 4 },
-        Point { x: 0, y: 4 },
-        Point { x: 0, y: 0 },
-    ];
-    let shape = Shape::polygon(&ring);
-    assert!(rt; shape.is_ok());
-    shape.unwrap()
-}
 
 /// The editor of an office.
 fn editor(rt: &impl Abort, office: &str) -> Subject {
@@ -48,11 +22,10 @@ fn editor(rt: &impl Abort, office: &str) -> Subject {
 
 /// The decider of a document under an edition.
 fn decider(rt: &impl Abort, heap: Global, text: &str, edition: u64) -> Decider {
-    let read = read_document(heap, heap, text.as_bytes());
-    assert!(rt; read.is_ok(), "{text}");
-    let made = Decider::new(read.unwrap(), edition);
-    assert!(rt; made.is_ok());
-    made.unwrap()
+    match Decider::new(document(rt, heap, text), edition) {
+        Ok(decider) => decider,
+        Err(_) => panic!(rt; "no decider: {text}"),
+    }
 }
 
 /// The line of a record that a trail gets as its first.
@@ -81,7 +54,7 @@ fn printed_forms(rt: HostRuntime) -> Result<(), Fail> {
     };
     let answered = Deed::Answered {
         subject: editor(&rt, "north"),
-        window: square(&rt),
+        window: square(&rt, 0, 4),
         ids: Vec::from_slice(heap, &[1])?,
         versions: Vec::from_slice(heap, &[1])?,
     };

@@ -6,14 +6,16 @@ use crate::listed_world::{
     Area, Draft, Edit, FEATURES, Look, Mark, PlainWorld, RECORDS, Spot, check_seat, is_steward,
     office_of, shapes_of,
 };
-use crate::worlds::{STARTS, document, name, point, square};
+use crate::parts::{document, name, point, square};
 use audit_trail::{Deed, Record};
 use features::{Change, Feature, Meter, Name, Subject, Subjects};
 use policy_text::Document;
 use std::alloc::Global;
 use std::process::Abort;
 use std::test::Fail;
-use transactions::{Advance, Answer, Fault, Limits, Outcome, Step, TreeFault, Visit, World};
+use transactions::{
+    Advance, Answer, Fault, Limits, Outcome, Starts, Step, TreeFault, Visit, World,
+};
 
 /// How many events are tried.
 const EVENTS: u32 = 10_000;
@@ -90,7 +92,7 @@ fn opened(rt: &impl Abort, heap: Global) -> World<Global> {
         heap,
         made.unwrap(),
         policy(rt, heap, 0),
-        STARTS,
+        Starts::FIRST,
         limits,
     );
     assert!(rt; opened.is_ok());

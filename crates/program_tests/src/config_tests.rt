@@ -1,5 +1,5 @@
 //! Configurations: what is read of a text and of a file, and the first fault of one that is none.
-use crate::fakes::LongReader;
+use failing_streams::LongReader;
 use program::{
     CONFIG_LIMIT, Config, ConfigFault, FileFault, ReadFault, built_in_config, read_config,
     read_config_file,
