@@ -14,6 +14,8 @@ mod line_end_tests;
 #[cfg(test)]
 mod line_tests;
 #[cfg(test)]
+mod script_lines;
+#[cfg(test)]
 mod script_tests;
 #[cfg(test)]
 mod step_tests;
