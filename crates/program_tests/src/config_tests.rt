@@ -140,24 +140,19 @@ fn lists_turned_away(rt: HostRuntime) {
     );
 }
 
-/// A configuration of so many subjects `a`, and no policies.
-fn of_many(heap: Global, count: u32) -> Result<String, AllocError> {
-    let mut text = String::from_str(
-        heap,
-        r#"{"policies":{},"subjects":[{"name":"a","office":"b","role":"c"}"#,
-    )?;
-    for _ in 1..count {
-        text.push_str(r#",{"name":"a","office":"b","role":"c"}"#)?;
-    }
-    text.push_str("]}")?;
-    Ok(text)
+/// A configuration of one subject `a` and so many more of that name, and no policies.
+fn of_many(heap: Global, more: usize) -> Result<String, AllocError> {
+    let further = r#",{"name":"a","office":"b","role":"c"}"#.repeat(heap, more)?;
+    format!(in heap;
+        r#"{{"policies":{{}},"subjects":[{{"name":"a","office":"b","role":"c"}}{further}]}}"#
+    )
 }
 
 #[test]
 fn too_many_subjects(rt: HostRuntime) -> Result<(), Fail> {
-    let many = of_many(rt.alloc(), 65)?;
+    let many = of_many(rt.alloc(), 64)?;
     assert_eq!(rt; code_of(rt.alloc(), many.as_str()), "N2");
-    let fit = of_many(rt.alloc(), 64)?;
+    let fit = of_many(rt.alloc(), 63)?;
     assert_eq!(rt; code_of(rt.alloc(), fit.as_str()), "N3");
     Ok(())
 }

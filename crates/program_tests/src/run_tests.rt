@@ -291,18 +291,9 @@ fn ruled(
     misconfigured(rt, host, config.as_str(), code)
 }
 
-/// A set in a set, and so on, so many deep.
-fn nested(alloc: Global, count: u32) -> Result<String, AllocError> {
-    let mut text = String::from_str(alloc, r#"{"root":"#)?;
-    for at in 0..count {
-        write!(text, r#"{{"set":"s{at}","combine":"deny-overrides","of":["#)?;
-    }
-    for _ in 0..count {
-        text.push_str("]}")?;
-    }
-    text.push('}')?;
-    Ok(text)
-}
+/// A set in a set, and so on, nine deep.
+const NINE_DEEP: &str =
+    r#"{"root":{"set":"s0","combine":"deny-overrides","of":[{"set":"s1","combine":"deny-overrides","of":[{"set":"s2","combine":"deny-overrides","of":[{"set":"s3","combine":"deny-overrides","of":[{"set":"s4","combine":"deny-overrides","of":[{"set":"s5","combine":"deny-overrides","of":[{"set":"s6","combine":"deny-overrides","of":[{"set":"s7","combine":"deny-overrides","of":[{"set":"s8","combine":"deny-overrides","of":[]}]}]}]}]}]}]}]}]}}"#;
 
 /// A policy of so many rules.
 fn of_rules(alloc: Global, count: u32) -> Result<String, AllocError> {
@@ -346,8 +337,7 @@ fn policies_at_fault(rt: HostRuntime) -> Result<(), Fail> {
 
 #[test]
 fn policies_too_large(rt: HostRuntime) -> Result<(), Fail> {
-    let deep = nested(rt.alloc(), 9)?;
-    ruled(&rt, &rt, deep.as_str(), "D7")?;
+    ruled(&rt, &rt, NINE_DEEP, "D7")?;
     let many = of_rules(rt.alloc(), 513)?;
     ruled(&rt, &rt, many.as_str(), "D8")?;
     Ok(())
