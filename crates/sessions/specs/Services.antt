@@ -6,7 +6,7 @@ use Rattle.features.specs.declared.actors.Subject.{Subject}
 use Rattle.features.specs.declared.rows.Change.{Change}
 use Rattle.features.specs.declared.rows.Feature.{Feature}
 use Rattle.features.specs.Changes.{after}
-use Rattle.policy_text.specs.Documents.{DocumentData}
+use Rattle.policy_documents.specs.Documents.{DocumentData}
 use Rattle.combining.specs.declared.questions.Question.{Question}
 use Rattle.decision.specs.declared.rulings.Ruling.{Ruling}
 use Rattle.decision.specs.Rulings.{Rules}
