@@ -9,7 +9,7 @@ use crate::worlds::{PlainWorld, made_decider};
 use audit_trail::{Deed, Record};
 use decision::Decider;
 use memory::another;
-use policy_text::Document;
+use policy_documents::Document;
 use std::alloc::{Allocator, Global};
 use std::sync::Arc;
 

@@ -2,7 +2,7 @@
 
 ghost use Rattle.std.specs.Prelude.{◌≡◌, ◌⊎◌, ℕ, ◌++◌, IsTrue, List, Some};
 ghost use Rattle.features.specs.Rows.{IsSortedById};
-ghost use Rattle.policy_text.specs.Documents.{DocumentData};
+ghost use Rattle.policy_documents.specs.Documents.{DocumentData};
 ghost use Rattle.decision.specs.Deciders.{DeciderData};
 ghost use Rattle.audit_trail.specs.Judging.{Judged};
 ghost use Rattle.audit_trail.specs.declared.causes.Judgement.{Judgement};

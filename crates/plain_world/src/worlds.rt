@@ -14,7 +14,7 @@ use audit_trail::{RECORD_LIMIT, Trail};
 use decision::Decider;
 use features::{FEATURE_LIMIT, Feature, Store, Subject, Subjects};
 use memory::{Refused, another, shared};
-use policy_text::Document;
+use policy_documents::Document;
 use std::alloc::{Allocator, Global};
 use std::marker::Model;
 use std::sync::Arc;
