@@ -1,4 +1,5 @@
 //! Texts of shapes: how each is read and printed, or the fault by which it is refused.
+use crate::lines::parted;
 use plane::{Point, Shape, ShapeFault};
 use std::alloc::{AllocError, Global};
 use std::process::Abort;
@@ -19,7 +20,6 @@ POLYGON ((4 4, 0 4, 0 0, 4 0, 4 4)) => POLYGON ((0 0, 4 0, 4 4, 0 4, 0 0))
 POLYGON((0 0,2 0,1 2,0 0)) => POLYGON ((0 0, 2 0, 1 2, 0 0))
 point(+3.00 -0) => POINT (3 0)
 polygon((0 0,0 4,4 4,4 2,4 0,0 0)) => POLYGON ((0 0, 4 0, 4 4, 0 4, 0 0))
-POLYGON ((-9999999 -9999998, -9999998 -9999999, -9999996 -10000000, -9999993 -10000000, -9999989 -9999999, -9999985 -9999997, -9999982 -9999994, -9999980 -9999990, -9999980 -9999987, -9999981 -9999984, -9999983 -9999981, -9999986 -9999979, -9999989 -9999978, -9999993 -9999980, -9999996 -9999984, -9999998 -9999989, -9999999 -9999998)) => POLYGON ((-9999999 -9999998, -9999998 -9999999, -9999996 -10000000, -9999993 -10000000, -9999989 -9999999, -9999985 -9999997, -9999982 -9999994, -9999980 -9999990, -9999980 -9999987, -9999981 -9999984, -9999983 -9999981, -9999986 -9999979, -9999989 -9999978, -9999993 -9999980, -9999996 -9999984, -9999998 -9999989, -9999999 -9999998))
 "#;
 
 /// Texts that are refused, each with the code of its fault, and the fault: the place, or what is wrong with the ring. Every
@@ -101,69 +101,54 @@ POLYGON EMPTY => K2 LeftOut(8)
 POLYGON ((0 0, 1 1, 2 4, 3 9, 4 16, 5 25, 6 36, 7 49, 8 64, 9 81, 10 100, 11 121, 12 144, 13 169, 14 196, 15 225, 16 256, 0 0)) => P9 Bad(TooManyCorners)
 "#;
 
-/// The shape is printed so, and read again from that.
-fn check_printed(rt: &impl Abort, alloc: Global, shape: &Shape, told: &str) {
-    assert_eq!(rt; shape_text(shape).as_str(), told);
-    assert_eq!(rt; read_shape(told.as_bytes()).ok(), Some(*shape), "{told}");
-    let printed = print_shape(alloc, shape);
-    assert!(rt; printed.is_ok(), "{told}");
-    assert_eq!(rt; printed.unwrap().as_str(), told);
-}
+/// A shape of sixteen corners, the most that there may be.
+const SIXTEEN_CORNERS: &str =
+    "POLYGON ((-9999999 -9999998, -9999998 -9999999, -9999996 -10000000, -9999993 -10000000, -9999989 -9999999, -9999985 -9999997, -9999982 -9999994, -9999980 -9999990, -9999980 -9999987, -9999981 -9999984, -9999983 -9999981, -9999986 -9999979, -9999989 -9999978, -9999993 -9999980, -9999996 -9999984, -9999998 -9999989, -9999999 -9999998))";
 
-/// The fault of this text is displayed by its code, and is this one.
-fn check_fault(
-    rt: &impl Abort,
-    alloc: Global,
-    fault: WktFault,
-    told: &str,
-    text: &str,
-) -> Result<(), AllocError> {
-    assert_eq!(rt;
-        format!(in alloc; "{fault} {fault:?}")?.as_str(),
-        told,
-        "{text}"
-    );
-    assert!(rt; told.starts_with(fault.code()), "{text}");
-    Ok(())
-}
-
-/// The text is read as told: as the shape of that printed form, or not, for that fault.
-fn check_text(rt: &impl Abort, alloc: Global, text: &str, told: &str) -> Result<(), AllocError> {
+/// The printed form of the shape that is read, or the code of the fault, and the fault.
+fn told(alloc: Global, text: &str) -> Result<String, AllocError> {
     match read_shape(text.as_bytes()) {
-        Ok(shape) => check_printed(rt, alloc, &shape, told),
-        Err(fault) => check_fault(rt, alloc, fault, told, text)?,
+        Ok(shape) => String::from_str(alloc, shape_text(&shape).as_str()),
+        Err(fault) => format!(in alloc; "{} {fault:?}", fault.code()),
     }
+}
+
+fn check_text(rt: &impl Abort, alloc: Global, text: &str, want: &str) -> Result<(), AllocError> {
+    assert_eq!(rt; told(alloc, text)?.as_str(), want, "{text}");
     Ok(())
 }
 
-/// Each text of a table is read as its line tells.
-fn check_table(rt: &impl Abort, alloc: Global, table: &str) -> Result<(), AllocError> {
-    for line in table.lines() {
-        let parts = line.split_once(" => ");
-        assert!(rt; parts.is_some(), "{line}");
-        let (text, told) = parts.unwrap();
-        check_text(rt, alloc, text, told)?;
+/// Each text of the table is read as its line tells, and its printed form as itself.
+#[test]
+fn texts_read_and_printed(rt: HostRuntime) -> Result<(), Fail> {
+    for line in SHAPES.lines() {
+        let (text, printed) = parted(&rt, line, " => ");
+        check_text(&rt, rt.alloc(), text, printed)?;
+        check_text(&rt, rt.alloc(), printed, printed)?;
     }
     Ok(())
 }
 
 #[test]
-fn texts_read_and_printed(rt: HostRuntime) -> Result<(), Fail> {
-    let heap = rt.alloc();
-    check_table(&rt, heap, SHAPES)?;
-    check_text(&rt, heap, " \t\r\nPoInT\n(\t3  4\r) ", "POINT (3 4)")?;
-    check_text(
-        &rt,
-        heap,
-        "polygon\t( ( 0 0 , 0 4 , 2 4 , 4 4 , 4 0 , 2 0 , 0 0 ) )\n",
-        "POLYGON ((0 0, 4 0, 4 4, 0 4, 0 0))",
-    )?;
+fn texts_of_several_lines(rt: HostRuntime) -> Result<(), Fail> {
+    for (text, printed) in [
+        (" \t\r\nPoInT\n(\t3  4\r) ", "POINT (3 4)"),
+        (
+            "polygon\t( ( 0 0 , 0 4 , 2 4 , 4 4 , 4 0 , 2 0 , 0 0 ) )\n",
+            "POLYGON ((0 0, 4 0, 4 4, 0 4, 0 0))",
+        ),
+    ] {
+        check_text(&rt, rt.alloc(), text, printed)?;
+    }
     Ok(())
 }
 
 #[test]
 fn faults_and_their_places(rt: HostRuntime) -> Result<(), Fail> {
-    check_table(&rt, rt.alloc(), REFUSED)?;
+    for line in REFUSED.lines() {
+        let (text, fault) = parted(&rt, line, " => ");
+        check_text(&rt, rt.alloc(), text, fault)?;
+    }
     assert_eq!(rt;
         read_shape(&[80, 200, 0]).err(),
         Some(WktFault::UnknownWord(0))
@@ -179,13 +164,24 @@ fn coordinate_limits(rt: HostRuntime) -> Result<(), Fail> {
     };
     let shape = Shape::point(corner);
     assert!(rt; shape.is_ok());
-    check_printed(
-        &rt,
-        rt.alloc(),
-        &shape.unwrap(),
-        "POINT (10000000 -10000000)",
-    );
+    let text = print_shape(rt.alloc(), &shape.unwrap())?;
+    assert_eq!(rt; text.as_str(), "POINT (10000000 -10000000)");
     Ok(())
+}
+
+#[test]
+fn sixteen_corners(rt: HostRuntime) -> Result<(), Fail> {
+    check_text(&rt, rt.alloc(), SIXTEEN_CORNERS, SIXTEEN_CORNERS)?;
+    let read = read_shape(SIXTEEN_CORNERS.as_bytes());
+    assert!(rt; read.is_ok());
+    let printed = print_shape(rt.alloc(), &read.unwrap())?;
+    assert_eq!(rt; printed.as_str(), SIXTEEN_CORNERS);
+    Ok(())
+}
+
+/// The text is refused for this fault.
+fn check_fault(rt: &impl Abort, text: &str, fault: WktFault) {
+    assert_eq!(rt; read_shape(text.as_bytes()).err(), Some(fault), "{text}");
 }
 
 /// The text of a ring of so many points behind its first, with a letter behind it.
@@ -197,10 +193,8 @@ fn ring_text(alloc: Global, more: usize) -> Result<String, AllocError> {
 /// The text without its letter is refused for this fault of its ring, and with it for the letter.
 fn check_ring(rt: &impl Abort, text: &str, fault: ShapeFault) {
     let ring = text.strip_suffix(" x").unwrap_or("");
-    let bad = Some(WktFault::Bad(fault));
-    assert_eq!(rt; read_shape(ring.as_bytes()).err(), bad, "{ring}");
-    let letter = Some(WktFault::Syntax(ring.len().saturating_add(1)));
-    assert_eq!(rt; read_shape(text.as_bytes()).err(), letter, "{text}");
+    check_fault(rt, ring, WktFault::Bad(fault));
+    check_fault(rt, text, WktFault::Syntax(ring.len().saturating_add(1)));
 }
 
 /// As many points as a ring may list, 64, one more, two more, and many more.
@@ -213,6 +207,22 @@ fn long_rings(rt: HostRuntime) -> Result<(), Fail> {
         (999, ShapeFault::TooManyPoints),
     ] {
         check_ring(&rt, ring_text(rt.alloc(), more)?.as_str(), fault);
+    }
+    Ok(())
+}
+
+#[test]
+fn faults_are_displayed_by_their_codes(rt: HostRuntime) -> Result<(), Fail> {
+    for (fault, code) in [
+        (WktFault::UnknownWord(3), "K1"),
+        (WktFault::LeftOut(3), "K2"),
+        (WktFault::Syntax(3), "K3"),
+        (WktFault::Number(3), "K4"),
+        (WktFault::OutOfRange(3), "K5"),
+        (WktFault::Bad(ShapeFault::TooManyCorners), "P9"),
+    ] {
+        assert_eq!(rt; fault.code(), code);
+        assert_eq!(rt; format!(in rt.alloc(); "{fault}")?.as_str(), code);
     }
     Ok(())
 }
