@@ -156,6 +156,14 @@ fn faults_and_their_places(rt: HostRuntime) -> Result<(), Fail> {
     Ok(())
 }
 
+/// The shape's printed form, in memory of its own.
+fn check_printed(rt: &impl Abort, alloc: Global, shape: &Shape, want: &str) {
+    match print_shape(alloc, shape) {
+        Ok(text) => assert_eq!(rt; text.as_str(), want),
+        Err(_) => panic!(rt; "no memory"),
+    }
+}
+
 #[test]
 fn coordinate_limits(rt: HostRuntime) -> Result<(), Fail> {
     let corner = Point {
@@ -164,8 +172,12 @@ fn coordinate_limits(rt: HostRuntime) -> Result<(), Fail> {
     };
     let shape = Shape::point(corner);
     assert!(rt; shape.is_ok());
-    let text = print_shape(rt.alloc(), &shape.unwrap())?;
-    assert_eq!(rt; text.as_str(), "POINT (10000000 -10000000)");
+    check_printed(
+        &rt,
+        rt.alloc(),
+        &shape.unwrap(),
+        "POINT (10000000 -10000000)",
+    );
     Ok(())
 }
 
@@ -174,14 +186,8 @@ fn sixteen_corners(rt: HostRuntime) -> Result<(), Fail> {
     check_text(&rt, rt.alloc(), SIXTEEN_CORNERS, SIXTEEN_CORNERS)?;
     let read = read_shape(SIXTEEN_CORNERS.as_bytes());
     assert!(rt; read.is_ok());
-    let printed = print_shape(rt.alloc(), &read.unwrap())?;
-    assert_eq!(rt; printed.as_str(), SIXTEEN_CORNERS);
+    check_printed(&rt, rt.alloc(), &read.unwrap(), SIXTEEN_CORNERS);
     Ok(())
-}
-
-/// The text is refused for this fault.
-fn check_fault(rt: &impl Abort, text: &str, fault: WktFault) {
-    assert_eq!(rt; read_shape(text.as_bytes()).err(), Some(fault), "{text}");
 }
 
 /// The text of a ring of so many points behind its first, with a letter behind it.
@@ -211,6 +217,17 @@ fn long_rings(rt: HostRuntime) -> Result<(), Fail> {
     Ok(())
 }
 
+fn check_code(
+    rt: &impl Abort,
+    alloc: Global,
+    fault: WktFault,
+    code: &str,
+) -> Result<(), AllocError> {
+    assert_eq!(rt; fault.code(), code);
+    assert_eq!(rt; format!(in alloc; "{fault}")?.as_str(), code);
+    Ok(())
+}
+
 #[test]
 fn faults_are_displayed_by_their_codes(rt: HostRuntime) -> Result<(), Fail> {
     for (fault, code) in [
@@ -221,8 +238,7 @@ fn faults_are_displayed_by_their_codes(rt: HostRuntime) -> Result<(), Fail> {
         (WktFault::OutOfRange(3), "K5"),
         (WktFault::Bad(ShapeFault::TooManyCorners), "P9"),
     ] {
-        assert_eq!(rt; fault.code(), code);
-        assert_eq!(rt; format!(in rt.alloc(); "{fault}")?.as_str(), code);
+        check_code(&rt, rt.alloc(), fault, code)?;
     }
     Ok(())
 }
