@@ -1,8 +1,8 @@
 //! What worked documents decide, by which rule, and how decisions are combined.
-use crate::lines::parted;
+use crate::lines::{is_first, parted, point};
 use combining::{Decision, Question, Verdict, combine, evaluate, settled};
 use features::{Action, Name, Subject};
-use plane::{Point, Shape};
+use plane::Shape;
 use policy_text::{Algorithm, Document, read_document};
 use std::alloc::{AllocError, Global};
 use std::fmt::Display;
@@ -173,19 +173,6 @@ fn name(rt: &impl Abort, text: &str) -> Name {
     name.unwrap()
 }
 
-/// The point of a text such as `3 -4`.
-fn point(rt: &impl Abort, text: &str) -> Shape {
-    let (x, y) = parted(rt, text, " ");
-    let (x, y) = (x.parse::<i32>(), y.parse::<i32>());
-    assert!(rt; x.is_ok() && y.is_ok(), "{text}");
-    let shape = Shape::point(Point {
-        x: x.unwrap(),
-        y: y.unwrap(),
-    });
-    assert!(rt; shape.is_ok(), "{text}");
-    shape.unwrap()
-}
-
 fn action(rt: &impl Abort, word: &str) -> Action {
     match word {
         "read" => Action::Read,
@@ -194,6 +181,13 @@ fn action(rt: &impl Abort, word: &str) -> Action {
         "delete" => Action::Delete,
         _ => panic!(rt; "no action: {word}"),
     }
+}
+
+/// The shape of a point.
+fn shape(rt: &impl Abort, text: &str) -> Shape {
+    let shape = Shape::point(point(rt, text));
+    assert!(rt; shape.is_ok(), "{text}");
+    shape.unwrap()
 }
 
 /// The question of a text such as `read editor south road 2 2`: its action, role, owner, class and point.
@@ -212,7 +206,7 @@ fn question(rt: &impl Abort, text: &str) -> Question {
         action: action(rt, asked),
         owner: name(rt, owner),
         class: name(rt, class),
-        shape: point(rt, place),
+        shape: shape(rt, place),
     }
 }
 
@@ -317,8 +311,7 @@ fn check_rule(rt: &impl Abort, heap: Global, text: &str, owner: &str, applies: b
 /// A match holds as a target, as a condition, and in the opposite case where it is negated.
 fn check_match(rt: &impl Abort, heap: Global, line: &str) -> Result<(), AllocError> {
     let (test, told) = parted(rt, line, " => ");
-    assert!(rt; told == "holds" || told == "fails", "{line}");
-    let holds = told == "holds";
+    let holds = is_first(rt, told, "holds", "fails");
     let text = one_rule(heap, format_args!("[[{test}]]"), "")?;
     check_rule(rt, heap, text.as_str(), "south", holds);
     let text = one_rule(heap, "", test)?;
@@ -337,9 +330,9 @@ fn check_condition(
 ) -> Result<(), AllocError> {
     let (given, told) = parted(rt, line, " => ");
     let (target, when) = parted(rt, given, " | ");
-    assert!(rt; told == "holds" || told == "fails", "{line}");
+    let holds = is_first(rt, told, "holds", "fails");
     let text = one_rule(heap, target, when)?;
-    check_rule(rt, heap, text.as_str(), owner, told == "holds");
+    check_rule(rt, heap, text.as_str(), owner, holds);
     Ok(())
 }
 

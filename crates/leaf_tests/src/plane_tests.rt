@@ -1,5 +1,5 @@
 //! Worked shapes: their corners, faults and frames, and which of them meet.
-use crate::lines::parted;
+use crate::lines::{is_first, parted, point};
 use arrayvec::ArrayVec;
 use plane::{
     Fraction, Frame, Point, Shape, ShapeFault, common_point, corners, covers, frame_of,
@@ -90,17 +90,6 @@ const FRAMES: &str = r#"1 -1, 9 -1, 9 7, 1 7, 1 -1 | covers | 1 2, 5 3, 2 7, 1 2
 0 0, 4 0, 0 4, 0 0 | differs from | 0 0, 4 0 => yes
 "#;
 
-/// The point of a text such as `3 -4`.
-fn point(rt: &impl Abort, text: &str) -> Point {
-    let (x, y) = parted(rt, text, " ");
-    let (x, y) = (x.parse::<i32>(), y.parse::<i32>());
-    assert!(rt; x.is_ok() && y.is_ok(), "{text}");
-    Point {
-        x: x.unwrap(),
-        y: y.unwrap(),
-    }
-}
-
 /// The points of a text such as `3 -4, 0 0`.
 fn points(rt: &impl Abort, text: &str) -> ArrayVec<Point, 64> {
     let mut points = ArrayVec::new();
@@ -174,8 +163,7 @@ fn check_meeting(rt: &impl Abort, line: &str) {
     let (pair, told) = parted(rt, line, " => ");
     let (first, second) = parted(rt, pair, " | ");
     let (first, second) = (worked(rt, first), worked(rt, second));
-    assert!(rt; told == "meet" || told == "apart", "{line}");
-    let expected = told == "meet";
+    let expected = is_first(rt, told, "meet", "apart");
     assert_eq!(rt; meets(&first, &second), expected, "{line}");
     assert_eq!(rt; meets(&second, &first), expected, "{line}");
     assert_eq!(rt; common_point(&first, &second).is_some(), expected, "{line}");
@@ -212,9 +200,9 @@ fn check_equality(rt: &impl Abort, line: &str) {
     let (pair, told) = parted(rt, line, " => ");
     let (first, second) = parted(rt, pair, " | ");
     let (first, second) = (worked(rt, first), worked(rt, second));
-    assert!(rt; told == "equal" || told == "unequal", "{line}");
-    assert_eq!(rt; first == second, told == "equal", "{line}");
-    assert_eq!(rt; first != second, told == "unequal", "{line}");
+    let equal = is_first(rt, told, "equal", "unequal");
+    assert_eq!(rt; first == second, equal, "{line}");
+    assert_eq!(rt; first != second, !equal, "{line}");
 }
 
 #[test]
@@ -242,12 +230,8 @@ fn check_frames(rt: &impl Abort, line: &str) {
     let (first, others) = parted(rt, given, " | ");
     let (relation, second) = parted(rt, others, " | ");
     let (first, second) = (frame(rt, first), frame(rt, second));
-    assert!(rt; told == "yes" || told == "no", "{line}");
-    assert_eq!(rt;
-        stands(rt, first, relation, second),
-        told == "yes",
-        "{line}"
-    );
+    let expected = is_first(rt, told, "yes", "no");
+    assert_eq!(rt; stands(rt, first, relation, second), expected, "{line}");
 }
 
 fn frame(rt: &impl Abort, text: &str) -> Frame {
