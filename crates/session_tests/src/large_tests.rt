@@ -7,24 +7,26 @@ use transactions::World;
 
 /// Puts a text to another, with a number in place of each `#`.
 fn put_numbered(text: &mut String, template: &str, number: u64) -> Result<(), AllocError> {
-    for part in template.split_inclusive('#') {
-        match part.strip_suffix('#') {
-            Some(front) => write!(text, "{front}{number}")?,
-            None => text.push_str(part)?,
-        }
+    let mut parts = template.split('#');
+    if let Some(front) = parts.next() {
+        text.push_str(front)?;
+    }
+    for part in parts {
+        write!(text, "{number}{part}")?;
     }
     Ok(())
 }
 
-/// So many times this text, with one number after another in place of each `#`.
+/// These lines, and then a text so many times, with one number after another in place of each `#`.
 fn numbered(
     alloc: Global,
+    before: &str,
     template: &str,
     first: u64,
     count: u64,
     apart: u64,
 ) -> Result<String, AllocError> {
-    let mut text = String::new(alloc);
+    let mut text = String::from_str(alloc, before)?;
     for turn in 0..count {
         let number = first.saturating_add(turn.saturating_mul(apart));
         put_numbered(&mut text, template, number)?;
@@ -42,17 +44,17 @@ const ROWS: &str =
 
 /// A hundred lists, searches, and one list more.
 fn many_lines(alloc: Global) -> Result<String, AllocError> {
-    let lists = numbered(alloc, LIST, 1, 100, 1)?;
-    let further = numbered(alloc, LIST, 101, 1, 1)?;
+    let lists = numbered(alloc, "n: HELLO north\n", LIST, 1, 100, 1)?;
+    let further = numbered(alloc, "", LIST, 101, 1, 1)?;
     format!(in alloc;
-        "n: HELLO north\n{lists}n: SEARCH POINT (0 0)\nn: OPEN POINT (0 0)\nn: STEP 50\nn: STEP 100\nn: STEP 1000000\nn: FINISH\n{further}n: SEARCH POINT (0 0)\n"
+        "{lists}n: SEARCH POINT (0 0)\nn: OPEN POINT (0 0)\nn: STEP 50\nn: STEP 100\nn: STEP 1000000\nn: FINISH\n{further}n: SEARCH POINT (0 0)\n"
     )
 }
 
 /// Their replies, from the last of the hundred lists on.
 fn many_replies(alloc: Global) -> Result<String, AllocError> {
-    let rows = numbered(alloc, ROWS, 1, 100, 1)?;
-    let further = numbered(alloc, ROWS, 101, 1, 1)?;
+    let rows = numbered(alloc, "", ROWS, 1, 100, 1)?;
+    let further = numbered(alloc, "", ROWS, 101, 1, 1)?;
     format!(in alloc;
         "n: staged\nn: applied 100\nn: rows 1600\n{rows}n: opened\nn: more\nn: more\nn: ready\nn: rows 1600\n{rows}n: staged\nn: staged\nn: staged\nn: staged\nn: staged\nn: staged\nn: staged\nn: staged\nn: staged\nn: staged\nn: staged\nn: staged\nn: staged\nn: staged\nn: staged\nn: staged\nn: applied 101\nn: rows 1616\n{rows}{further}"
     )
@@ -62,33 +64,30 @@ fn many_replies(alloc: Global) -> Result<String, AllocError> {
 #[test]
 fn large_searches(rt: HostRuntime) -> Result<(), Fail> {
     let script = many_lines(rt.alloc())?;
+    let expected = many_replies(rt.alloc())?;
     let ran = run_first(&rt, rt.alloc(), script.as_str());
     assert!(rt; ran.slots > 150, "{}", ran.slots);
-    let expected = many_replies(rt.alloc())?;
     assert!(rt; ran.output.ends_with(expected.as_bytes()));
     Ok(())
 }
 
-/// Lines that add sixteen points and delete them again, in lists; before each line stands a label.
+/// Lines of a session by itself that add sixteen points and delete them again, in lists; `#` is the version of the first.
 const ROUND: &str =
-    "@ADD 0 road POINT (0 0)\n@ADD 1 road POINT (1 0)\n@ADD 2 road POINT (2 0)\n@ADD 3 road POINT (3 0)\n@ADD 4 road POINT (4 0)\n@ADD 5 road POINT (5 0)\n@ADD 6 road POINT (6 0)\n@ADD 7 road POINT (7 0)\n@ADD 8 road POINT (8 0)\n@ADD 9 road POINT (9 0)\n@ADD 10 road POINT (10 0)\n@ADD 11 road POINT (11 0)\n@ADD 12 road POINT (12 0)\n@ADD 13 road POINT (13 0)\n@ADD 14 road POINT (14 0)\n@ADD 15 road POINT (15 0)\n@COMMIT\n@DELETE 0 #\n@DELETE 1 #\n@DELETE 2 #\n@DELETE 3 #\n@DELETE 4 #\n@DELETE 5 #\n@DELETE 6 #\n@DELETE 7 #\n@DELETE 8 #\n@DELETE 9 #\n@DELETE 10 #\n@DELETE 11 #\n@DELETE 12 #\n@DELETE 13 #\n@DELETE 14 #\n@DELETE 15 #\n@COMMIT\n";
+    "ADD 0 road POINT (0 0)\nADD 1 road POINT (1 0)\nADD 2 road POINT (2 0)\nADD 3 road POINT (3 0)\nADD 4 road POINT (4 0)\nADD 5 road POINT (5 0)\nADD 6 road POINT (6 0)\nADD 7 road POINT (7 0)\nADD 8 road POINT (8 0)\nADD 9 road POINT (9 0)\nADD 10 road POINT (10 0)\nADD 11 road POINT (11 0)\nADD 12 road POINT (12 0)\nADD 13 road POINT (13 0)\nADD 14 road POINT (14 0)\nADD 15 road POINT (15 0)\nCOMMIT\nDELETE 0 #\nDELETE 1 #\nDELETE 2 #\nDELETE 3 #\nDELETE 4 #\nDELETE 5 #\nDELETE 6 #\nDELETE 7 #\nDELETE 8 #\nDELETE 9 #\nDELETE 10 #\nDELETE 11 #\nDELETE 12 #\nDELETE 13 #\nDELETE 14 #\nDELETE 15 #\nCOMMIT\n";
 
-/// So many such rounds, the first under this version.
-fn rounds(alloc: Global, version: u64, count: u64, label: &str) -> Result<String, AllocError> {
-    let round = ROUND.replace(alloc, "@", label)?;
-    let lines = numbered(alloc, round.as_str(), version, count, 2)?;
-    format!(in alloc; "{label}HELLO north\n{lines}")
-}
+/// The same lines of a script.
+const ROUND_OF_NORTH: &str =
+    "n: ADD 0 road POINT (0 0)\nn: ADD 1 road POINT (1 0)\nn: ADD 2 road POINT (2 0)\nn: ADD 3 road POINT (3 0)\nn: ADD 4 road POINT (4 0)\nn: ADD 5 road POINT (5 0)\nn: ADD 6 road POINT (6 0)\nn: ADD 7 road POINT (7 0)\nn: ADD 8 road POINT (8 0)\nn: ADD 9 road POINT (9 0)\nn: ADD 10 road POINT (10 0)\nn: ADD 11 road POINT (11 0)\nn: ADD 12 road POINT (12 0)\nn: ADD 13 road POINT (13 0)\nn: ADD 14 road POINT (14 0)\nn: ADD 15 road POINT (15 0)\nn: COMMIT\nn: DELETE 0 #\nn: DELETE 1 #\nn: DELETE 2 #\nn: DELETE 3 #\nn: DELETE 4 #\nn: DELETE 5 #\nn: DELETE 6 #\nn: DELETE 7 #\nn: DELETE 8 #\nn: DELETE 9 #\nn: DELETE 10 #\nn: DELETE 11 #\nn: DELETE 12 #\nn: DELETE 13 #\nn: DELETE 14 #\nn: DELETE 15 #\nn: COMMIT\n";
 
 /// A leaf holds sixteen pairs, so the 1,600 that are placed here take a hundred leaves where none is cleaned. A script
 /// tends one slot after each line, in turn, and so the index stays small.
 #[test]
 fn slots_are_tended(rt: HostRuntime) -> Result<(), Fail> {
-    let labelled = rounds(rt.alloc(), 1, 100, "n: ")?;
+    let labelled = numbered(rt.alloc(), "n: HELLO north\n", ROUND_OF_NORTH, 1, 100, 2)?;
+    let alone = numbered(rt.alloc(), "HELLO north\n", ROUND, 1, 100, 2)?;
     let tended = run_first(&rt, rt.alloc(), labelled.as_str());
     assert!(rt; tended.output.ends_with(b"n: staged\nn: applied 200\n"));
     assert!(rt; tended.slots < 20, "{}", tended.slots);
-    let alone = rounds(rt.alloc(), 1, 100, "")?;
     let untended = serve_first(&rt, rt.alloc(), alone.as_str());
     assert!(rt; untended.output.ends_with(b"staged\napplied 200\n"));
     assert!(rt; untended.slots > 100, "{}", untended.slots);
@@ -102,9 +101,9 @@ fn serve_rounds(
     world: &mut World<Global>,
     version: u64,
 ) -> Result<u32, AllocError> {
-    let lines = rounds(alloc, version, 30, "")?;
-    let output = served(rt, alloc, world, lines.as_str());
     let applied = format!(in alloc; "applied {}\n", version.saturating_add(59))?;
+    let lines = numbered(alloc, "HELLO north\n", ROUND, version, 30, 2)?;
+    let output = served(rt, alloc, world, lines.as_str());
     assert!(rt; output.ends_with(applied.as_bytes()));
     Ok(world.slots())
 }
