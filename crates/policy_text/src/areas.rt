@@ -2,21 +2,19 @@
 
 ghost use Rattle.std.specs.Prelude.{◌≡◌, ◌<◌, [], length, map};
 ghost use Rattle.serde_json.specs.View.{view, items_view};
-ghost use Rattle.policy_text.specs.Views.{zone_of, document_view};
+ghost use Rattle.policy_documents.specs.Views.{zone_of, document_view};
 ghost use Rattle.policy_text.specs.Reading.{Gives, Tells, shape_in, with_zone, zone_at, zones_at, document_in};
 
-use crate::documents::{ZONE_LIMIT, Zones};
 use crate::faults::TextFault;
 use crate::fields::{name_in, object_in, optional_array_in, text_in, value_in};
-use crate::nodes::Node;
 use crate::paths::{Key, Path, STEP_LIMIT, Step};
-use crate::reading::{DEPTH_LIMIT, SoFar, node_at};
+use crate::reading::{SoFar, node_at};
 use crate::terms::has_zone;
-use crate::zones::ZoneName;
 use features::Name;
 use indexmap::IndexMap;
 use memory::put;
 use plane::Shape;
+use policy_documents::{DEPTH_LIMIT, Node, ZONE_LIMIT, ZoneName, Zones};
 use serde_json::Value;
 use std::alloc::Allocator;
 use wkt::read_shape;

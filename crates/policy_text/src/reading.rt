@@ -5,33 +5,20 @@ ghost use Rattle.std.specs.List.{list_any};
 ghost use Rattle.serde_json.specs.View.{view, items_view};
 ghost use Rattle.features.specs.Equality.{same_name};
 ghost use Rattle.policy_text.specs.SeenViews.{seen_view, head_view};
-ghost use Rattle.policy_text.specs.Views.{zone_of, node_view};
+ghost use Rattle.policy_documents.specs.Views.{zone_of, node_view};
 ghost use Rattle.policy_text.specs.Reading.{Gives, Tells, fresh, each_at, rule_at, head_at, policy_at, set_at, node_at};
 
-use crate::algorithms::Algorithm;
-use crate::documents::Zones;
 use crate::faults::TextFault;
 use crate::fields::{
     algorithm_in, array_in, effect_in, has_key, name_in, object_in, optional_array_in, within,
 };
-use crate::matches::Target;
-use crate::nodes::Node;
 use crate::paths::{Key, Path, Step};
-use crate::rules::Rule;
 use crate::targets::parts_at;
 use features::Name;
 use memory::GrowVec;
+use policy_documents::{Algorithm, NODE_LIMIT, Node, RULE_LIMIT, Rule, Target, Zones};
 use serde_json::Value;
 use std::alloc::Allocator;
-
-/// How many rules a document has at most.
-pub const RULE_LIMIT: u32 = 512;
-
-/// How many sets and policies a document has at most.
-pub const NODE_LIMIT: u32 = 512;
-
-/// How many sets and policies may stand within one another.
-pub const DEPTH_LIMIT: usize = 8;
 
 const RULE_KEYS: [Key; 4] = [Key::Rule, Key::Effect, Key::Target, Key::When];
 

@@ -3,7 +3,7 @@ use Rattle.std.proofs.Common.{◌≡◌, ℕ, ◌==◌, Bool, true, false, List,
 use Rattle.std.specs.Bool.{MatchBool}
 use Rattle.features.specs.declared.actors.Subject.{Subject}
 use Rattle.policy_text.specs.Bytes.{document_of_bytes}
-use Rattle.policy_text.specs.Documents.{DocumentData}
+use Rattle.policy_documents.specs.Documents.{DocumentData}
 use Rattle.policy_text.specs.declared.faults.TextFault.{TextFault}
 use Rattle.session_lines.specs.declared.commands.Asking.{Asking}
 use Rattle.session_lines.specs.declared.commands.Command.{Command}

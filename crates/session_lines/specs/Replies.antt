@@ -1,6 +1,6 @@
 -- What a line is answered, as values.
 use Rattle.std.specs.Prelude.{ℕ, Bool, true, false, List, Option, None, Some, Result, Ok, Err}
-use Rattle.policy_text.specs.Documents.{rule_named}
+use Rattle.policy_documents.specs.Documents.{rule_named}
 use Rattle.policy_text.specs.declared.faults.TextFault.{TextFault}
 use Rattle.policy_text.specs.declared.faults.TextFault.TheVariants as unread
 use Rattle.decision.specs.Deciders.{DeciderData}

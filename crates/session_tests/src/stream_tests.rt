@@ -1,7 +1,7 @@
 //! Sessions by themselves over a writer that is buffered: replies leave before a read waits, and BYE ends the stream.
-use crate::fakes::{CountingReader, FailingReader, FailingWriter, Failure};
 use crate::worlds::opened;
 use byte_streams::let_go;
+use failing_streams::{CountingReader, FailingReader, FailingWriter, Failure};
 use refusing::Refusing;
 use sessions::{READ_LIMIT, ServeFault, serve_world};
 use std::alloc::Global;

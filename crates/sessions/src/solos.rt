@@ -9,7 +9,7 @@ use combining::Question;
 use decision::{Decider, Ruling};
 use features::{Change, Name, Subject};
 use plane::Shape;
-use policy_text::Document;
+use policy_documents::Document;
 use session_lines::{Fault, Reply, Said, Service, fault_reply, outcome_reply};
 use std::alloc::{Allocator, Global};
 use transactions::World;

@@ -1,5 +1,5 @@
 use Rattle.std.proofs.Common.{◌<◌, length, arith}
-use Rattle.policy_text.proofs.ZoneLemmas.{with_zone-read}
+use Rattle.policy_text.proofs.WithZoneLemmas.{with_zone-read}
 use Rattle.policy_text.proofs.areas.with_zone.Goals as goal
 
 pub returns-clause-value : goal.returns-clause-value

@@ -1,5 +1,5 @@
 use Rattle.std.proofs.Common.{◌≡◌, refl, map, sym, ◌∙◌, subst}
-use Rattle.policy_text.specs.Views.{zone_of}
+use Rattle.policy_documents.specs.Views.{zone_of}
 use Rattle.policy_text.specs.Reading.{Fails, at_item}
 use Rattle.policy_text.proofs.EachLemmas.{Gives-residual}
 use Rattle.policy_text.proofs.ZoneReadLemmas.{zones_place, zones_left-more, zones_left-fails, zones_left-end}

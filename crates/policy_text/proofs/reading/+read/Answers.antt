@@ -1,10 +1,10 @@
 use Rattle.std.proofs.Common.{arith, map, sym, ap, ◌∙◌, subst, Ok, ◌+◌, ◌-◌, [], ◌∷◌}
 use Rattle.std.proofs.lemmas.List.{map-append}
 use Rattle.serde_json.specs.View.{view, items_view}
-use Rattle.policy_text.specs.Views.{zone_of, node_view}
+use Rattle.policy_documents.specs.Views.{zone_of, node_view}
 use Rattle.policy_text.specs.SeenViews.{seen_view, head_view}
 use Rattle.policy_text.specs.Reading.{Fails, Gives, node_at}
-use Rattle.policy_text.proofs.NodeLemmas.{node_view-Set}
+use Rattle.policy_documents.proofs.NodeLemmas.{node_view-Set}
 use Rattle.policy_text.proofs.NodeReadLemmas.{node_at-zero, node_at-set, node_at-policy, set_at-read, set_at-fails}
 use Rattle.policy_text.proofs.EachLemmas.{Gives-residual, behind, left_at, left_at-more, left_at-fails, left_at-end}
 use Rattle.policy_text.proofs.reading.+read.Goals as goal

@@ -1,8 +1,8 @@
 use Rattle.std.proofs.Common.{map, sym, ap, ◌∙◌, Ok}
 use Rattle.serde_json.specs.View.{view, items_view}
-use Rattle.policy_text.specs.Views.{zone_of}
+use Rattle.policy_documents.specs.Views.{zone_of}
 use Rattle.policy_text.specs.SeenViews.{seen_view, head_view}
-use Rattle.policy_text.proofs.NodeLemmas.{node_view-Policy}
+use Rattle.policy_documents.proofs.NodeLemmas.{node_view-Policy}
 use Rattle.policy_text.proofs.NodeReadLemmas.{policy_at-read}
 use Rattle.policy_text.proofs.reading.policy_at.Goals as goal
 
