@@ -10,6 +10,8 @@ mod index_tests;
 #[cfg(test)]
 mod memory_tests;
 #[cfg(test)]
+mod reading_tests;
+#[cfg(test)]
 mod refusal_tests;
 #[cfg(test)]
 mod worlds;
