@@ -1,4 +1,4 @@
--- Seats, documents, rolls and tending: they begin and end nothing.
+-- Seats, documents and rolls: they begin and end nothing.
 use Rattle.std.proofs.Common.{◌≡◌, ℕ, ◌+◌, Bool, true, false, List, [], ◌∷◌, ◌++◌, length, Result, Ok, Err, MatchResult, refl, sym, subst, inl, inr}
 use Rattle.std.specs.Bool.{MatchBool}
 use Rattle.features.specs.declared.actors.Subject.{Subject}
@@ -10,9 +10,8 @@ use Rattle.policy_text.specs.declared.faults.TextFault.{TextFault}
 use Rattle.policy_text.specs.declared.faults.TextFault.TheVariants as unread
 use Rattle.plain_world.specs.declared.faults.Fault.{Fault}
 use Rattle.plain_world.specs.declared.faults.Fault.TheVariants as faults
-use Rattle.tree_answers.specs.declared.fault.TreeFault.TheVariants as tree
 use Rattle.plain_world.specs.Admitting.{may_govern, may_roll, may_sit}
-use Rattle.plain_world.specs.Events.{TakeSeat, Govern as GovernEvent, Roll, Tend, Tended, Happens, If, Reply as EventReply, Number, Refused, UnlessMemory, Governs as PutsInForce, Rolls, is_memory}
+use Rattle.plain_world.specs.Events.{TakeSeat, Govern as GovernEvent, Roll, Happens, If, Reply as EventReply, Number, Refused, UnlessMemory, Governs as PutsInForce, Rolls, is_memory}
 use Rattle.plain_world.specs.States.{WorldData}
 use Rattle.session_lines.specs.Desks.{Governs, OnlySays, desk}
 use Rattle.session_lines.specs.Replies.{SaidData, line, policy_reply}
@@ -78,9 +77,3 @@ module _ {S : Type 0} (serves : Call → S → S → SaidData → Type 0) (stage
   -- a document that was read
   pub governs_read : (document : DocumentData) (old new : S) (said : SaidData) → document_of_bytes text ≡ Ok document → serves (Govern document) old new said → Governs serves text (desk staged old) (desk staged new) said
   governs_read document old new said e h = inr (subst (λ r. Read r old new said) (sym e) (refl, h))
-
--- tending leaves the world as it was
-pub tended_same : (slot : ℕ) (old new : WorldData) (reply : EventReply) → Happens (Tend slot) old new reply → new ≡ old
-tended_same slot old new (Tended tending) h = h
-tended_same slot old new (Refused (faults.Tree tree.Spent)) h = h
-tended_same slot old new _ h = absurd h

@@ -13,6 +13,7 @@ use Rattle.tree_answers.specs.declared.answers.Visit.{Visit}
 use Rattle.transactions.specs.Index.{Index, IndexedWorld, slots_of}
 use Rattle.transactions.specs.Refusing.{RefusesGrowth}
 use Rattle.transactions.specs.Stepping.{EndsInIndex, OpensInIndex, TendsIndex}
+use Rattle.transactions.specs.Turns.{behind}
 use Rattle.session_lines.specs.declared.replies.Reply.TheVariants.{Opened}
 use Rattle.sessions.specs.declared.scripts.TheConstants.{LABEL_LIMIT}
 use Rattle.sessions.specs.declared.stepping.StepCommand.{StepCommand}
@@ -23,7 +24,7 @@ use Rattle.session_lines.specs.Desks.{Answers, desk}
 use Rattle.line_streams.specs.Lines.{is_too_long}
 use Rattle.session_lines.specs.Printed.{said_text}
 use Rattle.session_lines.specs.Replies.{SaidData, line, rows, told, visit_reply}
-use Rattle.sessions.specs.Scripts.{LineTells, behind, fresh, is_skipped, keeps_seat, parts_of, place, script, with_label}
+use Rattle.sessions.specs.Scripts.{LineTells, fresh, is_skipped, keeps_seat, parts_of, place, script, with_label}
 use Rattle.session_lines.specs.Services.{Call}
 use Rattle.sessions.specs.Services.{Serves, is_overrun, solo_subject}
 use Rattle.sessions.specs.States.{SessionState, solo}

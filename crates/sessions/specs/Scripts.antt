@@ -65,10 +65,6 @@ place label (session ∷ sessions) = if pointwise nat_eq session.label label the
 abbrev pub with_label : List ℕ → List SessionState → List SessionState
 with_label label sessions = if place label sessions == length sessions then sessions ++ fresh label ∷ [] else sessions
 
--- The slot of the index whose turn comes behind this one's, of so many: from 0 on, and behind the last one 0 again.
-abbrev pub behind : ℕ → ℕ → ℕ
-behind slot slots = if nat_lt (slot + 1) slots then slot + 1 else 0
-
 -- a fault of the line itself, which belongs to no session
 abbrev pub IsRefused : List ℕ → Script → Script → List ℕ → Type 0
 IsRefused text old new said = (new ≡ old) × (said ≡ led (codes "?") text)

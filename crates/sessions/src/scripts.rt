@@ -3,7 +3,7 @@ ghost use Rattle.std.specs.Prelude.{◌≡◌, ◌≤◌, ◌<◌, ◌+◌, ◌+
 ghost use Rattle.std.specs.Io.KnownBytes.{Appends};
 ghost use Rattle.std.specs.List.{prefix_len};
 ghost use Rattle.sessions.specs.Indexed.{AllShut, LabelThere, LineRuns, LineThere, SessionThere, indexed};
-ghost use Rattle.sessions.specs.Scripts.{IsScriptText, LabelTells, LineTells, SessionAnswers, behind, is_not_colon, is_skipped, parts_of, place, script, with_label};
+ghost use Rattle.sessions.specs.Scripts.{IsScriptText, LabelTells, LineTells, SessionAnswers, is_not_colon, is_skipped, parts_of, place, script, with_label};
 ghost use Rattle.session_lines.specs.Printed.{led, reply_text};
 ghost use Rattle.session_lines.specs.Replies.{said_view};
 ghost use Rattle.plain_world.specs.Events.{Happens, Tend, Tended, reply_of};
@@ -13,6 +13,7 @@ ghost use Rattle.sessions.specs.Stepping.{AllDrop};
 ghost use Rattle.transactions.specs.Index.{IndexedWorld, slots_of};
 ghost use Rattle.transactions.specs.Refusing.{RefusesGrowth};
 ghost use Rattle.transactions.specs.Stepping.{TendsIndex};
+ghost use Rattle.transactions.specs.Turns.{behind};
 ghost use Rattle.byte_streams.specs.Written.{Took};
 ghost use Rattle.line_streams.specs.Streams.{NeverEnds, OnMemory, Ran};
 ghost use Rattle.sessions.specs.States.{IsIdle, SessionState};
@@ -137,8 +138,7 @@ impl<A: Allocator + Copy> Table<A> {
             × IfErr answer (RefusesGrowth world.old.index) × TendsIndex world.old.plain self.old.next_slot world.old.index world.new.index answer }
         ensures turn { self.new.next_slot ≡ behind self.old.next_slot (slots_of world.new.index) }
     {
-        let _ = world.tend(self.next_slot);
-        self.next_slot = slot_behind(self.next_slot, world.slots());
+        let _ = world.tend_next(&mut self.next_slot);
     }
 
     /// Answers a line.
@@ -188,17 +188,6 @@ impl<A: Allocator + Copy> Table<A> {
         self.begin_session(label, at);
         let said = self.answer_at(world, at, text);
         write_said(label.as_bytes(), &said, writer)
-    }
-}
-
-/// The slot that is tended after this one, of so many: from 0 on, and behind the last one 0 again.
-fn slot_behind(slot: u32, slots: u32) -> u32
-    ensures { result ≡ behind slot slots }
-{
-    if slot < slots && slot + 1 < slots {
-        slot + 1
-    } else {
-        0
     }
 }
 
