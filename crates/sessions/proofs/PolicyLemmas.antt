@@ -9,7 +9,6 @@ use Rattle.policy_text.specs.Reading.{Fails}
 use Rattle.policy_text.specs.declared.faults.TextFault.{TextFault}
 use Rattle.policy_text.specs.declared.faults.TextFault.TheVariants as unread
 use Rattle.plain_world.specs.declared.faults.Fault.{Fault}
-use Rattle.plain_world.specs.declared.faults.Fault.TheVariants as faults
 use Rattle.plain_world.specs.Admitting.{may_govern, may_roll, may_sit}
 use Rattle.plain_world.specs.Events.{TakeSeat, Govern as GovernEvent, Roll, Happens, If, Reply as EventReply, Number, Refused, UnlessMemory, Governs as PutsInForce, Rolls, is_memory}
 use Rattle.plain_world.specs.States.{WorldData}
