@@ -1,6 +1,7 @@
 //! What follows from the definitions alone. The functions do nothing: each is its contract.
 
 ghost use Rattle.std.specs.Prelude.{◌≡◌, List, ℕ};
+ghost use Rattle.audit_trail.specs.declared.trails.TheConstants.{FIRST_LIMIT};
 ghost use Rattle.decision.specs.Deciders.{DeciderData};
 ghost use Rattle.sessions.specs.Scripts.{LineTells, Script};
 ghost use Rattle.sessions.specs.Services.{Serves, solo_subject};
@@ -11,7 +12,7 @@ ghost use Rattle.sessions.specs.declared.scripts.TheConstants.{LABEL_LIMIT};
 ghost use Rattle.line_streams.specs.declared.streams.Next.{Next};
 ghost use Rattle.line_streams.specs.declared.streams.TheConstants.{LINE_LIMIT, READ_LIMIT};
 ghost use Rattle.plain_world.specs.States.{WorldData, opened};
-ghost use Rattle.plain_world.specs.declared.settings.TheConstants.{CHANGE_LIMIT, SEARCH_LIMIT, SEAT_LIMIT, STEP_LIMIT, TRANSACTION_LIMIT};
+ghost use Rattle.plain_world.specs.declared.settings.TheConstants.{CHANGE_LIMIT, ROLLED_LIMIT, SEARCH_LIMIT, SEAT_LIMIT, STEP_LIMIT, TRANSACTION_LIMIT};
 
 use features::Subject;
 use transactions::{Limits, Starts};
@@ -31,7 +32,8 @@ pub fn lines_leave_worlds_at_rest()
 
 /// The limits that the definitions name, in numbers. Of lines: labels of a script, bytes of a line without its end, reads of a
 /// run. Of the world that serves them: seats in its life, searches that run at once, transactions that are open at once,
-/// changes of a list, and steps of a search or of the walk for one change, which are also the most that STEP takes.
+/// changes of a list, and steps of a search or of the walk for one change, which are also the most that STEP takes; records
+/// that were rolled out before it opened, and the number from which its trail goes on at most.
 pub fn limits_in_numbers()
     ensures labels { LABEL_LIMIT ≡ 64 }
     ensures line { LINE_LIMIT ≡ 65536 }
@@ -41,4 +43,6 @@ pub fn limits_in_numbers()
     ensures transactions { TRANSACTION_LIMIT ≡ 64 }
     ensures changes { CHANGE_LIMIT ≡ 16 }
     ensures steps { STEP_LIMIT ≡ 1000000 }
+    ensures rolled { ROLLED_LIMIT ≡ 4293918719 }
+    ensures first { FIRST_LIMIT ≡ 4293918720 }
 {}
