@@ -1,121 +1,266 @@
+//! What worked documents decide, by which rule, and how decisions are combined.
+use crate::lines::{is_first, parted, point};
 use combining::{Decision, Question, Verdict, combine, evaluate, settled};
 use features::{Action, Name, Subject};
-use plane::{Point, Shape};
-use policy_text::{Algorithm, read_document};
+use plane::Shape;
+use policy_text::{Algorithm, Document, read_document};
 use std::alloc::{AllocError, Global};
+use std::fmt::Display;
 use std::process::Abort;
 use std::test::Fail;
 
-const PERMIT: Decision = Decision::Permit;
+// In these tables each document has behind it, until an empty line, what is asked of it: may a subject of the office north
+// take this action, in this role, of a feature of this owner and class, at this point? It is told with the number and the
+// name of the deciding rule, where there is one.
+const WORKED: &str =
+    r#"{"root":{"combine":"deny-overrides","of":[{"combine":"permit-overrides","policy":"soft","rules":[{"effect":"deny","rule":"early"},{"effect":"permit","rule":"grant"}]},{"combine":"deny-overrides","policy":"hard","rules":[{"effect":"deny","rule":"late"}]}],"set":"top"}}
+read editor north parcel 2 2 => Deny 3 late
+read editor south road 2 2 => Deny 3 late
 
-const DENY: Decision = Decision::Deny;
+{"root":{"combine":"deny-overrides","policy":"p","rules":[{"effect":"deny","rule":"no-parcel","target":[[[{"class":"parcel"}]]]},{"effect":"permit","rule":"open"}]}}
+read editor north parcel 2 2 => Deny 1 no-parcel
+read editor north road 2 2 => Permit 2 open
 
-const NONE: Decision = Decision::NotApplicable;
+{"root":{"combine":"first-applicable","policy":"p","rules":[{"effect":"permit","rule":"roads","target":[[[{"class":"road"}]]]}]}}
+read editor north parcel 2 2 => NotApplicable
+read editor north road 2 2 => Permit 1 roads
+
+{"root":{"combine":"first-applicable","of":[{"combine":"deny-unless-permit","policy":"a","rules":[{"effect":"permit","rule":"mine","when":[{"own":true}]}]},{"combine":"deny-overrides","policy":"b","rules":[{"effect":"deny","rule":"late"}]}],"set":"top"}}
+read editor south road 2 2 => Deny
+read editor north road 2 2 => Permit 1 mine
+
+{"root":{"combine":"deny-overrides","of":[{"combine":"deny-unless-permit","policy":"a","rules":[{"effect":"permit","rule":"mine","when":[{"own":true}]}]},{"combine":"deny-overrides","policy":"b","rules":[{"effect":"deny","rule":"late"}]}],"set":"top"}}
+read editor south road 2 2 => Deny 2 late
+read editor north road 2 2 => Deny 2 late
+
+{"root":{"combine":"permit-unless-deny","policy":"w","rules":[]}}
+read editor south road 2 2 => Permit
+read editor north road 2 2 => Permit
+
+{"root":{"combine":"deny-unless-permit","policy":"w","rules":[]}}
+read editor south road 2 2 => Deny
+read editor north road 2 2 => Deny
+"#;
+
+/// Sets whose target does not hold.
+const TARGETS: &str =
+    r#"{"root":{"set":"top","combine":"deny-overrides","of":[{"set":"roads","combine":"deny-overrides","target":[[[{"class":"road"}]]],"of":[{"policy":"a","combine":"deny-overrides","rules":[{"rule":"go","effect":"permit"},{"rule":"stop","effect":"deny"}]},{"policy":"b","combine":"permit-unless-deny","rules":[{"rule":"drive","effect":"permit"}]}]},{"policy":"others","combine":"deny-overrides","rules":[{"rule":"walk","effect":"permit"}]}]}}
+read editor north road 2 2 => Deny 2 stop
+read editor north parcel 2 2 => Permit 4 walk
+
+{"root":{"set":"top","combine":"first-applicable","of":[{"set":"roads","combine":"deny-unless-permit","target":[[[{"class":"road"}]]],"of":[]},{"policy":"others","combine":"deny-overrides","rules":[{"rule":"walk","effect":"permit"}]}]}}
+read editor north road 2 2 => Deny
+read editor north parcel 2 2 => Permit 1 walk
+
+{"root":{"set":"top","combine":"permit-unless-deny","target":[[[{"class":"road"}]]],"of":[{"policy":"p","combine":"deny-overrides","rules":[{"rule":"go","effect":"permit"}]}]}}
+read editor north road 2 2 => Permit 1 go
+read editor north parcel 2 2 => NotApplicable
+"#;
+
+// examples/policies/harbour.json: the harbour is the square from (0, 0) to (40, 30).
+const HARBOUR: &str =
+    r#"{"root":{"combine":"deny-overrides","of":[{"combine":"deny-overrides","policy":"harbour","rules":[{"effect":"deny","rule":"harbour-is-closed","target":[[[{"action":"add"}],[{"action":"reshape"}],[{"action":"delete"}]]],"when":[{"not":{"role":"harbour-master"}}]}],"target":[[[{"zone":"harbour"}]]]},{"combine":"first-applicable","policy":"offices","rules":[{"effect":"permit","rule":"own-features","when":[{"own":true}]},{"effect":"permit","rule":"all-may-read","target":[[[{"action":"read"}]]]}]}],"set":"agency"},"zones":[{"shape":"POLYGON ((0 0, 40 0, 40 30, 0 30, 0 0))","zone":"harbour"}]}
+add editor north road 40 7 => Deny 1 harbour-is-closed
+delete editor north road 7 7 => Deny 1 harbour-is-closed
+reshape harbour-master north road 7 7 => Permit 2 own-features
+reshape harbour-master south road 7 7 => NotApplicable
+read editor south road 7 7 => Permit 3 all-may-read
+read editor north road 7 7 => Permit 2 own-features
+add editor north road 41 7 => Permit 2 own-features
+add editor south road 41 7 => NotApplicable
+"#;
+
+/// Each action asked beside a match of each.
+const ACTIONS: &str =
+    r#"{"root":{"combine":"deny-overrides","policy":"p","rules":[{"effect":"permit","rule":"r","target":[[[{"action":"read"}]]]}]}}
+read editor north road 2 2 => Permit 1 r
+add editor north road 2 2 => NotApplicable
+reshape editor north road 2 2 => NotApplicable
+delete editor north road 2 2 => NotApplicable
+
+{"root":{"combine":"deny-overrides","policy":"p","rules":[{"effect":"permit","rule":"r","target":[[[{"action":"add"}]]]}]}}
+read editor north road 2 2 => NotApplicable
+add editor north road 2 2 => Permit 1 r
+reshape editor north road 2 2 => NotApplicable
+delete editor north road 2 2 => NotApplicable
+
+{"root":{"combine":"deny-overrides","policy":"p","rules":[{"effect":"permit","rule":"r","target":[[[{"action":"reshape"}]]]}]}}
+read editor north road 2 2 => NotApplicable
+add editor north road 2 2 => NotApplicable
+reshape editor north road 2 2 => Permit 1 r
+delete editor north road 2 2 => NotApplicable
+
+{"root":{"combine":"deny-overrides","policy":"p","rules":[{"effect":"permit","rule":"r","target":[[[{"action":"delete"}]]]}]}}
+read editor north road 2 2 => NotApplicable
+add editor north road 2 2 => NotApplicable
+reshape editor north road 2 2 => NotApplicable
+delete editor north road 2 2 => Permit 1 r
+"#;
+
+/// Inside, at an edge, at a corner, and one unit outside.
+const ZONES: &str =
+    r#"{"root":{"combine":"deny-overrides","policy":"p","rules":[{"effect":"permit","rule":"r","target":[[[{"zone":"square"}]]]}]},"zones":[{"shape":"POLYGON ((0 0, 4 0, 4 4, 0 4, 0 0))","zone":"square"}]}
+read editor north road 2 2 => Permit 1 r
+read editor north road 4 2 => Permit 1 r
+read editor north road 4 4 => Permit 1 r
+read editor north road 0 0 => Permit 1 r
+read editor north road 5 2 => NotApplicable
+read editor north road 2 -1 => NotApplicable
+read editor north road 5 5 => NotApplicable
+"#;
+
+/// Matches, and whether each holds for the subject.
+const MATCHES: &str = r#"{"role":"editor"} => holds
+{"role":"north"} => fails
+{"office":"north"} => holds
+{"office":"south"} => fails
+{"class":"road"} => holds
+{"class":"roads"} => fails
+{"owner":"south"} => holds
+{"owner":"north"} => fails
+{"action":"read"} => holds
+{"action":"add"} => fails
+{"zone":"square"} => holds
+"#;
+
+/// Targets and conditions, and whether a rule of both applies.
+const CONDITIONS: &str = r#" |  => holds
+ | {"own":true} => fails
+ | {"not":{"own":true}} => holds
+ | {"class":"road"},{"own":true} => fails
+ | {"class":"road"},{"not":{"own":true}} => holds
+[[{"class":"parcel"}],[{"class":"road"}]] |  => holds
+[[{"class":"parcel"}],[{"class":"mast"}]] |  => fails
+[[{"class":"road"},{"role":"editor"}]] |  => holds
+[[{"class":"road"},{"role":"guest"}]] |  => fails
+[[{"class":"road"},{"role":"guest"}],[{"owner":"south"}]] |  => holds
+[[{"class":"road"}]],[[{"role":"editor"}]] |  => holds
+[[{"class":"road"}]],[[{"role":"guest"}]] |  => fails
+[[{"class":"road"}]] | {"own":true} => fails
+"#;
+
+/// The same, where the subject's office owns the feature.
+const OWN_CONDITIONS: &str = r#" | {"own":true} => holds
+ | {"not":{"own":true}} => fails
+"#;
+
+/// Decisions, and what each algorithm makes of them, in the order of `ALGORITHMS`: the tables of XACML 3.0, C.2, C.4, C.6,
+/// C.7 and C.8, without Indeterminate.
+const COMBINED: &str = r#" => none none deny permit none
+none => none none deny permit none
+permit => permit permit permit permit permit
+deny => deny deny deny deny deny
+permit deny => deny permit permit deny permit
+deny permit => deny permit permit deny deny
+none permit => permit permit permit permit permit
+deny none => deny deny deny deny deny
+none none => none none deny permit none
+none deny permit => deny permit permit deny deny
+permit none deny => deny permit permit deny permit
+"#;
+
+const ALGORITHMS: [Algorithm; 5] = [
+    Algorithm::DenyOverrides,
+    Algorithm::PermitOverrides,
+    Algorithm::DenyUnlessPermit,
+    Algorithm::PermitUnlessDeny,
+    Algorithm::FirstApplicable,
+];
 
 fn name(rt: &impl Abort, text: &str) -> Name {
     let name = Name::new(text.as_bytes());
-    assert!(rt; name.is_some());
+    assert!(rt; name.is_some(), "{text}");
     name.unwrap()
 }
 
-fn point(rt: &impl Abort, x: i32, y: i32) -> Shape {
-    let shape = Shape::point(Point { x, y });
-    assert!(rt; shape.is_ok());
+fn action(rt: &impl Abort, word: &str) -> Action {
+    match word {
+        "read" => Action::Read,
+        "add" => Action::Add,
+        "reshape" => Action::Reshape,
+        "delete" => Action::Delete,
+        _ => panic!(rt; "no action: {word}"),
+    }
+}
+
+/// The shape of a point.
+fn shape(rt: &impl Abort, text: &str) -> Shape {
+    let shape = Shape::point(point(rt, text));
+    assert!(rt; shape.is_ok(), "{text}");
     shape.unwrap()
 }
 
-/// May an editor of the office north read a feature of this class, which this office owns, at (2, 2)?
-fn question(rt: &impl Abort, owner: &str, class: &str) -> Question {
+/// The question of a text such as `read editor south road 2 2`: its action, role, owner, class and point.
+fn question(rt: &impl Abort, text: &str) -> Question {
+    let (asked, rest) = parted(rt, text, " ");
+    let (role, rest) = parted(rt, rest, " ");
+    let (owner, rest) = parted(rt, rest, " ");
+    let (class, place) = parted(rt, rest, " ");
     Question {
         subject: Subject {
             name: name(rt, "ann"),
             office: name(rt, "north"),
-            role: name(rt, "editor"),
+            role: name(rt, role),
             steward: false,
         },
-        action: Action::Read,
+        action: action(rt, asked),
         owner: name(rt, owner),
         class: name(rt, class),
-        shape: point(rt, 2, 2),
+        shape: shape(rt, place),
     }
 }
 
-/// What the document of a text decides.
-fn decided(rt: &impl Abort, heap: Global, text: &str, question: &Question) -> Verdict {
-    let read = read_document(heap, heap, text.as_bytes());
-    assert!(rt; read.is_ok(), "{text}");
-    evaluate(&read.unwrap(), question)
+fn document(rt: &impl Abort, heap: Global, text: &str) -> Document<Global> {
+    match read_document(heap, heap, text.as_bytes()) {
+        Ok(document) => document,
+        Err(_) => panic!(rt; "not read: {text}"),
+    }
 }
 
-#[test]
-fn decisions_of_documents(rt: HostRuntime) -> Result<(), Fail> {
-    let two_policies =
-        r#"{"root":{"combine":"deny-overrides","of":[{"combine":"permit-overrides","policy":"soft","rules":[{"effect":"deny","rule":"early"},{"effect":"permit","rule":"grant"}]},{"combine":"deny-overrides","policy":"hard","rules":[{"effect":"deny","rule":"late"}]}],"set":"top"}}"#;
-    let no_parcel =
-        r#"{"root":{"combine":"deny-overrides","policy":"p","rules":[{"effect":"deny","rule":"no-parcel","target":[[[{"class":"parcel"}]]]},{"effect":"permit","rule":"open"}]}}"#;
-    let roads =
-        r#"{"root":{"combine":"first-applicable","policy":"p","rules":[{"effect":"permit","rule":"roads","target":[[[{"class":"road"}]]]}]}}"#;
-    let own_first =
-        r#"{"root":{"combine":"first-applicable","of":[{"combine":"deny-unless-permit","policy":"a","rules":[{"effect":"permit","rule":"mine","when":[{"own":true}]}]},{"combine":"deny-overrides","policy":"b","rules":[{"effect":"deny","rule":"late"}]}],"set":"top"}}"#;
-    let own_and_late =
-        r#"{"root":{"combine":"deny-overrides","of":[{"combine":"deny-unless-permit","policy":"a","rules":[{"effect":"permit","rule":"mine","when":[{"own":true}]}]},{"combine":"deny-overrides","policy":"b","rules":[{"effect":"deny","rule":"late"}]}],"set":"top"}}"#;
-    let permits = r#"{"root":{"combine":"permit-unless-deny","policy":"w","rules":[]}}"#;
-    let denies = r#"{"root":{"combine":"deny-unless-permit","policy":"w","rules":[]}}"#;
-    for (text, owner, class, decision, rule) in [
-        (two_policies, "north", "parcel", DENY, Some(3)),
-        (two_policies, "south", "road", DENY, Some(3)),
-        (no_parcel, "north", "parcel", DENY, Some(1)),
-        (no_parcel, "north", "road", PERMIT, Some(2)),
-        (roads, "north", "parcel", NONE, None),
-        (roads, "north", "road", PERMIT, Some(1)),
-        (own_first, "south", "road", DENY, None),
-        (own_first, "north", "road", PERMIT, Some(1)),
-        (own_and_late, "south", "road", DENY, Some(2)),
-        (own_and_late, "north", "road", DENY, Some(2)),
-        (permits, "south", "road", PERMIT, None),
-        (permits, "north", "road", PERMIT, None),
-        (denies, "south", "road", DENY, None),
-        (denies, "north", "road", DENY, None),
-    ] {
-        let verdict = decided(&rt, rt.alloc(), text, &question(&rt, owner, class));
-        assert_eq!(rt;
-            verdict,
-            Verdict { decision, rule },
-            "{owner} {class} {text}"
-        );
+/// A verdict in words: its decision, and the number and the name of its rule.
+fn shown(
+    heap: Global,
+    document: &Document<Global>,
+    verdict: Verdict,
+) -> Result<String, AllocError> {
+    let decision = verdict.decision;
+    let Some(number) = verdict.rule else {
+        return format!(in heap; "{decision:?}");
+    };
+    match document.rule_name(number) {
+        Some(name) => format!(in heap; "{decision:?} {number} {name}"),
+        None => format!(in heap; "{decision:?} {number}"),
+    }
+}
+
+/// The document answers each question as its line tells.
+fn check_answers(
+    rt: &impl Abort,
+    heap: Global,
+    document: &Document<Global>,
+    lines: &str,
+) -> Result<(), AllocError> {
+    for line in lines.lines() {
+        let (asked, told) = parted(rt, line, " => ");
+        let verdict = evaluate(document, &question(rt, asked));
+        assert_eq!(rt; shown(heap, document, verdict)?.as_str(), told, "{line}");
     }
     Ok(())
 }
 
-/// The name of the rule by which the document of a text decides.
-fn deciding_name(rt: &impl Abort, heap: Global, text: &str, question: &Question) -> Option<Name> {
-    let read = read_document(heap, heap, text.as_bytes());
-    assert!(rt; read.is_ok(), "{text}");
-    let document = read.unwrap();
-    document.rule_name(evaluate(&document, question).rule?)
+/// Each document of a table answers as the lines behind it tell.
+fn check_documents(rt: &impl Abort, heap: Global, table: &str) -> Result<(), AllocError> {
+    for part in table.split("\n\n") {
+        let (text, lines) = parted(rt, part, "\n");
+        check_answers(rt, heap, &document(rt, heap, text), lines)?;
+    }
+    Ok(())
 }
 
 #[test]
-fn sets_whose_target_does_not_hold(rt: HostRuntime) -> Result<(), Fail> {
-    let roads_first =
-        r#"{"root":{"set":"top","combine":"deny-overrides","of":[{"set":"roads","combine":"deny-overrides","target":[[[{"class":"road"}]]],"of":[{"policy":"a","combine":"deny-overrides","rules":[{"rule":"go","effect":"permit"},{"rule":"stop","effect":"deny"}]},{"policy":"b","combine":"permit-unless-deny","rules":[{"rule":"drive","effect":"permit"}]}]},{"policy":"others","combine":"deny-overrides","rules":[{"rule":"walk","effect":"permit"}]}]}}"#;
-    let default_denial =
-        r#"{"root":{"set":"top","combine":"first-applicable","of":[{"set":"roads","combine":"deny-unless-permit","target":[[[{"class":"road"}]]],"of":[]},{"policy":"others","combine":"deny-overrides","rules":[{"rule":"walk","effect":"permit"}]}]}}"#;
-    let root_alone =
-        r#"{"root":{"set":"top","combine":"permit-unless-deny","target":[[[{"class":"road"}]]],"of":[{"policy":"p","combine":"deny-overrides","rules":[{"rule":"go","effect":"permit"}]}]}}"#;
-    for (text, class, decision, rule, named) in [
-        (roads_first, "road", DENY, Some(2), "stop"),
-        (roads_first, "parcel", PERMIT, Some(4), "walk"),
-        (default_denial, "road", DENY, None, ""),
-        (default_denial, "parcel", PERMIT, Some(1), "walk"),
-        (root_alone, "road", PERMIT, Some(1), "go"),
-        (root_alone, "parcel", NONE, None, ""),
-    ] {
-        let asked = question(&rt, "north", class);
-        let verdict = decided(&rt, rt.alloc(), text, &asked);
-        assert_eq!(rt; verdict, Verdict { decision, rule }, "{class} {text}");
-        let found = deciding_name(&rt, rt.alloc(), text, &asked);
-        assert_eq!(rt; found, Name::new(named.as_bytes()), "{class} {text}");
+fn documents_decide(rt: HostRuntime) -> Result<(), Fail> {
+    for table in [WORKED, TARGETS, HARBOUR, ACTIONS, ZONES] {
+        check_documents(&rt, rt.alloc(), table)?;
     }
     Ok(())
 }
@@ -129,221 +274,115 @@ fn settling_decisions(rt: HostRuntime) -> Result<(), Fail> {
         (Algorithm::PermitUnlessDeny, false, true),
         (Algorithm::FirstApplicable, true, true),
     ] {
-        assert_eq!(rt; settled(algorithm, PERMIT), permit);
-        assert_eq!(rt; settled(algorithm, DENY), deny);
-        assert!(rt; !settled(algorithm, NONE));
+        assert_eq!(rt; settled(algorithm, Decision::Permit), permit);
+        assert_eq!(rt; settled(algorithm, Decision::Deny), deny);
+        assert!(rt; !settled(algorithm, Decision::NotApplicable));
     }
     Ok(())
 }
 
-// examples/policies/harbour.json: the harbour is the square from (0, 0) to (40, 30).
-const HARBOUR: &str =
-    r#"{"root":{"combine":"deny-overrides","of":[{"combine":"deny-overrides","policy":"harbour","rules":[{"effect":"deny","rule":"harbour-is-closed","target":[[[{"action":"add"}],[{"action":"reshape"}],[{"action":"delete"}]]],"when":[{"not":{"role":"harbour-master"}}]}],"target":[[[{"zone":"harbour"}]]]},{"combine":"first-applicable","policy":"offices","rules":[{"effect":"permit","rule":"own-features","when":[{"own":true}]},{"effect":"permit","rule":"all-may-read","target":[[[{"action":"read"}]]]}]}],"set":"agency"},"zones":[{"shape":"POLYGON ((0 0, 40 0, 40 30, 0 30, 0 0))","zone":"harbour"}]}"#;
-
-#[test]
-fn harbour_example(rt: HostRuntime) -> Result<(), Fail> {
-    for (action, role, owner, x, decision, rule) in [
-        (Action::Add, "editor", "north", 40, DENY, Some(1)),
-        (Action::Delete, "editor", "north", 7, DENY, Some(1)),
-        (
-            Action::Reshape,
-            "harbour-master",
-            "north",
-            7,
-            PERMIT,
-            Some(2),
-        ),
-        (Action::Reshape, "harbour-master", "south", 7, NONE, None),
-        (Action::Read, "editor", "south", 7, PERMIT, Some(3)),
-        (Action::Read, "editor", "north", 7, PERMIT, Some(2)),
-        (Action::Add, "editor", "north", 41, PERMIT, Some(2)),
-        (Action::Add, "editor", "south", 41, NONE, None),
-    ] {
-        let mut asked = question(&rt, owner, "road");
-        asked.subject.role = name(&rt, role);
-        asked.action = action;
-        asked.shape = point(&rt, x, 7);
-        let verdict = decided(&rt, rt.alloc(), HARBOUR, &asked);
-        assert_eq!(rt; verdict, Verdict { decision, rule }, "{role} {owner} {x}");
-    }
-    Ok(())
-}
-
-/// Whether a rule with this target and these conditions applies to the question, in a document with one zone, the square
-/// from (0, 0) to (4, 4).
-fn applies(
-    rt: &impl Abort,
+/// The text of a document with one rule of this target and these conditions, and one zone, the square from (0, 0) to (4, 4).
+fn one_rule(
     heap: Global,
-    target: &str,
-    when: &str,
-    question: &Question,
-) -> Result<bool, AllocError> {
-    let text = format!(in heap;
+    target: impl Display + Drop,
+    when: impl Display + Drop,
+) -> Result<String, AllocError> {
+    format!(in heap;
         "{}{target}{}{when}{}",
         r#"{"root":{"combine":"deny-overrides","policy":"p","rules":[{"effect":"permit","rule":"r","target":["#,
         r#"],"when":["#,
         r#"]}]},"zones":[{"shape":"POLYGON ((0 0, 4 0, 4 4, 0 4, 0 0))","zone":"square"}]}"#
-    )?;
-    let verdict = decided(rt, heap, text.as_str(), question);
-    let permit = Verdict {
-        decision: PERMIT,
-        rule: Some(1),
+    )
+}
+
+/// The one rule of a document permits, or does not apply.
+fn check_rule(rt: &impl Abort, heap: Global, text: &str, owner: &str, applies: bool) {
+    let mut asked = question(rt, "read editor south road 2 2");
+    asked.owner = name(rt, owner);
+    let verdict = evaluate(&document(rt, heap, text), &asked);
+    let expected = if applies {
+        (Decision::Permit, Some(1))
+    } else {
+        (Decision::NotApplicable, None)
     };
-    let none = Verdict {
-        decision: NONE,
-        rule: None,
-    };
-    assert!(rt; verdict == permit || verdict == none, "{target} {when}");
-    Ok(verdict == permit)
+    assert_eq!(rt; (verdict.decision, verdict.rule), expected, "{text}");
+}
+
+/// A match holds as a target, as a condition, and in the opposite case where it is negated.
+fn check_match(rt: &impl Abort, heap: Global, line: &str) -> Result<(), AllocError> {
+    let (test, told) = parted(rt, line, " => ");
+    let holds = is_first(rt, told, "holds", "fails");
+    let text = one_rule(heap, format_args!("[[{test}]]"), "")?;
+    check_rule(rt, heap, text.as_str(), "south", holds);
+    let text = one_rule(heap, "", test)?;
+    check_rule(rt, heap, text.as_str(), "south", holds);
+    let text = one_rule(heap, "", format_args!("{{\"not\":{test}}}"))?;
+    check_rule(rt, heap, text.as_str(), "south", !holds);
+    Ok(())
+}
+
+/// A rule of this target and these conditions applies for this owner's feature, or does not.
+fn check_condition(
+    rt: &impl Abort,
+    heap: Global,
+    owner: &str,
+    line: &str,
+) -> Result<(), AllocError> {
+    let (given, told) = parted(rt, line, " => ");
+    let (target, when) = parted(rt, given, " | ");
+    let holds = is_first(rt, told, "holds", "fails");
+    let text = one_rule(heap, target, when)?;
+    check_rule(rt, heap, text.as_str(), owner, holds);
+    Ok(())
 }
 
 #[test]
 fn matches_and_conditions(rt: HostRuntime) -> Result<(), Fail> {
     let heap = rt.alloc();
-    let asked = question(&rt, "south", "road");
-    for (test, holds) in [
-        (r#"{"role":"editor"}"#, true),
-        (r#"{"role":"north"}"#, false),
-        (r#"{"office":"north"}"#, true),
-        (r#"{"office":"south"}"#, false),
-        (r#"{"class":"road"}"#, true),
-        (r#"{"class":"roads"}"#, false),
-        (r#"{"owner":"south"}"#, true),
-        (r#"{"owner":"north"}"#, false),
-        (r#"{"action":"read"}"#, true),
-        (r#"{"action":"add"}"#, false),
-        (r#"{"zone":"square"}"#, true),
-    ] {
-        let target = format!(in heap; "[[{test}]]")?;
-        assert_eq!(rt;
-            applies(&rt, heap, target.as_str(), "", &asked)?,
-            holds,
-            "{test}"
-        );
-        assert_eq!(rt; applies(&rt, heap, "", test, &asked)?, holds, "{test}");
-        let negated = format!(in heap; "{{\"not\":{test}}}")?;
-        assert_eq!(rt;
-            applies(&rt, heap, "", negated.as_str(), &asked)?,
-            !holds,
-            "{test}"
-        );
+    for line in MATCHES.lines() {
+        check_match(&rt, heap, line)?;
     }
-    for (target, when, holds) in [
-        ("", "", true),
-        ("", r#"{"own":true}"#, false),
-        ("", r#"{"not":{"own":true}}"#, true),
-        ("", r#"{"class":"road"},{"own":true}"#, false),
-        ("", r#"{"class":"road"},{"not":{"own":true}}"#, true),
-        (r#"[[{"class":"parcel"}],[{"class":"road"}]]"#, "", true),
-        (r#"[[{"class":"parcel"}],[{"class":"mast"}]]"#, "", false),
-        (r#"[[{"class":"road"},{"role":"editor"}]]"#, "", true),
-        (r#"[[{"class":"road"},{"role":"guest"}]]"#, "", false),
-        (
-            r#"[[{"class":"road"},{"role":"guest"}],[{"owner":"south"}]]"#,
-            "",
-            true,
-        ),
-        (r#"[[{"class":"road"}]],[[{"role":"editor"}]]"#, "", true),
-        (r#"[[{"class":"road"}]],[[{"role":"guest"}]]"#, "", false),
-        (r#"[[{"class":"road"}]]"#, r#"{"own":true}"#, false),
-    ] {
-        assert_eq!(rt;
-            applies(&rt, heap, target, when, &asked)?,
-            holds,
-            "{target} {when}"
-        );
+    for line in CONDITIONS.lines() {
+        check_condition(&rt, heap, "south", line)?;
     }
-    let own = question(&rt, "north", "road");
-    assert!(rt; applies(&rt, heap, "", r#"{"own":true}"#, &own)?);
-    assert!(rt; !applies(&rt, heap, "", r#"{"not":{"own":true}}"#, &own)?);
-    Ok(())
-}
-
-/// Whether each match of an action holds where this one is asked.
-fn check_action(
-    rt: &impl Abort,
-    heap: Global,
-    action: Action,
-    word: &str,
-) -> Result<(), AllocError> {
-    let mut asked = question(rt, "north", "road");
-    asked.action = action;
-    for other in ["read", "add", "reshape", "delete"] {
-        let target = format!(in heap; "[[{{\"action\":\"{other}\"}}]]")?;
-        let holds = applies(rt, heap, target.as_str(), "", &asked)?;
-        assert_eq!(rt; holds, word == other, "{word} {other}");
+    for line in OWN_CONDITIONS.lines() {
+        check_condition(&rt, heap, "north", line)?;
     }
     Ok(())
 }
 
-#[test]
-fn actions(rt: HostRuntime) -> Result<(), Fail> {
-    check_action(&rt, rt.alloc(), Action::Read, "read")?;
-    check_action(&rt, rt.alloc(), Action::Add, "add")?;
-    check_action(&rt, rt.alloc(), Action::Reshape, "reshape")?;
-    check_action(&rt, rt.alloc(), Action::Delete, "delete")?;
-    Ok(())
-}
-
-/// Inside, at an edge, at a corner, and one unit outside.
-#[test]
-fn zones(rt: HostRuntime) -> Result<(), Fail> {
-    for (x, y, holds) in [
-        (2, 2, true),
-        (4, 2, true),
-        (4, 4, true),
-        (0, 0, true),
-        (5, 2, false),
-        (2, -1, false),
-        (5, 5, false),
-    ] {
-        let mut asked = question(&rt, "north", "road");
-        asked.shape = point(&rt, x, y);
-        let told = applies(&rt, rt.alloc(), r#"[[{"zone":"square"}]]"#, "", &asked)?;
-        assert_eq!(rt; told, holds, "{x} {y}");
+fn decision(rt: &impl Abort, word: &str) -> Decision {
+    match word {
+        "permit" => Decision::Permit,
+        "deny" => Decision::Deny,
+        "none" => Decision::NotApplicable,
+        _ => panic!(rt; "no decision: {word}"),
     }
-    Ok(())
 }
 
-/// The tables of XACML 3.0, C.2, C.4, C.6, C.7 and C.8, without Indeterminate.
+/// The algorithms make of these decisions what the line tells.
+fn check_combined(rt: &impl Abort, line: &str) {
+    let (given, told) = parted(rt, line, " => ");
+    let mut decisions = [Decision::NotApplicable; 3];
+    for (place, word) in decisions.iter_mut().zip(given.split_whitespace()) {
+        *place = decision(rt, word);
+    }
+    let decisions = decisions.get(..given.split_whitespace().count());
+    assert!(rt;
+        decisions.is_some() && told.split_whitespace().count() == ALGORITHMS.len(),
+        "{line}"
+    );
+    let decisions = decisions.unwrap();
+    for (algorithm, word) in ALGORITHMS.iter().zip(told.split_whitespace()) {
+        let combined = combine(*algorithm, decisions);
+        assert_eq!(rt; combined, decision(rt, word), "{algorithm:?} {line}");
+    }
+}
+
 #[test]
 fn combined_decisions(rt: HostRuntime) -> Result<(), Fail> {
-    let algorithms = [
-        Algorithm::DenyOverrides,
-        Algorithm::PermitOverrides,
-        Algorithm::DenyUnlessPermit,
-        Algorithm::PermitUnlessDeny,
-        Algorithm::FirstApplicable,
-    ];
-    for (decisions, wanted) in [
-        (&[][..], [NONE, NONE, DENY, PERMIT, NONE]),
-        (&[NONE][..], [NONE, NONE, DENY, PERMIT, NONE]),
-        (&[PERMIT][..], [PERMIT, PERMIT, PERMIT, PERMIT, PERMIT]),
-        (&[DENY][..], [DENY, DENY, DENY, DENY, DENY]),
-        (&[PERMIT, DENY][..], [DENY, PERMIT, PERMIT, DENY, PERMIT]),
-        (&[DENY, PERMIT][..], [DENY, PERMIT, PERMIT, DENY, DENY]),
-        (
-            &[NONE, PERMIT][..],
-            [PERMIT, PERMIT, PERMIT, PERMIT, PERMIT],
-        ),
-        (&[DENY, NONE][..], [DENY, DENY, DENY, DENY, DENY]),
-        (&[NONE, NONE][..], [NONE, NONE, DENY, PERMIT, NONE]),
-        (
-            &[NONE, DENY, PERMIT][..],
-            [DENY, PERMIT, PERMIT, DENY, DENY],
-        ),
-        (
-            &[PERMIT, NONE, DENY][..],
-            [DENY, PERMIT, PERMIT, DENY, PERMIT],
-        ),
-    ] {
-        for (algorithm, want) in algorithms.iter().zip(wanted.iter()) {
-            assert_eq!(rt;
-                combine(*algorithm, decisions),
-                *want,
-                "{algorithm:?} {decisions:?}"
-            );
-        }
+    for line in COMBINED.lines() {
+        check_combined(&rt, line);
     }
     Ok(())
 }

@@ -3,7 +3,7 @@ use combining::{Decision, Question, Verdict, evaluate};
 use decision::{Decider, Folded, Ruling};
 use features::{Action, Name, Subject};
 use plane::{Point, Shape};
-use policy_text::read_document;
+use policy_text::{Document, read_document};
 use std::alloc::{AllocError, Global};
 use std::process::Abort;
 use std::test::Fail;
@@ -206,28 +206,33 @@ fn push_set(draft: &mut Draft, dice: &mut Dice) -> Result<(), AllocError> {
 }
 
 /// A document of sets and policies within one another.
-fn document_text(heap: Global, dice: &mut Dice) -> Result<String, AllocError> {
-    let mut draft = Draft {
-        heap,
-        text: String::new(heap),
-        names: 0,
-    };
+fn push_document(draft: &mut Draft, dice: &mut Dice) -> Result<(), AllocError> {
     draft.push(r#"{"root":"#)?;
-    push_head(&mut draft, dice, "set")?;
+    push_head(draft, dice, "set")?;
     draft.push(r#","of":["#)?;
     for index in 0..dice.below(4) {
         if index > 0 {
             draft.push(",")?;
         }
         if dice.below(2) == 0 {
-            push_policy(&mut draft, dice)?;
+            push_policy(draft, dice)?;
         } else {
-            push_set(&mut draft, dice)?;
+            push_set(draft, dice)?;
         }
     }
     draft.push("]},")?;
     draft.push(ZONES)?;
-    draft.push("}")?;
+    draft.push("}")
+}
+
+/// The text of a document that is made up.
+fn document_text(heap: Global, dice: &mut Dice) -> Result<String, AllocError> {
+    let mut draft = Draft {
+        heap,
+        text: String::new(heap),
+        names: 0,
+    };
+    push_document(&mut draft, dice)?;
     Ok(draft.text)
 }
 
@@ -269,12 +274,18 @@ fn question(rt: &impl Abort, dice: &mut Dice) -> Question {
     }
 }
 
+fn document(rt: &impl Abort, heap: Global, text: &str) -> Document<Global> {
+    match read_document(heap, heap, text.as_bytes()) {
+        Ok(document) => document,
+        Err(_) => panic!(rt; "not read: {text}"),
+    }
+}
+
 fn decider(rt: &impl Abort, heap: Global, text: &str) -> Decider {
-    let read = read_document(heap, heap, text.as_bytes());
-    assert!(rt; read.is_ok(), "{text}");
-    let made = Decider::new(read.unwrap(), 1);
-    assert!(rt; made.is_ok());
-    made.unwrap()
+    match Decider::new(document(rt, heap, text), 1) {
+        Ok(decider) => decider,
+        Err(_) => panic!(rt; "not compiled: {text}"),
+    }
 }
 
 /// The ruling that a verdict gives.
@@ -288,9 +299,10 @@ fn ruling(verdict: Verdict) -> Ruling {
 
 /// The document, folded for the subject and the action of a question.
 fn folded<'a>(rt: &impl Abort, decider: &'a Decider, question: &Question) -> Folded<'a> {
-    let folded = decider.fold(&question.subject, &question.action);
-    assert!(rt; folded.is_ok());
-    folded.unwrap()
+    match decider.fold(&question.subject, &question.action) {
+        Ok(folded) => folded,
+        Err(_) => panic!(rt; "not folded"),
+    }
 }
 
 /// That the document, its decider and the folded document answer alike.

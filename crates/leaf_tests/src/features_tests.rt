@@ -2,11 +2,12 @@ ghost use Rattle.std.specs.Prelude.{◌≡◌};
 ghost use Rattle.features.specs.Changes.{change_id};
 
 use features::{
-    Change, FEATURE_LIMIT, Meter, Name, Store, StoreFault, Subject, Subjects, SubjectsFault,
+    Change, FEATURE_LIMIT, Feature, Meter, Name, Store, StoreFault, Subject, Subjects,
+    SubjectsFault,
 };
 use plane::{Point, Shape};
 use refusing::Refusing;
-use std::alloc::Allocator;
+use std::alloc::{AllocError, Allocator, Global};
 use std::process::Abort;
 use std::test::Fail;
 
@@ -66,28 +67,35 @@ fn make<A: Allocator>(
     store.apply(version, name(rt, b"north"), &[change])
 }
 
+/// Texts that are names.
+const NAMES: &str = "a
+-
+0
+north
+a-0-z
+abcdefghijklmnopqrstuvwxyz-01234";
+
+/// Texts that are none: the first is empty, and the last too long by one.
+const NO_NAMES: &str = "
+North
+a b
+a_b
+é
+abcdefghijklmnopqrstuvwxyz-012345";
+
+fn check_name(rt: &impl Abort, alloc: Global, text: &str) -> Result<(), AllocError> {
+    let name = name(rt, text.as_bytes());
+    assert_eq!(rt; name.as_bytes(), text.as_bytes());
+    assert_eq!(rt; format!(in alloc; "{name}")?.as_str(), text);
+    Ok(())
+}
+
 #[test]
 fn names(rt: HostRuntime) -> Result<(), Fail> {
-    for text in [
-        "a",
-        "-",
-        "0",
-        "north",
-        "a-0-z",
-        "abcdefghijklmnopqrstuvwxyz-01234",
-    ] {
-        let read = name(&rt, text.as_bytes());
-        assert_eq!(rt; read.as_bytes(), text.as_bytes());
-        assert_eq!(rt; format!(in rt.alloc(); "{read}")?.as_str(), text);
+    for text in NAMES.lines() {
+        check_name(&rt, rt.alloc(), text)?;
     }
-    for text in [
-        "",
-        "North",
-        "a b",
-        "a_b",
-        "é",
-        "abcdefghijklmnopqrstuvwxyz-012345",
-    ] {
+    for text in NO_NAMES.lines() {
         assert!(rt; Name::new(text.as_bytes()).is_none(), "{text}");
     }
     Ok(())
@@ -104,33 +112,45 @@ fn subject(rt: &impl Abort, text: &[u8]) -> Subject {
 }
 
 #[test]
-fn subjects(rt: HostRuntime) -> Result<(), Fail> {
+fn subjects_refused(rt: HostRuntime) -> Result<(), Fail> {
     assert_eq!(rt; Subjects::new(&[]).err(), Some(SubjectsFault::NoneGiven));
-    let twice = [
-        subject(&rt, b"north"),
-        subject(&rt, b"south"),
-        subject(&rt, b"north"),
-    ];
+    let north = subject(&rt, b"north");
+    let twice = [north, subject(&rt, b"south"), north];
     assert_eq!(rt; Subjects::new(&twice).err(), Some(SubjectsFault::NameTwice));
-    let many = [subject(&rt, b"north"); 65];
+    let many = [north; 65];
     assert_eq!(rt; Subjects::new(&many).err(), Some(SubjectsFault::TooMany));
-    let both = Subjects::new(&[subject(&rt, b"north"), subject(&rt, b"south")]);
+    Ok(())
+}
+
+#[test]
+fn subjects(rt: HostRuntime) -> Result<(), Fail> {
+    let south = subject(&rt, b"south");
+    let both = Subjects::new(&[subject(&rt, b"north"), south]);
     assert!(rt; both.is_ok());
     let both = both.unwrap();
-    assert_eq!(rt; both.get(name(&rt, b"south")), Some(subject(&rt, b"south")));
+    assert_eq!(rt; both.get(south.name), Some(south));
     assert_eq!(rt; both.get(name(&rt, b"west")), None);
-    // A fault is shown by its code.
+    Ok(())
+}
+
+#[test]
+fn faults_are_shown_by_their_codes(rt: HostRuntime) -> Result<(), Fail> {
     let shown = format!(in rt.alloc(); "{} {}", SubjectsFault::NoneGiven, StoreFault::Full)?;
     assert_eq!(rt; shown.as_str(), "N1 F1");
     Ok(())
 }
 
+/// Adds these ids.
+fn fill<A: Allocator>(rt: &impl Abort, store: &mut Store<A>, ids: &[u64]) {
+    for id in ids {
+        assert!(rt; make(rt, store, 1, addition(rt, *id)).is_ok());
+    }
+}
+
 /// A store of the ids 3, 5, 7 and 9, which were put in out of order.
 fn four<A: Allocator + Copy>(rt: &impl Abort, alloc: A) -> Store<A> {
     let mut store = Store::new(alloc);
-    for id in [7, 3, 9, 5] {
-        assert!(rt; make(rt, &mut store, 1, addition(rt, id)).is_ok());
-    }
+    fill(rt, &mut store, &[7, 3, 9, 5]);
     store
 }
 
@@ -144,43 +164,70 @@ fn assert_ids<A: Allocator>(rt: &impl Abort, store: &Store<A>, ids: &[u64]) {
     assert!(rt; store.row_at(ids.len()).is_none());
 }
 
-#[test]
-fn store(rt: HostRuntime) -> Result<(), Fail> {
-    let mut store = four(&rt, rt.alloc());
-    assert_ids(&rt, &store, &[3, 5, 7, 9]);
-    let mut meter = Meter::new();
-    let rows = store.dump(rt.alloc(), &mut meter);
-    assert!(rt; rows.is_ok());
-    let rows = rows.unwrap();
+/// These are all rows in the order of their ids, for a tick each, and so they are looked up.
+fn check_rows<A: Allocator>(
+    rt: &impl Abort,
+    store: &Store<A>,
+    rows: &[Feature],
+    meter: &mut Meter,
+) {
     assert_eq!(rt; meter.ticks(), 4);
-    assert_eq!(rt; rows.len(), 4);
-    assert_eq!(rt;
-        (rows[0].id, rows[1].id, rows[2].id, rows[3].id),
-        (3, 5, 7, 9)
-    );
-    assert_eq!(rt; store.get(7, &mut meter).copied(), Some(rows[2]));
-    assert_eq!(rt; store.get(8, &mut meter).copied(), None);
+    assert!(rt; rows.iter().map(|row| row.id).eq([3, 5, 7, 9]));
+    assert_eq!(rt; store.get(7, meter), rows.get(2));
+    assert_eq!(rt; store.get(8, meter), None);
     assert_eq!(rt; meter.ticks(), 6);
-    Ok(())
 }
 
 #[test]
-fn reshaped(rt: HostRuntime) -> Result<(), Fail> {
-    let mut store = four(&rt, rt.alloc());
+fn store(rt: HostRuntime) -> Result<(), Fail> {
+    let store = four(&rt, rt.alloc());
+    assert_ids(&rt, &store, &[3, 5, 7, 9]);
+    let mut meter = Meter::new();
+    match store.dump(rt.alloc(), &mut meter) {
+        Ok(rows) => check_rows(&rt, &store, &rows, &mut meter),
+        Err(_) => panic!(rt; "no memory"),
+    }
+    Ok(())
+}
+
+/// Feature 5 is reshaped, and nothing else.
+fn check_reshaped<A: Allocator>(rt: &impl Abort, store: &mut Store<A>) {
     let mut meter = Meter::new();
     let before = store.get(5, &mut meter).copied();
     let neighbour = store.get(7, &mut meter).copied();
-    assert!(rt; make(&rt, &mut store, 8, reshape(&rt, 5)).is_ok());
-    assert_ids(&rt, &store, &[3, 5, 7, 9]);
+    assert!(rt; make(rt, store, 8, reshape(rt, 5)).is_ok());
+    assert_ids(rt, store, &[3, 5, 7, 9]);
     let after = store.get(5, &mut meter).copied();
     assert!(rt; before.is_some() && after.is_some());
     let before = before.unwrap();
     let after = after.unwrap();
     assert_eq!(rt; (before.version, after.version), (1, 8));
-    assert!(rt; before.shape != after.shape && after.shape == point(&rt, 3, 4));
+    assert!(rt; before.shape != after.shape && after.shape == point(rt, 3, 4));
     assert!(rt; (before.office, before.class) == (after.office, after.class));
     assert_eq!(rt; store.get(7, &mut meter).copied(), neighbour);
+}
+
+#[test]
+fn reshaped(rt: HostRuntime) -> Result<(), Fail> {
+    check_reshaped(&rt, &mut four(&rt, rt.alloc()));
     Ok(())
+}
+
+/// One id is deleted, and these are left.
+fn check_deleted<A: Allocator>(rt: &impl Abort, store: &mut Store<A>, id: u64, left: &[u64]) {
+    assert!(rt; make(rt, store, 2, deletion(id)).is_ok());
+    assert_ids(rt, store, left);
+}
+
+/// All ids are deleted in turn, and one is added.
+fn check_emptied<A: Allocator>(rt: &impl Abort, store: &mut Store<A>) {
+    for (id, left) in [(7, 3), (3, 2), (9, 1), (5, 0)] {
+        assert!(rt; make(rt, store, 2, deletion(id)).is_ok());
+        assert_eq!(rt; store.len(), left);
+    }
+    assert!(rt; store.is_empty());
+    assert!(rt; make(rt, store, 3, addition(rt, 1)).is_ok());
+    assert_ids(rt, store, &[1]);
 }
 
 #[test]
@@ -191,18 +238,9 @@ fn deleted(rt: HostRuntime) -> Result<(), Fail> {
         (7, [3, 5, 9]),
         (9, [3, 5, 7]),
     ] {
-        let mut store = four(&rt, rt.alloc());
-        assert!(rt; make(&rt, &mut store, 2, deletion(id)).is_ok());
-        assert_ids(&rt, &store, &left);
+        check_deleted(&rt, &mut four(&rt, rt.alloc()), id, &left);
     }
-    let mut store = four(&rt, rt.alloc());
-    for (id, left) in [(7, 3), (3, 2), (9, 1), (5, 0)] {
-        assert!(rt; make(&rt, &mut store, 2, deletion(id)).is_ok());
-        assert_eq!(rt; store.len(), left);
-    }
-    assert!(rt; store.is_empty());
-    assert!(rt; make(&rt, &mut store, 3, addition(&rt, 1)).is_ok());
-    assert_ids(&rt, &store, &[1]);
+    check_emptied(&rt, &mut four(&rt, rt.alloc()));
     Ok(())
 }
 
@@ -256,9 +294,7 @@ fn as_a_plain_list(rt: HostRuntime) -> Result<(), Fail> {
 /// A store over this memory in which the ids 5, 6, 8 and 9 fill all room.
 fn full_of_four<A: Allocator + Copy>(rt: &impl Abort, alloc: A) -> Store<A> {
     let mut store = Store::new(alloc);
-    for id in [5, 6, 8, 9] {
-        assert!(rt; make(rt, &mut store, 1, addition(rt, id)).is_ok());
-    }
+    fill(rt, &mut store, &[5, 6, 8, 9]);
     store
 }
 
@@ -281,40 +317,47 @@ fn each_allocation_refused(rt: HostRuntime) -> Result<(), Fail> {
     Ok(())
 }
 
+/// A reshape and a deletion take no memory, and an addition takes the room of what was deleted.
+fn change_without_memory<A: Allocator>(rt: &impl Abort, store: &mut Store<A>) {
+    assert!(rt; make(rt, store, 2, reshape(rt, 6)).is_ok());
+    assert!(rt; make(rt, store, 3, deletion(5)).is_ok());
+    assert!(rt; make(rt, store, 4, addition(rt, 1)).is_ok());
+    assert_ids(rt, store, &[1, 6, 8, 9]);
+}
+
 /// Where no memory is to be had, what takes none succeeds.
 #[test]
 fn without_memory(rt: HostRuntime) -> Result<(), Fail> {
     let memory = Refusing::new(rt.alloc(), 0);
     let mut store = full_of_four(&rt, &memory);
     memory.refuse(1);
-    assert!(rt; make(&rt, &mut store, 2, reshape(&rt, 6)).is_ok());
-    assert!(rt; make(&rt, &mut store, 3, deletion(5)).is_ok());
-    // The room of what was deleted is taken again.
-    assert!(rt; make(&rt, &mut store, 4, addition(&rt, 1)).is_ok());
-    assert_ids(&rt, &store, &[1, 6, 8, 9]);
+    change_without_memory(&rt, &mut store);
     assert!(rt; Store::new(&memory).is_empty() && !memory.has_refused());
     let mut meter = Meter::new();
-    let rows = store.dump(&memory, &mut meter);
-    assert!(rt; rows.is_err() && memory.has_refused());
+    assert!(rt; store.dump(&memory, &mut meter).is_err() && memory.has_refused());
     assert_eq!(rt; meter.ticks(), 0);
     Ok(())
 }
 
+/// One more than fit is refused, and where one is deleted another is taken.
+fn check_full<A: Allocator>(rt: &impl Abort, store: &mut Store<A>) {
+    assert_eq!(rt; store.len(), FEATURE_LIMIT);
+    assert_eq!(rt;
+        make(rt, store, 2, addition(rt, u64::MAX)),
+        Err(StoreFault::Full)
+    );
+    assert_eq!(rt; store.len(), FEATURE_LIMIT);
+    assert!(rt; make(rt, store, 3, deletion(7)).is_ok());
+    assert!(rt; make(rt, store, 4, addition(rt, u64::MAX)).is_ok());
+    assert_eq!(rt; store.len(), FEATURE_LIMIT);
+}
+
 #[test]
 fn as_many_as_fit(rt: HostRuntime) -> Result<(), Fail> {
-    let office = name(&rt, b"north");
     let mut store = Store::new(rt.alloc());
     for id in 0..FEATURE_LIMIT as u64 {
         assert!(rt; make(&rt, &mut store, 1, addition(&rt, id)).is_ok());
     }
-    assert_eq!(rt; store.len(), FEATURE_LIMIT);
-    assert_eq!(rt;
-        make(&rt, &mut store, 2, addition(&rt, u64::MAX)),
-        Err(StoreFault::Full)
-    );
-    assert_eq!(rt; store.len(), FEATURE_LIMIT);
-    assert!(rt; make(&rt, &mut store, 3, deletion(7)).is_ok());
-    assert!(rt; make(&rt, &mut store, 4, addition(&rt, u64::MAX)).is_ok());
-    assert_eq!(rt; store.len(), FEATURE_LIMIT);
+    check_full(&rt, &mut store);
     Ok(())
 }

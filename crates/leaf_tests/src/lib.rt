@@ -8,6 +8,8 @@ mod decision_tests;
 #[cfg(test)]
 mod features_tests;
 #[cfg(test)]
+mod lines;
+#[cfg(test)]
 mod plane_tests;
 #[cfg(test)]
 mod policy_text_tests;

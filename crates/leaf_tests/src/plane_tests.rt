@@ -1,300 +1,257 @@
+//! Worked shapes: their corners, faults and frames, and which of them meet.
+use crate::lines::{is_first, parted, point};
+use arrayvec::ArrayVec;
 use plane::{
-    Frame, Point, Shape, ShapeFault, common_point, corners, covers, frame_of, frames_meet, hull,
-    meets,
+    Fraction, Frame, Point, Shape, ShapeFault, common_point, corners, covers, frame_of,
+    frames_meet, hull, meets,
 };
+use std::alloc::{AllocError, Global};
 use std::process::Abort;
 use std::test::Fail;
 
-fn at(x: i32, y: i32) -> Point {
-    Point { x, y }
+/// Listed points, each with the corners of their shape, or with the code of their fault, and the fault. Every turn of the
+/// star of five points, the first of P8, is to the left. The bowls have the points x, x * x, and turn at each.
+const SHAPES: &str = r#"0 0, 0 4, 4 4, 4 2, 4 0, 0 0 => 0 0, 4 0, 4 4, 0 4
+4 4, 0 4, 0 0, 4 0, 4 4 => 0 0, 4 0, 4 4, 0 4
+0 0, 1 1, 2 4, 3 9, 4 16, 5 25, 6 36, 7 49, 8 64, 9 81, 10 100, 11 121, 12 144, 13 169, 14 196, 15 225, 0 0 => 0 0, 1 1, 2 4, 3 9, 4 16, 5 25, 6 36, 7 49, 8 64, 9 81, 10 100, 11 121, 12 144, 13 169, 14 196, 15 225
+3 -1, 3 -2 => 3 -2, 3 -1
+10000000 -10000000 => 10000000 -10000000
+10000001 0 => P1 OutOfRange
+0 -10000001 => P1 OutOfRange
+10000001 2, 1 2 => P1 OutOfRange
+0 0, 10000001 0, 0 4 => P1 OutOfRange
+1 2, 1 2 => P2 SameEnds
+0 0, 4 0, 0 0 => P4 TooFew
+0 0, 4 0, 0 4, 1 1 => P5 NotClosed
+0 0, 4 0, 4 4, 4 0, 0 0 => P6 Repeated
+0 0, 1 1, 2 2, 0 0 => P7 Flat
+0 0, 6 4, -2 4, 4 0, 2 7, 0 0 => P8 NotConvex
+0 0, 4 0, 1 1, 0 4, 0 0 => P8 NotConvex
+0 0, 1 1, 2 4, 3 9, 4 16, 5 25, 6 36, 7 49, 8 64, 9 81, 10 100, 11 121, 12 144, 13 169, 14 196, 15 225, 16 256, 0 0 => P9 TooManyCorners
+"#;
+
+/// Pairs of shapes that meet, or lie apart: parallels; a square and what touches it, crosses it, or overlaps its frame alone;
+/// stretches of one line; at the greatest coordinates, by one unit; and a tilted square, of which a corner of the other
+/// shape lies in it, a side parts them, or neither.
+const MEETINGS: &str =
+    r#"-10000000 -10000000, 10000000 9999999 | -10000000 -9999999, 10000000 10000000 => apart
+0 0, 4 0, 4 4, 0 4, 0 0 | 4 4 => meet
+0 0, 4 0, 4 4, 0 4, 0 0 | 2 3 => meet
+0 0, 4 0, 4 4, 0 4, 0 0 | 5 4 => apart
+0 0, 4 0, 4 4, 0 4, 0 0 | 4 4, 8 4, 8 8, 4 8, 4 4 => meet
+0 0, 4 0, 4 4, 0 4, 0 0 | 4 1, 9 1, 9 3, 4 3, 4 1 => meet
+0 0, 4 0, 4 4, 0 4, 0 0 | 1 1, 2 1, 2 2, 1 2, 1 1 => meet
+0 0, 4 0, 4 4, 0 4, 0 0 | -1 1, 5 1, 5 2, -1 2, -1 1 => meet
+0 0, 4 0, 4 4, 0 4, 0 0 | 5 0, 9 0, 9 4, 5 4, 5 0 => apart
+0 0, 4 0, 4 4, 0 4, 0 0 | 3 6, 6 3 => apart
+0 0, 4 0, 4 4, 0 4, 0 0 | 2 6, 6 2 => meet
+0 0, 4 0, 4 4, 0 4, 0 0 | 3 6, 6 2 => apart
+0 0, 2 4 | 2 4, 3 6 => meet
+0 0, 2 4 | 3 6, 4 8 => apart
+0 0, 2 4 | 1 2 => meet
+0 0, 2 4 | 1 3 => apart
+-10000000 -10000000, 10000000 -10000000, 10000000 10000000, -10000000 -10000000 | -9999999 -9999999 => meet
+-10000000 -10000000, 10000000 -10000000, 10000000 10000000, -10000000 -10000000 | -9999999 -9999998 => apart
+-10000000 -10000000, 10000000 -10000000, 10000000 10000000, -10000000 -10000000 | -10000000 -9999999, 9999999 10000000 => apart
+-10000000 -10000000, 10000000 -10000000, 10000000 10000000, -10000000 -10000000 | -10000000 -9999999, 10000000 10000000 => meet
+0 -6, 6 0, 0 6, -6 0, 0 -6 | 3 3, 7 3, 7 7, 3 7, 3 3 => meet
+0 -6, 6 0, 0 6, -6 0, 0 -6 | 4 3, 7 3, 7 7, 4 7, 4 3 => apart
+0 -6, 6 0, 0 6, -6 0, 0 -6 | -9 -1, 9 -1, 9 1, -9 1, -9 -1 => meet
+0 -6, 6 0, 0 6, -6 0, 0 -6 | 3 3 => meet
+0 -6, 6 0, 0 6, -6 0, 0 -6 | 4 3 => apart
+0 -6, 6 0, 0 6, -6 0, 0 -6 | 0 7, 7 0 => apart
+0 -6, 6 0, 0 6, -6 0, 0 -6 | 0 6, 7 0 => meet
+"#;
+
+/// Pairs of shapes that are equal, however they were listed, or differ in a corner, or in how many they have.
+const EQUALITIES: &str = r#"0 0, 4 0, 0 4, 0 0 | 0 4, 0 0, 4 0, 0 4 => equal
+0 0, 4 0, 0 4, 0 0 | 0 4, 4 0, 0 0, 0 4 => equal
+0 0, 4 0, 0 4, 0 0 | 0 0, 4 0, 0 5, 0 0 => unequal
+0 0, 4 0, 0 4, 0 0 | 0 0, 4 0, 4 4, 0 4, 0 0 => unequal
+0 0, 4 0 | 4 0, 0 0 => equal
+0 0, 4 0 | 0 0, 4 0, 0 4, 0 0 => unequal
+0 0 | 0 0, 4 0 => unequal
+0 0 | 0 0 => equal
+0 0, 4 0, 4 4, 0 4, 0 0 | 4 4, 0 4, 0 0, 4 0, 4 4 => equal
+"#;
+
+/// What the frames of two shapes are to one another.
+const FRAMES: &str = r#"1 -1, 9 -1, 9 7, 1 7, 1 -1 | covers | 1 2, 5 3, 2 7, 1 2 => yes
+1 -1, 9 -1, 9 7, 1 7, 1 -1 | covers | 9 -1 => yes
+1 2, 5 3, 2 7, 1 2 | covers | 1 -1, 9 -1, 9 7, 1 7, 1 -1 => no
+1 2, 5 3, 2 7, 1 2 | covers | 9 -1 => no
+9 -1 | covers | 9 -1 => yes
+1 2, 5 3, 2 7, 1 2 | meets | 9 -1 => no
+1 -1, 9 -1, 9 7, 1 7, 1 -1 | meets | 9 -1 => yes
+1 2, 5 3, 2 7, 1 2 | meets | 5 7 => yes
+5 7 | meets | 1 2, 5 3, 2 7, 1 2 => yes
+0 0, 4 0, 0 4, 0 0 | equals | 0 0, 4 0, 4 4, 0 4, 0 0 => yes
+0 0, 4 0, 0 4, 0 0 | equals | 0 0, 4 0 => no
+0 0, 4 0, 0 4, 0 0 | differs from | 0 0, 4 0 => yes
+"#;
+
+/// The points of a text such as `3 -4, 0 0`.
+fn points(rt: &impl Abort, text: &str) -> ArrayVec<Point, 64> {
+    let mut points = ArrayVec::new();
+    for part in text.split(", ") {
+        assert!(rt; points.try_push(point(rt, part)).is_ok(), "{text}");
+    }
+    points
 }
 
-/// The ring is refused for this fault.
-fn check_fault(rt: &impl Abort, listed: &[Point], fault: ShapeFault) {
-    assert_eq!(rt; Shape::polygon(listed).err(), Some(fault), "{listed:?}");
+/// The shape of a point, of the two ends of a segment, or of a ring.
+fn shape(rt: &impl Abort, text: &str) -> Result<Shape, ShapeFault> {
+    let points = points(rt, text);
+    match points.as_slice() {
+        [point] => Shape::point(*point),
+        [start, end] => Shape::segment(*start, *end),
+        ring => Shape::polygon(ring),
+    }
 }
 
-/// Two shapes meet, or do not, whichever of them is named first.
-fn check_meeting(rt: &impl Abort, first: &Shape, second: &Shape, expected: bool) {
-    assert_eq!(rt; meets(first, second), expected, "{first:?} {second:?}");
-    assert_eq!(rt; meets(second, first), expected, "{second:?} {first:?}");
-    assert_eq!(rt; common_point(first, second).is_some(), expected);
+/// The shape of a text that has one.
+fn worked(rt: &impl Abort, text: &str) -> Shape {
+    let shape = shape(rt, text);
+    assert!(rt; shape.is_ok(), "{text}");
+    shape.unwrap()
 }
 
-/// The polygon of a ring of four corners.
-fn four(a: Point, b: Point, c: Point, d: Point) -> Result<Shape, ShapeFault> {
-    Shape::polygon(&[a, b, c, d, a])
-}
-
-fn three(a: Point, b: Point, c: Point) -> Result<Shape, ShapeFault> {
-    Shape::polygon(&[a, b, c, a])
-}
-
-#[test]
-fn crossing_segments(rt: HostRuntime) -> Result<(), Fail> {
-    let rising = Shape::segment(at(0, 0), at(3, 1))?;
-    let falling = Shape::segment(at(0, 1), at(3, 0))?;
-    let Some(p) = common_point(&rising, &falling) else {
-        return Err("they cross".into());
-    };
-    assert_eq!(rt; p.x.checked_mul(2), p.w.checked_mul(3));
-    assert_eq!(rt; p.y.checked_mul(2), Some(p.w));
+/// The listed points have these corners, or this fault.
+fn check_shape(rt: &impl Abort, alloc: Global, line: &str) -> Result<(), AllocError> {
+    let (listed, told) = parted(rt, line, " => ");
+    match shape(rt, listed) {
+        Ok(shape) => assert_eq!(rt; corners(&shape), points(rt, told).as_slice(), "{line}"),
+        Err(fault) => {
+            assert_eq!(rt;
+                format!(in alloc; "{fault} {fault:?}")?.as_str(),
+                told,
+                "{line}"
+            );
+            assert!(rt; told.starts_with(fault.code()), "{line}");
+        }
+    }
     Ok(())
 }
 
 #[test]
-fn long_parallel_segments(rt: HostRuntime) -> Result<(), Fail> {
-    let lower = Shape::segment(at(-10_000_000, -10_000_000), at(10_000_000, 9_999_999))?;
-    let upper = Shape::segment(at(-10_000_000, -9_999_999), at(10_000_000, 10_000_000))?;
-    check_meeting(&rt, &lower, &upper, false);
+fn corners_and_faults(rt: HostRuntime) -> Result<(), Fail> {
+    for line in SHAPES.lines() {
+        check_shape(&rt, rt.alloc(), line)?;
+    }
     Ok(())
 }
 
+/// No point is too few, 64 are as many as may be listed, and the range comes before the number.
 #[test]
-fn canonical_shapes(rt: HostRuntime) -> Result<(), Fail> {
-    let square = Shape::polygon(&[at(0, 0), at(0, 4), at(4, 4), at(4, 2), at(4, 0), at(0, 0)])?;
-    assert_eq!(rt;
-        corners(&square),
-        [at(0, 0), at(4, 0), at(4, 4), at(0, 4)].as_slice()
-    );
-    assert_eq!(rt; square, four(at(4, 4), at(0, 4), at(0, 0), at(4, 0))?);
-
-    let segment = Shape::segment(at(3, -1), at(3, -2))?;
-    assert_eq!(rt; corners(&segment), [at(3, -2), at(3, -1)].as_slice());
-    assert_eq!(rt;
-        Shape::segment(at(1, 2), at(1, 2)),
-        Err(ShapeFault::SameEnds)
-    );
-    assert_eq!(rt;
-        Shape::segment(at(10_000_001, 2), at(1, 2)),
-        Err(ShapeFault::OutOfRange)
-    );
-
-    let point = Shape::point(at(10_000_000, -10_000_000))?;
-    assert_eq!(rt; corners(&point), [at(10_000_000, -10_000_000)].as_slice());
-    assert_eq!(rt;
-        Shape::point(at(10_000_001, 0)),
-        Err(ShapeFault::OutOfRange)
-    );
-    assert_eq!(rt;
-        Shape::point(at(0, -10_000_001)),
-        Err(ShapeFault::OutOfRange)
-    );
+fn limits_of_rings(rt: HostRuntime) -> Result<(), Fail> {
+    let none = Shape::polygon(&[]);
+    assert_eq!(rt; none.err(), Some(ShapeFault::TooFew));
+    for (x, count, fault) in [
+        (0, 64, ShapeFault::Repeated),
+        (0, 65, ShapeFault::TooManyPoints),
+        (10_000_001, 65, ShapeFault::OutOfRange),
+    ] {
+        let listed = [Point { x, y: 0 }; 65];
+        let ring = Shape::polygon(listed.get(..count).unwrap_or(&[]));
+        assert_eq!(rt; ring.err(), Some(fault), "{x} {count}");
+    }
     Ok(())
 }
 
-#[test]
-fn refused_rings(rt: HostRuntime) -> Result<(), Fail> {
-    // A star of five points: every turn is left.
-    check_fault(
-        &rt,
-        &[at(0, 0), at(6, 4), at(-2, 4), at(4, 0), at(2, 7), at(0, 0)],
-        ShapeFault::NotConvex,
-    );
-    check_fault(
-        &rt,
-        &[at(0, 0), at(1, 1), at(2, 2), at(0, 0)],
-        ShapeFault::Flat,
-    );
-    check_fault(
-        &rt,
-        &[at(0, 0), at(4, 0), at(0, 4), at(1, 1)],
-        ShapeFault::NotClosed,
-    );
-    check_fault(&rt, &[at(0, 0), at(4, 0), at(0, 0)], ShapeFault::TooFew);
-    check_fault(&rt, &[], ShapeFault::TooFew);
-    check_fault(
-        &rt,
-        &[at(0, 0), at(4, 0), at(4, 4), at(4, 0), at(0, 0)],
-        ShapeFault::Repeated,
-    );
-    check_fault(
-        &rt,
-        &[at(0, 0), at(4, 0), at(1, 1), at(0, 4), at(0, 0)],
-        ShapeFault::NotConvex,
-    );
-    check_fault(
-        &rt,
-        &[at(0, 0), at(10_000_001, 0), at(0, 4)],
-        ShapeFault::OutOfRange,
-    );
-    check_fault(&rt, [at(0, 0); 65].as_slice(), ShapeFault::TooManyPoints);
-    check_fault(
-        &rt,
-        [at(0, 10_000_001); 65].as_slice(),
-        ShapeFault::OutOfRange,
-    );
-    check_fault(&rt, [at(0, 0); 64].as_slice(), ShapeFault::Repeated);
-    assert_eq!(rt; ShapeFault::OutOfRange.code(), "P1");
-    assert_eq!(rt; ShapeFault::TooManyCorners.code(), "P9");
-    let printed = format!(in rt.alloc(); "{}", ShapeFault::NotConvex)?;
-    assert_eq!(rt; printed.as_str(), "P8");
-    Ok(())
-}
-
-/// The points x, x * x for x from 0 on: the ring turns at each.
-#[test]
-fn corners_counted(rt: HostRuntime) -> Result<(), Fail> {
-    let bowl = [
-        at(0, 0),
-        at(1, 1),
-        at(2, 4),
-        at(3, 9),
-        at(4, 16),
-        at(5, 25),
-        at(6, 36),
-        at(7, 49),
-        at(8, 64),
-        at(9, 81),
-        at(10, 100),
-        at(11, 121),
-        at(12, 144),
-        at(13, 169),
-        at(14, 196),
-        at(15, 225),
-        at(0, 0),
-    ];
-    let sixteen = Shape::polygon(bowl.as_slice())?;
-    assert_eq!(rt; corners(&sixteen).len(), 16);
-    let deeper = [
-        at(0, 0),
-        at(1, 1),
-        at(2, 4),
-        at(3, 9),
-        at(4, 16),
-        at(5, 25),
-        at(6, 36),
-        at(7, 49),
-        at(8, 64),
-        at(9, 81),
-        at(10, 100),
-        at(11, 121),
-        at(12, 144),
-        at(13, 169),
-        at(14, 196),
-        at(15, 225),
-        at(16, 256),
-        at(0, 0),
-    ];
-    check_fault(&rt, deeper.as_slice(), ShapeFault::TooManyCorners);
-    Ok(())
+/// The two shapes meet, or do not, whichever of them is named first.
+fn check_meeting(rt: &impl Abort, line: &str) {
+    let (pair, told) = parted(rt, line, " => ");
+    let (first, second) = parted(rt, pair, " | ");
+    let (first, second) = (worked(rt, first), worked(rt, second));
+    let expected = is_first(rt, told, "meet", "apart");
+    assert_eq!(rt; meets(&first, &second), expected, "{line}");
+    assert_eq!(rt; meets(&second, &first), expected, "{line}");
+    assert_eq!(rt; common_point(&first, &second).is_some(), expected, "{line}");
 }
 
 #[test]
 fn touching_and_missing(rt: HostRuntime) -> Result<(), Fail> {
-    let square = four(at(0, 0), at(4, 0), at(4, 4), at(0, 4))?;
-    let beyond = four(at(4, 4), at(8, 4), at(8, 8), at(4, 8))?;
-    let beside = four(at(4, 1), at(9, 1), at(9, 3), at(4, 3))?;
-    let inside = four(at(1, 1), at(2, 1), at(2, 2), at(1, 2))?;
-    let apart = four(at(5, 0), at(9, 0), at(9, 4), at(5, 4))?;
-    // Neither has a corner in the other.
-    let across = four(at(-1, 1), at(5, 1), at(5, 2), at(-1, 2))?;
-    check_meeting(&rt, &square, &Shape::point(at(4, 4))?, true);
-    check_meeting(&rt, &square, &Shape::point(at(2, 3))?, true);
-    check_meeting(&rt, &square, &Shape::point(at(5, 4))?, false);
-    check_meeting(&rt, &square, &beyond, true);
-    check_meeting(&rt, &square, &beside, true);
-    check_meeting(&rt, &square, &inside, true);
-    check_meeting(&rt, &square, &across, true);
-    check_meeting(&rt, &square, &apart, false);
-    // The frames overlap, the shapes do not.
-    check_meeting(&rt, &square, &Shape::segment(at(3, 6), at(6, 3))?, false);
-    check_meeting(&rt, &square, &Shape::segment(at(2, 6), at(6, 2))?, true);
-    check_meeting(&rt, &square, &Shape::segment(at(3, 6), at(6, 2))?, false);
-
-    // Stretches of one line.
-    let first = Shape::segment(at(0, 0), at(2, 4))?;
-    check_meeting(&rt, &first, &Shape::segment(at(2, 4), at(3, 6))?, true);
-    check_meeting(&rt, &first, &Shape::segment(at(3, 6), at(4, 8))?, false);
-    check_meeting(&rt, &first, &Shape::point(at(1, 2))?, true);
-    check_meeting(&rt, &first, &Shape::point(at(1, 3))?, false);
-
-    // At the greatest coordinates, by one unit.
-    let lower = three(
-        at(-10_000_000, -10_000_000),
-        at(10_000_000, -10_000_000),
-        at(10_000_000, 10_000_000),
-    )?;
-    check_meeting(
-        &rt,
-        &lower,
-        &Shape::point(at(-9_999_999, -9_999_999))?,
-        true,
-    );
-    check_meeting(
-        &rt,
-        &lower,
-        &Shape::point(at(-9_999_999, -9_999_998))?,
-        false,
-    );
-    check_meeting(
-        &rt,
-        &lower,
-        &Shape::segment(at(-10_000_000, -9_999_999), at(9_999_999, 10_000_000))?,
-        false,
-    );
-    check_meeting(
-        &rt,
-        &lower,
-        &Shape::segment(at(-10_000_000, -9_999_999), at(10_000_000, 10_000_000))?,
-        true,
-    );
+    for line in MEETINGS.lines() {
+        check_meeting(&rt, line);
+    }
     Ok(())
 }
 
-/// Equal however they were listed, and unequal where one corner differs or is left out.
-#[test]
-fn equal_shapes(rt: HostRuntime) -> Result<(), Fail> {
-    let triangle = three(at(0, 0), at(4, 0), at(0, 4))?;
-    assert!(rt; triangle == three(at(0, 4), at(0, 0), at(4, 0))?);
-    assert!(rt; triangle == three(at(0, 4), at(4, 0), at(0, 0))?);
-    assert!(rt; triangle != three(at(0, 0), at(4, 0), at(0, 5))?);
-    assert!(rt; triangle != four(at(0, 0), at(4, 0), at(4, 4), at(0, 4))?);
-    let segment = Shape::segment(at(0, 0), at(4, 0))?;
-    assert!(rt; segment == Shape::segment(at(4, 0), at(0, 0))? && segment != triangle);
-    assert!(rt;
-        Shape::point(at(0, 0))? != segment && Shape::point(at(0, 0))? == Shape::point(at(0, 0))?
-    );
-    assert!(rt; frame_of(&triangle) == frame_of(&four(at(0, 0), at(4, 0), at(4, 4), at(0, 4))?));
-    assert!(rt; frame_of(&triangle) != frame_of(&segment) && at(0, 1) != at(1, 0));
-    Ok(())
+/// A point that the shapes of two texts have in common.
+fn common(rt: &impl Abort, first: &str, second: &str) -> Fraction {
+    let common = common_point(&worked(rt, first), &worked(rt, second));
+    assert!(rt; common.is_some(), "{first} {second}");
+    common.unwrap()
 }
 
-/// A corner of one lies in the other, a side parts them, or neither, at the same frames.
+/// Where segments cross; and where a corner of the first shape lies in the second, such a corner.
 #[test]
-fn corners_and_sides(rt: HostRuntime) -> Result<(), Fail> {
-    let tilted = four(at(0, -6), at(6, 0), at(0, 6), at(-6, 0))?;
-    let near = four(at(3, 3), at(7, 3), at(7, 7), at(3, 7))?;
-    let far = four(at(4, 3), at(7, 3), at(7, 7), at(4, 7))?;
-    let band = four(at(-9, -1), at(9, -1), at(9, 1), at(-9, 1))?;
-    check_meeting(&rt, &tilted, &near, true);
-    check_meeting(&rt, &tilted, &far, false);
-    check_meeting(&rt, &tilted, &band, true);
-    check_meeting(&rt, &tilted, &Shape::point(at(3, 3))?, true);
-    check_meeting(&rt, &tilted, &Shape::point(at(4, 3))?, false);
-    check_meeting(&rt, &tilted, &Shape::segment(at(0, 7), at(7, 0))?, false);
-    check_meeting(&rt, &tilted, &Shape::segment(at(0, 6), at(7, 0))?, true);
-    // A common point is a corner of the first shape that lies in the second, where there is one.
-    let Some(p) = common_point(&near, &tilted) else {
-        return Err("they meet".into());
-    };
+fn common_points(rt: HostRuntime) -> Result<(), Fail> {
+    let p = common(&rt, "0 0, 3 1", "0 1, 3 0");
+    assert_eq!(rt; p.x.checked_mul(2), p.w.checked_mul(3));
+    assert_eq!(rt; p.y.checked_mul(2), Some(p.w));
+    let near = "3 3, 7 3, 7 7, 3 7, 3 3";
+    let p = common(&rt, near, "0 -6, 6 0, 0 6, -6 0, 0 -6");
     assert_eq!(rt; (p.x, p.y, p.w), (3, 3, 1));
     Ok(())
 }
 
+fn check_equality(rt: &impl Abort, line: &str) {
+    let (pair, told) = parted(rt, line, " => ");
+    let (first, second) = parted(rt, pair, " | ");
+    let (first, second) = (worked(rt, first), worked(rt, second));
+    let equal = is_first(rt, told, "equal", "unequal");
+    assert_eq!(rt; first == second, equal, "{line}");
+    assert_eq!(rt; first != second, !equal, "{line}");
+}
+
+#[test]
+fn equal_shapes(rt: HostRuntime) -> Result<(), Fail> {
+    for line in EQUALITIES.lines() {
+        check_equality(&rt, line);
+    }
+    assert!(rt; Point { x: 0, y: 1 } != Point { x: 1, y: 0 });
+    Ok(())
+}
+
+/// Whether the first frame is this to the second.
+fn stands(rt: &impl Abort, first: Frame, relation: &str, second: Frame) -> bool {
+    match relation {
+        "covers" => covers(first, second),
+        "meets" => frames_meet(first, second),
+        "equals" => first == second,
+        "differs from" => first != second,
+        _ => panic!(rt; "no relation: {relation}"),
+    }
+}
+
+fn check_frames(rt: &impl Abort, line: &str) {
+    let (given, told) = parted(rt, line, " => ");
+    let (first, others) = parted(rt, given, " | ");
+    let (relation, second) = parted(rt, others, " | ");
+    let (first, second) = (frame(rt, first), frame(rt, second));
+    let expected = is_first(rt, told, "yes", "no");
+    assert_eq!(rt; stands(rt, first, relation, second), expected, "{line}");
+}
+
+fn frame(rt: &impl Abort, text: &str) -> Frame {
+    frame_of(&worked(rt, text))
+}
+
+/// The ends of a frame.
+fn ends(frame: Frame) -> (i32, i32, i32, i32) {
+    (frame.x0(), frame.y0(), frame.x1(), frame.y1())
+}
+
 #[test]
 fn frames(rt: HostRuntime) -> Result<(), Fail> {
-    let triangle = frame_of(&three(at(1, 2), at(5, 3), at(2, 7))?);
-    assert_eq!(rt; (triangle.x0(), triangle.y0()), (1, 2));
-    assert_eq!(rt; (triangle.x1(), triangle.y1()), (5, 7));
-    let point = frame_of(&Shape::point(at(9, -1))?);
-    let both = hull(triangle, point);
-    assert_eq!(rt; (both.x0(), both.y0()), (1, -1));
-    assert_eq!(rt; (both.x1(), both.y1()), (9, 7));
-    assert!(rt; covers(both, triangle) && covers(both, point) && covers(Frame::whole(), both));
-    assert!(rt; !covers(triangle, both) && !covers(triangle, point) && covers(point, point));
-    assert!(rt; !frames_meet(triangle, point) && frames_meet(both, point));
-    let corner = frame_of(&Shape::point(at(5, 7))?);
-    assert!(rt; frames_meet(triangle, corner) && frames_meet(corner, triangle));
+    for line in FRAMES.lines() {
+        check_frames(&rt, line);
+    }
+    let triangle = frame(&rt, "1 2, 5 3, 2 7, 1 2");
+    let both = hull(triangle, frame(&rt, "9 -1"));
+    assert_eq!(rt; ends(triangle), (1, 2, 5, 7));
+    assert_eq!(rt; ends(both), (1, -1, 9, 7));
+    assert!(rt; covers(Frame::whole(), both) && covers(both, triangle));
     Ok(())
 }

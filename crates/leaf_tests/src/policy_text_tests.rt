@@ -1,7 +1,10 @@
+//! Texts of documents: what reading and printing them gives.
+use crate::lines::parted;
 use features::Name;
 use policy_text::{Document, Node, TextFault, print_document, read_document};
 use refusing::Refusing;
 use std::alloc::{AllocError, Global};
+use std::fmt::{self, Display, Formatter, Write};
 use std::process::Abort;
 use std::test::Fail;
 use wkt::shape_text;
@@ -239,6 +242,13 @@ fn answer(heap: Global, text: &[u8]) -> Result<String, AllocError> {
     }
 }
 
+/// A text is read or refused so.
+fn check_answer(rt: &impl Abort, heap: Global, text: &[u8], want: &str) -> Result<(), AllocError> {
+    let told = answer(heap, text)?;
+    assert_eq!(rt; told.as_str(), want, "{text:?}");
+    Ok(())
+}
+
 /// Each text of a table, put between two others, is read or refused as its line says.
 fn check_answers(
     rt: &impl Abort,
@@ -247,9 +257,7 @@ fn check_answers(
     table: &str,
 ) -> Result<(), AllocError> {
     for line in table.lines() {
-        let parts = line.split_once(": ");
-        assert!(rt; parts.is_some(), "{line}");
-        let (want, text) = parts.unwrap();
+        let (want, text) = parted(rt, line, ": ");
         let whole = format!(in heap; "{}{text}{}", around.0, around.1)?;
         let told = answer(heap, whole.as_bytes())?;
         assert_eq!(rt; told.as_str(), want, "{text}");
@@ -258,9 +266,10 @@ fn check_answers(
 }
 
 fn read_whole(rt: &impl Abort, heap: Global, text: &str) -> Document<Global> {
-    let read = read_document(heap, heap, text.as_bytes());
-    assert!(rt; read.is_ok(), "{text}");
-    read.unwrap()
+    match read_document(heap, heap, text.as_bytes()) {
+        Ok(document) => document,
+        Err(_) => panic!(rt; "not read: {text}"),
+    }
 }
 
 /// Of several faults the first is told, by the order of the grammar and not of the text.
@@ -281,28 +290,46 @@ fn first_faults(rt: HostRuntime) -> Result<(), Fail> {
     Ok(())
 }
 
-/// Arrays within one another, between two texts.
-fn nested_arrays(
-    heap: Global,
-    before: &str,
-    levels: usize,
-    after: &str,
-) -> Result<String, AllocError> {
-    let mut text = String::from_str(heap, before)?;
-    for _ in 0..levels {
-        text.push_str("[")?;
+/// A text again and again, each time with its number between its two parts, and with a mark between one and the next.
+#[derive(Clone, Copy)]
+struct Numbered {
+    count: usize,
+    item: (&'static str, &'static str),
+    mark: &'static str,
+}
+
+impl Display for Numbered {
+    fn fmt<W: Write>(&self, f: &mut Formatter<W>) -> fmt::Result {
+        let (before, after) = self.item;
+        for number in 0..self.count {
+            if number > 0 {
+                f.write_str(self.mark)?;
+            }
+            write!(f, "{before}{number}{after}")?;
+        }
+        Ok(())
     }
-    for _ in 0..levels {
-        text.push_str("]")?;
+}
+
+/// A text again and again.
+#[derive(Clone, Copy)]
+struct Repeated {
+    count: usize,
+    text: &'static str,
+}
+
+impl Display for Repeated {
+    fn fmt<W: Write>(&self, f: &mut Formatter<W>) -> fmt::Result {
+        for _ in 0..self.count {
+            f.write_str(self.text)?;
+        }
+        Ok(())
     }
-    text.push_str(after)?;
-    Ok(text)
 }
 
 #[test]
 fn what_json_is(rt: HostRuntime) -> Result<(), Fail> {
-    let heap = rt.alloc();
-    check_answers(&rt, heap, ("", ""), JSON_TEXTS)?;
+    check_answers(&rt, rt.alloc(), ("", ""), JSON_TEXTS)?;
     for (text, want) in [
         ("", "D1"),
         (" ", "D1"),
@@ -311,172 +338,164 @@ fn what_json_is(rt: HostRuntime) -> Result<(), Fail> {
         ("\u{a0}{\"root\":1}", "D1"),
         (" \t\r\n{\"root\":1}\n", "D2 at /root"),
     ] {
-        assert_eq!(rt; answer(heap, text.as_bytes())?.as_str(), want, "{text}");
+        check_answer(&rt, rt.alloc(), text.as_bytes(), want)?;
     }
+    Ok(())
+}
+
+#[test]
+fn bytes_that_are_no_text(rt: HostRuntime) -> Result<(), Fail> {
     for bytes in [
         &b"{\"root\":\"\xff\"}"[..],
         &b"{\"root\":\"\xc0\xaf\"}"[..],
         &b"{\"root\":1}\xff"[..],
         &b"\xff\xfe"[..],
     ] {
-        assert_eq!(rt; answer(heap, bytes)?.as_str(), "D1");
+        check_answer(&rt, rt.alloc(), bytes, "D1")?;
     }
-    // At most 127 arrays and objects within one another are read as JSON.
+    Ok(())
+}
+
+/// Arrays within one another, between two texts.
+fn nested_arrays(heap: Global, around: (&str, &str), count: usize) -> Result<String, AllocError> {
+    let (before, after) = around;
+    let opened = Repeated { count, text: "[" };
+    let closed = Repeated { count, text: "]" };
+    format!(in heap; "{before}{opened}{closed}{after}")
+}
+
+/// At most 127 arrays and objects within one another are read as JSON.
+#[test]
+fn depth_of_json(rt: HostRuntime) -> Result<(), Fail> {
+    let heap = rt.alloc();
     for (levels, want, below_root) in [
         (126, "D2 at ", "D2 at /root"),
         (127, "D2 at ", "D1"),
         (128, "D1", "D1"),
         (200, "D1", "D1"),
     ] {
-        let text = nested_arrays(heap, "", levels, "")?;
-        assert_eq!(rt; answer(heap, text.as_bytes())?.as_str(), want, "{levels}");
-        let text = nested_arrays(heap, NODE.0, levels, NODE.1)?;
-        assert_eq!(rt;
-            answer(heap, text.as_bytes())?.as_str(),
-            below_root,
-            "{levels}"
-        );
+        let text = nested_arrays(heap, ("", ""), levels)?;
+        check_answer(&rt, heap, text.as_bytes(), want)?;
+        let text = nested_arrays(heap, NODE, levels)?;
+        check_answer(&rt, heap, text.as_bytes(), below_root)?;
     }
     Ok(())
 }
 
-/// A number of items, each with its own number in it, in what stands around them.
-fn numbered(
-    heap: Global,
-    around: (&str, &str),
-    count: usize,
-    item: (&str, &str),
-    last: &str,
-) -> Result<String, AllocError> {
-    let mut text = String::from_str(heap, around.0)?;
-    for number in 0..count {
-        if number > 0 {
-            text.push_str(",")?;
-        }
-        text.push_str(format!(in heap; "{}{number}{}", item.0, item.1)?.as_str())?;
+/// How many parts of a kind stand in a document, each with its own number in its name, and what stands behind them; and what
+/// reading it gives. What stands in a `not` comes before the count of its own match, and behind that of the `not`.
+const LIMITS: &str = r#"512 rules  => read
+513 rules  => D8
+512 rules ,{"effect":"deny","rule":"r7"} => D4 r7
+512 rules ,1 => D2 at /root/rules/512
+512 rules ,{"effect":"deny","rule":"x","target":[1]} => D8
+511 policies  => read
+512 policies  => D8
+511 sets  => read
+512 sets  => D8
+511 policies ,{"combine":"deny-overrides","rules":[],"policy":"s"} => D4 s
+64 zones  => read
+65 zones  => D8
+64 zones ,{"shape":"POINT (1 2)","zone":"z7"} => D4 z7
+4096 matches  => read
+4097 matches  => D8
+4096 matches ,{"zone":"z"} => D5 z
+4096 atoms  => read
+4096 atoms ,{"own":true} => D8
+4096 atoms ,{"zone":"z"} => D5 z
+2048 negations  => read
+2049 negations  => D8
+4094 atoms ,{"not":{"own":true}} => read
+4095 atoms ,{"not":{"own":true}} => D8
+4095 atoms ,{"not":1} => D2 at /root/rules/0/when/4095/not
+4096 atoms ,{"not":1} => D8
+"#;
+
+/// What stands around the parts of a kind, and in each of them around its number.
+fn kind(
+    rt: &impl Abort,
+    word: &str,
+) -> ((&'static str, &'static str), (&'static str, &'static str)) {
+    match word {
+        "rules" => (RULES, (r#"{"effect":"deny","rule":"r"#, r#""}"#)),
+        "policies" => (
+            CHILDREN,
+            (
+                r#"{"combine":"deny-overrides","rules":[],"policy":"n"#,
+                r#""}"#,
+            ),
+        ),
+        "sets" => (
+            CHILDREN,
+            (r#"{"combine":"deny-overrides","of":[],"set":"n"#, r#""}"#),
+        ),
+        "zones" => (ZONES, (r#"{"shape":"POINT (1 2)","zone":"z"#, r#""}"#)),
+        "matches" => (MATCHES, (r#"{"class":"c"#, r#""}"#)),
+        "atoms" => (ATOMS, (r#"{"class":"c"#, r#""}"#)),
+        "negations" => (ATOMS, (r#"{"not":{"class":"c"#, r#""}}"#)),
+        _ => panic!(rt; "no kind: {word}"),
     }
-    text.push_str(last)?;
-    text.push_str(around.1)?;
-    Ok(text)
+}
+
+fn check_limit(rt: &impl Abort, heap: Global, line: &str) -> Result<(), AllocError> {
+    let (given, want) = parted(rt, line, " => ");
+    let (count, given) = parted(rt, given, " ");
+    let (word, last) = parted(rt, given, " ");
+    let count = count.parse::<usize>();
+    assert!(rt; count.is_ok(), "{line}");
+    let ((before, after), item) = kind(rt, word);
+    let parts = Numbered {
+        count: count.unwrap(),
+        item,
+        mark: ",",
+    };
+    let text = format!(in heap; "{before}{parts}{last}{after}")?;
+    let told = answer(heap, text.as_bytes())?;
+    assert_eq!(rt; told.as_str(), want, "{line}");
+    Ok(())
 }
 
 #[test]
 fn limits_of_documents(rt: HostRuntime) -> Result<(), Fail> {
-    let heap = rt.alloc();
-    let rule = (r#"{"effect":"deny","rule":"r"#, r#""}"#);
-    let node = (
-        r#"{"combine":"deny-overrides","rules":[],"policy":"n"#,
-        r#""}"#,
-    );
-    let set = (r#"{"combine":"deny-overrides","of":[],"set":"n"#, r#""}"#);
-    let zone = (r#"{"shape":"POINT (1 2)","zone":"z"#, r#""}"#);
-    let class = (r#"{"class":"c"#, r#""}"#);
-    let negated = (r#"{"not":{"class":"c"#, r#""}}"#);
-    let bad_part = r#",{"effect":"deny","rule":"x","target":[1]}"#;
-    for (around, count, item, last, want) in [
-        (RULES, 512, rule, "", "read"),
-        (RULES, 513, rule, "", "D8"),
-        (
-            RULES,
-            512,
-            rule,
-            r#",{"effect":"deny","rule":"r7"}"#,
-            "D4 r7",
-        ),
-        (RULES, 512, rule, ",1", "D2 at /root/rules/512"),
-        (RULES, 512, rule, bad_part, "D8"),
-        (CHILDREN, 511, node, "", "read"),
-        (CHILDREN, 512, node, "", "D8"),
-        (CHILDREN, 511, set, "", "read"),
-        (CHILDREN, 512, set, "", "D8"),
-        (
-            CHILDREN,
-            511,
-            node,
-            r#",{"combine":"deny-overrides","rules":[],"policy":"s"}"#,
-            "D4 s",
-        ),
-        (ZONES, 64, zone, "", "read"),
-        (ZONES, 65, zone, "", "D8"),
-        (
-            ZONES,
-            64,
-            zone,
-            r#",{"shape":"POINT (1 2)","zone":"z7"}"#,
-            "D4 z7",
-        ),
-        (MATCHES, 4_096, class, "", "read"),
-        (MATCHES, 4_097, class, "", "D8"),
-        (MATCHES, 4_096, class, r#",{"zone":"z"}"#, "D5 z"),
-        (ATOMS, 4_096, class, "", "read"),
-        (ATOMS, 4_096, class, r#",{"own":true}"#, "D8"),
-        (ATOMS, 4_096, class, r#",{"zone":"z"}"#, "D5 z"),
-        (ATOMS, 2_048, negated, "", "read"),
-        (ATOMS, 2_049, negated, "", "D8"),
-        (ATOMS, 4_094, class, r#",{"not":{"own":true}}"#, "read"),
-        (ATOMS, 4_095, class, r#",{"not":{"own":true}}"#, "D8"),
-        // What stands in a `not` comes before the count of its own match, and behind that of the `not`.
-        (
-            ATOMS,
-            4_095,
-            class,
-            r#",{"not":1}"#,
-            "D2 at /root/rules/0/when/4095/not",
-        ),
-        (ATOMS, 4_096, class, r#",{"not":1}"#, "D8"),
-    ] {
-        let text = numbered(heap, around, count, item, last)?;
-        assert_eq!(rt;
-            answer(heap, text.as_bytes())?.as_str(),
-            want,
-            "{count} {last}"
-        );
+    for line in LIMITS.lines() {
+        check_limit(&rt, rt.alloc(), line)?;
     }
     Ok(())
 }
 
-/// Sets within one another, between a root and what stands in the innermost.
-fn nested_sets(heap: Global, levels: usize, innermost: &str) -> Result<String, AllocError> {
-    let mut text = String::from_str(heap, NODE.0)?;
-    for level in 0..levels {
-        text.push_str(format!(in heap;
-            "{{\"combine\":\"deny-overrides\",\"set\":\"s{level}\",\"of\":["
-        )?.as_str())?;
-    }
-    text.push_str(innermost)?;
-    for _ in 0..levels {
-        text.push_str("]}")?;
-    }
-    text.push_str(NODE.1)?;
-    Ok(text)
+/// How many sets stand within one another, with what in the innermost; and what reading it gives.
+const DEPTHS: &str = r#"8  => read
+9  => D7
+7 {"combine":"deny-overrides","policy":"p","rules":[]} => read
+8 {"combine":"deny-overrides","policy":"p","rules":[]} => D7
+7 1 => D2 at /root/of/0/of/0/of/0/of/0/of/0/of/0/of/0
+8 1 => D7
+7 {"combine":"deny-overrides","policy":"p","rules":[{"effect":"deny","rule":"r","target":[[[{"class":1}]]]}]} => D2 at /root/of/0/of/0/of/0/of/0/of/0/of/0/of/0/rules/0/target/0/0/0/class
+8 {"combine":"deny-overrides","policy":"p","rules":[{"effect":"deny","rule":"r","target":[[[{"class":1}]]]}]} => D7
+"#;
+
+fn check_depth(rt: &impl Abort, heap: Global, line: &str) -> Result<(), AllocError> {
+    let (given, want) = parted(rt, line, " => ");
+    let (levels, innermost) = parted(rt, given, " ");
+    let count = levels.parse::<usize>();
+    assert!(rt; count.is_ok(), "{line}");
+    let count = count.unwrap();
+    let opened = Numbered {
+        count,
+        item: (r#"{"combine":"deny-overrides","set":"s"#, r#"","of":["#),
+        mark: "",
+    };
+    let closed = Repeated { count, text: "]}" };
+    let text = format!(in heap; "{}{opened}{innermost}{closed}{}", NODE.0, NODE.1)?;
+    let told = answer(heap, text.as_bytes())?;
+    assert_eq!(rt; told.as_str(), want, "{line}");
+    Ok(())
 }
 
 #[test]
 fn depth_of_documents(rt: HostRuntime) -> Result<(), Fail> {
-    let heap = rt.alloc();
-    let policy = r#"{"combine":"deny-overrides","policy":"p","rules":[]}"#;
-    let no_name =
-        r#"{"combine":"deny-overrides","policy":"p","rules":[{"effect":"deny","rule":"r","target":[[[{"class":1}]]]}]}"#;
-    for (levels, innermost, want) in [
-        (8, "", "read"),
-        (9, "", "D7"),
-        (7, policy, "read"),
-        (8, policy, "D7"),
-        (7, "1", "D2 at /root/of/0/of/0/of/0/of/0/of/0/of/0/of/0"),
-        (8, "1", "D7"),
-        (
-            7,
-            no_name,
-            "D2 at /root/of/0/of/0/of/0/of/0/of/0/of/0/of/0/rules/0/target/0/0/0/class",
-        ),
-        (8, no_name, "D7"),
-    ] {
-        let text = nested_sets(heap, levels, innermost)?;
-        assert_eq!(rt;
-            answer(heap, text.as_bytes())?.as_str(),
-            want,
-            "{levels} {innermost}"
-        );
+    for line in DEPTHS.lines() {
+        check_depth(&rt, rt.alloc(), line)?;
     }
     Ok(())
 }

@@ -1,136 +1,167 @@
+//! Texts of shapes: how each is read and printed, or the fault by which it is refused.
+use crate::lines::parted;
 use plane::{Point, Shape, ShapeFault};
-use std::alloc::{AllocError, Allocator};
+use std::alloc::{AllocError, Global};
 use std::process::Abort;
 use std::test::Fail;
 use wkt::{WktFault, print_shape, read_shape, shape_text};
 
-/// The text is read, and the shape's printed form is this.
-fn check_printed(rt: &impl Abort, text: &str, printed: &str) {
-    let read = read_shape(text.as_bytes());
-    assert!(rt; read.is_ok(), "{text}");
-    assert_eq!(rt; shape_text(&read.unwrap()).as_str(), printed, "{text}");
+/// Texts, each with the printed form of the shape that it is read as.
+const SHAPES: &str = r#"POINT (3 4) => POINT (3 4)
+point(3 4) => POINT (3 4)
+POINT (+3 -4) => POINT (3 -4)
+POINT (-0 +0.) => POINT (0 0)
+POINT (007.000 -12.0) => POINT (7 -12)
+POINT (10000000 -10000000) => POINT (10000000 -10000000)
+POINT (0000000000000000000000010000000. 0) => POINT (10000000 0)
+LINESTRING (3 1, 0 0) => LINESTRING (0 0, 3 1)
+lineString(0 -1,0 -2) => LINESTRING (0 -2, 0 -1)
+POLYGON ((4 4, 0 4, 0 0, 4 0, 4 4)) => POLYGON ((0 0, 4 0, 4 4, 0 4, 0 0))
+POLYGON((0 0,2 0,1 2,0 0)) => POLYGON ((0 0, 2 0, 1 2, 0 0))
+point(+3.00 -0) => POINT (3 0)
+polygon((0 0,0 4,4 4,4 2,4 0,0 0)) => POLYGON ((0 0, 4 0, 4 4, 0 4, 0 0))
+"#;
+
+/// Texts that are refused, each with the code of its fault, and the fault: the place, or what is wrong with the ring. Every
+/// turn of the pentagram, the second of P8, is to the left.
+const REFUSED: &str = r#" => K3 Syntax(0)
+   => K3 Syntax(2)
+(3 4) => K3 Syntax(0)
+ , => K3 Syntax(1)
+POINTZ (1 2) => K1 UnknownWord(0)
+SRID=4326;POINT (1 2) => K1 UnknownWord(0)
+ EMPTY => K1 UnknownWord(1)
+CIRCULARSTRING (1 2) => K1 UnknownWord(0)
+  MultiPoint (1 2) => K2 LeftOut(2)
+MULTILINESTRING => K2 LeftOut(0)
+MULTIPOLYGON => K2 LeftOut(0)
+GEOMETRYCOLLECTION => K2 LeftOut(0)
+POINT EMPTY => K2 LeftOut(6)
+POINT z (1 2 3) => K2 LeftOut(6)
+POINT M (1 2 3) => K2 LeftOut(6)
+POINT  ZM (1 2 3 4) => K2 LeftOut(7)
+POINT => K3 Syntax(5)
+POINT  => K3 Syntax(6)
+POINT 3 4 => K3 Syntax(6)
+POINT ) => K3 Syntax(6)
+POINT (EMPTY) => K4 Number(7)
+POINT ( => K3 Syntax(7)
+POINT ((3 4)) => K3 Syntax(7)
+POINT (,) => K3 Syntax(7)
+POINT (1.5 2) => K4 Number(7)
+POINT (1e3 2) => K4 Number(7)
+POINT (.5 2) => K4 Number(7)
+POINT (1.0x 2) => K4 Number(7)
+POINT (+-1 2) => K4 Number(7)
+POINT (- 1) => K4 Number(7)
+POINT (1 10000001) => K5 OutOfRange(9)
+POINT (1 -10000001.0) => K5 OutOfRange(9)
+POINT (99999999999999999999999999 x) => K5 OutOfRange(7)
+POINT (10000001.5 1) => K4 Number(7)
+POINT (3) => K3 Syntax(8)
+POINT (3, 4) => K3 Syntax(8)
+POINT (3 4 => K3 Syntax(10)
+POINT (3 4 5) => K3 Syntax(11)
+POINT (3 4, 5 6) => K3 Syntax(10)
+POINT (3 4)) => K3 Syntax(11)
+POINT (3 4) x => K3 Syntax(12)
+LINESTRING EMPTY => K2 LeftOut(11)
+LINESTRINGS (0 0, 1 1) => K1 UnknownWord(0)
+LINESTRING (0 0) => K3 Syntax(15)
+LINESTRING (0 0 1 1) => K3 Syntax(16)
+LINESTRING (0 0,, 1 1) => K3 Syntax(16)
+LINESTRING (0 0, 1 1, 2 2) => K2 LeftOut(20)
+LINESTRING (0 0, 1 1 => K3 Syntax(20)
+LINESTRING (0 0, 1 1)( => K3 Syntax(21)
+LINESTRING ((0 0, 1 1)) => K3 Syntax(12)
+POLYGON ZM ((0 0)) => K2 LeftOut(8)
+POLYGON (EMPTY) => K3 Syntax(9)
+POLYGON (0 0, 1 0, 0 1, 0 0) => K3 Syntax(9)
+POLYGON (()) => K3 Syntax(10)
+POLYGON ((0 0 => K3 Syntax(13)
+POLYGON ((0 0 1 0 => K3 Syntax(14)
+POLYGON ((0 0, 1 0, 0 1.5 => K4 Number(22)
+POLYGON ((0 0, 1 0, 0 1,)) => K3 Syntax(24)
+POLYGON ((0 0, 4 0, 0 4, 0 0) => K3 Syntax(29)
+POLYGON ((0 0, 4 0, 0 4, 0 0), (1 1, 2 1, 1 2, 1 1)) => K2 LeftOut(29)
+POLYGON ((0 0, 4 0, 0 4, 0 0)( => K3 Syntax(29)
+POLYGON ((0 0, 4 0, 0 4, 0 0))) => K3 Syntax(30)
+POLYGON ((0 0), x => K2 LeftOut(14)
+LINESTRING (1 1, 1 1.0) => P2 Bad(SameEnds)
+POLYGON ((0 0, 4 0, 0 0)) => P4 Bad(TooFew)
+POLYGON ((0 0)) => P4 Bad(TooFew)
+POLYGON ((0 0, 4 0, 0 4, 1 1)) => P5 Bad(NotClosed)
+POLYGON ((0 0, 4 0, 4 0, 4 4, 0 0)) => P6 Bad(Repeated)
+POLYGON ((0 0, 1 1, 2 2, 0 0)) => P7 Bad(Flat)
+POLYGON ((0 0, 4 0, 1 1, 0 4, 0 0)) => P8 Bad(NotConvex)
+POLYGON ((0 0, 6 4, -2 4, 4 0, 2 7, 0 0)) => P8 Bad(NotConvex)
+POINT (10000001 0) => K5 OutOfRange(7)
+POINT (0 -10000001) => K5 OutOfRange(9)
+POLYGON EMPTY => K2 LeftOut(8)
+POLYGON ((0 0, 1 1, 2 4, 3 9, 4 16, 5 25, 6 36, 7 49, 8 64, 9 81, 10 100, 11 121, 12 144, 13 169, 14 196, 15 225, 16 256, 0 0)) => P9 Bad(TooManyCorners)
+"#;
+
+/// A shape of sixteen corners, the most that there may be.
+const SIXTEEN_CORNERS: &str =
+    "POLYGON ((-9999999 -9999998, -9999998 -9999999, -9999996 -10000000, -9999993 -10000000, -9999989 -9999999, -9999985 -9999997, -9999982 -9999994, -9999980 -9999990, -9999980 -9999987, -9999981 -9999984, -9999983 -9999981, -9999986 -9999979, -9999989 -9999978, -9999993 -9999980, -9999996 -9999984, -9999998 -9999989, -9999999 -9999998))";
+
+/// The printed form of the shape that is read, or the code of the fault, and the fault.
+fn told(alloc: Global, text: &str) -> Result<String, AllocError> {
+    match read_shape(text.as_bytes()) {
+        Ok(shape) => String::from_str(alloc, shape_text(&shape).as_str()),
+        Err(fault) => format!(in alloc; "{} {fault:?}", fault.code()),
+    }
 }
 
-/// The text is refused for this fault.
-fn check_fault(rt: &impl Abort, text: &str, fault: WktFault) {
-    assert_eq!(rt; read_shape(text.as_bytes()).err(), Some(fault), "{text}");
+fn check_text(rt: &impl Abort, alloc: Global, text: &str, want: &str) -> Result<(), AllocError> {
+    assert_eq!(rt; told(alloc, text)?.as_str(), want, "{text}");
+    Ok(())
+}
+
+/// Each text of the table is read as its line tells, and its printed form as itself.
+#[test]
+fn texts_read_and_printed(rt: HostRuntime) -> Result<(), Fail> {
+    for line in SHAPES.lines() {
+        let (text, printed) = parted(&rt, line, " => ");
+        check_text(&rt, rt.alloc(), text, printed)?;
+        check_text(&rt, rt.alloc(), printed, printed)?;
+    }
+    Ok(())
 }
 
 #[test]
-fn texts_read_and_printed(rt: HostRuntime) -> Result<(), Fail> {
+fn texts_of_several_lines(rt: HostRuntime) -> Result<(), Fail> {
     for (text, printed) in [
-        ("POINT (3 4)", "POINT (3 4)"),
-        ("point(3 4)", "POINT (3 4)"),
         (" \t\r\nPoInT\n(\t3  4\r) ", "POINT (3 4)"),
-        ("POINT (+3 -4)", "POINT (3 -4)"),
-        ("POINT (-0 +0.)", "POINT (0 0)"),
-        ("POINT (007.000 -12.0)", "POINT (7 -12)"),
-        ("POINT (10000000 -10000000)", "POINT (10000000 -10000000)"),
-        (
-            "POINT (0000000000000000000000010000000. 0)",
-            "POINT (10000000 0)",
-        ),
-        ("LINESTRING (3 1, 0 0)", "LINESTRING (0 0, 3 1)"),
-        ("lineString(0 -1,0 -2)", "LINESTRING (0 -2, 0 -1)"),
-        (
-            "POLYGON ((4 4, 0 4, 0 0, 4 0, 4 4))",
-            "POLYGON ((0 0, 4 0, 4 4, 0 4, 0 0))",
-        ),
         (
             "polygon\t( ( 0 0 , 0 4 , 2 4 , 4 4 , 4 0 , 2 0 , 0 0 ) )\n",
             "POLYGON ((0 0, 4 0, 4 4, 0 4, 0 0))",
         ),
-        (
-            "POLYGON((0 0,2 0,1 2,0 0))",
-            "POLYGON ((0 0, 2 0, 1 2, 0 0))",
-        ),
     ] {
-        check_printed(&rt, text, printed);
-        check_printed(&rt, printed, printed);
+        check_text(&rt, rt.alloc(), text, printed)?;
     }
     Ok(())
 }
 
 #[test]
 fn faults_and_their_places(rt: HostRuntime) -> Result<(), Fail> {
-    for (text, fault) in [
-        ("", WktFault::Syntax(0)),
-        ("  ", WktFault::Syntax(2)),
-        ("(3 4)", WktFault::Syntax(0)),
-        (" ,", WktFault::Syntax(1)),
-        ("POINTZ (1 2)", WktFault::UnknownWord(0)),
-        ("SRID=4326;POINT (1 2)", WktFault::UnknownWord(0)),
-        (" EMPTY", WktFault::UnknownWord(1)),
-        ("CIRCULARSTRING (1 2)", WktFault::UnknownWord(0)),
-        ("  MultiPoint (1 2)", WktFault::LeftOut(2)),
-        ("MULTILINESTRING", WktFault::LeftOut(0)),
-        ("MULTIPOLYGON", WktFault::LeftOut(0)),
-        ("GEOMETRYCOLLECTION", WktFault::LeftOut(0)),
-        ("POINT EMPTY", WktFault::LeftOut(6)),
-        ("POINT z (1 2 3)", WktFault::LeftOut(6)),
-        ("POINT M (1 2 3)", WktFault::LeftOut(6)),
-        ("POINT  ZM (1 2 3 4)", WktFault::LeftOut(7)),
-        ("POINT", WktFault::Syntax(5)),
-        ("POINT ", WktFault::Syntax(6)),
-        ("POINT 3 4", WktFault::Syntax(6)),
-        ("POINT )", WktFault::Syntax(6)),
-        ("POINT (EMPTY)", WktFault::Number(7)),
-        ("POINT (", WktFault::Syntax(7)),
-        ("POINT ((3 4))", WktFault::Syntax(7)),
-        ("POINT (,)", WktFault::Syntax(7)),
-        ("POINT (1.5 2)", WktFault::Number(7)),
-        ("POINT (1e3 2)", WktFault::Number(7)),
-        ("POINT (.5 2)", WktFault::Number(7)),
-        ("POINT (1.0x 2)", WktFault::Number(7)),
-        ("POINT (+-1 2)", WktFault::Number(7)),
-        ("POINT (- 1)", WktFault::Number(7)),
-        ("POINT (1 10000001)", WktFault::OutOfRange(9)),
-        ("POINT (1 -10000001.0)", WktFault::OutOfRange(9)),
-        (
-            "POINT (99999999999999999999999999 x)",
-            WktFault::OutOfRange(7),
-        ),
-        ("POINT (10000001.5 1)", WktFault::Number(7)),
-        ("POINT (3)", WktFault::Syntax(8)),
-        ("POINT (3, 4)", WktFault::Syntax(8)),
-        ("POINT (3 4", WktFault::Syntax(10)),
-        ("POINT (3 4 5)", WktFault::Syntax(11)),
-        ("POINT (3 4, 5 6)", WktFault::Syntax(10)),
-        ("POINT (3 4))", WktFault::Syntax(11)),
-        ("POINT (3 4) x", WktFault::Syntax(12)),
-        ("LINESTRING EMPTY", WktFault::LeftOut(11)),
-        ("LINESTRINGS (0 0, 1 1)", WktFault::UnknownWord(0)),
-        ("LINESTRING (0 0)", WktFault::Syntax(15)),
-        ("LINESTRING (0 0 1 1)", WktFault::Syntax(16)),
-        ("LINESTRING (0 0,, 1 1)", WktFault::Syntax(16)),
-        ("LINESTRING (0 0, 1 1, 2 2)", WktFault::LeftOut(20)),
-        ("LINESTRING (0 0, 1 1", WktFault::Syntax(20)),
-        ("LINESTRING (0 0, 1 1)(", WktFault::Syntax(21)),
-        ("LINESTRING ((0 0, 1 1))", WktFault::Syntax(12)),
-        ("POLYGON ZM ((0 0))", WktFault::LeftOut(8)),
-        ("POLYGON (EMPTY)", WktFault::Syntax(9)),
-        ("POLYGON (0 0, 1 0, 0 1, 0 0)", WktFault::Syntax(9)),
-        ("POLYGON (())", WktFault::Syntax(10)),
-        ("POLYGON ((0 0", WktFault::Syntax(13)),
-        ("POLYGON ((0 0 1 0", WktFault::Syntax(14)),
-        ("POLYGON ((0 0, 1 0, 0 1.5", WktFault::Number(22)),
-        ("POLYGON ((0 0, 1 0, 0 1,))", WktFault::Syntax(24)),
-        ("POLYGON ((0 0, 4 0, 0 4, 0 0)", WktFault::Syntax(29)),
-        (
-            "POLYGON ((0 0, 4 0, 0 4, 0 0), (1 1, 2 1, 1 2, 1 1))",
-            WktFault::LeftOut(29),
-        ),
-        ("POLYGON ((0 0, 4 0, 0 4, 0 0)(", WktFault::Syntax(29)),
-        ("POLYGON ((0 0, 4 0, 0 4, 0 0)))", WktFault::Syntax(30)),
-        ("POLYGON ((0 0), x", WktFault::LeftOut(14)),
-    ] {
-        check_fault(&rt, text, fault);
+    for line in REFUSED.lines() {
+        let (text, fault) = parted(&rt, line, " => ");
+        check_text(&rt, rt.alloc(), text, fault)?;
     }
     assert_eq!(rt;
         read_shape(&[80, 200, 0]).err(),
         Some(WktFault::UnknownWord(0))
     );
     Ok(())
+}
+
+/// The shape's printed form, in memory of its own.
+fn check_printed(rt: &impl Abort, alloc: Global, shape: &Shape, want: &str) {
+    match print_shape(alloc, shape) {
+        Ok(text) => assert_eq!(rt; text.as_str(), want),
+        Err(_) => panic!(rt; "no memory"),
+    }
 }
 
 #[test]
@@ -141,91 +172,59 @@ fn coordinate_limits(rt: HostRuntime) -> Result<(), Fail> {
     };
     let shape = Shape::point(corner);
     assert!(rt; shape.is_ok());
-    let text = print_shape(rt.alloc(), &shape.unwrap())?;
-    assert_eq!(rt; text.as_str(), "POINT (10000000 -10000000)");
-    check_printed(&rt, text.as_str(), "POINT (10000000 -10000000)");
-    check_printed(&rt, "point(+3.00 -0)", "POINT (3 0)");
-    check_fault(&rt, "POINT (10000001 0)", WktFault::OutOfRange(7));
-    check_fault(&rt, "POINT (0 -10000001)", WktFault::OutOfRange(9));
-    assert_eq!(rt; WktFault::OutOfRange(9).code(), "K5");
-    Ok(())
-}
-
-/// A text of a ring that lists this many points.
-fn ring_text<A: Allocator + Copy>(alloc: A, count: usize) -> Result<String<A>, AllocError> {
-    let mut text = String::from_str(alloc, "POLYGON ((0 0")?;
-    for _ in 1..count {
-        text.push_str(", 7 7")?;
-    }
-    text.push_str("))")?;
-    Ok(text)
-}
-
-#[test]
-fn refused_rings(rt: HostRuntime) -> Result<(), Fail> {
-    for (text, fault, code) in [
-        ("LINESTRING (1 1, 1 1.0)", ShapeFault::SameEnds, "P2"),
-        ("POLYGON ((0 0, 4 0, 0 0))", ShapeFault::TooFew, "P4"),
-        ("POLYGON ((0 0))", ShapeFault::TooFew, "P4"),
-        (
-            "POLYGON ((0 0, 4 0, 0 4, 1 1))",
-            ShapeFault::NotClosed,
-            "P5",
-        ),
-        (
-            "POLYGON ((0 0, 4 0, 4 0, 4 4, 0 0))",
-            ShapeFault::Repeated,
-            "P6",
-        ),
-        ("POLYGON ((0 0, 1 1, 2 2, 0 0))", ShapeFault::Flat, "P7"),
-        (
-            "POLYGON ((0 0, 4 0, 1 1, 0 4, 0 0))",
-            ShapeFault::NotConvex,
-            "P8",
-        ),
-        // Every turn of the pentagram is to the left.
-        (
-            "POLYGON ((0 0, 6 4, -2 4, 4 0, 2 7, 0 0))",
-            ShapeFault::NotConvex,
-            "P8",
-        ),
-    ] {
-        check_fault(&rt, text, WktFault::Bad(fault));
-        assert_eq!(rt; WktFault::Bad(fault).code(), code, "{text}");
-    }
-    check_fault(&rt, "POLYGON EMPTY", WktFault::LeftOut(8));
-    // As many as a ring may list, one more, and many more, with a fault behind them.
-    for (count, fault) in [
-        (64, ShapeFault::NotClosed),
-        (65, ShapeFault::TooManyPoints),
-        (66, ShapeFault::TooManyPoints),
-        (1_000, ShapeFault::TooManyPoints),
-    ] {
-        let mut text = ring_text(rt.alloc(), count)?;
-        check_fault(&rt, text.as_str(), WktFault::Bad(fault));
-        text.push_str(" x")?;
-        check_fault(&rt, text.as_str(), WktFault::Syntax(text.len() - 1));
-    }
-    Ok(())
-}
-
-#[test]
-fn canonical_square(rt: HostRuntime) -> Result<(), Fail> {
-    let square = "POLYGON ((0 0, 4 0, 4 4, 0 4, 0 0))";
-    check_printed(&rt, "polygon((0 0,0 4,4 4,4 2,4 0,0 0))", square);
-    check_printed(&rt, square, square);
+    check_printed(
+        &rt,
+        rt.alloc(),
+        &shape.unwrap(),
+        "POINT (10000000 -10000000)",
+    );
     Ok(())
 }
 
 #[test]
 fn sixteen_corners(rt: HostRuntime) -> Result<(), Fail> {
-    let text =
-        "POLYGON ((-9999999 -9999998, -9999998 -9999999, -9999996 -10000000, -9999993 -10000000, -9999989 -9999999, -9999985 -9999997, -9999982 -9999994, -9999980 -9999990, -9999980 -9999987, -9999981 -9999984, -9999983 -9999981, -9999986 -9999979, -9999989 -9999978, -9999993 -9999980, -9999996 -9999984, -9999998 -9999989, -9999999 -9999998))";
-    check_printed(&rt, text, text);
-    let read = read_shape(text.as_bytes());
+    check_text(&rt, rt.alloc(), SIXTEEN_CORNERS, SIXTEEN_CORNERS)?;
+    let read = read_shape(SIXTEEN_CORNERS.as_bytes());
     assert!(rt; read.is_ok());
-    let printed = print_shape(rt.alloc(), &read.unwrap())?;
-    assert_eq!(rt; printed.as_str(), text);
+    check_printed(&rt, rt.alloc(), &read.unwrap(), SIXTEEN_CORNERS);
+    Ok(())
+}
+
+/// The text of a ring of so many points behind its first, with a letter behind it.
+fn ring_text(alloc: Global, more: usize) -> Result<String, AllocError> {
+    let points = ", 7 7".repeat(alloc, more)?;
+    format!(in alloc; "POLYGON ((0 0{points})) x")
+}
+
+/// The text without its letter is refused for this fault of its ring, and with it for the letter.
+fn check_ring(rt: &impl Abort, text: &str, fault: ShapeFault) {
+    let ring = text.strip_suffix(" x").unwrap_or("");
+    check_fault(rt, ring, WktFault::Bad(fault));
+    check_fault(rt, text, WktFault::Syntax(ring.len().saturating_add(1)));
+}
+
+/// As many points as a ring may list, 64, one more, two more, and many more.
+#[test]
+fn long_rings(rt: HostRuntime) -> Result<(), Fail> {
+    for (more, fault) in [
+        (63, ShapeFault::NotClosed),
+        (64, ShapeFault::TooManyPoints),
+        (65, ShapeFault::TooManyPoints),
+        (999, ShapeFault::TooManyPoints),
+    ] {
+        check_ring(&rt, ring_text(rt.alloc(), more)?.as_str(), fault);
+    }
+    Ok(())
+}
+
+fn check_code(
+    rt: &impl Abort,
+    alloc: Global,
+    fault: WktFault,
+    code: &str,
+) -> Result<(), AllocError> {
+    assert_eq!(rt; fault.code(), code);
+    assert_eq!(rt; format!(in alloc; "{fault}")?.as_str(), code);
     Ok(())
 }
 
@@ -239,8 +238,7 @@ fn faults_are_displayed_by_their_codes(rt: HostRuntime) -> Result<(), Fail> {
         (WktFault::OutOfRange(3), "K5"),
         (WktFault::Bad(ShapeFault::TooManyCorners), "P9"),
     ] {
-        assert_eq!(rt; fault.code(), code);
-        assert_eq!(rt; format!(in rt.alloc(); "{fault}")?.as_str(), code);
+        check_code(&rt, rt.alloc(), fault, code)?;
     }
     Ok(())
 }

@@ -3,9 +3,9 @@ use Rattle.std.proofs.Common.{◌≡◌, ◌∙◌, ℕ, List, [], Option, None,
 use Rattle.std.specs.Io.KnownBytes.{Appends, Keeps}
 use Rattle.sessions.specs.Scripts.{IsScriptText, LineTells, script}
 use Rattle.sessions.specs.States.{SessionState}
-use Rattle.sessions.specs.Streams.{Ran as RanLines}
-use Rattle.sessions.specs.declared.streams.ServeFault.{ServeFault}
-use Rattle.sessions.specs.declared.streams.ServeFault.TheVariants as reasons
+use Rattle.line_streams.specs.Streams.{Ran as RanLines}
+use Rattle.line_streams.specs.declared.streams.ServeFault.{ServeFault}
+use Rattle.line_streams.specs.declared.streams.ServeFault.TheVariants as reasons
 use Rattle.plain_world.specs.States.{WorldData}
 use Rattle.program.specs.ConfigFiles.{FileGives, IsConfigFault, IsConfigText}
 use Rattle.program.specs.Configs.{ConfigData, config_data}

@@ -7,8 +7,8 @@ use Rattle.plain_world.specs.declared.faults.Fault.{Fault}
 use Rattle.plain_world.specs.declared.faults.Fault.TheVariants as faults
 use Rattle.sessions.specs.Scripts.{LineTells, script}
 use Rattle.sessions.specs.States.{SessionState}
-use Rattle.sessions.specs.Streams.{Ran}
-use Rattle.sessions.specs.declared.streams.ServeFault.{ServeFault}
+use Rattle.line_streams.specs.Streams.{Ran}
+use Rattle.line_streams.specs.declared.streams.ServeFault.{ServeFault}
 use Rattle.program.specs.ConfigFiles.{IsConfigFault, IsReadFault}
 use Rattle.program.specs.Configs.{ConfigData}
 use Rattle.program.specs.Ends.{told_as}

@@ -4,20 +4,22 @@ use Rattle.std.proofs.Common.{◌≡◌, ℕ, Bool, true, false, List, [], Optio
 use Rattle.std.specs.Bool.{MatchBool}
 use Rattle.features.specs.declared.actors.Subject.{Subject}
 use Rattle.features.specs.declared.rows.Change.{Change}
-use Rattle.sessions.specs.declared.faults.Fault.TheVariants.{LineTooLong}
-use Rattle.sessions.specs.declared.replies.Reply.TheVariants.{Error}
-use Rattle.sessions.specs.declared.streams.ServeFault.{ServeFault}
-use Rattle.sessions.specs.Desks.{Answers}
-use Rattle.sessions.specs.Lines.{is_too_long}
-use Rattle.sessions.specs.Printed.{led, reply_text}
-use Rattle.sessions.specs.Replies.{SaidData}
-use Rattle.sessions.specs.Services.{Call, Serves, solo_subject}
-use Rattle.sessions.specs.Serving.{Calls, LineTells, Replies}
-use Rattle.sessions.specs.States.{Desk, IsIdle, SoloState, desk}
-use Rattle.sessions.specs.Streams.{Ran}
-use Rattle.sessions.proofs.DeskLemmas.{line_keeps, line_seen}
-use Rattle.sessions.proofs.KeepLemmas.{StaysIdle, call_idle, calls_keep}
-use Rattle.sessions.proofs.StreamLemmas.{ran_as}
+use Rattle.session_lines.specs.declared.faults.Fault.TheVariants.{LineTooLong}
+use Rattle.session_lines.specs.declared.replies.Reply.TheVariants.{Error}
+use Rattle.line_streams.specs.declared.streams.ServeFault.{ServeFault}
+use Rattle.session_lines.specs.Desks.{Answers, Desk, desk}
+use Rattle.line_streams.specs.Lines.{is_too_long}
+use Rattle.session_lines.specs.Printed.{led, reply_text}
+use Rattle.session_lines.specs.Replies.{SaidData}
+use Rattle.session_lines.specs.Services.{Call}
+use Rattle.sessions.specs.Services.{Serves, solo_subject}
+use Rattle.session_lines.specs.Serving.{Calls, LineTells, Replies}
+use Rattle.sessions.specs.States.{IsIdle, SoloState}
+use Rattle.line_streams.specs.Streams.{Ran}
+use Rattle.session_lines.proofs.DeskLemmas.{line_keeps, line_seen}
+use Rattle.sessions.proofs.KeepLemmas.{StaysIdle, call_idle}
+use Rattle.session_lines.proofs.ServingLemmas.{calls_keep}
+use Rattle.line_streams.proofs.StreamLemmas.{ran_as}
 
 -- a service that is seen as another, and keeps its name at each call
 module _ {S T N : Type 0} (see : S → T) (name : S → N) (subject_of : T → Option Subject) (lent : Call → S → S → SaidData → Type 0) (shown : Call → T → T → SaidData → Type 0)

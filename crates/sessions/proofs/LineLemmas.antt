@@ -19,29 +19,31 @@ use Rattle.plain_world.specs.Events.{OpenSearch, VisitNext, DropSearch, Happens,
 use Rattle.plain_world.specs.States.{WorldData}
 use Rattle.plain_world.proofs.RefusalLemmas.{leaves}
 use Rattle.plain_world.proofs.RunLemmas.{given_ok}
-use Rattle.sessions.specs.declared.faults.Fault.{Fault}
-use Rattle.sessions.specs.declared.faults.Fault.TheVariants.{BeforeHello, LineTooLong, NoLabel}
-use Rattle.sessions.specs.declared.replies.Reply.{Reply}
-use Rattle.sessions.specs.declared.replies.Reply.TheVariants.{Error}
+use Rattle.session_lines.specs.declared.faults.Fault.{Fault}
+use Rattle.session_lines.specs.declared.faults.Fault.TheVariants.{BeforeHello, LineTooLong, NoLabel}
+use Rattle.session_lines.specs.declared.replies.Reply.{Reply}
+use Rattle.session_lines.specs.declared.replies.Reply.TheVariants.{Error}
 use Rattle.sessions.specs.declared.scripts.TheConstants.{LABEL_LIMIT}
 use Rattle.sessions.specs.declared.stepping.StepCommand.{StepCommand}
 use Rattle.sessions.specs.declared.stepping.StepCommand.TheVariants as commands
 use Rattle.sessions.specs.declared.stepping.StepVerb.{StepVerb}
 use Rattle.sessions.specs.declared.stepping.StepVerb.TheVariants as verbs
-use Rattle.sessions.specs.Commands.{◌>>=◌, end_at, shape_at}
-use Rattle.sessions.specs.declared.streams.ServeFault.{ServeFault}
-use Rattle.sessions.specs.Lines.{is_too_long}
-use Rattle.sessions.specs.Printed.{led, reply_text}
-use Rattle.sessions.specs.Replies.{SaidData}
+use Rattle.session_lines.specs.Commands.{◌>>=◌, end_at, shape_at}
+use Rattle.line_streams.specs.declared.streams.ServeFault.{ServeFault}
+use Rattle.line_streams.specs.Lines.{is_too_long}
+use Rattle.session_lines.specs.Printed.{led, reply_text}
+use Rattle.session_lines.specs.Replies.{SaidData}
 use Rattle.sessions.specs.Scripts.{Script, Ends, IsRefused, LabelTells, LineTells, ObeysStep, OnlyTells, Opens, SessionAnswers, SessionTells, Steps, TakesPlain, TakesStep, desk_of, fresh, is_skipped, keeps_seat, parts_of, place, script, with_label}
 use Rattle.sessions.specs.Services.{Serves, is_overrun, solo_subject}
-use Rattle.sessions.specs.Serving.{LineTells as AloneTells, Replies}
-use Rattle.sessions.specs.States.{Desk, IsAtRest, IsIdle, SessionState, SoloState, desk, solo}
+use Rattle.session_lines.specs.Serving.{LineTells as AloneTells, Replies}
+use Rattle.session_lines.specs.Desks.{Desk, desk}
+use Rattle.sessions.specs.States.{IsAtRest, IsIdle, SessionState, SoloState, solo}
 use Rattle.sessions.specs.Stepping.{AllDrop, Drops, FindsMore, Finishes, GoesOn, Seeks, count_at, finished_as, left_open, opened_as, step_command_at, step_verb_at, stepped_as}
-use Rattle.sessions.specs.Streams.{Ran}
-use Rattle.sessions.proofs.DeskLemmas.{line_keeps}
+use Rattle.line_streams.specs.Streams.{Ran}
+use Rattle.session_lines.proofs.DeskLemmas.{line_keeps}
 use Rattle.sessions.proofs.HeldLemmas.{AllStay, AreGone, AreHeld, Goes, all_dropped, all_stay, drop_goes, drop_gone, drop_rests, drops_goes, drops_gone, drops_rest, event_rests, finish_goes, finish_gone, finish_rests, goes_same, goes_then, gone_stay, held_more, held_push, held_pushed, held_set, overrun_gone, set_has, visit_goes, visit_rests}
-use Rattle.sessions.proofs.KeepLemmas.{Rests, call_rests, idle_rests, rests_none, run_keeps}
+use Rattle.sessions.proofs.KeepLemmas.{Rests, call_rests, idle_rests, rests_none}
+use Rattle.session_lines.proofs.ServingLemmas.{run_keeps}
 use Rattle.sessions.proofs.SearchLemmas.{opened}
 use Rattle.sessions.proofs.StepLemmas.{finds_same}
 

@@ -4,24 +4,19 @@ use Rattle.std.specs.Io.KnownBytes.{Appends}
 use Rattle.std.specs.Option.{IfSome}
 use Rattle.std.proofs.lemmas.Bool.{lt-ltb}
 use Rattle.sessions.specs.declared.scripts.TheConstants.{LABEL_LIMIT}
-use Rattle.sessions.specs.Printed.{said_text}
-use Rattle.sessions.specs.Replies.{SaidData}
+use Rattle.session_lines.specs.Printed.{said_text}
+use Rattle.session_lines.specs.Replies.{SaidData}
 use Rattle.plain_world.specs.States.{WorldData}
 use Rattle.transactions.specs.Index.{IndexedWorld}
 use Rattle.sessions.specs.Indexed.{IndexedScript, LabelThere, LineRuns, SessionThere}
 use Rattle.sessions.specs.Scripts.{SessionAnswers, fresh, script, place, with_label, IsScriptText, LabelTells, LineTells}
-use Rattle.sessions.specs.Serving as serving
-use Rattle.sessions.specs.Serving.{IsServedText}
-use Rattle.sessions.specs.Services.{Call}
-use Rattle.sessions.specs.States.{SessionState, desk}
-use Rattle.features.specs.declared.actors.Subject.{Subject}
-use Rattle.features.specs.declared.rows.Change.{Change}
+use Rattle.sessions.specs.States.{SessionState}
 use Rattle.sessions.specs.Stepping.{AllDrop, AllEnd}
 use Rattle.byte_streams.specs.Written.{Took}
-use Rattle.sessions.specs.Streams.{OnMemory, Ran}
-use Rattle.sessions.specs.declared.streams.ServeFault.{ServeFault}
-use Rattle.sessions.specs.declared.streams.ServeFault.TheVariants.{Memory}
-use Rattle.sessions.proofs.StreamLemmas.{ran_as}
+use Rattle.line_streams.specs.Streams.{OnMemory, Ran}
+use Rattle.line_streams.specs.declared.streams.ServeFault.{ServeFault}
+use Rattle.line_streams.specs.declared.streams.ServeFault.TheVariants.{Memory}
+use Rattle.line_streams.proofs.StreamLemmas.{ran_as}
 
 -- what a session answered and wrote is what its label's line tells
 pub label_told : {E : Type 0} (r : Result (Unit {0}) E) (label text : List ℕ) (old : IndexedScript) (world : IndexedWorld) (sessions : List SessionState) (reply : SaidData) (a b : Option (List ℕ))
@@ -80,14 +75,3 @@ untouched_so sessions tells (Err (Memory refused)) old new end input left a b P 
     let kept : sessions new.1 ≡ [] = ap (λ s. sessions s.1) run.0 ∙ none in
     (same kept ∙ ap (λ s. s.0) run.0, rest.0, rest.1)
 untouched_so sessions tells _ old new end input left a b P Q run none same rest = tt
-
--- the same of a session by itself
-module _ {S : Type 0} (subject_of : S → Option Subject) (serves : Call → S → S → SaidData → Type 0) where
-  pub served_text_of : (r : Result (Unit {0}) ServeFault) (service end : S) (staged : List Change) (input left a b : Option (List ℕ)) → Ran (serving.LineTells subject_of serves) r (desk [] service) (desk staged end) input left a b
-      → OnOk r (IfSome input (λ text. (said : List ℕ) × Appends a b said × IsServedText subject_of serves service text end said))
-  served_text_of (Err e) service end staged input left a b run = tt
-  served_text_of (Ok u) service end staged None left a b run = tt
-  served_text_of (Ok u) service end staged (Some text) None a b run = absurd run.read
-  served_text_of (Ok u) service end staged (Some text) (Some rest) a b run =
-      let whole : text ≡ run.text = run.read ∙ ap (λ (xs : List ℕ). run.text ++ xs) run.at_end ∙ append-nil run.text in
-      (run.answered.said, run.answered.written, record { staged = staged; tells = rw whole run.answered.told })

@@ -4,10 +4,11 @@ ghost use Rattle.std.specs.Prelude.{◌≡◌, List, ℕ};
 ghost use Rattle.decision.specs.Deciders.{DeciderData};
 ghost use Rattle.sessions.specs.Scripts.{LineTells, Script};
 ghost use Rattle.sessions.specs.Services.{Serves, solo_subject};
-ghost use Rattle.sessions.specs.Serving.{LineTells as AloneTells};
-ghost use Rattle.sessions.specs.States.{Desk, IsAtRest, IsIdle, SoloState};
+ghost use Rattle.session_lines.specs.Serving.{LineTells as AloneTells};
+ghost use Rattle.session_lines.specs.Desks.{Desk};
+ghost use Rattle.sessions.specs.States.{IsAtRest, IsIdle, SoloState};
 ghost use Rattle.sessions.specs.declared.scripts.TheConstants.{LABEL_LIMIT};
-ghost use Rattle.sessions.specs.declared.streams.TheConstants.{LINE_LIMIT, READ_LIMIT};
+ghost use Rattle.line_streams.specs.declared.streams.TheConstants.{LINE_LIMIT, READ_LIMIT};
 ghost use Rattle.plain_world.specs.States.{WorldData, opened};
 ghost use Rattle.plain_world.specs.declared.settings.TheConstants.{CHANGE_LIMIT, SEARCH_LIMIT, SEAT_LIMIT, STEP_LIMIT, TRANSACTION_LIMIT};
 

@@ -1,10 +1,10 @@
 use Rattle.std.proofs.Common.{[], refl}
 use Rattle.sessions.specs.Indexed.{LineRuns, indexed}
-use Rattle.sessions.specs.Streams.{Ran}
-use Rattle.sessions.proofs.LeavingLemmas.{left_by}
+use Rattle.line_streams.specs.Streams.{Ran}
+use Rattle.line_streams.proofs.LeavingLemmas.{left_by}
 use Rattle.sessions.proofs.LineLemmas.{run_idle}
 use Rattle.sessions.proofs.ScriptLemmas.{ran_plainly, script_text_of, untouched_so}
-use Rattle.sessions.proofs.StreamLemmas.{ran_along}
+use Rattle.line_streams.proofs.StreamLemmas.{ran_along}
 use Rattle.sessions.proofs.scripts.run_script.Goals as goal
 
 pub returns-clause-script_text : goal.returns-clause-script_text
