@@ -7,7 +7,7 @@ use Rattle.features.specs.declared.rows.Change.TheVariants.{Add, Reshape, Delete
 use Rattle.features.specs.declared.rows.Feature.{Feature}
 use Rattle.features.specs.Changes.{change_id, IsUnnamed, CanChange, CanApply}
 use Rattle.features.specs.Rows.{feature_with}
-use Rattle.policy_text.specs.Documents.{DocumentData}
+use Rattle.policy_documents.specs.Documents.{DocumentData}
 use Rattle.audit_trail.specs.declared.causes.Objection.{Objection}
 use Rattle.audit_trail.specs.declared.causes.Judgement.TheVariants.{Accepted}
 use Rattle.audit_trail.specs.Judging.{in_use, refused_for, Objects, JudgedFrom, AreDistinct}

@@ -4,7 +4,7 @@ use Rattle.plane.specs.declared.point.Point.{Point}
 use Rattle.features.specs.declared.actors.Subject.{Subject}
 use Rattle.features.specs.declared.rows.Feature.{Feature}
 use Rattle.features.specs.Rows.{IsBelowAll, IsSortedById}
-use Rattle.policy_text.specs.Documents.{DocumentData}
+use Rattle.policy_documents.specs.Documents.{DocumentData}
 use Rattle.audit_trail.specs.Listing.{IsShown, IsListed, AreShown}
 
 module _ (document : DocumentData) (subject : Subject) (window : List Point) where

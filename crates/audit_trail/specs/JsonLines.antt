@@ -8,7 +8,7 @@ use Rattle.plane.specs.declared.point.Point.{Point}
 use Rattle.features.specs.declared.actors.Subject.{Subject}
 use Rattle.features.specs.declared.rows.Change.{Change}
 use Rattle.features.specs.declared.rows.Change.TheVariants.{Add, Reshape, Delete}
-use Rattle.policy_text.specs.Documents.{IsDocument}
+use Rattle.policy_documents.specs.Documents.{IsDocument}
 use Rattle.policy_text.specs.Printed.{document_data}
 use Rattle.audit_trail.specs.declared.causes.Cause.{Cause}
 use Rattle.audit_trail.specs.declared.causes.Cause.TheVariants.{Denied, Exists, Absent, Stale}

@@ -9,7 +9,7 @@ use Rattle.features.specs.declared.rows.Change.TheVariants.{Add, Reshape, Delete
 use Rattle.features.specs.declared.rows.Feature.{Feature}
 use Rattle.features.specs.Rows.{feature_with}
 use Rattle.features.specs.Changes.{change_id, IsUnnamed}
-use Rattle.policy_text.specs.Documents.{DocumentData}
+use Rattle.policy_documents.specs.Documents.{DocumentData}
 use Rattle.combining.specs.declared.questions.Question.{Question}
 use Rattle.decision.specs.declared.rulings.Ruling.{Ruling}
 use Rattle.decision.specs.declared.rulings.Ruling.TheVariants.{Permit, DeniedBy, NoneApplied}

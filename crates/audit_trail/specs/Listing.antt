@@ -6,7 +6,7 @@ use Rattle.features.specs.declared.actors.Action.{Action}
 use Rattle.features.specs.declared.actors.Action.TheVariants.{Read}
 use Rattle.features.specs.declared.actors.Subject.{Subject}
 use Rattle.features.specs.declared.rows.Feature.{Feature}
-use Rattle.policy_text.specs.Documents.{DocumentData}
+use Rattle.policy_documents.specs.Documents.{DocumentData}
 use Rattle.combining.specs.declared.questions.Question.{Question}
 use Rattle.decision.specs.Rulings.{Permits}
 use Rattle.audit_trail.specs.Records.{PlainState}

@@ -3,8 +3,8 @@ use Rattle.std.specs.Prelude.{◌≡◌, ℕ, ◌≤◌, List, ◌++◌, length,
 use Rattle.std.specs.Io.KnownBytes.{Appends, Keeps}
 
 -- what a writer took of these bytes: all of them, or, where a write failed, those at their front
-abbrev pub Took : {E : Type 0} → Result (Unit {0}) E → Option (List ℕ) → Option (List ℕ) → List ℕ → Type 0
-Took (Ok u) before after said = Appends before after said
+abbrev pub Took : {T E : Type 0} → Result T E → Option (List ℕ) → Option (List ℕ) → List ℕ → Type 0
+Took (Ok done) before after said = Appends before after said
 Took (Err e) before after said = (front : List ℕ) × (left : List ℕ) × (said ≡ front ++ left) × Appends before after front
 
 -- a call took so many of these bytes, and, where it failed, none

@@ -8,5 +8,5 @@ mod writing;
 
 pub use failures::{NotOpened, ReadFailed, WriteFailed};
 pub use files::open_file;
-pub use reading::read_some;
-pub use writing::{flush, write_shown, write_whole};
+pub use reading::{Turns, read_some};
+pub use writing::{Flushed, flush, let_go, write_shown, write_whole};

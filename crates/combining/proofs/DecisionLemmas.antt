@@ -1,7 +1,7 @@
 -- What an algorithm makes of a tally is its case over all decisions.
 use Rattle.std.proofs.Common.{◌≡◌, List, refl}
-use Rattle.policy_text.specs.declared.algorithms.Algorithm.{Algorithm}
-use Rattle.policy_text.specs.declared.algorithms.Algorithm.TheVariants.{DenyOverrides, PermitOverrides, DenyUnlessPermit, PermitUnlessDeny, FirstApplicable}
+use Rattle.policy_documents.specs.declared.algorithms.Algorithm.{Algorithm}
+use Rattle.policy_documents.specs.declared.algorithms.Algorithm.TheVariants.{DenyOverrides, PermitOverrides, DenyUnlessPermit, PermitUnlessDeny, FirstApplicable}
 use Rattle.combining.specs.declared.decisions.Decision.{Decision}
 use Rattle.combining.specs.Decisions.{combined}
 use Rattle.combining.specs.Tallies.{tally_of, settled}

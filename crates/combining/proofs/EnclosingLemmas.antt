@@ -1,7 +1,7 @@
 -- What is around the rules of a set or a policy.
 use Rattle.std.proofs.Common.{◌≡◌, Bool, true, false, ◌&&◌, List, [], ◌∷◌, ◌++◌, refl, sym, ap, ◌∙◌, if◌then◌else◌}
 use Rattle.std.specs.List.{list_all}
-use Rattle.policy_text.specs.declared.algorithms.Algorithm.{Algorithm}
+use Rattle.policy_documents.specs.declared.algorithms.Algorithm.{Algorithm}
 use Rattle.combining.specs.declared.decisions.Decision.{Decision}
 use Rattle.combining.specs.Decisions.{is_not_applicable}
 use Rattle.combining.specs.Deciding.{Enclosing}

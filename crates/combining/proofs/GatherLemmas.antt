@@ -4,10 +4,10 @@ use Rattle.std.specs.List.{list_all, position_from}
 use Rattle.std.specs.Option.{option_or}
 use Rattle.std.proofs.lemmas.List.{map_more, take_more, map-append, append-nil}
 use Rattle.std.proofs.lemmas.Bool.{false≢true}
-use Rattle.policy_text.specs.Documents.{RuleData, Head, NodeData, set, policy, Children, no_children, child, children_of, rules_of, rules_of_all}
-use Rattle.policy_text.specs.declared.algorithms.Effect.{Effect}
-use Rattle.policy_text.specs.declared.algorithms.Effect.TheVariants as effects
-use Rattle.policy_text.specs.declared.algorithms.Algorithm.{Algorithm}
+use Rattle.policy_documents.specs.Documents.{RuleData, Head, NodeData, set, policy, Children, no_children, child, children_of, rules_of, rules_of_all}
+use Rattle.policy_documents.specs.declared.algorithms.Effect.{Effect}
+use Rattle.policy_documents.specs.declared.algorithms.Effect.TheVariants as effects
+use Rattle.policy_documents.specs.declared.algorithms.Algorithm.{Algorithm}
 use Rattle.combining.specs.declared.questions.Question.{Question}
 use Rattle.combining.specs.declared.decisions.Decision.{Decision}
 use Rattle.combining.specs.declared.decisions.Decision.TheVariants.{Permit, Deny, NotApplicable}

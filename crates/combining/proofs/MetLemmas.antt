@@ -4,7 +4,7 @@ use Rattle.std.proofs.lemmas.List.{take_more}
 use Rattle.std.proofs.lemmas.Option.{slice_get_within, get_or_from_slice_get}
 use Rattle.plane.specs.Rows.{Meet}
 use Rattle.plane.specs.declared.point.Point.{Point}
-use Rattle.policy_text.specs.declared.zones.Zone.{Zone}
+use Rattle.policy_documents.specs.declared.zones.Zone.{Zone}
 use Rattle.combining.specs.Holding.{AreMet, none, meets, apart}
 
 pub AreMet-meets : (shape : List Point) (zones : List Zone) (names : List (List ℕ)) (zone : Zone) → AreMet shape zones names → Meet shape zone.shape →

@@ -3,8 +3,8 @@ use Rattle.std.proofs.Common.{◌≡◌, ℕ, zero, suc, ◌+◌, Bool, true, fa
 use Rattle.std.specs.Prelude.{slice_get, option_map}
 use Rattle.std.specs.List.{position_from}
 use Rattle.std.proofs.lemmas.List.{map-append}
-use Rattle.policy_text.specs.Documents.{RuleData, NodeData, set, policy, Children, no_children, child, rules_of, rules_of_all, rule_named}
-use Rattle.policy_text.specs.declared.algorithms.Algorithm.{Algorithm}
+use Rattle.policy_documents.specs.Documents.{RuleData, NodeData, set, policy, Children, no_children, child, rules_of, rules_of_all, rule_named}
+use Rattle.policy_documents.specs.declared.algorithms.Algorithm.{Algorithm}
 use Rattle.combining.specs.declared.questions.Question.{Question}
 use Rattle.combining.specs.declared.decisions.Decision.{Decision}
 use Rattle.combining.specs.Decisions.{decision_of}

@@ -1,9 +1,9 @@
 -- The first deciding rule of a document that uses three algorithms.
 use Rattle.std.proofs.Common.{◌≡◌, ℕ, Bool, true, false, ◌&&◌, ◌||◌, List, [], ◌∷◌, map, is_some, refl, sym, ap, subst, ◌∙◌, true≢false, if◌then◌else◌}
 use Rattle.std.specs.List.{list_any, position_from}
-use Rattle.policy_text.specs.Documents.{RuleData, NodeData, set, policy, Children, no_children, child}
-use Rattle.policy_text.specs.declared.algorithms.Effect.{Effect}
-use Rattle.policy_text.specs.declared.algorithms.Effect.TheVariants as effects
+use Rattle.policy_documents.specs.Documents.{RuleData, NodeData, set, policy, Children, no_children, child}
+use Rattle.policy_documents.specs.declared.algorithms.Effect.{Effect}
+use Rattle.policy_documents.specs.declared.algorithms.Effect.TheVariants as effects
 use Rattle.combining.specs.declared.questions.Question.{Question}
 use Rattle.combining.specs.declared.decisions.Decision.{Decision}
 use Rattle.combining.specs.declared.decisions.Decision.TheVariants.{Permit, Deny, NotApplicable}

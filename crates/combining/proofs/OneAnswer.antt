@@ -1,8 +1,8 @@
 -- A document gives one verdict to a question.
 use Rattle.std.proofs.Common.{◌≡◌, ℕ, List, ◌∷◌, refl, sym, ap, ◌∙◌}
 use Rattle.plane.specs.declared.point.Point.{Point}
-use Rattle.policy_text.specs.Documents.{DocumentData}
-use Rattle.policy_text.specs.declared.zones.Zone.{Zone}
+use Rattle.policy_documents.specs.Documents.{DocumentData}
+use Rattle.policy_documents.specs.declared.zones.Zone.{Zone}
 use Rattle.combining.specs.declared.questions.Question.{Question}
 use Rattle.combining.specs.declared.decisions.Verdict.{Verdict}
 use Rattle.combining.specs.Holding.{AreMet, none, meets, apart}

@@ -1,8 +1,8 @@
 -- The rules below a node.
 use Rattle.std.proofs.Common.{◌≡◌, ℕ, suc, ◌+◌, List, [], ◌∷◌, ◌++◌, length, map, refl, sym, ap, ◌∙◌, length-append}
 use Rattle.std.proofs.lemmas.List.{length-map}
-use Rattle.policy_text.specs.Documents.{NodeData, RuleData, set, policy, Children, no_children, child, children_of, rules_of, rules_of_all}
-use Rattle.policy_text.specs.declared.algorithms.Algorithm.{Algorithm}
+use Rattle.policy_documents.specs.Documents.{NodeData, RuleData, set, policy, Children, no_children, child, children_of, rules_of, rules_of_all}
+use Rattle.policy_documents.specs.declared.algorithms.Algorithm.{Algorithm}
 use Rattle.combining.specs.declared.questions.Question.{Question}
 use Rattle.combining.specs.declared.decisions.Decision.{Decision}
 use Rattle.combining.specs.Decisions.{decision_of}

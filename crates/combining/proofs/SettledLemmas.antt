@@ -2,8 +2,8 @@
 use Rattle.std.proofs.Common.{◌≡◌, Bool, true, false, ◌||◌, List, [], ◌∷◌, ◌++◌, refl, sym, ap, ◌∙◌}
 use Rattle.std.specs.List.{list_any}
 use Rattle.std.proofs.lemmas.Bool.{false≢true}
-use Rattle.policy_text.specs.declared.algorithms.Algorithm.{Algorithm}
-use Rattle.policy_text.specs.declared.algorithms.Algorithm.TheVariants.{DenyOverrides, PermitOverrides, DenyUnlessPermit, PermitUnlessDeny, FirstApplicable}
+use Rattle.policy_documents.specs.declared.algorithms.Algorithm.{Algorithm}
+use Rattle.policy_documents.specs.declared.algorithms.Algorithm.TheVariants.{DenyOverrides, PermitOverrides, DenyUnlessPermit, PermitUnlessDeny, FirstApplicable}
 use Rattle.combining.specs.declared.decisions.Decision.{Decision}
 use Rattle.combining.specs.declared.decisions.Decision.TheVariants.{Permit, Deny, NotApplicable}
 use Rattle.combining.specs.Decisions.{is_permit, is_deny, is_settled, combined, first_applicable}

@@ -1,9 +1,9 @@
 -- The deciding rules: those that made the document's decision.
 use Rattle.std.specs.Prelude.{◌≡◌, ℕ, suc, slice_get, Bool, true, false, ◌&&◌, ◌||◌, List, [], ◌∷◌, ◌++◌, map, Option, Some, if◌then◌else◌}
 use Rattle.std.specs.List.{list_all, position_from}
-use Rattle.policy_text.specs.Documents.{DocumentData, RuleData, NodeData, set, policy, Children, no_children, child, rule_named}
-use Rattle.policy_text.specs.declared.algorithms.Algorithm.{Algorithm}
-use Rattle.policy_text.specs.declared.algorithms.Algorithm.TheVariants.{DenyOverrides, PermitOverrides, DenyUnlessPermit, PermitUnlessDeny, FirstApplicable}
+use Rattle.policy_documents.specs.Documents.{DocumentData, RuleData, NodeData, set, policy, Children, no_children, child, rule_named}
+use Rattle.policy_documents.specs.declared.algorithms.Algorithm.{Algorithm}
+use Rattle.policy_documents.specs.declared.algorithms.Algorithm.TheVariants.{DenyOverrides, PermitOverrides, DenyUnlessPermit, PermitUnlessDeny, FirstApplicable}
 use Rattle.combining.specs.declared.questions.Question.{Question}
 use Rattle.combining.specs.declared.decisions.Decision.{Decision}
 use Rattle.combining.specs.declared.decisions.Verdict.{Verdict}

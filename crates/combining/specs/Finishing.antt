@@ -1,7 +1,7 @@
 -- When the rest of a node's children can be left out. Of this crate's public clauses that of `Gathered::is_finished` cites it.
 use Rattle.std.specs.Prelude.{Bool, not, ◌&&◌, is_some}
-use Rattle.policy_text.specs.declared.algorithms.Algorithm.{Algorithm}
-use Rattle.policy_text.specs.declared.algorithms.Algorithm.TheVariants.{DenyOverrides, PermitOverrides, DenyUnlessPermit, PermitUnlessDeny, FirstApplicable}
+use Rattle.policy_documents.specs.declared.algorithms.Algorithm.{Algorithm}
+use Rattle.policy_documents.specs.declared.algorithms.Algorithm.TheVariants.{DenyOverrides, PermitOverrides, DenyUnlessPermit, PermitUnlessDeny, FirstApplicable}
 use Rattle.combining.specs.declared.gathering.Gathered.{Gathered}
 use Rattle.combining.specs.Decisions.{is_not_applicable}
 

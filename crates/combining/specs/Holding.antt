@@ -5,15 +5,15 @@ use Rattle.std.specs.List.{list_all, list_any}
 use Rattle.plane.specs.Rows.{Meet}
 use Rattle.plane.specs.declared.point.Point.{Point}
 use Rattle.features.specs.Equality.{same_name}
-use Rattle.policy_text.specs.Documents.{RuleData}
-use Rattle.policy_text.specs.Equality.{same_action}
-use Rattle.policy_text.specs.declared.matches.Match.{Match}
-use Rattle.policy_text.specs.declared.matches.Match.TheVariants as matches
-use Rattle.policy_text.specs.declared.matches.Term.{Term}
-use Rattle.policy_text.specs.declared.matches.Term.TheVariants as terms
-use Rattle.policy_text.specs.declared.matches.Atom.{Atom}
-use Rattle.policy_text.specs.declared.matches.Atom.TheVariants as atoms
-use Rattle.policy_text.specs.declared.zones.Zone.{Zone}
+use Rattle.policy_documents.specs.Documents.{RuleData}
+use Rattle.policy_documents.specs.Equality.{same_action}
+use Rattle.policy_documents.specs.declared.matches.Match.{Match}
+use Rattle.policy_documents.specs.declared.matches.Match.TheVariants as matches
+use Rattle.policy_documents.specs.declared.matches.Term.{Term}
+use Rattle.policy_documents.specs.declared.matches.Term.TheVariants as terms
+use Rattle.policy_documents.specs.declared.matches.Atom.{Atom}
+use Rattle.policy_documents.specs.declared.matches.Atom.TheVariants as atoms
+use Rattle.policy_documents.specs.declared.zones.Zone.{Zone}
 use Rattle.combining.specs.declared.questions.Question.{Question}
 
 -- the names of those of the zones that meet the shape, in their order

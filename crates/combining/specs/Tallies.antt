@@ -1,8 +1,8 @@
 -- What is kept of the decisions of a node's children. Clauses of private functions cite it, and those of `Gathered` by `Gathering`.
 use Rattle.std.specs.Prelude.{◌||◌, List, if◌then◌else◌}
 use Rattle.std.specs.List.{list_any}
-use Rattle.policy_text.specs.declared.algorithms.Algorithm.{Algorithm}
-use Rattle.policy_text.specs.declared.algorithms.Algorithm.TheVariants.{DenyOverrides, PermitOverrides, DenyUnlessPermit, PermitUnlessDeny, FirstApplicable}
+use Rattle.policy_documents.specs.declared.algorithms.Algorithm.{Algorithm}
+use Rattle.policy_documents.specs.declared.algorithms.Algorithm.TheVariants.{DenyOverrides, PermitOverrides, DenyUnlessPermit, PermitUnlessDeny, FirstApplicable}
 use Rattle.combining.specs.declared.decisions.Decision.{Decision}
 use Rattle.combining.specs.declared.decisions.Decision.TheVariants.{Permit, Deny, NotApplicable}
 use Rattle.combining.specs.declared.algorithms.Tally.{Tally}

@@ -4,7 +4,7 @@ ghost use Rattle.std.specs.Prelude.{◌≡◌, not, []};
 ghost use Rattle.combining.specs.Decisions.{combined, is_settled, is_not_applicable};
 
 use crate::decisions::Decision;
-use policy_text::Algorithm;
+use policy_documents::Algorithm;
 
 /// What is kept of the decisions of a node's children, so that none of them has to be stored.
 #[derive(Clone, Copy, Debug)]

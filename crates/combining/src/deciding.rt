@@ -4,15 +4,15 @@ ghost use Rattle.std.specs.Prelude.{◌≡◌, ◌+◌, ◌≤◌, length, map};
 ghost use Rattle.combining.specs.Decisions.{effect_decision};
 ghost use Rattle.combining.specs.Deciding.{rule_part};
 ghost use Rattle.combining.specs.Gathering.{gathered_of, part_verdict, node_part, last_number};
-ghost use Rattle.policy_text.specs.Documents.{rules_of, rules_of_all, children_of};
-ghost use Rattle.policy_text.specs.Views.{node_view};
+ghost use Rattle.policy_documents.specs.Documents.{rules_of, rules_of_all, children_of};
+ghost use Rattle.policy_documents.specs.Views.{node_view};
 
 use crate::decisions::{Decision, Verdict};
 use crate::gathering::Gathered;
 use crate::holding::{rule_applies, target_holds};
 use crate::questions::Question;
 use features::Name;
-use policy_text::{Algorithm, Effect, Node, Rule};
+use policy_documents::{Algorithm, Effect, Node, Rule};
 use std::alloc::Allocator;
 
 const NOT_APPLICABLE: Verdict = Verdict {

@@ -6,7 +6,7 @@ use crate::deciding::decide_node;
 use crate::decisions::Verdict;
 use crate::questions::Question;
 use crate::zones::met_zones;
-use policy_text::Document;
+use policy_documents::Document;
 use std::alloc::Allocator;
 
 /// What the document decides for a question: its root's decision, after XACML 3.0, section 7 and appendix C, with the

@@ -6,7 +6,7 @@ ghost use Rattle.combining.specs.Finishing.{is_finished};
 
 use crate::algorithms::Tally;
 use crate::decisions::{Decision, Verdict};
-use policy_text::Algorithm;
+use policy_documents::Algorithm;
 
 /// The decisions of some children, and the first rules below them that made a Permit and a Deny.
 #[derive(Clone, Copy, Debug)]

@@ -7,7 +7,7 @@ ghost use Rattle.combining.specs.Holding.{match_holds, term_holds, atom_holds, t
 
 use crate::questions::Question;
 use features::Name;
-use policy_text::{AllOf, AnyOf, Atom, Conditions, Match, Rule, Target, Term};
+use policy_documents::{AllOf, AnyOf, Atom, Conditions, Match, Rule, Target, Term};
 use std::alloc::Allocator;
 
 /// Whether the name is one of these.

@@ -3,9 +3,9 @@
 ghost use Rattle.std.specs.Prelude.{◌≡◌, ℕ, true, false, List, ◌∷◌, ◌++◌, map, Some, is_some};
 ghost use Rattle.std.specs.List.{list_any};
 ghost use Rattle.plane.specs.declared.point.Point.{Point};
-ghost use Rattle.policy_text.specs.Documents.{NodeData, DocumentData, rules_of};
-ghost use Rattle.policy_text.specs.declared.algorithms.Algorithm.{Algorithm};
-ghost use Rattle.policy_text.specs.declared.zones.Zone.{Zone};
+ghost use Rattle.policy_documents.specs.Documents.{NodeData, DocumentData, rules_of};
+ghost use Rattle.policy_documents.specs.declared.algorithms.Algorithm.{Algorithm};
+ghost use Rattle.policy_documents.specs.declared.zones.Zone.{Zone};
 ghost use Rattle.combining.specs.Holding.{AreMet};
 ghost use Rattle.combining.specs.Decisions.{combined, is_settled, is_not_applicable, decision_of};
 ghost use Rattle.combining.specs.Deciding.{placed_rules, first_deciding, IsMadeBy, Answers};

@@ -2,11 +2,11 @@
 
 ghost use Rattle.std.specs.Prelude.{◌≡◌, ◌+◌, ◌<◌, ◌≤◌, List, [], ◌∷◌, ◌++◌, length};
 ghost use Rattle.combining.specs.Holding.{AreMet};
-ghost use Rattle.policy_text.specs.declared.zones.Zone.{Zone};
+ghost use Rattle.policy_documents.specs.declared.zones.Zone.{Zone};
 
 use features::Name;
 use plane::{Shape, meets};
-use policy_text::{Document, ZONE_LIMIT, Zone};
+use policy_documents::{Document, ZONE_LIMIT, Zone};
 use std::alloc::Allocator;
 use std::marker::Model;
 
@@ -24,7 +24,7 @@ impl Model for MetZones {
 
     ghost view = { λ m. take m.count m.names };
 
-    ghost use Rattle.policy_text.specs.declared.documents.TheConstants.{ZONE_LIMIT};
+    ghost use Rattle.policy_documents.specs.declared.documents.TheConstants.{ZONE_LIMIT};
 
     ghost invariant = { λ m. m.count ≤ ZONE_LIMIT };
 }

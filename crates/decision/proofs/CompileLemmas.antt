@@ -3,11 +3,11 @@ use Rattle.std.proofs.Common.{◌≡◌, ℕ, ◌+◌, ◌-◌, ◌<◌, Bool, t
 use Rattle.std.specs.List.{list_all, position_from}
 use Rattle.std.specs.Prelude.{slice_set}
 use Rattle.std.proofs.lemmas.List.{set_at, append-nil}
-use Rattle.policy_text.specs.Documents.{RuleData, NodeData, Head, set, policy, children_of}
-use Rattle.policy_text.specs.declared.algorithms.Algorithm.{Algorithm}
-use Rattle.policy_text.specs.declared.algorithms.Algorithm.TheVariants.{DenyOverrides, PermitOverrides, DenyUnlessPermit, PermitUnlessDeny, FirstApplicable}
-use Rattle.policy_text.specs.declared.matches.Match.{Match}
-use Rattle.policy_text.specs.declared.matches.Atom.{Atom}
+use Rattle.policy_documents.specs.Documents.{RuleData, NodeData, Head, set, policy, children_of}
+use Rattle.policy_documents.specs.declared.algorithms.Algorithm.{Algorithm}
+use Rattle.policy_documents.specs.declared.algorithms.Algorithm.TheVariants.{DenyOverrides, PermitOverrides, DenyUnlessPermit, PermitUnlessDeny, FirstApplicable}
+use Rattle.policy_documents.specs.declared.matches.Match.{Match}
+use Rattle.policy_documents.specs.declared.matches.Atom.{Atom}
 use Rattle.combining.specs.declared.questions.Question.{Question}
 use Rattle.combining.specs.declared.decisions.Decision.{Decision}
 use Rattle.combining.specs.declared.decisions.Decision.TheVariants.{Permit, Deny, NotApplicable}

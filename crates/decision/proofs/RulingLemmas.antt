@@ -1,6 +1,6 @@
 -- A document gives one ruling to a question.
 use Rattle.std.proofs.Common.{◌≡◌, ap, sym, ◌∙◌}
-use Rattle.policy_text.specs.Documents.{DocumentData}
+use Rattle.policy_documents.specs.Documents.{DocumentData}
 use Rattle.combining.specs.declared.questions.Question.{Question}
 use Rattle.combining.specs.declared.decisions.Verdict.{Verdict}
 use Rattle.combining.proofs.OneAnswer.{Answers-one}

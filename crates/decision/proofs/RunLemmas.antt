@@ -1,7 +1,7 @@
 -- A plan's list, step by step.
 use Rattle.std.proofs.Common.{◌≡◌, ℕ, ◌≤◌, true, List, ◌∷◌, ◌++◌, length, take, drop, refl, sym, ap, ◌∙◌, subst, arith, length-append}
 use Rattle.std.proofs.lemmas.List.{take_at, drop_at}
-use Rattle.policy_text.specs.declared.algorithms.Algorithm.{Algorithm}
+use Rattle.policy_documents.specs.declared.algorithms.Algorithm.{Algorithm}
 use Rattle.combining.specs.declared.questions.Question.{Question}
 use Rattle.combining.specs.declared.gathering.Gathered.{Gathered}
 use Rattle.decision.specs.declared.steps.Step.{Step}

@@ -1,8 +1,8 @@
 -- What is appended for the parts of a document while it is compiled. Clauses of private functions alone cite it.
 use Rattle.std.specs.Prelude.{◌≡◌, ℕ, ◌-◌, List, [], ◌++◌, length}
 use Rattle.std.specs.Prelude.{slice_set}
-use Rattle.policy_text.specs.declared.algorithms.Algorithm.{Algorithm}
-use Rattle.policy_text.specs.declared.matches.Match.{Match}
+use Rattle.policy_documents.specs.declared.algorithms.Algorithm.{Algorithm}
+use Rattle.policy_documents.specs.declared.matches.Match.{Match}
 use Rattle.combining.specs.declared.questions.Question.{Question}
 use Rattle.combining.specs.declared.decisions.Decision.{Decision}
 use Rattle.combining.specs.declared.gathering.Gathered.{Gathered}

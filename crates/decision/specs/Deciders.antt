@@ -1,10 +1,10 @@
 -- What contracts see of a decision point: a document and its edition.
 use Rattle.std.specs.Prelude.{◌≡◌, ℕ, List}
 use Rattle.std.proofs.Common.{ap}
-use Rattle.policy_text.specs.Documents.{DocumentData}
-use Rattle.policy_text.specs.Coding as documents
-use Rattle.policy_text.specs.Coding.{Part}
-use Rattle.policy_text.specs.declared.zones.Zone.{Zone}
+use Rattle.policy_documents.specs.Documents.{DocumentData}
+use Rattle.policy_documents.specs.Coding as documents
+use Rattle.policy_documents.specs.Coding.{Part}
+use Rattle.policy_documents.specs.declared.zones.Zone.{Zone}
 
 pub record DeciderData : Type 0 where
   pub document : DocumentData

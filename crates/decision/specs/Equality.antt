@@ -5,7 +5,7 @@ use Rattle.std.specs.Cmp.{first_so, second_so}
 use Rattle.std.proofs.Common.{refl}
 use Rattle.std.proofs.lemmas.Bool.Decides.{Decides-eqb}
 use Rattle.plane.specs.Equality.{both_so, decides_by}
-use Rattle.policy_text.specs.Equality.{same_document, same_document_decides}
+use Rattle.policy_documents.specs.Equality.{same_document, same_document_decides}
 use Rattle.decision.specs.Deciders.{DeciderData}
 
 -- the same document, under the same edition

@@ -1,13 +1,13 @@
 -- What is known of a question before it is asked, and what that leaves of a test.
 use Rattle.std.specs.Prelude.{◌≡◌, ℕ, Bool, true, false, not, List, Option, None, Some, option_map}
 use Rattle.std.specs.List.{list_all, list_any}
-use Rattle.policy_text.specs.declared.matches.Match.{Match}
-use Rattle.policy_text.specs.declared.matches.Atom.{Atom}
-use Rattle.policy_text.specs.declared.matches.Match.TheVariants as matches
-use Rattle.policy_text.specs.declared.matches.Term.TheVariants as terms
-use Rattle.policy_text.specs.declared.matches.Atom.TheVariants as atoms
+use Rattle.policy_documents.specs.declared.matches.Match.{Match}
+use Rattle.policy_documents.specs.declared.matches.Atom.{Atom}
+use Rattle.policy_documents.specs.declared.matches.Match.TheVariants as matches
+use Rattle.policy_documents.specs.declared.matches.Term.TheVariants as terms
+use Rattle.policy_documents.specs.declared.matches.Atom.TheVariants as atoms
 use Rattle.features.specs.Equality.{same_name}
-use Rattle.policy_text.specs.Equality.{same_action}
+use Rattle.policy_documents.specs.Equality.{same_action}
 use Rattle.combining.specs.declared.questions.Question.{Question}
 use Rattle.decision.specs.declared.known.Known.{Known}
 use Rattle.decision.specs.declared.known.Known.TheVariants.{Nothing, Asked}

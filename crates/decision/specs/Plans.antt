@@ -2,12 +2,12 @@
 -- policy the list says how many steps stand below it, so that they can be passed over.
 use Rattle.std.specs.Prelude.{◌≡◌, ℕ, ◌&&◌, List, [], ◌∷◌, ◌++◌, length, None, Some, if◌then◌else◌}
 use Rattle.std.specs.List.{list_all}
-use Rattle.policy_text.specs.Documents.{NodeData}
-use Rattle.policy_text.specs.declared.algorithms.Algorithm.{Algorithm}
-use Rattle.policy_text.specs.declared.algorithms.Algorithm.TheVariants.{FirstApplicable}
-use Rattle.policy_text.specs.declared.algorithms.Effect.{Effect}
-use Rattle.policy_text.specs.declared.matches.Match.{Match}
-use Rattle.policy_text.specs.declared.matches.Atom.{Atom}
+use Rattle.policy_documents.specs.Documents.{NodeData}
+use Rattle.policy_documents.specs.declared.algorithms.Algorithm.{Algorithm}
+use Rattle.policy_documents.specs.declared.algorithms.Algorithm.TheVariants.{FirstApplicable}
+use Rattle.policy_documents.specs.declared.algorithms.Effect.{Effect}
+use Rattle.policy_documents.specs.declared.matches.Match.{Match}
+use Rattle.policy_documents.specs.declared.matches.Atom.{Atom}
 use Rattle.combining.specs.declared.questions.Question.{Question}
 use Rattle.combining.specs.declared.decisions.Decision.TheVariants.{NotApplicable}
 use Rattle.combining.specs.declared.decisions.Verdict.{Verdict}

@@ -5,14 +5,14 @@ ghost use Rattle.combining.specs.Deciding.{rule_part};
 ghost use Rattle.combining.specs.Gathering.{node_part, last_number};
 ghost use Rattle.decision.specs.Plans.{Branches, flat};
 ghost use Rattle.decision.specs.Compiled.{Appends, StandsFor, AllStandFor, placeholder, closed};
-ghost use Rattle.policy_text.specs.Documents.{set, policy, rules_of, rules_of_all, children_of};
-ghost use Rattle.policy_text.specs.Views.{node_view};
+ghost use Rattle.policy_documents.specs.Documents.{set, policy, rules_of, rules_of_all, children_of};
+ghost use Rattle.policy_documents.specs.Views.{node_view};
 
 use crate::known::{Known, keep_conditions, keep_target};
 use crate::steps::Step;
 use combining::rule_count;
 use memory::{GrowVec, Refused};
-use policy_text::{Algorithm, Node, Rule, Target};
+use policy_documents::{Algorithm, Node, Rule, Target};
 use std::alloc::Allocator;
 
 /// Appends the step of a rule, unless it applies to no question of which this is known. The only error is want of memory.

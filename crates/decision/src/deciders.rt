@@ -1,7 +1,7 @@
 //! Policy documents that are in force.
 
 ghost use Rattle.std.specs.Prelude.{◌≡◌, ◌↔◌, IfOk, IfErr, IsTrue};
-ghost use Rattle.policy_text.specs.Documents.{rule_named};
+ghost use Rattle.policy_documents.specs.Documents.{rule_named};
 ghost use Rattle.decision.specs.Rulings.{Rules, ruling_by};
 
 use crate::folding::Folded;
@@ -11,7 +11,7 @@ use crate::rulings::Ruling;
 use combining::{Decision, Question, Verdict};
 use features::{Action, Name, Subject};
 use memory::{NotStored, Refused};
-use policy_text::{Document, Node};
+use policy_documents::{Document, Node};
 use std::alloc::Global;
 use std::marker::Model;
 

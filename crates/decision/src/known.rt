@@ -6,7 +6,7 @@ ghost use Rattle.decision.specs.Known.{told_match, told_atom, all_hold, some_hol
 
 use features::{Action, Subject};
 use memory::{GrowVec, Refused};
-use policy_text::{AllOf, AnyOf, Atom, Conditions, Match, Target, Term};
+use policy_documents::{AllOf, AnyOf, Atom, Conditions, Match, Target, Term};
 use std::alloc::Allocator;
 
 /// What is known of a question.

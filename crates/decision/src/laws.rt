@@ -1,7 +1,7 @@
 //! A law of the definition by which documents rule. The function does nothing: it is its contract.
 
 ghost use Rattle.std.specs.Prelude.{◌≡◌};
-ghost use Rattle.policy_text.specs.Documents.{DocumentData};
+ghost use Rattle.policy_documents.specs.Documents.{DocumentData};
 ghost use Rattle.combining.specs.declared.questions.Question.{Question};
 ghost use Rattle.decision.specs.Rulings.{Rules};
 

@@ -12,7 +12,7 @@ use crate::running::run_steps;
 use crate::steps::Step;
 use combining::{Question, Verdict, met_zones};
 use memory::Refused;
-use policy_text::{Algorithm, Document};
+use policy_documents::{Algorithm, Document};
 use std::alloc::Allocator;
 use std::marker::Model;
 

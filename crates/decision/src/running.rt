@@ -8,7 +8,7 @@ use combining::{
     Decision, Gathered, Question, Verdict, conditions_hold, effect_decision, target_holds,
 };
 use features::Name;
-use policy_text::Algorithm;
+use policy_documents::Algorithm;
 use std::alloc::Allocator;
 
 const NOT_APPLICABLE: Verdict = Verdict {

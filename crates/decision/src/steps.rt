@@ -3,7 +3,7 @@
 ghost use Rattle.std.specs.Prelude.{◌≡◌};
 ghost use Rattle.decision.specs.Plans.{count_below};
 
-use policy_text::{Algorithm, Conditions, Effect, Target};
+use policy_documents::{Algorithm, Conditions, Effect, Target};
 use std::alloc::Allocator;
 
 /// A rule, or a set or a policy in front of what stands below it.

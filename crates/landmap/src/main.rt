@@ -1,6 +1,7 @@
 //! The program `landmap`: a map feature server for land agencies. What it does stands in the crate `program`.
 #![tactic(auto)]
 
+use byte_streams::let_go;
 use memory::buffered;
 use program::{Ended, HostFolder, ProgramFault, WordsFault, host_words, run_program, tell};
 use std::io;
@@ -38,5 +39,7 @@ fn main(rt: HostRuntime) -> ExitCode {
         &mut output,
         &mut errors,
     );
+    // All that was written has left by a flush, unless a write failed; then the rest is not written once more.
+    let _ = let_go(output);
     ExitCode::from(ended.status())
 }

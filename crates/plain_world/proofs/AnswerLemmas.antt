@@ -2,7 +2,7 @@
 use Rattle.std.proofs.Common.{◌≡◌, ℕ, IsTrue, List, refl, sym, ap, subst, ◌∙◌}
 use Rattle.features.specs.declared.actors.Subject.{Subject}
 use Rattle.audit_trail.specs.Legal.{IsSeated}
-use Rattle.policy_text.specs.Documents.{DocumentData}
+use Rattle.policy_documents.specs.Documents.{DocumentData}
 use Rattle.plain_world.specs.Admitting.{may_finish, may_govern, may_roll}
 use Rattle.plain_world.specs.Answers.{AnswerData}
 use Rattle.plain_world.specs.Events.{Event, Finish, Govern, Roll, Reply, Number, Rows, TakenOut, Happens, Run}

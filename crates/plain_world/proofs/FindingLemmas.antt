@@ -12,7 +12,7 @@ use Rattle.features.specs.declared.actors.Subject.{Subject}
 use Rattle.features.specs.declared.rows.Feature.{Feature}
 use Rattle.features.specs.Places.{IsLess, AreRising}
 use Rattle.features.specs.Rows.{feature_with, IsBelowAll, IsSortedById}
-use Rattle.policy_text.specs.Documents.{DocumentData}
+use Rattle.policy_documents.specs.Documents.{DocumentData}
 use Rattle.audit_trail.specs.Listing.{IsListed}
 use Rattle.plain_world.specs.Finding.{NamesAll, FindsAll}
 

@@ -4,15 +4,15 @@ use Rattle.std.specs.List.{list_all}
 use Rattle.std.proofs.lemmas.Bool.{and_from}
 use Rattle.serde_json.specs.Data.{Data}
 use Rattle.serde_json.specs.Find.{as_bool}
-use Rattle.policy_text.specs.Documents.{is_zone_known, is_match_spelled, atom_term, term_matches, atom_size}
+use Rattle.policy_documents.specs.Documents.{is_zone_known, is_match_spelled, atom_term, term_matches, atom_size}
 use Rattle.policy_text.specs.Reading.{◌>>=◌, at_key, value_of, has_key, is_true, counted, match_in, own_in, term_in, known_term, term_of, term_at, atom_of, atom_at}
-use Rattle.policy_text.specs.declared.zones.Zone.{Zone}
+use Rattle.policy_documents.specs.declared.zones.Zone.{Zone}
 use Rattle.policy_text.specs.declared.paths.Key.TheVariants as keys
 use Rattle.policy_text.specs.declared.paths.Step.{Step}
-use Rattle.policy_text.specs.declared.matches.Term.{Term}
-use Rattle.policy_text.specs.declared.matches.Term.TheVariants as terms
-use Rattle.policy_text.specs.declared.matches.Atom.{Atom}
-use Rattle.policy_text.specs.declared.matches.Atom.TheVariants as atoms
+use Rattle.policy_documents.specs.declared.matches.Term.{Term}
+use Rattle.policy_documents.specs.declared.matches.Term.TheVariants as terms
+use Rattle.policy_documents.specs.declared.matches.Atom.{Atom}
+use Rattle.policy_documents.specs.declared.matches.Atom.TheVariants as atoms
 use Rattle.policy_text.proofs.ChainLemmas.{bound, same_value, taken, either}
 use Rattle.policy_text.proofs.TestLaws.{IsTested, counted-read, known_in-known, match_in-spelled}
 

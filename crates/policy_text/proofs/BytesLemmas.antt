@@ -9,7 +9,7 @@ use Rattle.serde_json.proofs.OnLiterals.{serde_json_on_literals}
 use Rattle.memory.specs.JsonFault.{IsTextFault}
 use Rattle.memory.specs.declared.json.JsonFault.{JsonFault}
 use Rattle.memory.specs.declared.json.JsonFault.TheVariants as reasons
-use Rattle.policy_text.specs.Documents.{DocumentData}
+use Rattle.policy_documents.specs.Documents.{DocumentData}
 use Rattle.policy_text.specs.Reading.{◌>>=◌, Fails, document_in, document_of}
 use Rattle.policy_text.specs.Bytes.{document_of_bytes, json_fault}
 use Rattle.policy_text.specs.declared.faults.TextFault.{TextFault}

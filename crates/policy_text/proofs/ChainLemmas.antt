@@ -5,7 +5,7 @@ use Rattle.std.specs.Option.{ok_or}
 use Rattle.features.specs.Names as spelling
 use Rattle.serde_json.specs.Data.{Data, Items, no_items, item}
 use Rattle.serde_json.specs.Find.{as_str}
-use Rattle.policy_text.specs.Documents.{is_filled}
+use Rattle.policy_documents.specs.Documents.{is_filled}
 use Rattle.features.specs.Equality.{same_name}
 use Rattle.policy_text.specs.Reading.{◌>>=◌, at_item, each_at, items_in, is_empty, name_in, value_of, at_key, fresh, within}
 use Rattle.policy_text.specs.declared.paths.Step.{Step}

@@ -4,7 +4,7 @@ use Rattle.std.specs.List.{list_any}
 use Rattle.std.proofs.lemmas.Bool.{and_parts, and_from, or_parts, or_from, not-true}
 use Rattle.std.proofs.lemmas.Cmp.{nat_list_eq_equiv}
 use Rattle.std.proofs.lemmas.List.Folds.{list_any-append}
-use Rattle.policy_text.specs.Documents.{are_distinct}
+use Rattle.policy_documents.specs.Documents.{are_distinct}
 use Rattle.features.specs.Equality.{same_name}
 
 -- two names are one in either order

@@ -1,9 +1,9 @@
 -- What was read is a document: it keeps its limits, and its names, zones and targets are those of one.
 use Rattle.std.proofs.Common.{◌≡◌, IsTrue, List, [], refl, subst, arith, Ok}
 use Rattle.serde_json.specs.Data.{Data}
-use Rattle.policy_text.specs.Documents.{DocumentData, NodeData, IsDocument, are_distinct}
+use Rattle.policy_documents.specs.Documents.{DocumentData, NodeData, IsDocument, are_distinct}
 use Rattle.policy_text.specs.Reading.{Seen, at_key, object_in, document_keys, optional_array_in, zones_at, node_at, nothing_seen, document_in}
-use Rattle.policy_text.specs.declared.zones.Zone.{Zone}
+use Rattle.policy_documents.specs.declared.zones.Zone.{Zone}
 use Rattle.policy_text.specs.declared.paths.Key.TheVariants as keys
 use Rattle.policy_text.proofs.ChainLemmas.{bound, same_value}
 use Rattle.policy_text.proofs.PartLaws.{IsSound, IsWithin}

@@ -1,8 +1,6 @@
 pub mod SeenAfter
 pub mod NameBytes
-pub mod NodeLemmas
-pub mod RuleLemmas
-pub mod ZoneLemmas
+pub mod WithZoneLemmas
 pub mod PathLemmas
 pub mod MemberLemmas
 pub mod EachLemmas
@@ -32,7 +30,5 @@ pub mod NodeLaws
 pub mod ZoneLaws
 pub mod DocumentLaws
 pub mod BytesLemmas
-pub mod EqualLemmas
-pub mod RowLemmas
 pub mod PlaceLemmas
 pub mod FaultLemmas

@@ -1,10 +1,10 @@
 -- What the rules, policies and sets are that were read.
 use Rattle.std.proofs.Common.{◌≡◌, ℕ, zero, suc, ◌+◌, Bool, true, List, ◌++◌, sym, subst, arith, Ok, Result}
 use Rattle.serde_json.specs.Data.{Data, Items}
-use Rattle.policy_text.specs.Documents.{RuleData, Head, NodeData, Children, set, policy, children_of, target_matches, is_target}
+use Rattle.policy_documents.specs.Documents.{RuleData, Head, NodeData, Children, set, policy, children_of, target_matches, is_target}
 use Rattle.policy_text.specs.Reading.{Seen, at_key, has_key, object_in, name_in, effect_in, algorithm_in, array_in, optional_array_in, rule_keys, rule_at, head_at, policy_at, set_at, node_at, policy_keys, set_keys}
-use Rattle.policy_text.specs.declared.zones.Zone.{Zone}
-use Rattle.policy_text.specs.declared.matches.Match.{Match}
+use Rattle.policy_documents.specs.declared.zones.Zone.{Zone}
+use Rattle.policy_documents.specs.declared.matches.Match.{Match}
 use Rattle.policy_text.specs.declared.paths.Key.{Key}
 use Rattle.policy_text.specs.declared.paths.Key.TheVariants as keys
 use Rattle.policy_text.specs.declared.paths.Step.{Step}

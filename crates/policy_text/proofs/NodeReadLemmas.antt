@@ -1,11 +1,11 @@
 -- Reading sets and policies.
 use Rattle.std.proofs.Common.{◌≡◌, ℕ, suc, true, false, List, refl, ap, subst, Result, Ok, Err}
 use Rattle.serde_json.specs.Data.{Data, Items}
-use Rattle.policy_text.specs.Documents.{NodeData, RuleData, Head, set, policy, children_of}
+use Rattle.policy_documents.specs.Documents.{NodeData, RuleData, Head, set, policy, children_of}
 use Rattle.policy_text.specs.Reading.{Fails, Gives, Seen, at_key, each_at, head_at, rule_at, policy_at, set_at, node_at, has_key, set_keys, policy_keys}
 use Rattle.policy_text.specs.declared.paths.Key.TheVariants as keys
 use Rattle.policy_text.specs.declared.paths.Step.{Step}
-use Rattle.policy_text.specs.declared.zones.Zone.{Zone}
+use Rattle.policy_documents.specs.declared.zones.Zone.{Zone}
 use Rattle.policy_text.specs.declared.faults.TextFault.{TextFault}
 use Rattle.policy_text.specs.declared.faults.TextFault.TheVariants as faults
 use Rattle.policy_text.proofs.EachLemmas.{Fails-bind}

@@ -4,11 +4,11 @@ use Rattle.std.specs.List.{list_all}
 use Rattle.std.proofs.lemmas.Bool.{and_from}
 use Rattle.features.specs.Names as spelling
 use Rattle.serde_json.specs.Data.{Data, Items}
-use Rattle.policy_text.specs.Documents.{are_distinct, is_zone_known, is_match_spelled, is_target}
+use Rattle.policy_documents.specs.Documents.{are_distinct, is_zone_known, is_match_spelled, is_target}
 use Rattle.policy_text.specs.Reading.{Seen, each_at, fresh}
-use Rattle.policy_text.specs.declared.zones.Zone.{Zone}
+use Rattle.policy_documents.specs.declared.zones.Zone.{Zone}
 use Rattle.policy_text.specs.declared.paths.Step.{Step}
-use Rattle.policy_text.specs.declared.matches.Match.{Match}
+use Rattle.policy_documents.specs.declared.matches.Match.{Match}
 use Rattle.policy_text.specs.declared.faults.TextFault.{TextFault}
 use Rattle.policy_text.proofs.ChainLemmas.{each_at-read, fresh-read}
 use Rattle.policy_text.proofs.DistinctLemmas.{are_distinct-push}

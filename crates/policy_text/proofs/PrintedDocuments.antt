@@ -4,12 +4,12 @@ use Rattle.std.specs.List.{list_all}
 use Rattle.std.proofs.lemmas.Bool.{and_from}
 use Rattle.std.proofs.lemmas.List.Elements.{recursion_from_All}
 use Rattle.serde_json.specs.Data.{Data, object, Items, no_items, item, no_members}
-use Rattle.policy_text.specs.Documents.{DocumentData, IsDocument, IsZone, is_zone_known, is_match_spelled, matches_of}
+use Rattle.policy_documents.specs.Documents.{DocumentData, IsDocument, IsZone, is_zone_known, is_match_spelled, matches_of}
 use Rattle.policy_text.specs.Reading.{at_key, object_in, optional_array_in, document_keys, document_in, nothing_seen}
 use Rattle.policy_text.specs.Printed.{keyed, keyed_items, zones_items, node_data, document_data}
 use Rattle.policy_text.specs.declared.paths.Key.TheVariants as keys
-use Rattle.policy_text.specs.declared.zones.Zone.{Zone}
-use Rattle.policy_text.specs.declared.matches.Match.{Match}
+use Rattle.policy_documents.specs.declared.zones.Zone.{Zone}
+use Rattle.policy_documents.specs.declared.matches.Match.{Match}
 use Rattle.policy_text.proofs.PrintedLists.{list_all_both}
 use Rattle.policy_text.proofs.PrintedMatches.{is_readable}
 use Rattle.policy_text.proofs.PrintedPremises.{IsNodeHere}

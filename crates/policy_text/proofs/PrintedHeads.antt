@@ -4,12 +4,12 @@ use Rattle.std.specs.List.{list_any, list_all}
 use Rattle.serde_json.specs.Data.{Data, string, array, object, Items, no_items, item, no_members}
 use Rattle.features.specs.Names as spelling
 use Rattle.features.specs.Equality.{same_name}
-use Rattle.policy_text.specs.Documents.{Head, is_target, target_matches}
+use Rattle.policy_documents.specs.Documents.{Head, is_target, target_matches}
 use Rattle.policy_text.specs.Reading.{at_key, has_key, object_in, optional_array_in, set_keys, policy_keys, head_at, Seen}
 use Rattle.policy_text.specs.Printed.{algorithm_text, keyed, keyed_items, target_items}
 use Rattle.policy_text.specs.declared.paths.Key.TheVariants as keys
 use Rattle.policy_text.specs.declared.paths.Step.{Step}
-use Rattle.policy_text.specs.declared.zones.Zone.{Zone}
+use Rattle.policy_documents.specs.declared.zones.Zone.{Zone}
 use Rattle.policy_text.proofs.PrintedSteps.{name_read, algorithm_read, fresh_read, within_room, seen_of}
 use Rattle.policy_text.proofs.PrintedMatches.{is_readable}
 use Rattle.policy_text.proofs.PrintedTargets.{target_read}

@@ -5,9 +5,9 @@ use Rattle.std.proofs.lemmas.Bool.{and_parts, and_from}
 use Rattle.std.proofs.lemmas.List.Folds.{list_all-append}
 use Rattle.serde_json.specs.Data.{Data, array, Items, no_items, item}
 use Rattle.serde_json.specs.View.{items_of}
-use Rattle.policy_text.specs.Documents.{is_filled, atom_size, atom_sizes}
+use Rattle.policy_documents.specs.Documents.{is_filled, atom_size, atom_sizes}
 use Rattle.policy_text.specs.Reading.{at_item, each_at, items_in}
-use Rattle.policy_text.specs.declared.matches.Atom.{Atom}
+use Rattle.policy_documents.specs.declared.matches.Atom.{Atom}
 use Rattle.policy_text.specs.declared.paths.Step.{Step}
 use Rattle.policy_text.specs.declared.faults.TextFault.{TextFault}
 

@@ -2,18 +2,18 @@
 use Rattle.std.proofs.Common.{◌≡◌, ℕ, ◌+◌, ◌<◌, ◌≤◌, Bool, true, false, ◌&&◌, IsTrue, List, None, Ok, refl, ap, arith}
 use Rattle.std.specs.List.{list_all}
 use Rattle.std.proofs.lemmas.Bool.{and_parts}
-use Rattle.policy_text.specs.Documents.{is_zone_known, is_match_spelled, atom_term, term_matches, atom_size}
+use Rattle.policy_documents.specs.Documents.{is_zone_known, is_match_spelled, atom_term, term_matches, atom_size}
 use Rattle.policy_text.specs.Reading.{at_key, value_of, has_key, single_in, match_keys, term_keys, atom_keys, match_in, match_at, term_in, term_of, term_at, atom_of, atom_at, known_term}
 use Rattle.policy_text.specs.Printed.{match_data, term_data, atom_data}
 use Rattle.policy_text.specs.declared.paths.Key.TheVariants as keys
 use Rattle.policy_text.specs.declared.paths.Step.{Step}
-use Rattle.policy_text.specs.declared.zones.Zone.{Zone}
-use Rattle.policy_text.specs.declared.matches.Match.{Match}
-use Rattle.policy_text.specs.declared.matches.Match.TheVariants as matches
-use Rattle.policy_text.specs.declared.matches.Term.{Term}
-use Rattle.policy_text.specs.declared.matches.Term.TheVariants as terms
-use Rattle.policy_text.specs.declared.matches.Atom.{Atom}
-use Rattle.policy_text.specs.declared.matches.Atom.TheVariants as atoms
+use Rattle.policy_documents.specs.declared.zones.Zone.{Zone}
+use Rattle.policy_documents.specs.declared.matches.Match.{Match}
+use Rattle.policy_documents.specs.declared.matches.Match.TheVariants as matches
+use Rattle.policy_documents.specs.declared.matches.Term.{Term}
+use Rattle.policy_documents.specs.declared.matches.Term.TheVariants as terms
+use Rattle.policy_documents.specs.declared.matches.Atom.{Atom}
+use Rattle.policy_documents.specs.declared.matches.Atom.TheVariants as atoms
 use Rattle.policy_text.proofs.PrintedSteps.{action_read, counted_room, known_read}
 
 -- a match that can be read again: its zone is known, and its name is spelled as one

@@ -4,13 +4,13 @@ use Rattle.std.specs.List.{list_all}
 use Rattle.std.proofs.lemmas.Bool.{and_parts}
 use Rattle.serde_json.specs.View.{items_of}
 use Rattle.features.specs.Names as spelling
-use Rattle.policy_text.specs.Documents.{RuleData, Head, NodeData, set, policy, Children, no_children, child, children_of, rules_of, rules_of_all, target_matches, rule_matches, is_target, are_distinct}
+use Rattle.policy_documents.specs.Documents.{RuleData, Head, NodeData, set, policy, Children, no_children, child, children_of, rules_of, rules_of_all, target_matches, rule_matches, is_target, are_distinct}
 use Rattle.policy_text.specs.Reading.{at_key, at_item, each_at, rule_at, node_at, Seen}
 use Rattle.policy_text.proofs.SeenAfter.{after_rules, after_node, after_nodes}
 use Rattle.policy_text.specs.Printed.{algorithm_text, target_items, rule_data, node_data, nodes_items}
 use Rattle.policy_text.specs.declared.paths.Key.TheVariants as keys
 use Rattle.policy_text.specs.declared.paths.Step.{Step}
-use Rattle.policy_text.specs.declared.zones.Zone.{Zone}
+use Rattle.policy_documents.specs.declared.zones.Zone.{Zone}
 use Rattle.policy_text.proofs.NodeReadLemmas.{node_at-set, node_at-policy, policy_at-read, set_at-read}
 use Rattle.policy_text.proofs.PrintedSteps.{distinct_behind, seen_same}
 use Rattle.policy_text.proofs.PrintedLists.{each_more, each_none}

@@ -4,17 +4,17 @@ use Rattle.serde_json.specs.Data.{Data, string, array, object, depth, items_dept
 use Rattle.serde_json.specs.View.{items_of}
 use Rattle.serde_json.specs.Written.{has_float, items_have_float, members_have_float}
 use Rattle.wkt.specs.Printing.{printed}
-use Rattle.policy_text.specs.Documents.{DocumentData, IsDocument, RuleData, Head, NodeData, set, policy, Children, no_children, child, depth_of, depth_of_all}
+use Rattle.policy_documents.specs.Documents.{DocumentData, IsDocument, RuleData, Head, NodeData, set, policy, Children, no_children, child, depth_of, depth_of_all}
 use Rattle.policy_text.specs.Printed.{action_text, effect_text, algorithm_text, keyed, keyed_items, single, match_data, term_data, atom_data, all_of_data, any_of_data, target_items, when_items, rule_data, node_data, nodes_items, zone_data, zones_items, document_data}
-use Rattle.policy_text.specs.declared.zones.Zone.{Zone}
+use Rattle.policy_documents.specs.declared.zones.Zone.{Zone}
 use Rattle.policy_text.specs.declared.paths.Key.{Key}
 use Rattle.policy_text.specs.declared.paths.Key.TheVariants as keys
-use Rattle.policy_text.specs.declared.matches.Match.{Match}
-use Rattle.policy_text.specs.declared.matches.Match.TheVariants as matches
-use Rattle.policy_text.specs.declared.matches.Term.{Term}
-use Rattle.policy_text.specs.declared.matches.Term.TheVariants as terms
-use Rattle.policy_text.specs.declared.matches.Atom.{Atom}
-use Rattle.policy_text.specs.declared.matches.Atom.TheVariants as atoms
+use Rattle.policy_documents.specs.declared.matches.Match.{Match}
+use Rattle.policy_documents.specs.declared.matches.Match.TheVariants as matches
+use Rattle.policy_documents.specs.declared.matches.Term.{Term}
+use Rattle.policy_documents.specs.declared.matches.Term.TheVariants as terms
+use Rattle.policy_documents.specs.declared.matches.Atom.{Atom}
+use Rattle.policy_documents.specs.declared.matches.Atom.TheVariants as atoms
 
 -- a value has no float, and nests no deeper than this
 pub record IsPlain (limit : ℕ) (d : Data) : Type 0 where

@@ -4,10 +4,10 @@ use Rattle.std.specs.List.{list_all}
 use Rattle.std.proofs.lemmas.Bool.{and_parts}
 use Rattle.std.proofs.lemmas.List.Folds.{list_all-append}
 use Rattle.features.specs.Names as spelling
-use Rattle.policy_text.specs.Documents.{Head, NodeData, set, Children, child, depth_of, depth_of_all, node_count, node_count_of_all, rules_of, rules_of_all, test_count, test_count_of_all, names_of, names_of_all, targets_of, targets_of_all, matches_of, matches_of_all, target_matches, is_target, are_distinct}
+use Rattle.policy_documents.specs.Documents.{Head, NodeData, set, Children, child, depth_of, depth_of_all, node_count, node_count_of_all, rules_of, rules_of_all, test_count, test_count_of_all, names_of, names_of_all, targets_of, targets_of_all, matches_of, matches_of_all, target_matches, is_target, are_distinct}
 use Rattle.policy_text.specs.Reading.{Seen}
 use Rattle.policy_text.proofs.SeenAfter.{after_node}
-use Rattle.policy_text.specs.declared.zones.Zone.{Zone}
+use Rattle.policy_documents.specs.declared.zones.Zone.{Zone}
 use Rattle.policy_text.proofs.PrintedSteps.{distinct_behind, distinct_front}
 use Rattle.policy_text.proofs.PrintedMatches.{is_readable}
 use Rattle.policy_text.proofs.PrintedHeads.{IsHeadHere, after_head}

@@ -7,13 +7,13 @@ use Rattle.serde_json.specs.Data.{Data, string, object, Items, no_items, item, n
 use Rattle.serde_json.specs.View.{items_of}
 use Rattle.features.specs.Names as spelling
 use Rattle.features.specs.Equality.{same_name}
-use Rattle.policy_text.specs.Documents.{RuleData, is_target, are_distinct, target_matches, atom_term, term_matches, atom_sizes, rule_sizes, rule_matches}
+use Rattle.policy_documents.specs.Documents.{RuleData, is_target, are_distinct, target_matches, atom_term, term_matches, atom_sizes, rule_sizes, rule_matches}
 use Rattle.policy_text.specs.Reading.{at_key, at_item, object_in, optional_array_in, rule_keys, each_at, rule_at, Seen}
 use Rattle.policy_text.proofs.SeenAfter.{after_rules}
 use Rattle.policy_text.specs.Printed.{effect_text, keyed, keyed_items, target_items, when_items, rule_data}
 use Rattle.policy_text.specs.declared.paths.Key.TheVariants as keys
 use Rattle.policy_text.specs.declared.paths.Step.{Step}
-use Rattle.policy_text.specs.declared.zones.Zone.{Zone}
+use Rattle.policy_documents.specs.declared.zones.Zone.{Zone}
 use Rattle.policy_text.proofs.PrintedSteps.{name_read, effect_read, fresh_read, within_room, distinct_behind, seen_of, seen_same}
 use Rattle.policy_text.proofs.PrintedMatches.{is_readable}
 use Rattle.policy_text.proofs.PrintedTargets.{target_read, when_read}

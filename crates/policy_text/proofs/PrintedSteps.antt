@@ -9,16 +9,16 @@ use Rattle.features.specs.Names as spelling
 use Rattle.features.specs.declared.actors.Action.{Action}
 use Rattle.features.specs.declared.actors.Action.TheVariants as actions
 use Rattle.features.specs.Equality.{same_name}
-use Rattle.policy_text.specs.Documents.{are_distinct, is_zone_known}
+use Rattle.policy_documents.specs.Documents.{are_distinct, is_zone_known}
 use Rattle.policy_text.specs.Reading.{counted, within, fresh, known_in, algorithm_named, effect_named, action_named, Seen}
 use Rattle.policy_text.specs.Printed.{algorithm_text, effect_text, action_text}
-use Rattle.policy_text.specs.declared.zones.Zone.{Zone}
-use Rattle.policy_text.specs.declared.algorithms.Algorithm.{Algorithm}
-use Rattle.policy_text.specs.declared.algorithms.Algorithm.TheVariants.{DenyOverrides, PermitOverrides, DenyUnlessPermit, PermitUnlessDeny, FirstApplicable}
-use Rattle.policy_text.specs.declared.algorithms.Effect.{Effect}
-use Rattle.policy_text.specs.declared.algorithms.Effect.TheVariants as effects
-use Rattle.policy_text.specs.declared.matches.Match.{Match}
-use Rattle.policy_text.specs.declared.matches.Match.TheVariants as matches
+use Rattle.policy_documents.specs.declared.zones.Zone.{Zone}
+use Rattle.policy_documents.specs.declared.algorithms.Algorithm.{Algorithm}
+use Rattle.policy_documents.specs.declared.algorithms.Algorithm.TheVariants.{DenyOverrides, PermitOverrides, DenyUnlessPermit, PermitUnlessDeny, FirstApplicable}
+use Rattle.policy_documents.specs.declared.algorithms.Effect.{Effect}
+use Rattle.policy_documents.specs.declared.algorithms.Effect.TheVariants as effects
+use Rattle.policy_documents.specs.declared.matches.Match.{Match}
+use Rattle.policy_documents.specs.declared.matches.Match.TheVariants as matches
 
 -- ---- words
 

@@ -2,13 +2,13 @@
 use Rattle.std.proofs.Common.{◌≡◌, ℕ, ◌+◌, ◌≤◌, Bool, ◌&&◌, IsTrue, List, length, flat_map, Ok, sym, ap, ◌∙◌, arith}
 use Rattle.std.specs.List.{list_all}
 use Rattle.std.proofs.lemmas.Bool.{and_parts, and_from}
-use Rattle.policy_text.specs.Documents.{is_filled, is_target, target_matches, atom_term, term_matches, atom_size, atom_sizes}
+use Rattle.policy_documents.specs.Documents.{is_filled, is_target, target_matches, atom_term, term_matches, atom_size, atom_sizes}
 use Rattle.policy_text.specs.Reading.{match_at, atom_at, all_of_at, any_of_at, target_at, when_at}
 use Rattle.policy_text.specs.Printed.{match_data, atom_data, all_of_data, any_of_data, target_items, when_items}
 use Rattle.policy_text.specs.declared.paths.Step.{Step}
-use Rattle.policy_text.specs.declared.zones.Zone.{Zone}
-use Rattle.policy_text.specs.declared.matches.Match.{Match}
-use Rattle.policy_text.specs.declared.matches.Atom.{Atom}
+use Rattle.policy_documents.specs.declared.zones.Zone.{Zone}
+use Rattle.policy_documents.specs.declared.matches.Match.{Match}
+use Rattle.policy_documents.specs.declared.matches.Atom.{Atom}
 use Rattle.policy_text.proofs.PrintedLists.{sizes-ones, sizes-flat_map, sizes-atoms, list_all-flat_map, list_all_both, items_read, each_read}
 use Rattle.policy_text.proofs.PrintedMatches.{is_readable, is_atom_readable, match_read, atom_read}
 

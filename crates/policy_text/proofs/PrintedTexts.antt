@@ -3,7 +3,7 @@ use Rattle.std.proofs.Common.{◌≡◌, ◌≤◌, ℕ, List, IsUtf8, false, So
 use Rattle.serde_json.specs.Data.{Data, depth}
 use Rattle.serde_json.specs.Read.{read, max_depth}
 use Rattle.serde_json.specs.Written.{has_float, compact_text}
-use Rattle.policy_text.specs.Documents.{DocumentData, IsDocument}
+use Rattle.policy_documents.specs.Documents.{DocumentData, IsDocument}
 use Rattle.policy_text.specs.Bytes.{document_of_bytes}
 use Rattle.policy_text.specs.Reading.{document_in}
 use Rattle.policy_text.specs.Printed.{document_data, document_text}

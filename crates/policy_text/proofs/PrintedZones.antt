@@ -5,11 +5,11 @@ use Rattle.std.proofs.lemmas.List.{map-append}
 use Rattle.wkt.specs.Printing.{printed}
 use Rattle.wkt.proofs.PrintedShapes.{printed_is_read}
 use Rattle.features.specs.Equality.{same_name}
-use Rattle.policy_text.specs.Documents.{IsZone, are_distinct}
+use Rattle.policy_documents.specs.Documents.{IsZone, are_distinct}
 use Rattle.policy_text.specs.Reading.{at_item, with_zone, zone_at, zones_at, shape_in}
 use Rattle.policy_text.specs.Printed.{zone_data, zones_items}
 use Rattle.policy_text.specs.declared.paths.Step.{Step}
-use Rattle.policy_text.specs.declared.zones.Zone.{Zone}
+use Rattle.policy_documents.specs.declared.zones.Zone.{Zone}
 use Rattle.policy_text.proofs.PrintedSteps.{name_read, within_room, distinct_behind}
 use Rattle.policy_text.proofs.ZoneReadLemmas.{zones_place}
 

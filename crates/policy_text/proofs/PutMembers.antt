@@ -3,7 +3,7 @@ use Rattle.std.proofs.Common.{◌≡◌, ℕ, false, nat_eq, List, [], ◌∷◌
 use Rattle.serde_json.specs.Data.{Data, string, array, object, Items, no_items, item, Members, no_members, put}
 use Rattle.serde_json.specs.View.{items_view, items_of}
 use Rattle.serde_json.specs.declared.value.Value.{Value}
-use Rattle.policy_text.specs.Documents.{RuleData, Head, NodeData, set, policy, children_of}
+use Rattle.policy_documents.specs.Documents.{RuleData, Head, NodeData, set, policy, children_of}
 use Rattle.policy_text.specs.Keys.{key_text}
 use Rattle.policy_text.specs.Printed.{keyed, keyed_items, target_items, algorithm_text, rule_data, node_data, nodes_items}
 use Rattle.policy_text.specs.PrintedMembers.{put_items, put_node}

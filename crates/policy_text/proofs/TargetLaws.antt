@@ -3,12 +3,12 @@ use Rattle.std.proofs.Common.{◌≡◌, ℕ, ◌+◌, Bool, ◌&&◌, true, IsT
 use Rattle.std.specs.List.{list_all}
 use Rattle.std.proofs.lemmas.Bool.{and_from}
 use Rattle.serde_json.specs.Data.{Data, Items}
-use Rattle.policy_text.specs.Documents.{is_zone_known, is_match_spelled, is_filled, is_target, target_matches, atom_term, term_matches, atom_size, atom_sizes}
+use Rattle.policy_documents.specs.Documents.{is_zone_known, is_match_spelled, is_filled, is_target, target_matches, atom_term, term_matches, atom_size, atom_sizes}
 use Rattle.policy_text.specs.Reading.{match_at, atom_at, items_in, all_of_at, any_of_at, target_at, when_at}
-use Rattle.policy_text.specs.declared.zones.Zone.{Zone}
+use Rattle.policy_documents.specs.declared.zones.Zone.{Zone}
 use Rattle.policy_text.specs.declared.paths.Step.{Step}
-use Rattle.policy_text.specs.declared.matches.Match.{Match}
-use Rattle.policy_text.specs.declared.matches.Atom.{Atom}
+use Rattle.policy_documents.specs.declared.matches.Match.{Match}
+use Rattle.policy_documents.specs.declared.matches.Atom.{Atom}
 use Rattle.policy_text.proofs.ChainLemmas.{bound, items_in-filled, each_at-filled}
 use Rattle.policy_text.proofs.TestLaws.{IsTested, sizes_of, each_tested, match_at-tested}
 use Rattle.policy_text.proofs.AtomLaws.{atom_at-tested}

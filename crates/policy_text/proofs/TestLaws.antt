@@ -5,15 +5,15 @@ use Rattle.std.proofs.lemmas.Bool.{and_from}
 use Rattle.std.proofs.lemmas.List.Folds.{list_all-append}
 use Rattle.features.specs.Names as spelling
 use Rattle.serde_json.specs.Data.{Data, Items}
-use Rattle.policy_text.specs.Documents.{is_zone_known, is_match_spelled}
+use Rattle.policy_documents.specs.Documents.{is_zone_known, is_match_spelled}
 use Rattle.features.specs.Equality.{same_name}
 use Rattle.policy_text.specs.Reading.{◌>>=◌, has_key, name_in, action_in, match_in, known_in, counted, match_at, each_at}
-use Rattle.policy_text.specs.declared.zones.Zone.{Zone}
+use Rattle.policy_documents.specs.declared.zones.Zone.{Zone}
 use Rattle.policy_text.specs.declared.paths.Key.{Key}
 use Rattle.policy_text.specs.declared.paths.Key.TheVariants as keys
 use Rattle.policy_text.specs.declared.paths.Step.{Step}
-use Rattle.policy_text.specs.declared.matches.Match.{Match}
-use Rattle.policy_text.specs.declared.matches.Match.TheVariants as matches
+use Rattle.policy_documents.specs.declared.matches.Match.{Match}
+use Rattle.policy_documents.specs.declared.matches.Match.TheVariants as matches
 use Rattle.policy_text.specs.declared.faults.TextFault.{TextFault}
 use Rattle.policy_text.proofs.ChainLemmas.{bound, same_value, taken, either, name_in-spelled, within-read, each_at-read}
 

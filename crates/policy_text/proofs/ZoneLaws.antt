@@ -10,10 +10,10 @@ use Rattle.wkt.specs.Reading.{shape_of}
 use Rattle.wkt.specs.declared.fault.WktFault.{WktFault}
 use Rattle.wkt.proofs.CanonicalShapes.{shape_canonical}
 use Rattle.serde_json.specs.Data.{Data, Items, no_items, item}
-use Rattle.policy_text.specs.Documents.{IsZone, are_distinct}
+use Rattle.policy_documents.specs.Documents.{IsZone, are_distinct}
 use Rattle.features.specs.Equality.{same_name}
 use Rattle.policy_text.specs.Reading.{◌>>=◌, at_item, object_in, zone_keys, name_in, text_in, shape_in, unseen, within, with_zone, zone_at, zones_at}
-use Rattle.policy_text.specs.declared.zones.Zone.{Zone}
+use Rattle.policy_documents.specs.declared.zones.Zone.{Zone}
 use Rattle.policy_text.specs.declared.paths.Key.TheVariants as keys
 use Rattle.policy_text.specs.declared.paths.Step.{Step}
 use Rattle.policy_text.specs.declared.paths.Step.TheVariants as steps

@@ -7,7 +7,7 @@ use Rattle.policy_text.specs.Reading.{◌>>=◌, Fails, at_item, zone_at, zones_
 use Rattle.policy_text.specs.declared.paths.Key.TheVariants as keys
 use Rattle.policy_text.specs.declared.paths.Step.{Step}
 use Rattle.policy_text.specs.declared.paths.Step.TheVariants as steps
-use Rattle.policy_text.specs.declared.zones.Zone.{Zone}
+use Rattle.policy_documents.specs.declared.zones.Zone.{Zone}
 use Rattle.policy_text.specs.declared.faults.TextFault.{TextFault}
 use Rattle.policy_text.proofs.EachLemmas.{Fails-bind}
 

@@ -1,7 +1,3 @@
-pub mod Documents
-pub mod Views
-pub mod Equality
-pub mod Coding
 pub mod Keys
 pub mod Paths
 pub mod Places

@@ -1,6 +1,6 @@
 -- The members of printed objects as they are put, one after another. Clauses of private functions alone cite it.
 use Rattle.serde_json.specs.Data.{string, array, Items, no_items, item, Members, no_members, put}
-use Rattle.policy_text.specs.Documents.{Head}
+use Rattle.policy_documents.specs.Documents.{Head}
 use Rattle.policy_text.specs.Keys.{key_text}
 use Rattle.policy_text.specs.Printed.{algorithm_text, target_items}
 use Rattle.policy_text.specs.declared.paths.Key.{Key}

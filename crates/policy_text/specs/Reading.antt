@@ -12,29 +12,27 @@ use Rattle.plane.specs.declared.point.Point.{Point}
 use Rattle.wkt.specs.Reading.{shape_of}
 use Rattle.wkt.specs.declared.fault.WktFault.{WktFault}
 use Rattle.serde_json.specs.Read.{read}
-use Rattle.policy_text.specs.Documents.{DocumentData, RuleData, Head, NodeData, set, policy, children_of}
+use Rattle.policy_documents.specs.Documents.{DocumentData, RuleData, Head, NodeData, set, policy, children_of}
 use Rattle.features.specs.Equality.{same_name}
 use Rattle.policy_text.specs.Keys.{key_text}
-use Rattle.policy_text.specs.declared.documents.TheConstants.{ZONE_LIMIT}
-use Rattle.policy_text.specs.declared.reading.TheConstants.{DEPTH_LIMIT, NODE_LIMIT, RULE_LIMIT}
-use Rattle.policy_text.specs.declared.terms.TheConstants.{TEST_LIMIT}
-use Rattle.policy_text.specs.declared.zones.Zone.{Zone}
+use Rattle.policy_documents.specs.declared.documents.TheConstants.{DEPTH_LIMIT, NODE_LIMIT, RULE_LIMIT, TEST_LIMIT, ZONE_LIMIT}
+use Rattle.policy_documents.specs.declared.zones.Zone.{Zone}
 use Rattle.policy_text.specs.declared.paths.Key.{Key}
 use Rattle.policy_text.specs.declared.paths.Key.TheVariants as keys
 use Rattle.policy_text.specs.declared.paths.Step.{Step}
 use Rattle.policy_text.specs.declared.paths.Step.TheVariants as steps
 use Rattle.policy_text.specs.declared.faults.TextFault.{TextFault}
 use Rattle.policy_text.specs.declared.faults.TextFault.TheVariants as faults
-use Rattle.policy_text.specs.declared.algorithms.Algorithm.{Algorithm}
-use Rattle.policy_text.specs.declared.algorithms.Algorithm.TheVariants.{DenyOverrides, PermitOverrides, DenyUnlessPermit, PermitUnlessDeny, FirstApplicable}
-use Rattle.policy_text.specs.declared.algorithms.Effect.{Effect}
-use Rattle.policy_text.specs.declared.algorithms.Effect.TheVariants as effects
-use Rattle.policy_text.specs.declared.matches.Match.{Match}
-use Rattle.policy_text.specs.declared.matches.Match.TheVariants as matches
-use Rattle.policy_text.specs.declared.matches.Term.{Term}
-use Rattle.policy_text.specs.declared.matches.Term.TheVariants as terms
-use Rattle.policy_text.specs.declared.matches.Atom.{Atom}
-use Rattle.policy_text.specs.declared.matches.Atom.TheVariants as atoms
+use Rattle.policy_documents.specs.declared.algorithms.Algorithm.{Algorithm}
+use Rattle.policy_documents.specs.declared.algorithms.Algorithm.TheVariants.{DenyOverrides, PermitOverrides, DenyUnlessPermit, PermitUnlessDeny, FirstApplicable}
+use Rattle.policy_documents.specs.declared.algorithms.Effect.{Effect}
+use Rattle.policy_documents.specs.declared.algorithms.Effect.TheVariants as effects
+use Rattle.policy_documents.specs.declared.matches.Match.{Match}
+use Rattle.policy_documents.specs.declared.matches.Match.TheVariants as matches
+use Rattle.policy_documents.specs.declared.matches.Term.{Term}
+use Rattle.policy_documents.specs.declared.matches.Term.TheVariants as terms
+use Rattle.policy_documents.specs.declared.matches.Atom.{Atom}
+use Rattle.policy_documents.specs.declared.matches.Atom.TheVariants as atoms
 
 infixl 10 ◌>>=◌
 abbrev pub ◌>>=◌ : {A B : Type 0} → Result A TextFault → (A → Result B TextFault) → Result B TextFault

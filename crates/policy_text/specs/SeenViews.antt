@@ -1,5 +1,5 @@
 -- What a reader of documents keeps, as plain data. Clauses of private functions alone cite it.
-use Rattle.policy_text.specs.Documents.{Head}
+use Rattle.policy_documents.specs.Documents.{Head}
 use Rattle.policy_text.specs.Reading.{Seen}
 use Rattle.policy_text.specs.declared.reading.SoFar.{SoFar}
 use Rattle.policy_text.specs.declared.reading.Headed.{Headed}

@@ -8,10 +8,10 @@ ghost use Rattle.policy_text.specs.Keys.{key_text};
 ghost use Rattle.policy_text.specs.Reading.{Shows, is_listed, has_key, has_only, has_one, object_in, name_in, text_in, array_in, optional_array_in, algorithm_in, effect_in, action_in, value_of, at_key, single_in, within};
 ghost use Rattle.policy_text.specs.declared.faults.TextFault.TheVariants.{Form};
 
-use crate::algorithms::{Algorithm, Effect};
 use crate::faults::TextFault;
 use crate::paths::{Key, Path, STEP_LIMIT, Step};
 use features::{Action, Name};
+use policy_documents::{Algorithm, Effect};
 use serde_json::{Map, Value};
 
 /// Whether a text is one of these keys.

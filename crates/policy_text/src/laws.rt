@@ -2,15 +2,12 @@
 
 ghost use Rattle.std.specs.Prelude.{◌≡◌, ◌↔◌, IsTrue, Ok};
 ghost use Rattle.serde_json.specs.Data.{Data};
-ghost use Rattle.policy_text.specs.Documents.{DocumentData, IsDocument};
+ghost use Rattle.policy_documents.specs.Documents.{DocumentData, IsDocument};
 ghost use Rattle.policy_text.specs.Reading.{document_in};
 ghost use Rattle.policy_text.specs.Printed.{document_data};
 ghost use Rattle.policy_text.specs.contracts.faults.TextFaultPartialEq.TheImpl as comparing;
-ghost use Rattle.policy_text.specs.contracts.matches.MatchPartialEq.TheImpl as matching;
-ghost use Rattle.policy_text.specs.contracts.matches.AtomPartialEq.TheImpl as testing;
 
 use crate::faults::TextFault;
-use crate::matches::{Atom, Match};
 
 /// What a JSON value is read as keeps what every document keeps: the limits, one name for each, the zones that it names.
 pub fn read_is_document()
@@ -25,10 +22,4 @@ pub fn printed_is_read()
 /// Two faults are `==` exactly where they are one: the same kind, path, name and fault of a shape.
 pub fn faults_compare_exactly()
     ensures { (a b : TextFault) → IsTrue (comparing.eq-value.it a b) ↔ (a ≡ b) }
-{}
-
-/// Two matches are `==` exactly where they are one, and two conditions. So the `==` of what is made of them is exact.
-pub fn tests_compare_exactly()
-    ensures matches { (a b : Match) → IsTrue (matching.eq-value.it a b) ↔ (a ≡ b) }
-    ensures atoms { (a b : Atom) → IsTrue (testing.eq-value.it a b) ↔ (a ≡ b) }
 {}

@@ -3,24 +3,20 @@
 ghost use Rattle.std.specs.Prelude.{◌≡◌, IfOk, map, string_bytes};
 ghost use Rattle.serde_json.specs.Data.{object};
 ghost use Rattle.serde_json.specs.View.{view, items_view};
-ghost use Rattle.policy_text.specs.Documents.{IsDocument};
+ghost use Rattle.policy_documents.specs.Documents.{IsDocument};
 ghost use Rattle.policy_text.specs.Printed.{rule_data, target_items, node_data, zone_data, zones_items, document_data, document_text};
 ghost use Rattle.policy_text.specs.Bytes.{document_of_bytes};
 ghost use Rattle.policy_text.specs.PrintedMembers.{put_node};
-ghost use Rattle.policy_text.specs.Views.{node_view, zone_of};
+ghost use Rattle.policy_documents.specs.Views.{node_view, zone_of};
 
-use crate::algorithms::Algorithm;
-use crate::documents::{Document, Zones};
-use crate::matches::Target;
-use crate::nodes::Node;
 use crate::paths::Key;
 use crate::reading::{NodeForm, POLICY, SET};
-use crate::rules::Rule;
 use crate::values::{Printed, part_values};
 use crate::words::{algorithm_word, effect_word, name_value, put_array};
 use features::Name;
 use memory::{GrowVec, Refused, json_string, json_text, put_member};
 use plane::Shape;
+use policy_documents::{Algorithm, Document, Node, Rule, Target, Zones};
 use serde_json::{Map, Value};
 use std::alloc::{Allocator, Global};
 use wkt::print_shape;

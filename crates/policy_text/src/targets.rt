@@ -3,17 +3,16 @@
 ghost use Rattle.std.specs.Prelude.{◌≡◌, ◌+◌, ◌<◌, ◌≤◌, ℕ, suc, length, map, List, Result};
 ghost use Rattle.serde_json.specs.Data.{Data};
 ghost use Rattle.serde_json.specs.View.{view, items_view};
-ghost use Rattle.policy_text.specs.Views.{zone_of};
+ghost use Rattle.policy_documents.specs.Views.{zone_of};
 ghost use Rattle.policy_text.specs.Reading.{Gives, Shows, items_in, each_at, row_at};
 ghost use Rattle.policy_text.specs.declared.faults.TextFault.{TextFault};
 ghost use Rattle.policy_text.specs.declared.paths.Step.{Step};
-ghost use Rattle.policy_text.specs.declared.zones.Zone.{Zone};
+ghost use Rattle.policy_documents.specs.declared.zones.Zone.{Zone};
 
-use crate::documents::Zones;
 use crate::faults::TextFault;
-use crate::matches::Items;
 use crate::paths::{Path, STEP_LIMIT, Step};
 use memory::GrowVec;
+use policy_documents::{Items, Zones};
 use serde_json::Value;
 use std::alloc::Allocator;
 

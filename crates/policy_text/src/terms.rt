@@ -4,22 +4,17 @@ ghost use Rattle.std.specs.Prelude.{◌≡◌, ◌<◌, ◌≤◌, length, map};
 ghost use Rattle.std.specs.List.{list_any};
 ghost use Rattle.serde_json.specs.View.{view};
 ghost use Rattle.features.specs.Equality.{same_name};
-ghost use Rattle.policy_text.specs.Views.{zone_of};
+ghost use Rattle.policy_documents.specs.Views.{zone_of};
 ghost use Rattle.policy_text.specs.Reading.{match_in, known_in, match_at, term_in, known_term, term_of, term_at, atom_at, own_in};
 
-use crate::documents::Zones;
 use crate::faults::TextFault;
 use crate::fields::{action_in, name_in, single_in, within};
-use crate::matches::{Atom, Match, Term};
 use crate::paths::{Key, Path, STEP_LIMIT, Step};
 use crate::targets::Part;
-use crate::zones::ZoneName;
 use features::Name;
+use policy_documents::{Atom, Match, TEST_LIMIT, Term, ZoneName, Zones};
 use serde_json::Value;
 use std::alloc::Allocator;
-
-/// How many matches and atoms a document has at most.
-pub const TEST_LIMIT: u32 = 4096;
 
 const MATCH_KEYS: [Key; 6] = [
     Key::Role,

@@ -6,9 +6,9 @@ ghost use Rattle.policy_text.specs.Reading.{Gives, document_in};
 ghost use Rattle.policy_text.specs.Bytes.{document_of_bytes};
 
 use crate::areas::document_in;
-use crate::documents::Document;
 use crate::faults::TextFault;
 use memory::json_value;
+use policy_documents::Document;
 use serde_json::Value;
 use std::alloc::{Allocator, Global};
 

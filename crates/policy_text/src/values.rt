@@ -5,11 +5,11 @@ ghost use Rattle.serde_json.specs.Data.{Data, array, string};
 ghost use Rattle.serde_json.specs.View.{view, items_of};
 ghost use Rattle.policy_text.specs.Printed.{match_data, term_data, atom_data, single};
 
-use crate::matches::{Atom, Items, Match, Term};
 use crate::paths::Key;
 use crate::words::{action_word, name_value, single_value};
 use features::Name;
 use memory::{GrowVec, Refused, json_string};
+use policy_documents::{Atom, Items, Match, Term};
 use serde_json::Value;
 use std::alloc::{Allocator, Global};
 

@@ -6,10 +6,10 @@ ghost use Rattle.serde_json.specs.View.{view, items_view, members_view};
 ghost use Rattle.policy_text.specs.Printed.{algorithm_text, effect_text, action_text, single};
 ghost use Rattle.policy_text.specs.PrintedMembers.{put_items};
 
-use crate::algorithms::{Algorithm, Effect};
 use crate::paths::Key;
 use features::{Action, Name};
 use memory::{Refused, json_string, put_member};
+use policy_documents::{Algorithm, Effect};
 use serde_json::{Map, Value};
 use std::alloc::Global;
 

@@ -3,9 +3,10 @@ use Rattle.std.proofs.Common.{◌≡◌, ◌∙◌, ℕ, List, [], Option, None,
 use Rattle.std.specs.Io.KnownBytes.{Appends, Keeps}
 use Rattle.sessions.specs.Scripts.{IsScriptText, LineTells, script}
 use Rattle.sessions.specs.States.{SessionState}
-use Rattle.sessions.specs.Streams.{Ran as RanLines}
-use Rattle.sessions.specs.declared.streams.ServeFault.{ServeFault}
-use Rattle.sessions.specs.declared.streams.ServeFault.TheVariants as reasons
+use Rattle.line_streams.specs.Streams.{NeverEnds, Ran as RanLines}
+use Rattle.byte_streams.specs.declared.writing.Flushed.{Flushed}
+use Rattle.line_streams.specs.declared.streams.ServeFault.{ServeFault}
+use Rattle.line_streams.specs.declared.streams.ServeFault.TheVariants as reasons
 use Rattle.plain_world.specs.States.{WorldData}
 use Rattle.program.specs.ConfigFiles.{FileGives, IsConfigFault, IsConfigText}
 use Rattle.program.specs.Configs.{ConfigData, config_data}
@@ -61,8 +62,8 @@ served c (Some input) before mid after world end opens told keeps =
     }
 
 -- how far such a run has come
-pub came : (c : ConfigData) (end : Result (Unit {0}) ServeFault) (world last : WorldData) (sessions : List SessionState) (input left before mid after : Option (List ℕ)) →
-    world ≡ world_of c → RanLines LineTells end (script world []) (script last sessions) input left before mid → Keeps mid after →
+pub came : (c : ConfigData) (end : Result Flushed ServeFault) (world last : WorldData) (sessions : List SessionState) (input left before mid after : Option (List ℕ)) →
+    world ≡ world_of c → RanLines (NeverEnds LineTells) end (script world []) (script last sessions) input left before mid → Keeps mid after →
     CameTo c end input before after
 came c end world last sessions input left before mid after opens ran keeps =
     record {
@@ -70,7 +71,7 @@ came c end world last sessions input left before mid after opens ran keeps =
       last = last;
       left = left;
       written = mid;
-      ran = subst (λ w. RanLines LineTells end (script w []) (script last sessions) input left before mid) opens ran;
+      ran = subst (λ w. RanLines (NeverEnds LineTells) end (script w []) (script last sessions) input left before mid) opens ran;
       kept = keeps;
     }
 
@@ -78,5 +79,5 @@ came c end world last sessions input left before mid after opens ran keeps =
 pub of_run : (c : ConfigData) (fault : ServeFault) (input before after : Option (List ℕ)) → CameTo c (Err fault) input before after → IsOfRun c input before after (told_as fault)
 of_run c (reasons.Read failed) input before after h = (refl, h)
 of_run c (reasons.Write failed) input before after h = (Err (reasons.Write failed), h)
-of_run c reasons.TooManyTurns input before after h = (refl, h)
+of_run c (reasons.TooManyTurns turns) input before after h = (refl, h)
 of_run c (reasons.Memory refused) input before after h = (refl, h)

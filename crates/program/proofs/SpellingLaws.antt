@@ -10,7 +10,7 @@ use Rattle.features.specs.Names.{is_name, name_of}
 use Rattle.features.specs.Subjects.{have_distinct_names}
 use Rattle.features.specs.declared.actors.Subject.{Subject}
 use Rattle.features.specs.declared.actors.SubjectsFault.TheVariants as lists
-use Rattle.policy_text.specs.Documents.{DocumentData}
+use Rattle.policy_documents.specs.Documents.{DocumentData}
 use Rattle.policy_text.specs.Reading.{document_in}
 use Rattle.policy_text.specs.declared.faults.TextFault.{TextFault}
 use Rattle.program.specs.Configs.{◌>>=◌, ConfigData, config_from, config_in, config_keys, config_of, flag_in, has_only, name_in, object_in, of_list, of_policies, policies_in, steward_in, subject_in, subject_keys, subjects_in, taken_over, value_of}

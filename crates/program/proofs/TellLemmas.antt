@@ -3,7 +3,7 @@ use Rattle.std.proofs.Common.{◌≡◌, ℕ, List, ◌++◌, Option, Result, sy
 use Rattle.std.specs.Io.KnownBytes.{Appends}
 use Rattle.std.specs.Result.{IsErr}
 use Rattle.byte_streams.specs.Written.{Took}
-use Rattle.sessions.proofs.WritingLemmas.{took_first, took_then}
+use Rattle.session_lines.proofs.WritingLemmas.{took_first, took_then}
 use Rattle.program.specs.Ends.{fault_line, fault_name, fault_word}
 use Rattle.program.specs.declared.faults.ProgramFault.{ProgramFault}
 

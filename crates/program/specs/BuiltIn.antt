@@ -1,8 +1,8 @@
 -- The configuration of a server that is given none.
 use Rattle.std.specs.Prelude.{[], ◌∷◌, codes}
-use Rattle.policy_text.specs.Documents.{DocumentData, policy}
-use Rattle.policy_text.specs.declared.algorithms.Algorithm.TheVariants.{FirstApplicable}
-use Rattle.policy_text.specs.declared.algorithms.Effect.TheVariants.{Permit}
+use Rattle.policy_documents.specs.Documents.{DocumentData, policy}
+use Rattle.policy_documents.specs.declared.algorithms.Algorithm.TheVariants.{FirstApplicable}
+use Rattle.policy_documents.specs.declared.algorithms.Effect.TheVariants.{Permit}
 use Rattle.sessions.specs.BuiltIn.{built_in}
 use Rattle.program.specs.Configs.{ConfigData}
 

@@ -10,7 +10,7 @@ use Rattle.features.specs.Names.{name_of}
 use Rattle.features.specs.Subjects.{subjects_of}
 use Rattle.features.specs.declared.actors.Subject.{Subject}
 use Rattle.features.specs.declared.actors.SubjectsFault.{SubjectsFault}
-use Rattle.policy_text.specs.Documents.{DocumentData}
+use Rattle.policy_documents.specs.Documents.{DocumentData}
 use Rattle.policy_text.specs.Reading.{document_in}
 use Rattle.policy_text.specs.declared.faults.TextFault.{TextFault}
 use Rattle.program.specs.declared.configs.Config.{Config}

@@ -5,9 +5,9 @@ use Rattle.program.specs.declared.ends.Ended.TheVariants.{Well, Failed, TurnedDo
 use Rattle.program.specs.declared.faults.ProgramFault.{ProgramFault}
 use Rattle.program.specs.declared.faults.ProgramFault.TheVariants.{CannotRead, CannotWrite, Words, Memory, Config, World, Run}
 use Rattle.program.specs.ConfigFaults.{config_code_of}
-use Rattle.sessions.specs.Faults.{serve_code_of}
-use Rattle.sessions.specs.declared.streams.ServeFault.{ServeFault}
-use Rattle.sessions.specs.declared.streams.ServeFault.TheVariants as reasons
+use Rattle.line_streams.specs.Faults.{serve_code_of}
+use Rattle.line_streams.specs.declared.streams.ServeFault.{ServeFault}
+use Rattle.line_streams.specs.declared.streams.ServeFault.TheVariants as reasons
 use Rattle.plain_world.specs.FaultCodes.{fault_code}
 
 -- how the program tells of the fault by which a run of lines ended: that a write failed has one name, whatever was written

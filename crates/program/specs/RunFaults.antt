@@ -7,8 +7,9 @@ use Rattle.plain_world.specs.declared.faults.Fault.{Fault}
 use Rattle.plain_world.specs.declared.faults.Fault.TheVariants as faults
 use Rattle.sessions.specs.Scripts.{LineTells, script}
 use Rattle.sessions.specs.States.{SessionState}
-use Rattle.sessions.specs.Streams.{Ran}
-use Rattle.sessions.specs.declared.streams.ServeFault.{ServeFault}
+use Rattle.line_streams.specs.Streams.{NeverEnds, Ran}
+use Rattle.byte_streams.specs.declared.writing.Flushed.{Flushed}
+use Rattle.line_streams.specs.declared.streams.ServeFault.{ServeFault}
 use Rattle.program.specs.ConfigFiles.{IsConfigFault, IsReadFault}
 use Rattle.program.specs.Configs.{ConfigData}
 use Rattle.program.specs.Ends.{told_as}
@@ -33,12 +34,12 @@ IsOfConfig held closed (Some name) (CannotRead told fault) = (told.now ≡ name)
 IsOfConfig held closed (Some name) _ = ⊥
 
 -- how far a run over the world that a configuration opens has come, when it ended so; a flush of the output followed
-pub record CameTo (config : ConfigData) (end : Result (Unit {0}) ServeFault) (input before after : Option (List ℕ)) : Type 0 where
+pub record CameTo (config : ConfigData) (end : Result Flushed ServeFault) (input before after : Option (List ℕ)) : Type 0 where
   pub sessions : List SessionState
   pub last : WorldData
   pub left : Option (List ℕ)
   pub written : Option (List ℕ)
-  pub ran : Ran LineTells end (script (world_of config) []) (script last sessions) input left before written
+  pub ran : Ran (NeverEnds LineTells) end (script (world_of config) []) (script last sessions) input left before written
   pub kept : Keeps written after
 
 -- a fault of the world's opening is want of memory
@@ -50,7 +51,7 @@ IsMemory _ = ⊥
 -- fault of another kind.
 abbrev pub IsOfRun : ConfigData → Option (List ℕ) → Option (List ℕ) → Option (List ℕ) → ProgramFault → Type 0
 IsOfRun config input before after (World fault) = IsMemory fault × (after ≡ before)
-IsOfRun config input before after (CannotWrite failed) = (end : Result (Unit {0}) ServeFault) × CameTo config end input before after
+IsOfRun config input before after (CannotWrite failed) = (end : Result Flushed ServeFault) × CameTo config end input before after
 IsOfRun config input before after (Run fault) = (told_as fault ≡ Run fault) × CameTo config (Err fault) input before after
 IsOfRun config input before after _ = ⊥
 

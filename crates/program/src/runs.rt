@@ -59,7 +59,8 @@ pub fn run_file<'a, A: Allocator + Copy, R: Read, W: Write>(
     };
     let end = run_script(alloc, heap, &mut world, file, output);
     flush(output)?;
-    Ok(end?)
+    end?;
+    Ok(())
 }
 
 /// The configuration that stands in the file of this name.

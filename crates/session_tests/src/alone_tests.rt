@@ -1,4 +1,4 @@
-//! A session by itself, whose lines have no label: what stands when its run ends by a fault, and what comes behind BYE.
+//! A session by itself, whose lines have no label: what stands when its run ends by a fault, and that BYE ends it.
 use crate::fakes::{FailingReader, FailingWriter, Failure};
 use crate::worlds::{opened, replies, serve_first};
 use sessions::{ServeFault, serve_world};
@@ -95,8 +95,7 @@ fn each_write_fails(rt: HostRuntime) {
     assert_eq!(rt; written, ALL_REPLIES.len());
 }
 
-/// No line is skipped: an empty one and a comment have no command that is known. Behind BYE a new session begins on the
-/// same stream, and it has nothing staged.
+/// No line is skipped: an empty one and a comment have no command that is known. Behind BYE no line is answered.
 #[test]
 fn lines_behind_bye(rt: HostRuntime) {
     let ran = serve_first(
@@ -106,6 +105,6 @@ fn lines_behind_bye(rt: HostRuntime) {
     );
     assert_eq!(rt;
         ran.output.as_slice(),
-        b"error E2\nerror E2\nhello north\nerror E2\nerror E2\nstaged\nbye\nerror E5\nbye\nhello south\nerror E7\n".as_slice()
+        b"error E2\nerror E2\nhello north\nerror E2\nerror E2\nstaged\nbye\n".as_slice()
     );
 }

@@ -1,6 +1,5 @@
 //! Worked scripts, and readers and writers that fail.
-use std::io;
-use std::io::{ErrorKind, Read, Write};
+pub use failing_streams::{CountingReader, FailingReader, FailingWriter, Failure, LongReader};
 
 /// The worked script of a point that is added and found again.
 pub const FIRST_POINT: &str =
@@ -10,17 +9,13 @@ pub const FIRST_POINT: &str =
 pub const FIRST_REPLIES: &str =
     "n: hello north\nn: staged\nn: applied 1\nn: rows 1\nn: 1 1 north mast POINT (3 4)\nn: rows 0\n";
 
-/// The lines of examples/three_shapes.map.
-pub const THREE_SHAPES: &str =
-    "# Two offices: one adds a list of three shapes, the other finds what its window touches.\nn: HELLO north\nn: ADD 1 mast POINT (4 4)\nn: ADD 2 road LINESTRING (6 2, -1 3)\nn: ADD 3 parcel POLYGON ((0 0, 0 4, 4 4, 4 2, 4 0, 0 0))\nn: COMMIT\n\ns: HELLO south\ns: SEARCH POLYGON ((4 4, 9 4, 9 9, 4 9, 4 4))\ns: SEARCH LINESTRING (5 0, 5 9)\ns: BYE\nn: BYE\n";
-
-/// Their replies.
-pub const THREE_REPLIES: &str =
-    "n: hello north\nn: staged\nn: staged\nn: staged\nn: applied 1\ns: hello south\ns: rows 2\ns: 1 1 north mast POINT (4 4)\ns: 3 1 north parcel POLYGON ((0 0, 4 0, 4 4, 0 4, 0 0))\ns: rows 1\ns: 2 1 north road LINESTRING (-1 3, 6 2)\ns: bye\nn: bye\n";
-
 /// Sixteen features in a row, and one more that is staged.
 pub const SIXTEEN: &str =
     "n: HELLO north\nn: ADD 1 road POINT (1 0)\nn: ADD 2 road POINT (2 0)\nn: ADD 3 road POINT (3 0)\nn: ADD 4 road POINT (4 0)\nn: ADD 5 road POINT (5 0)\nn: ADD 6 road POINT (6 0)\nn: ADD 7 road POINT (7 0)\nn: ADD 8 road POINT (8 0)\nn: ADD 9 road POINT (9 0)\nn: ADD 10 road POINT (10 0)\nn: ADD 11 road POINT (11 0)\nn: ADD 12 road POINT (12 0)\nn: ADD 13 road POINT (13 0)\nn: ADD 14 road POINT (14 0)\nn: ADD 15 road POINT (15 0)\nn: ADD 16 road POINT (16 0)\nn: COMMIT\nn: ADD 17 road POINT (17 0)\n";
+
+/// What those lines are answered.
+pub const SIXTEEN_TOLD: &str =
+    "n: hello north\nn: staged\nn: staged\nn: staged\nn: staged\nn: staged\nn: staged\nn: staged\nn: staged\nn: staged\nn: staged\nn: staged\nn: staged\nn: staged\nn: staged\nn: staged\nn: staged\nn: applied 1\nn: staged\n";
 
 /// What a search for the sixteen is answered, and for the seventeen.
 pub const SIXTEEN_ROWS: &str =
@@ -29,112 +24,10 @@ pub const SIXTEEN_ROWS: &str =
 pub const SEVENTEEN_ROWS: &str =
     "n: rows 17\nn: 1 1 north road POINT (1 0)\nn: 2 1 north road POINT (2 0)\nn: 3 1 north road POINT (3 0)\nn: 4 1 north road POINT (4 0)\nn: 5 1 north road POINT (5 0)\nn: 6 1 north road POINT (6 0)\nn: 7 1 north road POINT (7 0)\nn: 8 1 north road POINT (8 0)\nn: 9 1 north road POINT (9 0)\nn: 10 1 north road POINT (10 0)\nn: 11 1 north road POINT (11 0)\nn: 12 1 north road POINT (12 0)\nn: 13 1 north road POINT (13 0)\nn: 14 1 north road POINT (14 0)\nn: 15 1 north road POINT (15 0)\nn: 16 1 north road POINT (16 0)\nn: 17 2 north road POINT (17 0)\n";
 
-/// A reader that gives one byte a call. One call fails, counted from 1, or none at 0, and the next goes on.
-#[derive(Drop)]
-pub struct FailingReader<'a> {
-    pub bytes: &'a [u8],
-    pub fails_at: u64,
-}
+/// Seventeen sessions, of which sixteen have a search open.
+pub const SIXTEEN_OPEN: &str =
+    "s0: HELLO north\ns1: HELLO north\ns2: HELLO north\ns3: HELLO north\ns4: HELLO north\ns5: HELLO north\ns6: HELLO north\ns7: HELLO north\ns8: HELLO north\ns9: HELLO north\ns10: HELLO north\ns11: HELLO north\ns12: HELLO north\ns13: HELLO north\ns14: HELLO north\ns15: HELLO north\ns16: HELLO north\ns0: OPEN POINT (0 0)\ns1: OPEN POINT (0 0)\ns2: OPEN POINT (0 0)\ns3: OPEN POINT (0 0)\ns4: OPEN POINT (0 0)\ns5: OPEN POINT (0 0)\ns6: OPEN POINT (0 0)\ns7: OPEN POINT (0 0)\ns8: OPEN POINT (0 0)\ns9: OPEN POINT (0 0)\ns10: OPEN POINT (0 0)\ns11: OPEN POINT (0 0)\ns12: OPEN POINT (0 0)\ns13: OPEN POINT (0 0)\ns14: OPEN POINT (0 0)\ns15: OPEN POINT (0 0)\n";
 
-impl Read for FailingReader<'_> {
-    fn read(&mut self, buf: &mut [u8]) -> io::Result<usize> {
-        let fails = self.fails_at == 1;
-        self.fails_at = self.fails_at.saturating_sub(1);
-        if fails {
-            return Err(ErrorKind::Other.into());
-        }
-        if self.bytes.is_empty() || buf.is_empty() {
-            return Ok(0);
-        }
-        buf[0] = self.bytes[0];
-        self.bytes = &self.bytes[1..];
-        Ok(1)
-    }
-}
-
-/// A writer that takes so many bytes a call. One write fails, counted from 1, or none at 0, and the next goes on.
-#[derive(Drop)]
-pub struct FailingWriter {
-    pub taken: Vec<u8>,
-    pub most: usize,
-    pub fails_at: u64,
-    pub with: Failure,
-}
-
-/// How a call of a writer fails.
-#[derive(Clone, Copy, Drop)]
-pub enum Failure {
-    /// An error.
-    Error,
-    /// It takes no byte.
-    Nothing,
-    /// It was interrupted.
-    Interrupted,
-    /// No write fails, and each flush, which leaves a mark behind what was taken.
-    Flush,
-}
-
-impl Write for FailingWriter {
-    fn write(&mut self, buf: &[u8]) -> io::Result<usize> {
-        let fails = self.fails_at == 1;
-        self.fails_at = self.fails_at.saturating_sub(1);
-        if fails {
-            match self.with {
-                Failure::Error => return Err(ErrorKind::Other.into()),
-                Failure::Nothing => return Ok(0),
-                Failure::Interrupted => return Err(ErrorKind::Interrupted.into()),
-                Failure::Flush => {}
-            }
-        }
-        let count = buf.len().min(self.most);
-        self.taken.extend_from_slice(&buf[..count])?;
-        Ok(count)
-    }
-
-    fn flush(&mut self) -> io::Result<()> {
-        match self.with {
-            Failure::Flush => {
-                self.taken.extend_from_slice(b"(flush)")?;
-                Err(ErrorKind::Other.into())
-            }
-            _ => Ok(()),
-        }
-    }
-}
-
-/// A reader that gives one byte a call, a line feed, so many times, and counts its calls.
-#[derive(Drop)]
-pub struct CountingReader {
-    pub left: u64,
-    pub calls: u64,
-}
-
-impl Read for CountingReader {
-    fn read(&mut self, buf: &mut [u8]) -> io::Result<usize> {
-        self.calls = self.calls.saturating_add(1);
-        if buf.is_empty() || self.left == 0 {
-            return Ok(0);
-        }
-        self.left -= 1;
-        buf[0] = b'\n';
-        Ok(1)
-    }
-}
-
-/// A reader that fills what it is given with one comment line, so many bytes in all.
-#[derive(Drop)]
-pub struct LongReader {
-    pub left: usize,
-}
-
-impl Read for LongReader {
-    fn read(&mut self, buf: &mut [u8]) -> io::Result<usize> {
-        let count = buf.len().min(self.left);
-        buf[..count].fill(b'#');
-        if let Some(last) = buf[..count].last_mut() {
-            *last = b'\n';
-        }
-        self.left -= count;
-        Ok(count)
-    }
-}
+/// What those lines are answered.
+pub const SIXTEEN_OPENED: &str =
+    "s0: hello north\ns1: hello north\ns2: hello north\ns3: hello north\ns4: hello north\ns5: hello north\ns6: hello north\ns7: hello north\ns8: hello north\ns9: hello north\ns10: hello north\ns11: hello north\ns12: hello north\ns13: hello north\ns14: hello north\ns15: hello north\ns16: hello north\ns0: opened\ns1: opened\ns2: opened\ns3: opened\ns4: opened\ns5: opened\ns6: opened\ns7: opened\ns8: opened\ns9: opened\ns10: opened\ns11: opened\ns12: opened\ns13: opened\ns14: opened\ns15: opened\n";

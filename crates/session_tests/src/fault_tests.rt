@@ -215,16 +215,17 @@ fn writes_go_on(rt: HostRuntime) {
     }
 }
 
-/// Runs an input of so many bytes, each given by a call of its own.
-fn run_bytes(rt: &impl Abort, alloc: Global, bytes: u64, end: Result<(), ServeFault>, calls: u64) {
+/// Runs an input of so many bytes, each given by a call of its own, to an end of this code.
+fn run_bytes(rt: &impl Abort, alloc: Global, bytes: u64, code: Option<&str>, calls: u64) {
     let mut world = opened(rt, alloc, alloc);
     let mut output = Vec::new(alloc);
     let mut reader = CountingReader {
+        gives: b'\n',
         left: bytes,
         calls: 0,
     };
     let ended = run_script(alloc, alloc, &mut world, &mut reader, &mut output);
-    assert_eq!(rt; ended, end);
+    assert_eq!(rt; ended.err().map(|fault| fault.code()), code);
     assert_eq!(rt; reader.calls, calls);
     assert_eq!(rt; output.len(), 0);
 }
@@ -235,7 +236,7 @@ fn run_long(rt: &impl Abort, alloc: Global) {
     let mut output = Vec::new(alloc);
     let mut reader = LongReader { left: 17_000_000 };
     let ended = run_script(alloc, alloc, &mut world, &mut reader, &mut output);
-    assert_eq!(rt; ended, Ok(()));
+    assert!(rt; ended.is_ok());
     assert_eq!(rt; (reader.left, output.len()), (0, 0));
 }
 
@@ -243,8 +244,8 @@ fn run_long(rt: &impl Abort, alloc: Global) {
 fn a_reader_that_does_not_end(rt: HostRuntime) {
     assert_eq!(rt; READ_LIMIT, 16_777_216);
     let reads = READ_LIMIT as u64;
-    run_bytes(&rt, rt.alloc(), reads - 1, Ok(()), reads);
-    run_bytes(&rt, rt.alloc(), reads, Err(ServeFault::TooManyTurns), reads);
+    run_bytes(&rt, rt.alloc(), reads - 1, None, reads);
+    run_bytes(&rt, rt.alloc(), reads, Some("V3"), reads);
     run_long(&rt, rt.alloc());
 }
 

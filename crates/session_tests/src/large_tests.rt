@@ -1,100 +1,93 @@
 //! Lines over a tree of many nodes, and the slots of the index that a script tends.
-use crate::worlds::{opened, replies, run_first, serve_first};
-use sessions::serve_world;
+use crate::worlds::{opened, replies, run_first, serve_first, served};
 use std::alloc::{AllocError, Global};
 use std::process::Abort;
 use std::test::Fail;
 use transactions::World;
 
-/// Puts so many lists of sixteen points at one place to a script, from this one on, each committed.
-fn put_lists(script: &mut String, first: u64, count: u64) -> Result<(), AllocError> {
-    for list in first..first.saturating_add(count) {
-        for place in 0..16 {
-            let id = list.saturating_mul(16).saturating_add(place);
-            write!(script, "n: ADD {id} road POINT (0 0)\n")?;
-        }
-        script.push_str("n: COMMIT\n")?;
+/// Puts a text to another, with a number in place of each `#`.
+fn put_numbered(text: &mut String, template: &str, number: u64) -> Result<(), AllocError> {
+    let mut parts = template.split('#');
+    if let Some(front) = parts.next() {
+        text.push_str(front)?;
+    }
+    for part in parts {
+        write!(text, "{number}{part}")?;
     }
     Ok(())
 }
 
-/// Puts what a search is answered that finds so many of these points.
-fn put_rows(expected: &mut String, count: u64) -> Result<(), AllocError> {
-    write!(expected, "n: rows {count}\n")?;
-    for id in 0..count {
-        let version = (id / 16).saturating_add(1);
-        write!(expected, "n: {id} {version} north road POINT (0 0)\n")?;
+/// These lines, and then a text so many times, with one number after another in place of each `#`.
+fn numbered(
+    alloc: Global,
+    before: &str,
+    template: &str,
+    first: u64,
+    count: u64,
+    apart: u64,
+) -> Result<String, AllocError> {
+    let mut text = String::from_str(alloc, before)?;
+    for turn in 0..count {
+        let number = first.saturating_add(turn.saturating_mul(apart));
+        put_numbered(&mut text, template, number)?;
     }
-    Ok(())
+    Ok(text)
 }
+
+/// A list of sixteen points at one place, which is committed.
+const LIST: &str =
+    "n: ADD #00 road POINT (0 0)\nn: ADD #01 road POINT (0 0)\nn: ADD #02 road POINT (0 0)\nn: ADD #03 road POINT (0 0)\nn: ADD #04 road POINT (0 0)\nn: ADD #05 road POINT (0 0)\nn: ADD #06 road POINT (0 0)\nn: ADD #07 road POINT (0 0)\nn: ADD #08 road POINT (0 0)\nn: ADD #09 road POINT (0 0)\nn: ADD #10 road POINT (0 0)\nn: ADD #11 road POINT (0 0)\nn: ADD #12 road POINT (0 0)\nn: ADD #13 road POINT (0 0)\nn: ADD #14 road POINT (0 0)\nn: ADD #15 road POINT (0 0)\nn: COMMIT\n";
+
+/// What a search is answered that finds the points of a list.
+const ROWS: &str =
+    "n: #00 # north road POINT (0 0)\nn: #01 # north road POINT (0 0)\nn: #02 # north road POINT (0 0)\nn: #03 # north road POINT (0 0)\nn: #04 # north road POINT (0 0)\nn: #05 # north road POINT (0 0)\nn: #06 # north road POINT (0 0)\nn: #07 # north road POINT (0 0)\nn: #08 # north road POINT (0 0)\nn: #09 # north road POINT (0 0)\nn: #10 # north road POINT (0 0)\nn: #11 # north road POINT (0 0)\nn: #12 # north road POINT (0 0)\nn: #13 # north road POINT (0 0)\nn: #14 # north road POINT (0 0)\nn: #15 # north road POINT (0 0)\n";
 
 /// A hundred lists, searches, and one list more.
 fn many_lines(alloc: Global) -> Result<String, AllocError> {
-    let mut script = String::new(alloc);
-    script.push_str("n: HELLO north\n")?;
-    put_lists(&mut script, 0, 100)?;
-    script.push_str(
-        "n: SEARCH POINT (0 0)\nn: OPEN POINT (0 0)\nn: STEP 50\nn: STEP 100\nn: STEP 1000000\nn: FINISH\n",
-    )?;
-    put_lists(&mut script, 100, 1)?;
-    script.push_str("n: SEARCH POINT (0 0)\n")?;
-    Ok(script)
+    let lists = numbered(alloc, "n: HELLO north\n", LIST, 1, 100, 1)?;
+    let further = numbered(alloc, "", LIST, 101, 1, 1)?;
+    format!(in alloc;
+        "{lists}n: SEARCH POINT (0 0)\nn: OPEN POINT (0 0)\nn: STEP 50\nn: STEP 100\nn: STEP 1000000\nn: FINISH\n{further}n: SEARCH POINT (0 0)\n"
+    )
 }
 
 /// Their replies, from the last of the hundred lists on.
 fn many_replies(alloc: Global) -> Result<String, AllocError> {
-    let mut expected = String::new(alloc);
-    expected.push_str("n: staged\nn: applied 100\n")?;
-    put_rows(&mut expected, 1_600)?;
-    expected.push_str("n: opened\nn: more\nn: more\nn: ready\n")?;
-    put_rows(&mut expected, 1_600)?;
-    for _ in 0..16 {
-        expected.push_str("n: staged\n")?;
-    }
-    expected.push_str("n: applied 101\n")?;
-    put_rows(&mut expected, 1_616)?;
-    Ok(expected)
+    let rows = numbered(alloc, "", ROWS, 1, 100, 1)?;
+    let further = numbered(alloc, "", ROWS, 101, 1, 1)?;
+    format!(in alloc;
+        "n: staged\nn: applied 100\nn: rows 1600\n{rows}n: opened\nn: more\nn: more\nn: ready\nn: rows 1600\n{rows}n: staged\nn: staged\nn: staged\nn: staged\nn: staged\nn: staged\nn: staged\nn: staged\nn: staged\nn: staged\nn: staged\nn: staged\nn: staged\nn: staged\nn: staged\nn: staged\nn: applied 101\nn: rows 1616\n{rows}{further}"
+    )
 }
 
 /// A leaf has room for sixteen points, and many are half full: a search for all visits more than 150 nodes.
 #[test]
 fn large_searches(rt: HostRuntime) -> Result<(), Fail> {
     let script = many_lines(rt.alloc())?;
+    let expected = many_replies(rt.alloc())?;
     let ran = run_first(&rt, rt.alloc(), script.as_str());
     assert!(rt; ran.slots > 150, "{}", ran.slots);
-    let expected = many_replies(rt.alloc())?;
     assert!(rt; ran.output.ends_with(expected.as_bytes()));
     Ok(())
 }
 
-/// Lines that add sixteen points and delete them again, in lists, so many times, the first under this version; before each
-/// stands this label.
-fn rounds(alloc: Global, version: u64, count: u64, label: &str) -> Result<String, AllocError> {
-    let mut lines = String::new(alloc);
-    write!(lines, "{label}HELLO north\n")?;
-    for round in 0..count {
-        for id in 0..16 {
-            write!(lines, "{label}ADD {id} road POINT ({id} 0)\n")?;
-        }
-        write!(lines, "{label}COMMIT\n")?;
-        let version = version.saturating_add(round.saturating_mul(2));
-        for id in 0..16 {
-            write!(lines, "{label}DELETE {id} {version}\n")?;
-        }
-        write!(lines, "{label}COMMIT\n")?;
-    }
-    Ok(lines)
-}
+/// Lines of a session by itself that add sixteen points and delete them again, in lists; `#` is the version of the first.
+const ROUND: &str =
+    "ADD 0 road POINT (0 0)\nADD 1 road POINT (1 0)\nADD 2 road POINT (2 0)\nADD 3 road POINT (3 0)\nADD 4 road POINT (4 0)\nADD 5 road POINT (5 0)\nADD 6 road POINT (6 0)\nADD 7 road POINT (7 0)\nADD 8 road POINT (8 0)\nADD 9 road POINT (9 0)\nADD 10 road POINT (10 0)\nADD 11 road POINT (11 0)\nADD 12 road POINT (12 0)\nADD 13 road POINT (13 0)\nADD 14 road POINT (14 0)\nADD 15 road POINT (15 0)\nCOMMIT\nDELETE 0 #\nDELETE 1 #\nDELETE 2 #\nDELETE 3 #\nDELETE 4 #\nDELETE 5 #\nDELETE 6 #\nDELETE 7 #\nDELETE 8 #\nDELETE 9 #\nDELETE 10 #\nDELETE 11 #\nDELETE 12 #\nDELETE 13 #\nDELETE 14 #\nDELETE 15 #\nCOMMIT\n";
+
+/// The same lines of a script.
+const ROUND_OF_NORTH: &str =
+    "n: ADD 0 road POINT (0 0)\nn: ADD 1 road POINT (1 0)\nn: ADD 2 road POINT (2 0)\nn: ADD 3 road POINT (3 0)\nn: ADD 4 road POINT (4 0)\nn: ADD 5 road POINT (5 0)\nn: ADD 6 road POINT (6 0)\nn: ADD 7 road POINT (7 0)\nn: ADD 8 road POINT (8 0)\nn: ADD 9 road POINT (9 0)\nn: ADD 10 road POINT (10 0)\nn: ADD 11 road POINT (11 0)\nn: ADD 12 road POINT (12 0)\nn: ADD 13 road POINT (13 0)\nn: ADD 14 road POINT (14 0)\nn: ADD 15 road POINT (15 0)\nn: COMMIT\nn: DELETE 0 #\nn: DELETE 1 #\nn: DELETE 2 #\nn: DELETE 3 #\nn: DELETE 4 #\nn: DELETE 5 #\nn: DELETE 6 #\nn: DELETE 7 #\nn: DELETE 8 #\nn: DELETE 9 #\nn: DELETE 10 #\nn: DELETE 11 #\nn: DELETE 12 #\nn: DELETE 13 #\nn: DELETE 14 #\nn: DELETE 15 #\nn: COMMIT\n";
 
 /// A leaf holds sixteen pairs, so the 1,600 that are placed here take a hundred leaves where none is cleaned. A script
 /// tends one slot after each line, in turn, and so the index stays small.
 #[test]
 fn slots_are_tended(rt: HostRuntime) -> Result<(), Fail> {
-    let labelled = rounds(rt.alloc(), 1, 100, "n: ")?;
+    let labelled = numbered(rt.alloc(), "n: HELLO north\n", ROUND_OF_NORTH, 1, 100, 2)?;
+    let alone = numbered(rt.alloc(), "HELLO north\n", ROUND, 1, 100, 2)?;
     let tended = run_first(&rt, rt.alloc(), labelled.as_str());
     assert!(rt; tended.output.ends_with(b"n: staged\nn: applied 200\n"));
     assert!(rt; tended.slots < 20, "{}", tended.slots);
-    let alone = rounds(rt.alloc(), 1, 100, "")?;
     let untended = serve_first(&rt, rt.alloc(), alone.as_str());
     assert!(rt; untended.output.ends_with(b"staged\napplied 200\n"));
     assert!(rt; untended.slots > 100, "{}", untended.slots);
@@ -102,17 +95,15 @@ fn slots_are_tended(rt: HostRuntime) -> Result<(), Fail> {
 }
 
 /// Serves such rounds over a world. How many slots there are behind them.
-fn served(
+fn serve_rounds(
     rt: &impl Abort,
     alloc: Global,
     world: &mut World<Global>,
     version: u64,
 ) -> Result<u32, AllocError> {
-    let lines = rounds(alloc, version, 30, "")?;
-    let mut output = Vec::new(alloc);
-    let end = serve_world(alloc, alloc, world, &mut lines.as_bytes(), &mut output);
-    assert_eq!(rt; end, Ok(()));
     let applied = format!(in alloc; "applied {}\n", version.saturating_add(59))?;
+    let lines = numbered(alloc, "HELLO north\n", ROUND, version, 30, 2)?;
+    let output = served(rt, alloc, world, lines.as_str());
     assert!(rt; output.ends_with(applied.as_bytes()));
     Ok(world.slots())
 }
@@ -125,10 +116,10 @@ fn check_tended(
     world: &mut World<Global>,
     lines: &str,
 ) -> Result<(), AllocError> {
-    let before = served(rt, alloc, world, 1)?;
+    let before = serve_rounds(rt, alloc, world, 1)?;
     assert!(rt; before > 30, "{before}");
     replies(rt, alloc, world, lines);
-    let behind = served(rt, alloc, world, 61)?;
+    let behind = serve_rounds(rt, alloc, world, 61)?;
     assert!(rt; behind < before.saturating_add(5), "{before} {behind}");
     Ok(())
 }

@@ -1,10 +1,8 @@
-//! Tests of session lines and scripts over a world, of configurations, and of the program.
+//! Tests of session lines and scripts over a world.
 #![tactic(auto)]
 
 #[cfg(test)]
 mod alone_tests;
-#[cfg(test)]
-mod config_tests;
 #[cfg(test)]
 mod fakes;
 #[cfg(test)]
@@ -16,10 +14,12 @@ mod line_end_tests;
 #[cfg(test)]
 mod line_tests;
 #[cfg(test)]
-mod program_tests;
+mod script_lines;
 #[cfg(test)]
 mod script_tests;
 #[cfg(test)]
 mod step_tests;
+#[cfg(test)]
+mod stream_tests;
 #[cfg(test)]
 mod worlds;

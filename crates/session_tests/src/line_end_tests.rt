@@ -1,328 +1,412 @@
 //! Session lines at the ends of counters and limits, and each line that takes memory of the world, its allocations
 //! refused in turn.
 use crate::fakes::{SEVENTEEN_ROWS, SIXTEEN, SIXTEEN_ROWS};
-use crate::worlds::{LIMITS, OPEN, ROADS, STARTS, check_over, document, replies};
-use features::FEATURE_LIMIT;
+use crate::script_lines::{BEHIND_SIXTEEN, SEATED, check_cases_at};
+use crate::worlds::{LIMITS, opened_at};
 use refusing::Refusing;
-use sessions::{built_in_subjects, run_script};
-use std::alloc::{AllocError, Allocator, Global};
+use sessions::run_script;
+use std::alloc::{AllocError, Global};
 use std::io;
 use std::io::Read;
 use std::process::Abort;
 use std::test::Fail;
-use transactions::{Limits, ROLLED_LIMIT, STEP_LIMIT, Starts, World};
+use transactions::{Limits, ROLLED_LIMIT, Starts};
 
-/// A world of the built-in subjects, in which everything is permitted and nobody has a seat.
-fn opened_at<A: Allocator + Copy>(
+/// Policies that permit or deny by default.
+const DEFAULTS: &str = r#"=== what is decided by default, and which rule decides where one does
+> c: POLICY {"root":{"combine":"first-applicable","of":[{"combine":"deny-unless-permit","policy":"a","rules":[{"effect":"permit","rule":"mine","when":[{"own":true}]}]},{"combine":"deny-overrides","policy":"b","rules":[{"effect":"deny","rule":"late"}]}],"set":"top"}}
+< c: edition 2
+> n: EXPLAIN read south mast POINT (0 0)
+< n: denied none edition 2
+> n: EXPLAIN read north mast POINT (0 0)
+< n: permit rule mine edition 2
+> n: ADD 1 mast POINT (0 0)
+< n: staged
+> n: COMMIT
+< n: applied 1
+> s: DELETE 1 1
+< s: staged
+> s: COMMIT
+< s: denied none change 1
+> c: POLICY {"root":{"combine":"deny-overrides","of":[{"combine":"deny-unless-permit","policy":"a","rules":[{"effect":"permit","rule":"mine","when":[{"own":true}]}]},{"combine":"deny-overrides","policy":"b","rules":[{"effect":"deny","rule":"late"}]}],"set":"top"}}
+< c: edition 3
+> n: EXPLAIN read south mast POINT (0 0)
+< n: denied rule late edition 3
+> n: EXPLAIN read north mast POINT (0 0)
+< n: denied rule late edition 3
+> n: DELETE 1 1
+< n: staged
+> n: COMMIT
+< n: denied rule late change 1
+> c: POLICY {"root":{"combine":"permit-unless-deny","policy":"w","rules":[]}}
+< c: edition 4
+> n: EXPLAIN read south mast POINT (0 0)
+< n: permit none edition 4
+> n: EXPLAIN read north mast POINT (0 0)
+< n: permit none edition 4
+> s: DELETE 1 1
+< s: staged
+> s: COMMIT
+< s: applied 2
+"#;
+
+/// Where a trail takes one record.
+const ONE_RECORD: &str =
+    r#"=== a trail without room: X10 of a search and of a COMMIT, and what comes before it
+> n: DELETE 1 1
+< n: staged
+> n: COMMIT
+< n: absent change 1
+> n: SEARCH POINT (0 0)
+< n: error X10
+> n: ADD 1 a POINT (0 0)
+< n: staged
+> n: COMMIT
+< n: error X10
+> c: ROLL x
+< c: error E2
+> c: POLICY {}
+< c: error D2
+> n: SEARCH POINT (0 0)
+< n: error X10
+=== a search that finds no place for its record stays open
+> n: SEARCH POINT (0 0)
+< n: rows 0
+> n: OPEN POINT (0 0)
+< n: opened
+> n: FINISH
+< n: error X10
+> n: OPEN POINT (0 0)
+< n: error E8
+> n: FINISH
+< n: error X10
+> c: ROLL
+< c: rolled 1
+< c: {"ids":[],"kind":"answered","number":1,"seat":1,"subject":"north","window":"POINT (0 0)"}
+> n: FINISH
+< n: rows 0
+=== a roll makes room for a record again
+> n: ADD 1 mast POINT (3 4)
+< n: staged
+> n: COMMIT
+< n: applied 1
+> n: SEARCH POINT (3 4)
+< n: error X10
+> c: ROLL
+< c: rolled 1
+< c: {"changes":[{"class":"mast","id":1,"shape":"POINT (3 4)","what":"add"}],"kind":"applied","number":1,"seat":1,"subject":"north","version":1}
+> n: SEARCH POINT (3 4)
+< n: rows 1
+< n: 1 1 north mast POINT (3 4)
+"#;
+
+/// Where no more records can be rolled out.
+const LAST_ROLL: &str = r#"=== the last record that a roll can take out
+> c: ROLL
+< c: rolled 0
+> n: SEARCH POINT (0 0)
+< n: rows 0
+> c: ROLL
+< c: error X8
+"#;
+
+/// Where the last version was given.
+const LAST_VERSION: &str = r#"=== no version is left for a list that would be applied
+> n: ADD 1 mast POINT (3 4)
+< n: staged
+> n: COMMIT
+< n: error X8
+> n: ABORT
+< n: aborted
+> n: DELETE 1 1
+< n: staged
+> n: COMMIT
+< n: absent change 1
+"#;
+
+/// Where the last edition is in force.
+const LAST_EDITION: &str = r#"=== no edition is left for a policy
+> c: POLICY {"root":{"combine":"first-applicable","policy":"p","rules":[{"effect":"permit","rule":"roads","target":[[[{"class":"road"}]]]}]}}
+< c: error X8
+"#;
+
+/// Where the last search was numbered.
+const LAST_SEARCH: &str = r#"=== no number is left for a search
+> n: SEARCH POINT (0 0)
+< n: error S6
+"#;
+
+/// Where the store takes one feature.
+const ONE_FEATURE: &str = r#"=== there is no room for a second feature
+> n: ADD 1 mast POINT (3 4)
+< n: staged
+> n: COMMIT
+< n: applied 1
+> n: ADD 2 mast POINT (3 4)
+< n: staged
+> n: COMMIT
+< n: error X11
+> n: COMMIT
+< n: error X11
+> n: ABORT
+< n: aborted
+"#;
+
+/// Where a walk makes one step. The seventeenth point parts the root, which is a leaf so far: one step. From the root down to a
+/// leaf is one more, and placing is the last.
+const ONE_STEP: &str =
+    r#"=== parting the root is one step: the walk goes no further, however often it is sent
+> n: COMMIT
+< n: error S7
+> n: COMMIT
+< n: error S7
+> n: ABORT
+< n: aborted
+> n: COMMIT
+< n: error E7
+"#;
+
+/// Where walks and searches make two steps. A search that the index gives up is gone.
+const TWO_STEPS: &str =
+    r#"=== down to a leaf and placing are two more, made by the second COMMIT; a search of one leaf
+> n: COMMIT
+< n: error S7
+> n: COMMIT
+< n: applied 2
+> n: SEARCH POINT (1 0)
+< n: rows 1
+< n: 1 1 north road POINT (1 0)
+=== a search for all wants three steps, the root and both leaves
+> n: COMMIT
+< n: error S7
+> n: COMMIT
+< n: applied 2
+> n: SEARCH POLYGON ((0 -1, 500 -1, 500 1, 0 1, 0 -1))
+< n: error S7
+> n: OPEN POLYGON ((0 -1, 500 -1, 500 1, 0 1, 0 -1))
+< n: opened
+> n: STEP 1
+< n: more
+> n: STEP 1
+< n: more
+> n: STEP 1
+< n: error S7
+> n: STEP 1
+< n: error E8
+> n: FINISH
+< n: error E8
+=== a STEP that asks for more than is left
+> n: COMMIT
+< n: error S7
+> n: COMMIT
+< n: applied 2
+> n: SEARCH POLYGON ((0 -1, 500 -1, 500 1, 0 1, 0 -1))
+< n: error S7
+> n: OPEN POLYGON ((0 -1, 500 -1, 500 1, 0 1, 0 -1))
+< n: opened
+> n: STEP 2
+< n: more
+> n: STEP 1000000
+< n: error S7
+> n: FINISH
+< n: error E8
+=== the same, of a search that has made none
+> n: COMMIT
+< n: error S7
+> n: COMMIT
+< n: applied 2
+> n: SEARCH POLYGON ((0 -1, 500 -1, 500 1, 0 1, 0 -1))
+< n: error S7
+> n: OPEN POLYGON ((0 -1, 500 -1, 500 1, 0 1, 0 -1))
+< n: opened
+> n: STEP 3
+< n: error S7
+> n: OPEN POINT (0 0)
+< n: opened
+=== FINISH asks for all of them
+> n: COMMIT
+< n: error S7
+> n: COMMIT
+< n: applied 2
+> n: SEARCH POLYGON ((0 -1, 500 -1, 500 1, 0 1, 0 -1))
+< n: error S7
+> n: OPEN POLYGON ((0 -1, 500 -1, 500 1, 0 1, 0 -1))
+< n: opened
+> n: FINISH
+< n: error S7
+> n: STEP 1
+< n: error E8
+> n: OPEN POINT (0 0)
+< n: opened
+"#;
+
+/// Where a walk makes three steps.
+const THREE_STEPS: &str = r#"=== three steps are enough for the seventeenth point
+> n: COMMIT
+< n: applied 2
+"#;
+
+/// Where the index's counter is at its end. The seventeenth point parts the root, and sixteen more, all at one place, a leaf
+/// below it.
+const LAST_COUNT: &str = r#"=== no number is left to part a leaf below the root
+> n: COMMIT
+< n: applied 2
+> n: ADD 18 a POINT (1 0)
+< n: staged
+> n: ADD 19 a POINT (1 0)
+< n: staged
+> n: ADD 20 a POINT (1 0)
+< n: staged
+> n: ADD 21 a POINT (1 0)
+< n: staged
+> n: ADD 22 a POINT (1 0)
+< n: staged
+> n: ADD 23 a POINT (1 0)
+< n: staged
+> n: ADD 24 a POINT (1 0)
+< n: staged
+> n: ADD 25 a POINT (1 0)
+< n: staged
+> n: ADD 26 a POINT (1 0)
+< n: staged
+> n: ADD 27 a POINT (1 0)
+< n: staged
+> n: ADD 28 a POINT (1 0)
+< n: staged
+> n: ADD 29 a POINT (1 0)
+< n: staged
+> n: ADD 30 a POINT (1 0)
+< n: staged
+> n: ADD 31 a POINT (1 0)
+< n: staged
+> n: ADD 32 a POINT (1 0)
+< n: staged
+> n: ADD 33 a POINT (1 0)
+< n: staged
+> n: COMMIT
+< n: error S6
+> n: COMMIT
+< n: error S6
+> n: SEARCH POLYGON ((0 -1, 500 -1, 500 1, 0 1, 0 -1))
+< n: rows 17
+< n: 1 1 north road POINT (1 0)
+< n: 2 1 north road POINT (2 0)
+< n: 3 1 north road POINT (3 0)
+< n: 4 1 north road POINT (4 0)
+< n: 5 1 north road POINT (5 0)
+< n: 6 1 north road POINT (6 0)
+< n: 7 1 north road POINT (7 0)
+< n: 8 1 north road POINT (8 0)
+< n: 9 1 north road POINT (9 0)
+< n: 10 1 north road POINT (10 0)
+< n: 11 1 north road POINT (11 0)
+< n: 12 1 north road POINT (12 0)
+< n: 13 1 north road POINT (13 0)
+< n: 14 1 north road POINT (14 0)
+< n: 15 1 north road POINT (15 0)
+< n: 16 1 north road POINT (16 0)
+< n: 17 2 north road POINT (17 0)
+> n: ABORT
+< n: aborted
+> n: COMMIT
+< n: error E7
+> n: ADD 34 a POINT (600 0)
+< n: staged
+> n: COMMIT
+< n: applied 3
+"#;
+
+/// Behind three seats, over a world whose numbers start as usual.
+fn check_limits(
     rt: &impl Abort,
-    alloc: A,
     heap: Global,
-    starts: Starts,
     limits: Limits,
-) -> World<A> {
-    assert!(rt; starts.rolled <= ROLLED_LIMIT && limits.steps <= STEP_LIMIT);
-    assert!(rt; limits.records <= 1_000 && limits.features as usize <= FEATURE_LIMIT);
-    let world = World::open_at(
-        alloc,
-        heap,
-        built_in_subjects(),
-        document(rt, heap, OPEN),
-        starts,
-        limits,
-    );
-    assert!(rt; world.is_ok());
-    world.unwrap()
-}
-
-/// These lines, behind three seats, are answered so, in a world whose numbers start so, and whose limits are these.
-fn check_at(
-    rt: &impl Abort,
-    alloc: Global,
-    starts: Starts,
-    limits: Limits,
-    script: &str,
-    expected: &str,
+    cases: &str,
 ) -> Result<(), AllocError> {
-    let mut world = opened_at(rt, alloc, alloc, starts, limits);
-    check_over(rt, alloc, &mut world, script, expected)
-}
-
-/// One's own is permitted, all else is denied by default, and a denial behind it is not reached.
-const OWN_FIRST: &str =
-    r#"{"root":{"combine":"first-applicable","of":[{"combine":"deny-unless-permit","policy":"a","rules":[{"effect":"permit","rule":"mine","when":[{"own":true}]}]},{"combine":"deny-overrides","policy":"b","rules":[{"effect":"deny","rule":"late"}]}],"set":"top"}}"#;
-
-/// The same, where the denial counts.
-const OWN_OR_LATE: &str =
-    r#"{"root":{"combine":"deny-overrides","of":[{"combine":"deny-unless-permit","policy":"a","rules":[{"effect":"permit","rule":"mine","when":[{"own":true}]}]},{"combine":"deny-overrides","policy":"b","rules":[{"effect":"deny","rule":"late"}]}],"set":"top"}}"#;
-
-/// Everything is permitted, by no rule.
-const WITHOUT_RULE: &str = r#"{"root":{"combine":"permit-unless-deny","policy":"w","rules":[]}}"#;
-
-/// What the office south, and then the office north, may have read.
-const EXPLAINED: &str =
-    "n: EXPLAIN read south mast POINT (0 0)\nn: EXPLAIN read north mast POINT (0 0)\n";
-
-#[test]
-fn decided_by_default(rt: HostRuntime) -> Result<(), Fail> {
-    let script = format!(in rt.alloc();
-        "c: POLICY {OWN_FIRST}\n{EXPLAINED}n: ADD 1 mast POINT (0 0)\nn: COMMIT\ns: DELETE 1 1\ns: COMMIT\nc: POLICY {OWN_OR_LATE}\n{EXPLAINED}n: DELETE 1 1\nn: COMMIT\nc: POLICY {WITHOUT_RULE}\n{EXPLAINED}s: DELETE 1 1\ns: COMMIT\n"
-    )?;
-    check_at(
-        &rt,
-        rt.alloc(),
-        STARTS,
-        LIMITS,
-        script.as_str(),
-        "c: edition 2\nn: denied none edition 2\nn: permit rule mine edition 2\nn: staged\nn: applied 1\ns: staged\ns: denied none change 1\nc: edition 3\nn: denied rule late edition 3\nn: denied rule late edition 3\nn: staged\nn: denied rule late change 1\nc: edition 4\nn: permit none edition 4\nn: permit none edition 4\ns: staged\ns: applied 2\n",
-    )?;
-    Ok(())
+    check_cases_at(rt, heap, Starts::FIRST, limits, SEATED, cases)
 }
 
 #[test]
-fn ends_of_records(rt: HostRuntime) -> Result<(), Fail> {
-    let one_record = Limits {
-        records: 1,
-        ..LIMITS
-    };
-    check_at(
+fn ends_of_limits(rt: HostRuntime) -> Result<(), Fail> {
+    let heap = rt.alloc();
+    check_limits(&rt, heap, LIMITS, DEFAULTS)?;
+    check_limits(
         &rt,
-        rt.alloc(),
-        STARTS,
-        one_record,
-        "n: DELETE 1 1\nn: COMMIT\nn: SEARCH POINT (0 0)\nn: ADD 1 a POINT (0 0)\nn: COMMIT\nc: ROLL x\nc: POLICY {}\nn: SEARCH POINT (0 0)\n",
-        "n: staged\nn: absent change 1\nn: error X10\nn: staged\nn: error X10\nc: error E2\nc: error D2\nn: error X10\n",
+        heap,
+        Limits {
+            records: 1,
+            ..LIMITS
+        },
+        ONE_RECORD,
     )?;
-    // A search that finds no place for its record stays open.
-    check_at(
+    check_limits(
         &rt,
-        rt.alloc(),
-        STARTS,
-        one_record,
-        "n: SEARCH POINT (0 0)\nn: OPEN POINT (0 0)\nn: FINISH\nn: OPEN POINT (0 0)\nn: FINISH\nc: ROLL\nn: FINISH\n",
-        r#"n: rows 0
-n: opened
-n: error X10
-n: error E8
-n: error X10
-c: rolled 1
-c: {"ids":[],"kind":"answered","number":1,"seat":1,"subject":"north","window":"POINT (0 0)"}
-n: rows 0
-"#,
-    )?;
-    Ok(())
-}
-
-#[test]
-fn ends_of_rolls(rt: HostRuntime) -> Result<(), Fail> {
-    let one_record = Limits {
-        records: 1,
-        ..LIMITS
-    };
-    // A roll makes room for a record again.
-    check_at(
-        &rt,
-        rt.alloc(),
-        STARTS,
-        one_record,
-        "n: ADD 1 mast POINT (3 4)\nn: COMMIT\nn: SEARCH POINT (3 4)\nc: ROLL\nn: SEARCH POINT (3 4)\n",
-        r#"n: staged
-n: applied 1
-n: error X10
-c: rolled 1
-c: {"changes":[{"class":"mast","id":1,"shape":"POINT (3 4)","what":"add"}],"kind":"applied","number":1,"seat":1,"subject":"north","version":1}
-n: rows 1
-n: 1 1 north mast POINT (3 4)
-"#,
-    )?;
-    let last_roll = Starts {
-        rolled: ROLLED_LIMIT,
-        ..STARTS
-    };
-    check_at(
-        &rt,
-        rt.alloc(),
-        last_roll,
-        LIMITS,
-        "c: ROLL\nn: SEARCH POINT (0 0)\nc: ROLL\n",
-        "c: rolled 0\nn: rows 0\nc: error X8\n",
+        heap,
+        Limits {
+            features: 1,
+            ..LIMITS
+        },
+        ONE_FEATURE,
     )?;
     Ok(())
 }
 
 #[test]
 fn ends_of_numbers(rt: HostRuntime) -> Result<(), Fail> {
-    let last_version = Starts {
-        version: u64::MAX,
-        ..STARTS
-    };
-    check_at(
-        &rt,
-        rt.alloc(),
-        last_version,
-        LIMITS,
-        "n: ADD 1 mast POINT (3 4)\nn: COMMIT\nn: ABORT\nn: DELETE 1 1\nn: COMMIT\n",
-        "n: staged\nn: error X8\nn: aborted\nn: staged\nn: absent change 1\n",
-    )?;
-    let last_edition = Starts {
-        edition: u64::MAX,
-        ..STARTS
-    };
-    let script = format!(in rt.alloc(); "c: POLICY {ROADS}\n")?;
-    check_at(
-        &rt,
-        rt.alloc(),
-        last_edition,
-        LIMITS,
-        script.as_str(),
-        "c: error X8\n",
-    )?;
-    let last_search = Starts {
-        search: u64::MAX,
-        ..STARTS
-    };
-    check_at(
-        &rt,
-        rt.alloc(),
-        last_search,
-        LIMITS,
-        "n: SEARCH POINT (0 0)\n",
-        "n: error S6\n",
-    )?;
+    let heap = rt.alloc();
+    let first = Starts::FIRST;
+    for (starts, cases) in [
+        (
+            Starts {
+                rolled: ROLLED_LIMIT,
+                ..first
+            },
+            LAST_ROLL,
+        ),
+        (
+            Starts {
+                version: u64::MAX,
+                ..first
+            },
+            LAST_VERSION,
+        ),
+        (
+            Starts {
+                edition: u64::MAX,
+                ..first
+            },
+            LAST_EDITION,
+        ),
+        (
+            Starts {
+                search: u64::MAX,
+                ..first
+            },
+            LAST_SEARCH,
+        ),
+    ] {
+        check_cases_at(&rt, heap, starts, LIMITS, SEATED, cases)?;
+    }
     Ok(())
 }
 
-#[test]
-fn ends_of_features(rt: HostRuntime) -> Result<(), Fail> {
-    let one_feature = Limits {
-        features: 1,
-        ..LIMITS
-    };
-    check_at(
-        &rt,
-        rt.alloc(),
-        STARTS,
-        one_feature,
-        "n: ADD 1 mast POINT (3 4)\nn: COMMIT\nn: ADD 2 mast POINT (3 4)\nn: COMMIT\nn: COMMIT\nn: ABORT\n",
-        "n: staged\nn: applied 1\nn: staged\nn: error X11\nn: error X11\nn: aborted\n",
-    )?;
-    Ok(())
-}
-
-/// The lines behind the sixteen points, and the one that is staged, are answered so, in a world whose numbers start so, and
-/// whose limits are these.
-fn check_behind(
-    rt: &impl Abort,
-    alloc: Global,
-    starts: Starts,
-    limits: Limits,
-    lines: &str,
-    expected: &str,
-) -> Result<(), AllocError> {
-    let mut world = opened_at(rt, alloc, alloc, starts, limits);
-    let script = format!(in alloc; "{SIXTEEN}{lines}")?;
-    let output = replies(rt, alloc, &mut world, script.as_str());
-    let expected = format!(in alloc; "n: staged\nn: applied 1\nn: staged\n{expected}")?;
-    assert!(rt; output.ends_with(expected.as_bytes()), "{lines}");
-    Ok(())
-}
-
-/// The same, in a world whose walks and searches make so many steps.
-fn check_steps(
-    rt: &impl Abort,
-    alloc: Global,
-    steps: u32,
-    lines: &str,
-    expected: &str,
-) -> Result<(), AllocError> {
+/// Behind sixteen points and one that is staged, in a world whose walks and searches make so many steps.
+fn check_steps(rt: &impl Abort, heap: Global, steps: u32, cases: &str) -> Result<(), AllocError> {
     let limits = Limits { steps, ..LIMITS };
-    check_behind(rt, alloc, STARTS, limits, lines, expected)
+    check_cases_at(rt, heap, Starts::FIRST, limits, BEHIND_SIXTEEN, cases)
 }
 
-/// The seventeenth point parts the root, which is a leaf so far: one step. From the root down to a leaf is one more, and
-/// placing is the last. A search for all points visits the root and both leaves.
 #[test]
 fn ends_of_steps(rt: HostRuntime) -> Result<(), Fail> {
-    let cases = [
-        (
-            1,
-            "n: COMMIT\nn: COMMIT\nn: ABORT\nn: COMMIT\n",
-            "n: error S7\nn: error S7\nn: aborted\nn: error E7\n",
-        ),
-        (
-            2,
-            "n: COMMIT\nn: COMMIT\nn: SEARCH POINT (1 0)\n",
-            "n: error S7\nn: applied 2\nn: rows 1\nn: 1 1 north road POINT (1 0)\n",
-        ),
-        (3, "n: COMMIT\n", "n: applied 2\n"),
-    ];
-    for (steps, lines, expected) in cases {
-        check_steps(&rt, rt.alloc(), steps, lines, expected)?;
-    }
-    Ok(())
-}
-
-/// A search that the index gives up is gone.
-#[test]
-fn ends_of_searches(rt: HostRuntime) -> Result<(), Fail> {
-    let before =
-        "n: COMMIT\nn: COMMIT\nn: SEARCH POLYGON ((0 -1, 500 -1, 500 1, 0 1, 0 -1))\nn: OPEN POLYGON ((0 -1, 500 -1, 500 1, 0 1, 0 -1))\n";
-    let cases = [
-        (
-            "n: STEP 1\nn: STEP 1\nn: STEP 1\nn: STEP 1\nn: FINISH\n",
-            "n: more\nn: more\nn: error S7\nn: error E8\nn: error E8\n",
-        ),
-        (
-            "n: STEP 2\nn: STEP 1000000\nn: FINISH\n",
-            "n: more\nn: error S7\nn: error E8\n",
-        ),
-        (
-            "n: STEP 3\nn: OPEN POINT (0 0)\n",
-            "n: error S7\nn: opened\n",
-        ),
-        (
-            "n: FINISH\nn: STEP 1\nn: OPEN POINT (0 0)\n",
-            "n: error S7\nn: error E8\nn: opened\n",
-        ),
-    ];
-    for (lines, expected) in cases {
-        let lines = format!(in rt.alloc(); "{before}{lines}")?;
-        let expected = format!(in rt.alloc();
-            "n: error S7\nn: applied 2\nn: error S7\nn: opened\n{expected}"
-        )?;
-        check_steps(&rt, rt.alloc(), 2, lines.as_str(), expected.as_str())?;
-    }
-    Ok(())
-}
-
-/// Sixteen points more, all at one place.
-const SIXTEEN_MORE: &str =
-    "n: ADD 18 a POINT (1 0)\nn: ADD 19 a POINT (1 0)\nn: ADD 20 a POINT (1 0)\nn: ADD 21 a POINT (1 0)\nn: ADD 22 a POINT (1 0)\nn: ADD 23 a POINT (1 0)\nn: ADD 24 a POINT (1 0)\nn: ADD 25 a POINT (1 0)\nn: ADD 26 a POINT (1 0)\nn: ADD 27 a POINT (1 0)\nn: ADD 28 a POINT (1 0)\nn: ADD 29 a POINT (1 0)\nn: ADD 30 a POINT (1 0)\nn: ADD 31 a POINT (1 0)\nn: ADD 32 a POINT (1 0)\nn: ADD 33 a POINT (1 0)\n";
-
-/// What their lines are answered.
-const SIXTEEN_STAGED: &str =
-    "n: staged\nn: staged\nn: staged\nn: staged\nn: staged\nn: staged\nn: staged\nn: staged\nn: staged\nn: staged\nn: staged\nn: staged\nn: staged\nn: staged\nn: staged\nn: staged\n";
-
-/// The seventeenth point parts the root, and sixteen more a leaf below it: for that the index's counter has no number left.
-#[test]
-fn ends_of_the_counter(rt: HostRuntime) -> Result<(), Fail> {
-    let last_count = Starts {
+    let heap = rt.alloc();
+    check_steps(&rt, heap, 1, ONE_STEP)?;
+    check_steps(&rt, heap, 2, TWO_STEPS)?;
+    check_steps(&rt, heap, 3, THREE_STEPS)?;
+    let last = Starts {
         counter: u64::MAX,
-        ..STARTS
+        ..Starts::FIRST
     };
-    let lines = format!(in rt.alloc();
-        "n: COMMIT\n{SIXTEEN_MORE}n: COMMIT\nn: COMMIT\n{SEARCH}n: ABORT\nn: COMMIT\nn: ADD 34 a POINT (600 0)\nn: COMMIT\n"
-    )?;
-    let expected = format!(in rt.alloc();
-        "n: applied 2\n{SIXTEEN_STAGED}n: error S6\nn: error S6\n{SEVENTEEN_ROWS}n: aborted\nn: error E7\nn: staged\nn: applied 3\n"
-    )?;
-    check_behind(
-        &rt,
-        rt.alloc(),
-        last_count,
-        LIMITS,
-        lines.as_str(),
-        expected.as_str(),
-    )?;
+    check_cases_at(&rt, heap, last, LIMITS, BEHIND_SIXTEEN, LAST_COUNT)?;
     Ok(())
 }
 
@@ -459,7 +543,7 @@ impl Read for PartReader<'_> {
 /// An allocation of this line is refused, in a world that was just opened; whether it was reached.
 fn refuse(rt: &impl Abort, heap: Global, at: u64, kind: LineKind) -> Result<bool, AllocError> {
     let memory = Refusing::new(heap, 0);
-    let mut world = opened_at(rt, &memory, heap, STARTS, LIMITS);
+    let mut world = opened_at(rt, &memory, heap, Starts::FIRST, LIMITS);
     let mut output = Vec::new(heap);
     let mut reader = PartReader {
         kind,

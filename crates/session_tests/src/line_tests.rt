@@ -1,6 +1,7 @@
 //! Scripts of all kinds of lines.
 use crate::fakes::{FIRST_POINT, FIRST_REPLIES};
-use crate::worlds::{ROADS, SQUARE, check, opened, serve_first};
+use crate::script_lines::{SEATED, check_cases};
+use crate::worlds::{opened, serve_first};
 use refusing::Refusing;
 use sessions::run_script;
 use std::alloc::{AllocError, Global};
@@ -8,97 +9,139 @@ use std::process::Abort;
 use std::test::Fail;
 use transactions::World;
 
-const LATE_DENIES: &str =
-    r#"{"root":{"combine":"deny-overrides","of":[{"combine":"permit-overrides","policy":"soft","rules":[{"effect":"deny","rule":"early"},{"effect":"permit","rule":"grant"}]},{"combine":"deny-overrides","policy":"hard","rules":[{"effect":"deny","rule":"late"}]}],"set":"top"}}"#;
+/// Policies, lists, refusals and rolls, behind three seats.
+const CASES: &str = r#"=== the first rule that decides is named
+> c: POLICY {"root":{"combine":"deny-overrides","of":[{"combine":"permit-overrides","policy":"soft","rules":[{"effect":"deny","rule":"early"},{"effect":"permit","rule":"grant"}]},{"combine":"deny-overrides","policy":"hard","rules":[{"effect":"deny","rule":"late"}]}],"set":"top"}}
+< c: edition 2
+> n: ADD 1 mast POINT (0 0)
+< n: staged
+> n: COMMIT
+< n: denied rule late change 1
+=== a list is applied as a whole or not at all
+> c: POLICY {"root":{"combine":"first-applicable","policy":"p","rules":[{"effect":"permit","rule":"roads","target":[[[{"class":"road"}]]]}]}}
+< c: edition 2
+> n: ADD 1 road POINT (1 1)
+< n: staged
+> n: ADD 2 parcel POINT (2 2)
+< n: staged
+> n: COMMIT
+< n: denied none change 2
+> n: SEARCH POLYGON ((0 0, 4 0, 4 4, 0 4, 0 0))
+< n: rows 0
+> n: ADD 5 road POINT (1 1)
+< n: staged
+> n: DELETE 5 1
+< n: error X5
+=== EXPLAIN, and who may change the policy
+> n: EXPLAIN read north mast POINT (0 0)
+< n: permit rule open edition 1
+> c: POLICY {"root":{"combine":"first-applicable","policy":"p","rules":[{"effect":"permit","rule":"roads","target":[[[{"class":"road"}]]]}]}}
+< c: edition 2
+> n: EXPLAIN add north parcel POINT (2 2)
+< n: denied none edition 2
+> n: POLICY {}
+< n: error D2
+> n: POLICY {"root":{"combine":"first-applicable","policy":"p","rules":[{"effect":"permit","rule":"roads","target":[[[{"class":"road"}]]]}]}}
+< n: error X7
+> n: EXPLAIN walk north mast POINT (0 0)
+< n: error E4
+> n: EXPLAIN read
+< n: error E2
+=== lines that are refused
+> x: SEARCH POINT (0 0)
+< x: error E5
+> x: HELLO nobody
+< x: error H1
+> n: FLY
+< n: error E2
+> n: COMMIT
+< n: error E7
+> n: ADD 1 mast
+< n: error K3
+> n: DELETE 9 1
+< n: staged
+> n: COMMIT
+< n: absent change 1
+> n: COMMIT
+< n: error E7
+> no label
+< ?: error E9
+> n: POLICY
+< n: error D1
+=== a reshape of a version that is no more
+> n: ADD 7 road POINT (0 0)
+< n: staged
+> n: COMMIT
+< n: applied 1
+> n: ADD 8 road POINT (9 9)
+< n: staged
+> n: COMMIT
+< n: applied 2
+> n: RESHAPE 7 1 POINT (1 0)
+< n: staged
+> n: COMMIT
+< n: applied 3
+> n: RESHAPE 7 3 POINT (5 5)
+< n: staged
+> s: RESHAPE 7 3 POINT (6 6)
+< s: staged
+> n: COMMIT
+< n: applied 4
+> s: COMMIT
+< s: stale 4 change 1
+> s: SEARCH POINT (5 5)
+< s: rows 1
+< s: 7 4 north road POINT (5 5)
+=== ABORT, and what drops a list
+> n: ADD 1 road POINT (0 0)
+< n: staged
+> n: ABORT
+< n: aborted
+> n: COMMIT
+< n: error E7
+> n: ABORT
+< n: aborted
+> n: ABORT x
+< n: error E2
+> n: ADD 1 road POINT (0 0)
+< n: staged
+> n: COMMIT
+< n: applied 1
+> n: DELETE 1 1
+< n: staged
+> n: COMMIT
+< n: applied 2
+> n: SEARCH POINT (0 0)
+< n: rows 0
+=== rolls, their lines letter by letter, and numbers that run on
+> n: ADD 1 mast POINT (4 4)
+< n: staged
+> n: COMMIT
+< n: applied 1
+> n: SEARCH POLYGON ((0 0, 4 0, 4 4, 0 4, 0 0))
+< n: rows 1
+< n: 1 1 north mast POINT (4 4)
+> n: ROLL
+< n: error X7
+> c: ROLL x
+< c: error E2
+> c: ROLL
+< c: rolled 2
+< c: {"changes":[{"class":"mast","id":1,"shape":"POINT (4 4)","what":"add"}],"kind":"applied","number":1,"seat":1,"subject":"north","version":1}
+< c: {"ids":[1],"kind":"answered","number":2,"seat":1,"subject":"north","window":"POLYGON ((0 0, 4 0, 4 4, 0 4, 0 0))"}
+> c: ROLL
+< c: rolled 0
+> n: SEARCH POLYGON ((0 0, 4 0, 4 4, 0 4, 0 0))
+< n: rows 1
+< n: 1 1 north mast POINT (4 4)
+> c: ROLL
+< c: rolled 1
+< c: {"ids":[1],"kind":"answered","number":3,"seat":1,"subject":"north","window":"POLYGON ((0 0, 4 0, 4 4, 0 4, 0 0))"}
+"#;
 
 #[test]
-fn first_deciding_rule(rt: HostRuntime) -> Result<(), Fail> {
-    let script = format!(in rt.alloc();
-        "c: POLICY {LATE_DENIES}\nn: ADD 1 mast POINT (0 0)\nn: COMMIT\n"
-    )?;
-    check(
-        &rt,
-        rt.alloc(),
-        script.as_str(),
-        "c: edition 2\nn: staged\nn: denied rule late change 1\n",
-    )?;
-    Ok(())
-}
-
-#[test]
-fn whole_or_nothing(rt: HostRuntime) -> Result<(), Fail> {
-    let script = format!(in rt.alloc();
-        "c: POLICY {ROADS}\nn: ADD 1 road POINT (1 1)\nn: ADD 2 parcel POINT (2 2)\nn: COMMIT\nn: SEARCH POLYGON ((0 0, 4 0, 4 4, 0 4, 0 0))\nn: ADD 5 road POINT (1 1)\nn: DELETE 5 1\n"
-    )?;
-    check(
-        &rt,
-        rt.alloc(),
-        script.as_str(),
-        "c: edition 2\nn: staged\nn: staged\nn: denied none change 2\nn: rows 0\nn: staged\nn: error X5\n",
-    )?;
-    Ok(())
-}
-
-#[test]
-fn explain(rt: HostRuntime) -> Result<(), Fail> {
-    let script = format!(in rt.alloc();
-        "n: EXPLAIN read north mast POINT (0 0)\nc: POLICY {ROADS}\nn: EXPLAIN add north parcel POINT (2 2)\nn: POLICY {{}}\nn: POLICY {ROADS}\nn: EXPLAIN walk north mast POINT (0 0)\nn: EXPLAIN read\n"
-    )?;
-    check(
-        &rt,
-        rt.alloc(),
-        script.as_str(),
-        "n: permit rule open edition 1\nc: edition 2\nn: denied none edition 2\nn: error D2\nn: error X7\nn: error E4\nn: error E2\n",
-    )?;
-    Ok(())
-}
-
-#[test]
-fn refused_lines(rt: HostRuntime) -> Result<(), Fail> {
-    check(
-        &rt,
-        rt.alloc(),
-        "x: SEARCH POINT (0 0)\nx: HELLO nobody\nn: FLY\nn: COMMIT\nn: ADD 1 mast\nn: DELETE 9 1\nn: COMMIT\nn: COMMIT\nno label\nn: POLICY\n",
-        "x: error E5\nx: error H1\nn: error E2\nn: error E7\nn: error K3\nn: staged\nn: absent change 1\nn: error E7\n?: error E9\nn: error D1\n",
-    )?;
-    Ok(())
-}
-
-#[test]
-fn stale_reshape(rt: HostRuntime) -> Result<(), Fail> {
-    check(
-        &rt,
-        rt.alloc(),
-        "n: ADD 7 road POINT (0 0)\nn: COMMIT\nn: ADD 8 road POINT (9 9)\nn: COMMIT\nn: RESHAPE 7 1 POINT (1 0)\nn: COMMIT\nn: RESHAPE 7 3 POINT (5 5)\ns: RESHAPE 7 3 POINT (6 6)\nn: COMMIT\ns: COMMIT\ns: SEARCH POINT (5 5)\n",
-        "n: staged\nn: applied 1\nn: staged\nn: applied 2\nn: staged\nn: applied 3\nn: staged\ns: staged\nn: applied 4\ns: stale 4 change 1\ns: rows 1\ns: 7 4 north road POINT (5 5)\n",
-    )?;
-    Ok(())
-}
-
-#[test]
-fn lists_are_dropped(rt: HostRuntime) -> Result<(), Fail> {
-    check(
-        &rt,
-        rt.alloc(),
-        "n: ADD 1 road POINT (0 0)\nn: ABORT\nn: COMMIT\nn: ABORT\nn: ABORT x\nn: ADD 1 road POINT (0 0)\nn: COMMIT\nn: DELETE 1 1\nn: COMMIT\nn: SEARCH POINT (0 0)\n",
-        "n: staged\nn: aborted\nn: error E7\nn: aborted\nn: error E2\nn: staged\nn: applied 1\nn: staged\nn: applied 2\nn: rows 0\n",
-    )?;
-    Ok(())
-}
-
-#[test]
-fn rolled_trails(rt: HostRuntime) -> Result<(), Fail> {
-    let script = format!(in rt.alloc();
-        "n: ADD 1 mast POINT (4 4)\nn: COMMIT\nn: SEARCH {SQUARE}\nn: ROLL\nc: ROLL x\nc: ROLL\nc: ROLL\nn: SEARCH {SQUARE}\nc: ROLL\n"
-    )?;
-    let rows = "n: rows 1\nn: 1 1 north mast POINT (4 4)\n";
-    let answered = format!(in rt.alloc();
-        "\"seat\":1,\"subject\":\"north\",\"window\":\"{SQUARE}\"}}\n"
-    )?;
-    let expected = format!(in rt.alloc();
-        "n: staged\nn: applied 1\n{rows}n: error X7\nc: error E2\nc: rolled 2\nc: {{\"changes\":[{{\"class\":\"mast\",\"id\":1,\"shape\":\"POINT (4 4)\",\"what\":\"add\"}}],\"kind\":\"applied\",\"number\":1,\"seat\":1,\"subject\":\"north\",\"version\":1}}\nc: {{\"ids\":[1],\"kind\":\"answered\",\"number\":2,{answered}c: rolled 0\n{rows}c: rolled 1\nc: {{\"ids\":[1],\"kind\":\"answered\",\"number\":3,{answered}"
-    )?;
-    check(&rt, rt.alloc(), script.as_str(), expected.as_str())?;
+fn behind_three_seats(rt: HostRuntime) -> Result<(), Fail> {
+    check_cases(&rt, rt.alloc(), SEATED, CASES)?;
     Ok(())
 }
 

@@ -1,65 +1,287 @@
 //! Worked scripts, lines and labels, and limits.
-use crate::fakes::{FIRST_POINT, FIRST_REPLIES, THREE_REPLIES, THREE_SHAPES};
-use crate::worlds::{SQUARE, run_first, serve_first};
+use crate::script_lines::{AT_ONCE, check_cases};
+use crate::worlds::{run_first, serve_first};
 use std::alloc::{AllocError, Global};
 use std::process::Abort;
 use std::test::Fail;
 
-/// Each of these scripts is answered so.
-fn check_all(rt: &impl Abort, alloc: Global, cases: &[(&str, &str)]) {
-    for (script, expected) in cases {
-        let ran = run_first(rt, alloc, script);
-        assert_eq!(rt; ran.output.as_slice(), expected.as_bytes(), "{script}");
-    }
-}
+/// The second is the lines of examples/three_shapes.map.
+const CASES: &str = r#"=== a point is added and found again
+> n: HELLO north
+< n: hello north
+> n: ADD 1 mast POINT (3 4)
+< n: staged
+> n: COMMIT
+< n: applied 1
+> n: SEARCH point(3 4)
+< n: rows 1
+< n: 1 1 north mast POINT (3 4)
+> n: SEARCH POINT (3 5)
+< n: rows 0
+=== two offices
+> # Two offices: one adds a list of three shapes, the other finds what its window touches.
+> n: HELLO north
+< n: hello north
+> n: ADD 1 mast POINT (4 4)
+< n: staged
+> n: ADD 2 road LINESTRING (6 2, -1 3)
+< n: staged
+> n: ADD 3 parcel POLYGON ((0 0, 0 4, 4 4, 4 2, 4 0, 0 0))
+< n: staged
+> n: COMMIT
+< n: applied 1
+> 
+> s: HELLO south
+< s: hello south
+> s: SEARCH POLYGON ((4 4, 9 4, 9 9, 4 9, 4 4))
+< s: rows 2
+< s: 1 1 north mast POINT (4 4)
+< s: 3 1 north parcel POLYGON ((0 0, 4 0, 4 4, 0 4, 0 0))
+> s: SEARCH LINESTRING (5 0, 5 9)
+< s: rows 1
+< s: 2 1 north road LINESTRING (-1 3, 6 2)
+> s: BYE
+< s: bye
+> n: BYE
+< n: bye
+=== a search without a session
+> x: SEARCH POINT (0 0)
+< x: error E5
+=== a subject that nobody knows
+> x: HELLO nobody
+< x: error H1
+=== lines that are refused
+> n: HELLO north
+< n: hello north
+> n: FLY
+< n: error E2
+> n: COMMIT
+< n: error E7
+> n: ADD 1 mast
+< n: error K3
+=== a line without a label
+> no label
+< ?: error E9
+=== a point is found once it is committed
+> n: HELLO north
+< n: hello north
+> n: SEARCH POINT (4 4)
+< n: rows 0
+> n: ADD 1 mast POINT (4 4)
+< n: staged
+> n: COMMIT
+< n: applied 1
+> n: SEARCH POINT (4 4)
+< n: rows 1
+< n: 1 1 north mast POINT (4 4)
+=== coordinates at their limits and beyond
+> n: HELLO north
+< n: hello north
+> n: ADD 1 mast POINT (10000001 0)
+< n: error K5
+> n: ADD 1 mast point(+3.00 -0)
+< n: staged
+> n: COMMIT
+< n: applied 1
+> n: SEARCH POINT (3 0)
+< n: rows 1
+< n: 1 1 north mast POINT (3 0)
+> n: SEARCH POINT (10000000 -10000000)
+< n: rows 0
+=== a window over nothing
+> n: HELLO north
+< n: hello north
+> n: SEARCH POLYGON ((0 0, 4 0, 4 4, 0 4, 0 0))
+< n: rows 0
+=== shapes of each kind, as windows and as features
+> n: HELLO north
+< n: hello north
+> n: ADD 1 mast POINT (4 4)
+< n: staged
+> n: COMMIT
+< n: applied 1
+> n: SEARCH POLYGON ((0 0, 4 0, 4 4, 0 4, 0 0))
+< n: rows 1
+< n: 1 1 north mast POINT (4 4)
+> n: ADD 2 road LINESTRING (6 2, -1 3)
+< n: staged
+> n: ADD 3 road LINESTRING (5 0, 9 9)
+< n: staged
+> n: ADD 4 parcel polygon((0 0,0 4,4 4,4 2,4 0,0 0))
+< n: staged
+> n: COMMIT
+< n: applied 2
+> n: SEARCH POLYGON ((0 0, 4 0, 4 4, 0 4, 0 0))
+< n: rows 3
+< n: 1 1 north mast POINT (4 4)
+< n: 2 2 north road LINESTRING (-1 3, 6 2)
+< n: 4 2 north parcel POLYGON ((0 0, 4 0, 4 4, 0 4, 0 0))
+> n: SEARCH LINESTRING (5 0, 5 9)
+< n: rows 2
+< n: 2 2 north road LINESTRING (-1 3, 6 2)
+< n: 3 2 north road LINESTRING (5 0, 9 9)
+> n: SEARCH POLYGON ((0 0, 1 1, 2 2, 0 0))
+< n: error P7
+> n: SEARCH POLYGON ((0 0, 6 4, -2 4, 4 0, 2 7, 0 0))
+< n: error P8
+=== no line
+=== a session that has not begun, and words behind a command
+> n: BYE x
+< n: error E2
+> n: COMMIT
+< n: error E5
+> n: COMMIT x
+< n: error E5
+> n: SEARCH x
+< n: error E5
+=== the order of faults of a line
+> n: HELLO chief
+< n: hello chief
+> n: ADD
+< n: error E2
+> n: ADD x
+< n: error E3
+> n: ADD 1
+< n: error E2
+> n: ADD 1 A POINT (0 0)
+< n: error E4
+> n: ADD 1 a POLYGON EMPTY
+< n: error K2
+> n: COMMIT x
+< n: error E2
+> n: OPEN POINT (0 0)
+< n: opened
+=== numbers and their signs
+> n: HELLO north
+< n: hello north
+> n: ADD 18446744073709551615 a POINT (0 0)
+< n: staged
+> n: ADD 18446744073709551616 a POINT (0 0)
+< n: error E3
+> n: ADD 000000000000000000000 a POINT (0 0)
+< n: error E3
+> n: ADD +1 a POINT (0 0)
+< n: error E3
+> n: ADD 00000000000000000007 a POINT (0 0)
+< n: staged
+=== a list is of its session
+> n: HELLO north
+< n: hello north
+> s: HELLO south
+< s: hello south
+> n: ADD 1 a POINT (0 0)
+< n: staged
+> s: COMMIT
+< s: error E7
+> s: ADD 1 b POINT (0 0)
+< s: staged
+> n: COMMIT
+< n: applied 1
+> s: COMMIT
+< s: exists change 1
+> s: COMMIT
+< s: error E7
+> n: COMMIT
+< n: error E7
+=== a later session of a label has none of the list of the one before
+> n: HELLO north
+< n: hello north
+> n: ADD 1 a POINT (0 0)
+< n: staged
+> n: BYE
+< n: bye
+> n: COMMIT
+< n: error E5
+> n: HELLO south
+< n: hello south
+> n: COMMIT
+< n: error E7
+=== of a list that is refused nothing is added
+> n: HELLO north
+< n: hello north
+> n: ADD 2 a POINT (0 0)
+< n: staged
+> n: COMMIT
+< n: applied 1
+> n: ADD 1 a POINT (0 0)
+< n: staged
+> n: ADD 2 a POINT (0 0)
+< n: staged
+> n: ADD 2 a POINT (1 1)
+< n: error X5
+> n: COMMIT
+< n: exists change 2
+> n: SEARCH POINT (0 0)
+< n: rows 1
+< n: 2 1 north a POINT (0 0)
+=== rows come by rising id
+> n: HELLO north
+< n: hello north
+> n: ADD 3 c POINT (0 0)
+< n: staged
+> n: ADD 1 a POINT (0 0)
+< n: staged
+> n: ADD 2 b POINT (1 0)
+< n: staged
+> n: COMMIT
+< n: applied 1
+> n: SEARCH POINT (0 0)
+< n: rows 2
+< n: 1 1 north a POINT (0 0)
+< n: 3 1 north c POINT (0 0)
+=== a list has 16 changes at most
+> n: HELLO north
+< n: hello north
+> n: ADD 0 a POINT (0 0)
+< n: staged
+> n: ADD 1 a POINT (0 0)
+< n: staged
+> n: ADD 2 a POINT (0 0)
+< n: staged
+> n: ADD 3 a POINT (0 0)
+< n: staged
+> n: ADD 4 a POINT (0 0)
+< n: staged
+> n: ADD 5 a POINT (0 0)
+< n: staged
+> n: ADD 6 a POINT (0 0)
+< n: staged
+> n: ADD 7 a POINT (0 0)
+< n: staged
+> n: ADD 8 a POINT (0 0)
+< n: staged
+> n: ADD 9 a POINT (0 0)
+< n: staged
+> n: ADD 10 a POINT (0 0)
+< n: staged
+> n: ADD 11 a POINT (0 0)
+< n: staged
+> n: ADD 12 a POINT (0 0)
+< n: staged
+> n: ADD 13 a POINT (0 0)
+< n: staged
+> n: ADD 14 a POINT (0 0)
+< n: staged
+> n: ADD 15 a POINT (0 0)
+< n: staged
+> n: ADD 16 a POINT (0 0)
+< n: error X6
+> n: COMMIT
+< n: applied 1
+> n: COMMIT
+< n: error E7
+"#;
 
 #[test]
-fn worked_scripts(rt: HostRuntime) {
-    let cases = [
-        (FIRST_POINT, FIRST_REPLIES),
-        (THREE_SHAPES, THREE_REPLIES),
-        ("x: SEARCH POINT (0 0)\n", "x: error E5\n"),
-        ("x: HELLO nobody\n", "x: error H1\n"),
-        (
-            "n: HELLO north\nn: FLY\nn: COMMIT\nn: ADD 1 mast\n",
-            "n: hello north\nn: error E2\nn: error E7\nn: error K3\n",
-        ),
-        ("no label\n", "?: error E9\n"),
-        (
-            "n: HELLO north\nn: SEARCH POINT (4 4)\nn: ADD 1 mast POINT (4 4)\nn: COMMIT\nn: SEARCH POINT (4 4)\n",
-            "n: hello north\nn: rows 0\nn: staged\nn: applied 1\nn: rows 1\nn: 1 1 north mast POINT (4 4)\n",
-        ),
-        (
-            "n: HELLO north\nn: ADD 1 mast POINT (10000001 0)\nn: ADD 1 mast point(+3.00 -0)\nn: COMMIT\nn: SEARCH POINT (3 0)\nn: SEARCH POINT (10000000 -10000000)\n",
-            "n: hello north\nn: error K5\nn: staged\nn: applied 1\nn: rows 1\nn: 1 1 north mast POINT (3 0)\nn: rows 0\n",
-        ),
-    ];
-    check_all(&rt, rt.alloc(), &cases);
-}
-
-#[test]
-fn shapes_of_every_kind(rt: HostRuntime) -> Result<(), Fail> {
-    let script = format!(in rt.alloc(); "n: HELLO north\nn: SEARCH {SQUARE}\n")?;
-    let ran = run_first(&rt, rt.alloc(), script.as_str());
-    assert_eq!(rt;
-        ran.output.as_slice(),
-        b"n: hello north\nn: rows 0\n".as_slice()
-    );
-    let script = format!(in rt.alloc();
-        "n: HELLO north\nn: ADD 1 mast POINT (4 4)\nn: COMMIT\nn: SEARCH {SQUARE}\nn: ADD 2 road LINESTRING (6 2, -1 3)\nn: ADD 3 road LINESTRING (5 0, 9 9)\nn: ADD 4 parcel polygon((0 0,0 4,4 4,4 2,4 0,0 0))\nn: COMMIT\nn: SEARCH {SQUARE}\nn: SEARCH LINESTRING (5 0, 5 9)\nn: SEARCH POLYGON ((0 0, 1 1, 2 2, 0 0))\nn: SEARCH POLYGON ((0 0, 6 4, -2 4, 4 0, 2 7, 0 0))\n"
-    )?;
-    let expected = format!(in rt.alloc();
-        "n: hello north\nn: staged\nn: applied 1\nn: rows 1\nn: 1 1 north mast POINT (4 4)\nn: staged\nn: staged\nn: staged\nn: applied 2\nn: rows 3\nn: 1 1 north mast POINT (4 4)\nn: 2 2 north road LINESTRING (-1 3, 6 2)\nn: 4 2 north parcel {SQUARE}\nn: rows 2\nn: 2 2 north road LINESTRING (-1 3, 6 2)\nn: 3 2 north road LINESTRING (5 0, 9 9)\nn: error P7\nn: error P8\n"
-    )?;
-    let ran = run_first(&rt, rt.alloc(), script.as_str());
-    assert_eq!(rt; ran.output.as_slice(), expected.as_bytes());
+fn worked_scripts(rt: HostRuntime) -> Result<(), Fail> {
+    check_cases(&rt, rt.alloc(), AT_ONCE, CASES)?;
     Ok(())
 }
 
+/// What a text of lines does not show: returns, tabs and blanks at their ends, and a last line without its end.
 #[test]
 fn lines_and_labels(rt: HostRuntime) {
     let cases = [
-        ("", ""),
         ("\n\r\n# a comment\n#\n", ""),
         (
             "n: HELLO north\r\nn:  BYE  \r\nn: BYE",
@@ -77,107 +299,65 @@ fn lines_and_labels(rt: HostRuntime) {
             "n:\nn: \nn: hello north\nn: HELLO\nn: HELLO North\nn: HELLO north x\nn: HELLO\tnorth\n",
             "n: error E2\nn: error E2\nn: error E2\nn: error E2\nn: error E4\nn: error E2\nn: error E2\n",
         ),
-        (
-            "n: BYE x\nn: COMMIT\nn: COMMIT x\nn: SEARCH x\n",
-            "n: error E2\nn: error E5\nn: error E5\nn: error E5\n",
-        ),
-        (
-            "n: HELLO chief\nn: ADD\nn: ADD x\nn: ADD 1\nn: ADD 1 A POINT (0 0)\nn: ADD 1 a POLYGON EMPTY\nn: COMMIT x\nn: OPEN POINT (0 0)\n",
-            "n: hello chief\nn: error E2\nn: error E3\nn: error E2\nn: error E4\nn: error K2\nn: error E2\nn: opened\n",
-        ),
-        (
-            "n: HELLO north\nn: ADD 18446744073709551615 a POINT (0 0)\nn: ADD 18446744073709551616 a POINT (0 0)\nn: ADD 000000000000000000000 a POINT (0 0)\nn: ADD +1 a POINT (0 0)\nn: ADD 00000000000000000007 a POINT (0 0)\n",
-            "n: hello north\nn: staged\nn: error E3\nn: error E3\nn: error E3\nn: staged\n",
-        ),
     ];
-    check_all(&rt, rt.alloc(), &cases);
-}
-
-#[test]
-fn staged_lists(rt: HostRuntime) {
-    let cases = [
-        // A list is of its session, and a later session of a label has none of it.
-        (
-            "n: HELLO north\ns: HELLO south\nn: ADD 1 a POINT (0 0)\ns: COMMIT\ns: ADD 1 b POINT (0 0)\nn: COMMIT\ns: COMMIT\ns: COMMIT\nn: COMMIT\n",
-            "n: hello north\ns: hello south\nn: staged\ns: error E7\ns: staged\nn: applied 1\ns: exists change 1\ns: error E7\nn: error E7\n",
-        ),
-        (
-            "n: HELLO north\nn: ADD 1 a POINT (0 0)\nn: BYE\nn: COMMIT\nn: HELLO south\nn: COMMIT\n",
-            "n: hello north\nn: staged\nn: bye\nn: error E5\nn: hello south\nn: error E7\n",
-        ),
-        // Of a list that is refused nothing is added.
-        (
-            "n: HELLO north\nn: ADD 2 a POINT (0 0)\nn: COMMIT\nn: ADD 1 a POINT (0 0)\nn: ADD 2 a POINT (0 0)\nn: ADD 2 a POINT (1 1)\nn: COMMIT\nn: SEARCH POINT (0 0)\n",
-            "n: hello north\nn: staged\nn: applied 1\nn: staged\nn: staged\nn: error X5\nn: exists change 2\nn: rows 1\nn: 2 1 north a POINT (0 0)\n",
-        ),
-        // Rows come by rising id.
-        (
-            "n: HELLO north\nn: ADD 3 c POINT (0 0)\nn: ADD 1 a POINT (0 0)\nn: ADD 2 b POINT (1 0)\nn: COMMIT\nn: SEARCH POINT (0 0)\n",
-            "n: hello north\nn: staged\nn: staged\nn: staged\nn: applied 1\nn: rows 2\nn: 1 1 north a POINT (0 0)\nn: 3 1 north c POINT (0 0)\n",
-        ),
-    ];
-    check_all(&rt, rt.alloc(), &cases);
-}
-
-/// A script of as many lines, each written by a function of its number.
-fn numbered<F: Fn(&mut String, u64) -> Result<(), AllocError>>(
-    alloc: Global,
-    count: u64,
-    line: F,
-) -> Result<String, AllocError>
-    requires { F.IsAlwaysCallable line }
-{
-    let mut script = String::new(alloc);
-    for number in 0..count {
-        line(&mut script, number)?;
+    for (script, expected) in cases {
+        let ran = run_first(&rt, rt.alloc(), script);
+        assert_eq!(rt; ran.output.as_slice(), expected.as_bytes(), "{script}");
     }
-    Ok(script)
+}
+
+/// A line for each of 66 labels.
+const LABELS: &str =
+    "s0: BYE\ns1: BYE\ns2: BYE\ns3: BYE\ns4: BYE\ns5: BYE\ns6: BYE\ns7: BYE\ns8: BYE\ns9: BYE\ns10: BYE\ns11: BYE\ns12: BYE\ns13: BYE\ns14: BYE\ns15: BYE\ns16: BYE\ns17: BYE\ns18: BYE\ns19: BYE\ns20: BYE\ns21: BYE\ns22: BYE\ns23: BYE\ns24: BYE\ns25: BYE\ns26: BYE\ns27: BYE\ns28: BYE\ns29: BYE\ns30: BYE\ns31: BYE\ns32: BYE\ns33: BYE\ns34: BYE\ns35: BYE\ns36: BYE\ns37: BYE\ns38: BYE\ns39: BYE\ns40: BYE\ns41: BYE\ns42: BYE\ns43: BYE\ns44: BYE\ns45: BYE\ns46: BYE\ns47: BYE\ns48: BYE\ns49: BYE\ns50: BYE\ns51: BYE\ns52: BYE\ns53: BYE\ns54: BYE\ns55: BYE\ns56: BYE\ns57: BYE\ns58: BYE\ns59: BYE\ns60: BYE\ns61: BYE\ns62: BYE\ns63: BYE\ns64: BYE\ns65: BYE\n";
+
+/// The replies to a script end so.
+fn check_end(rt: &impl Abort, alloc: Global, script: &str, end: &str) {
+    let ran = run_first(rt, alloc, script);
+    assert!(rt; ran.output.ends_with(end.as_bytes()), "{end}");
 }
 
 #[test]
 fn limits(rt: HostRuntime) -> Result<(), Fail> {
     // 64 labels have a session, and each further one is refused, also after a BYE.
-    let labels = numbered(
-        rt.alloc(),
-        66,
-        |script, number| write!(script, "s{number}: BYE\n"),
-    )?;
-    let ran = run_first(&rt, rt.alloc(), labels.as_str());
-    assert!(rt;
-        ran.output
-            .ends_with(b"s63: bye\n?: error E9\n?: error E9\n")
-    );
+    let end = "s63: bye\n?: error E9\n?: error E9\n";
+    check_end(&rt, rt.alloc(), LABELS, end);
     // 1,024 seats are given.
-    let seats = numbered(
-        rt.alloc(),
-        1_026,
-        |script, _| script.push_str("n: HELLO north\nn: BYE\n"),
-    )?;
-    let ran = run_first(&rt, rt.alloc(), seats.as_str());
-    assert!(rt;
-        ran.output.ends_with(b"n: hello north\nn: bye\nn: error H2\nn: bye\nn: error H2\nn: bye\n")
-    );
-    // A list has 16 changes at most.
-    let changes = numbered(
-        rt.alloc(),
-        17,
-        |script, number| write!(script, "n: ADD {number} a POINT (0 0)\n"),
-    )?;
-    let script = format!(in rt.alloc(); "n: HELLO north\n{changes}n: COMMIT\nn: COMMIT\n")?;
-    let ran = run_first(&rt, rt.alloc(), script.as_str());
-    assert!(rt;
-        ran.output
-            .ends_with(b"n: staged\nn: error X6\nn: applied 1\nn: error E7\n")
-    );
+    let seats = "n: HELLO north\nn: BYE\n".repeat(rt.alloc(), 1_026)?;
+    let end = "n: hello north\nn: bye\nn: error H2\nn: bye\nn: error H2\nn: bye\n";
+    check_end(&rt, rt.alloc(), seats.as_str(), end);
     Ok(())
 }
 
-/// A line of this length, without its end, that names no command.
-fn push_long_line(script: &mut String, len: usize) -> Result<(), AllocError> {
-    script.push_str("n: ")?;
-    for _ in 3..len {
-        script.push('X')?;
-    }
+/// A line of this length, that names no command, and what comes behind it.
+fn long_line(alloc: Global, len: usize, end: &str) -> Result<String, AllocError> {
+    let word = "X".repeat(alloc, len.saturating_sub("n: ".len()))?;
+    format!(in alloc; "n: {word}{end}")
+}
+
+/// A line of this length is answered so, and what comes behind it.
+fn check_long(
+    rt: &impl Abort,
+    alloc: Global,
+    len: usize,
+    end: &str,
+    expected: &str,
+) -> Result<(), AllocError> {
+    let script = long_line(alloc, len, end)?;
+    let ran = run_first(rt, alloc, script.as_str());
+    assert_eq!(rt; ran.output.as_slice(), expected.as_bytes(), "{len}");
+    Ok(())
+}
+
+/// A session by itself is answered so to a line of this length, and a BYE behind it.
+fn served_alone(
+    rt: &impl Abort,
+    alloc: Global,
+    len: usize,
+    expected: &str,
+) -> Result<(), AllocError> {
+    let lines = long_line(alloc, len, "\nBYE\n")?;
+    let ran = serve_first(rt, alloc, lines.as_str());
+    assert_eq!(rt; ran.output.as_slice(), expected.as_bytes(), "{len}");
     Ok(())
 }
 
@@ -191,28 +371,9 @@ fn long_lines(rt: HostRuntime) -> Result<(), Fail> {
         (65_536, "\r", "?: error E1\n"),
         (200_000, "", "?: error E1\n"),
     ] {
-        let mut script = String::new(rt.alloc());
-        push_long_line(&mut script, len)?;
-        script.push_str(end)?;
-        let ran = run_first(&rt, rt.alloc(), script.as_str());
-        assert_eq!(rt; ran.output.as_slice(), expected.as_bytes(), "{len}");
+        check_long(&rt, rt.alloc(), len, end, expected)?;
     }
     served_alone(&rt, rt.alloc(), 65_536, "error E2\nbye\n")?;
     served_alone(&rt, rt.alloc(), 65_537, "error E1\nbye\n")?;
-    Ok(())
-}
-
-/// A session by itself is answered so to a line of this length, and a BYE behind it.
-fn served_alone(
-    rt: &impl Abort,
-    alloc: Global,
-    len: usize,
-    expected: &str,
-) -> Result<(), AllocError> {
-    let mut text = String::new(alloc);
-    push_long_line(&mut text, len)?;
-    text.push_str("\nBYE\n")?;
-    let ran = serve_first(rt, alloc, text.as_str());
-    assert_eq!(rt; ran.output.as_slice(), expected.as_bytes(), "{len}");
     Ok(())
 }

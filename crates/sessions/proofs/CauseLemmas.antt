@@ -28,11 +28,12 @@ use Rattle.tree_answers.specs.declared.fault.TreeFault.TheVariants as tree
 use Rattle.transactions.specs.Index.{Index, IndexedWorld}
 use Rattle.transactions.specs.Stepping.{EndsInIndex, VisitsIndex}
 use Rattle.transactions.specs.Walks.{JourneyData, begun as with_place, ended, if_done}
-use Rattle.sessions.specs.declared.faults.Fault.TheVariants.{BeforeHello}
-use Rattle.sessions.specs.declared.replies.Reply.TheVariants.{Error}
+use Rattle.session_lines.specs.declared.faults.Fault.TheVariants.{BeforeHello}
+use Rattle.session_lines.specs.declared.replies.Reply.TheVariants.{Error}
 use Rattle.sessions.specs.Causes.{AdvancesIn, Causes, CommitsIn, ConcludesIn, IsOwn, LetsGo, SearchesIn, SeeksIn, StayBeside, WalksMore}
-use Rattle.sessions.specs.Replies.{SaidData, line, outcome_reply, rows, told}
-use Rattle.sessions.specs.Services.{Commit as CommitList, Commits, Search as SearchFor, Searches, Serves}
+use Rattle.session_lines.specs.Replies.{SaidData, line, outcome_reply, rows, told}
+use Rattle.session_lines.specs.Services.{Commit as CommitList, Search as SearchFor}
+use Rattle.sessions.specs.Services.{Commits, Searches, Serves}
 use Rattle.sessions.specs.States.{SoloState, WhereAtRest, IsAtRest, begun}
 use Rattle.sessions.specs.Stepping.{SeesMore}
 use Rattle.sessions.proofs.SearchLemmas.{want_is}

@@ -4,20 +4,20 @@ use Rattle.std.proofs.Common.{◌≡◌, ℕ, Bool, true, false, List, [], Optio
 use Rattle.std.specs.Bool.{MatchBool}
 use Rattle.features.specs.declared.actors.Subject.{Subject}
 use Rattle.features.specs.declared.rows.Change.{Change}
-use Rattle.sessions.specs.declared.faults.Fault.TheVariants.{LineTooLong}
-use Rattle.sessions.specs.declared.replies.Reply.TheVariants.{Error}
-use Rattle.sessions.specs.declared.streams.ServeFault.{ServeFault}
-use Rattle.sessions.specs.Desks.{Answers}
-use Rattle.sessions.specs.Lines.{is_too_long}
-use Rattle.sessions.specs.Printed.{led, reply_text}
-use Rattle.sessions.specs.Replies.{SaidData}
-use Rattle.sessions.specs.Services.{Call, Serves, solo_subject}
-use Rattle.sessions.specs.Serving.{Calls, LineTells, Replies}
-use Rattle.sessions.specs.States.{Desk, IsIdle, SoloState, desk}
-use Rattle.sessions.specs.Streams.{Ran}
-use Rattle.sessions.proofs.DeskLemmas.{line_keeps, line_seen}
-use Rattle.sessions.proofs.KeepLemmas.{StaysIdle, call_idle, calls_keep}
-use Rattle.sessions.proofs.StreamLemmas.{ran_as}
+use Rattle.line_streams.specs.declared.streams.ServeFault.{ServeFault}
+use Rattle.session_lines.specs.Desks.{Answers, Desk, desk}
+use Rattle.line_streams.specs.Lines.{is_too_long}
+use Rattle.session_lines.specs.Replies.{SaidData}
+use Rattle.session_lines.specs.Services.{Call}
+use Rattle.sessions.specs.Services.{Serves, solo_subject}
+use Rattle.session_lines.specs.Serving.{Calls, IsPassedOver, LineTells, Replies}
+use Rattle.sessions.specs.States.{IsIdle, SoloState}
+use Rattle.line_streams.specs.Streams.{Ran}
+use Rattle.line_streams.specs.declared.streams.Next.{Next}
+use Rattle.session_lines.proofs.DeskLemmas.{line_keeps, line_seen}
+use Rattle.sessions.proofs.KeepLemmas.{StaysIdle, call_idle}
+use Rattle.session_lines.proofs.ServingLemmas.{calls_keep}
+use Rattle.line_streams.proofs.StreamLemmas.{ran_as}
 
 -- a service that is seen as another, and keeps its name at each call
 module _ {S T N : Type 0} (see : S → T) (name : S → N) (subject_of : T → Option Subject) (lent : Call → S → S → SaidData → Type 0) (shown : Call → T → T → SaidData → Type 0)
@@ -43,15 +43,15 @@ module _ {S T N : Type 0} (see : S → T) (name : S → N) (subject_of : T → O
   abbrev seen : Desk S → Desk T
   seen d = desk d.staged (see d.service)
 
-  line_told : (text : List ℕ) (old new : Desk S) (said : List ℕ) → LineTells asks lent text old new said → LineTells subject_of shown text (seen old) (seen new) said
-  line_told text old new said h = go (is_too_long text) h
+  line_told : (text : List ℕ) (old new : Desk S) (said : List ℕ) (next : Next) → LineTells asks lent text old new said next → LineTells subject_of shown text (seen old) (seen new) said next
+  line_told text old new said next h = go (is_too_long text) h
     where
-      go : (b : Bool) → MatchBool b ((new ≡ old) × (said ≡ led [] (reply_text (Error LineTooLong)))) (Replies asks lent text old new said)
-          → MatchBool b ((seen new ≡ seen old) × (said ≡ led [] (reply_text (Error LineTooLong)))) (Replies subject_of shown text (seen old) (seen new) said)
-      go true h = (ap seen h.0, h.1)
-      go false h = record { reply = h.reply; answers = line_seen see subject_of lent shown shows text old new h.reply h.answers; shows = h.shows }
+      go : (b : Bool) → MatchBool b (IsPassedOver old new said next) (Replies asks lent text old new said next)
+          → MatchBool b (IsPassedOver (seen old) (seen new) said next) (Replies subject_of shown text (seen old) (seen new) said next)
+      go true h = (ap seen h.0, h.1, h.2)
+      go false h = record { reply = h.reply; answers = line_seen see subject_of lent shown shows text old new h.reply h.answers; shows = h.shows; ends = h.ends }
 
-  run_seen : (r : Result (Unit {0}) ServeFault) (old new : Desk S) (input left a b : Option (List ℕ)) → Ran (LineTells asks lent) r old new input left a b
+  run_seen : {O : Type 0} (r : Result O ServeFault) (old new : Desk S) (input left a b : Option (List ℕ)) → Ran (LineTells asks lent) r old new input left a b
       → Ran (LineTells subject_of shown) r (seen old) (seen new) input left a b
   run_seen r old new input left a b run = ran_as seen (LineTells asks lent) (LineTells subject_of shown) line_told r old new input left a b run
 
@@ -59,7 +59,7 @@ module _ {S T N : Type 0} (see : S → T) (name : S → N) (subject_of : T → O
   calls_name calls old new h = calls_keep asks lent (λ (a b : S). name b ≡ name a) (λ s. refl) (λ a b c first more. more ∙ first) named calls old new h
 
   -- a run, where the world ends as the loan leaves it
-  pub run_shown : (r : Result (Unit {0}) ServeFault) (old new : S) (staged : List Change) (begins ends : T) (input left a b : Option (List ℕ))
+  pub run_shown : {O : Type 0} (r : Result O ServeFault) (old new : S) (staged : List Change) (begins ends : T) (input left a b : Option (List ℕ))
       → ((calls : List (Call × SaidData)) × Calls lent calls old new) → see old ≡ begins → (name new ≡ name old → see new ≡ ends)
       → Ran (LineTells asks lent) r (desk [] old) (desk staged new) input left a b
       → Ran (LineTells subject_of shown) r (desk [] begins) (desk staged ends) input left a b

@@ -2,14 +2,10 @@ pub mod SearchLemmas
 pub mod CommitLemmas
 pub mod PolicyLemmas
 pub mod RollLemmas
-pub mod DeskLemmas
 pub mod StepLemmas
 pub mod KeepLemmas
 pub mod CauseLemmas
 pub mod HeldLemmas
 pub mod LineLemmas
-pub mod WritingLemmas
 pub mod ScriptLemmas
 pub mod LentLemmas
-pub mod LeavingLemmas
-pub mod StreamLemmas

@@ -19,29 +19,32 @@ use Rattle.plain_world.specs.Events.{OpenSearch, VisitNext, DropSearch, Happens,
 use Rattle.plain_world.specs.States.{WorldData}
 use Rattle.plain_world.proofs.RefusalLemmas.{leaves}
 use Rattle.plain_world.proofs.RunLemmas.{given_ok}
-use Rattle.sessions.specs.declared.faults.Fault.{Fault}
-use Rattle.sessions.specs.declared.faults.Fault.TheVariants.{BeforeHello, LineTooLong, NoLabel}
-use Rattle.sessions.specs.declared.replies.Reply.{Reply}
-use Rattle.sessions.specs.declared.replies.Reply.TheVariants.{Error}
+use Rattle.session_lines.specs.declared.faults.Fault.{Fault}
+use Rattle.session_lines.specs.declared.faults.Fault.TheVariants.{BeforeHello, LineTooLong, NoLabel}
+use Rattle.session_lines.specs.declared.replies.Reply.{Reply}
+use Rattle.session_lines.specs.declared.replies.Reply.TheVariants.{Error}
 use Rattle.sessions.specs.declared.scripts.TheConstants.{LABEL_LIMIT}
 use Rattle.sessions.specs.declared.stepping.StepCommand.{StepCommand}
 use Rattle.sessions.specs.declared.stepping.StepCommand.TheVariants as commands
 use Rattle.sessions.specs.declared.stepping.StepVerb.{StepVerb}
 use Rattle.sessions.specs.declared.stepping.StepVerb.TheVariants as verbs
-use Rattle.sessions.specs.Commands.{◌>>=◌, end_at, shape_at}
-use Rattle.sessions.specs.declared.streams.ServeFault.{ServeFault}
-use Rattle.sessions.specs.Lines.{is_too_long}
-use Rattle.sessions.specs.Printed.{led, reply_text}
-use Rattle.sessions.specs.Replies.{SaidData}
+use Rattle.session_lines.specs.Commands.{◌>>=◌, end_at, shape_at}
+use Rattle.line_streams.specs.declared.streams.ServeFault.{ServeFault}
+use Rattle.line_streams.specs.Lines.{is_too_long}
+use Rattle.session_lines.specs.Printed.{led, reply_text}
+use Rattle.session_lines.specs.Replies.{SaidData}
 use Rattle.sessions.specs.Scripts.{Script, Ends, IsRefused, LabelTells, LineTells, ObeysStep, OnlyTells, Opens, SessionAnswers, SessionTells, Steps, TakesPlain, TakesStep, desk_of, fresh, is_skipped, keeps_seat, parts_of, place, script, with_label}
 use Rattle.sessions.specs.Services.{Serves, is_overrun, solo_subject}
-use Rattle.sessions.specs.Serving.{LineTells as AloneTells, Replies}
-use Rattle.sessions.specs.States.{Desk, IsAtRest, IsIdle, SessionState, SoloState, desk, solo}
+use Rattle.session_lines.specs.Serving.{IsPassedOver, LineTells as AloneTells, Replies}
+use Rattle.session_lines.specs.Desks.{Desk, desk}
+use Rattle.sessions.specs.States.{IsAtRest, IsIdle, SessionState, SoloState, solo}
 use Rattle.sessions.specs.Stepping.{AllDrop, Drops, FindsMore, Finishes, GoesOn, Seeks, count_at, finished_as, left_open, opened_as, step_command_at, step_verb_at, stepped_as}
-use Rattle.sessions.specs.Streams.{Ran}
-use Rattle.sessions.proofs.DeskLemmas.{line_keeps}
+use Rattle.line_streams.specs.Streams.{NeverEnds, Ran}
+use Rattle.line_streams.specs.declared.streams.Next.{Next}
+use Rattle.session_lines.proofs.DeskLemmas.{line_keeps}
 use Rattle.sessions.proofs.HeldLemmas.{AllStay, AreGone, AreHeld, Goes, all_dropped, all_stay, drop_goes, drop_gone, drop_rests, drops_goes, drops_gone, drops_rest, event_rests, finish_goes, finish_gone, finish_rests, goes_same, goes_then, gone_stay, held_more, held_push, held_pushed, held_set, overrun_gone, set_has, visit_goes, visit_rests}
-use Rattle.sessions.proofs.KeepLemmas.{Rests, call_rests, idle_rests, rests_none, run_keeps}
+use Rattle.sessions.proofs.KeepLemmas.{Rests, call_rests, idle_rests, rests_none}
+use Rattle.line_streams.proofs.StreamLemmas.{run_keeps}
 use Rattle.sessions.proofs.SearchLemmas.{opened}
 use Rattle.sessions.proofs.StepLemmas.{finds_same}
 
@@ -328,10 +331,10 @@ line_rests =
     (λ label text old new said h. (session_moves text (slice_index_or (with_label label old.sessions) (place label old.sessions) (fresh label)) h.session old.world new.world h.reply h.answers).rests)
 
 -- so it is after a line of a session by itself
-pub alone_rests : (text : List ℕ) (old new : Desk SoloState) (said : List ℕ) → AloneTells solo_subject Serves text old new said → IsAtRest old.service.world → IsAtRest new.service.world
-alone_rests text old new said h still = go (is_too_long text) h
+pub alone_rests : (text : List ℕ) (old new : Desk SoloState) (said : List ℕ) (next : Next) → AloneTells solo_subject Serves text old new said next → IsAtRest old.service.world → IsAtRest new.service.world
+alone_rests text old new said next h still = go (is_too_long text) h
   where
-    go : (b : Bool) → MatchBool b ((new ≡ old) × (said ≡ led [] (reply_text (Error LineTooLong)))) (Replies solo_subject Serves text old new said) → IsAtRest new.service.world
+    go : (b : Bool) → MatchBool b (IsPassedOver old new said next) (Replies solo_subject Serves text old new said next) → IsAtRest new.service.world
     go true d = subst (λ (d : Desk SoloState). IsAtRest d.service.world) (sym d.0) still
     go false d =
         (line_keeps solo_subject Serves (λ a b. Rests a.world b.world) (λ s. rests_none s.world) call_rests text old new d.reply d.answers still).0
@@ -378,10 +381,10 @@ line_kept : (text : List ℕ) (old new : Script) (said : List ℕ) → LineTells
 line_kept = line_by (λ old new. IsKept old → IsKept new) (λ s kept. kept) session_kept
 
 -- nothing is under way after a run, where nothing was before it
-pub run_idle : (r : Result (Unit {0}) ServeFault) (world last end : WorldData) (sessions : List SessionState) (input left a b : Option (List ℕ))
-    → Ran LineTells r (script world []) (script last sessions) input left a b → AllDrop sessions last end → IsIdle world → IsIdle end
+pub run_idle : {T : Type 0} (r : Result T ServeFault) (world last end : WorldData) (sessions : List SessionState) (input left a b : Option (List ℕ))
+    → Ran (NeverEnds LineTells) r (script world []) (script last sessions) input left a b → AllDrop sessions last end → IsIdle world → IsIdle end
 run_idle r world last end sessions input left a b run drops idle =
-    let kept = run_keeps LineTells (λ old new. IsKept old → IsKept new) (λ s kept. kept) (λ x y z first more kept. more (first kept)) line_kept r (script world []) (script last sessions) input left a b run
+    let kept = run_keeps (NeverEnds LineTells) (λ old new. IsKept old → IsKept new) (λ s kept. kept) (λ x y z first more kept. more (first kept)) (λ text x y said next h. line_kept text x y said h.0) r (script world []) (script last sessions) input left a b run
     (record { rests = idle_rests world idle; held = subst (λ (ss : List Search). AreHeld world.seats [] ss) (sym idle.searches) tt }) in
     let ends = all_dropped sessions last end drops kept.rests kept.held in
     record { searches = ends.1; transactions = ends.0.transactions }

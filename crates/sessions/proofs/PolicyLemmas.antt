@@ -4,7 +4,7 @@ use Rattle.std.specs.Bool.{MatchBool}
 use Rattle.features.specs.declared.actors.Subject.{Subject}
 use Rattle.features.specs.declared.rows.Change.{Change}
 use Rattle.policy_text.specs.Bytes.{document_of_bytes}
-use Rattle.policy_text.specs.Documents.{DocumentData}
+use Rattle.policy_documents.specs.Documents.{DocumentData}
 use Rattle.policy_text.specs.Reading.{Fails}
 use Rattle.policy_text.specs.declared.faults.TextFault.{TextFault}
 use Rattle.policy_text.specs.declared.faults.TextFault.TheVariants as unread
@@ -14,10 +14,10 @@ use Rattle.tree_answers.specs.declared.fault.TreeFault.TheVariants as tree
 use Rattle.plain_world.specs.Admitting.{may_govern, may_roll, may_sit}
 use Rattle.plain_world.specs.Events.{TakeSeat, Govern as GovernEvent, Roll, Tend, Tended, Happens, If, Reply as EventReply, Number, Refused, UnlessMemory, Governs as PutsInForce, Rolls, is_memory}
 use Rattle.plain_world.specs.States.{WorldData}
-use Rattle.sessions.specs.Desks.{Governs, OnlySays}
-use Rattle.sessions.specs.Replies.{SaidData, line, policy_reply}
-use Rattle.sessions.specs.Services.{Call, Govern}
-use Rattle.sessions.specs.States.{IsAtRest, desk}
+use Rattle.session_lines.specs.Desks.{Governs, OnlySays, desk}
+use Rattle.session_lines.specs.Replies.{SaidData, line, policy_reply}
+use Rattle.session_lines.specs.Services.{Call, Govern}
+use Rattle.sessions.specs.States.{IsAtRest}
 
 -- a seat leaves what is under way as it was
 pub seat_rests : (name : List ℕ) (old new : WorldData) (reply : EventReply) → Happens (TakeSeat name) old new reply → IsAtRest old → IsAtRest new

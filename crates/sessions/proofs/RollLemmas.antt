@@ -3,10 +3,11 @@ use Rattle.std.proofs.Common.{◌≡◌, ℕ, Option, Some, Result, MatchOption,
 use Rattle.plain_world.specs.declared.faults.Fault.{Fault}
 use Rattle.plain_world.specs.Events.{Happens, Roll as RollEvent, TakenOut, reply_of}
 use Rattle.plain_world.specs.Rolls.{RolledData}
-use Rattle.sessions.specs.declared.faults.Fault.TheVariants.{BeforeHello}
-use Rattle.sessions.specs.declared.replies.Reply.TheVariants.{Error}
-use Rattle.sessions.specs.Replies.{SaidData, line, rolled, told}
-use Rattle.sessions.specs.Services.{Roll, Serves}
+use Rattle.session_lines.specs.declared.faults.Fault.TheVariants.{BeforeHello}
+use Rattle.session_lines.specs.declared.replies.Reply.TheVariants.{Error}
+use Rattle.session_lines.specs.Replies.{SaidData, line, rolled, told}
+use Rattle.session_lines.specs.Services.{Roll}
+use Rattle.sessions.specs.Services.{Serves}
 use Rattle.sessions.specs.States.{SoloState}
 
 -- a trail that is taken out, and shown

@@ -1,27 +1,23 @@
 -- Lines of a script, one at a time.
-use Rattle.std.proofs.Common.{◌≡◌, ℕ, zero, suc, ◌+◌, ◌<◌, ◌++◌, List, [], ◌∷◌, length, take, Option, None, Some, Result, Ok, Err, OnOk, IfErr, slice_set, slice_index_or, refl, ap, subst, ◌∙◌, append-nil, arith}
+use Rattle.std.proofs.Common.{◌≡◌, ℕ, zero, suc, ◌+◌, ◌<◌, ◌++◌, List, [], ◌∷◌, length, take, Option, None, Some, Result, Ok, Err, OnOk, IfErr, slice_set, slice_index_or, refl, ap, subst, ◌∙◌, arith}
 use Rattle.std.specs.Io.KnownBytes.{Appends}
 use Rattle.std.specs.Option.{IfSome}
 use Rattle.std.proofs.lemmas.Bool.{lt-ltb}
 use Rattle.sessions.specs.declared.scripts.TheConstants.{LABEL_LIMIT}
-use Rattle.sessions.specs.Printed.{said_text}
-use Rattle.sessions.specs.Replies.{SaidData}
+use Rattle.session_lines.specs.Printed.{said_text}
+use Rattle.session_lines.specs.Replies.{SaidData}
 use Rattle.plain_world.specs.States.{WorldData}
 use Rattle.transactions.specs.Index.{IndexedWorld}
 use Rattle.sessions.specs.Indexed.{IndexedScript, LabelThere, LineRuns, SessionThere}
 use Rattle.sessions.specs.Scripts.{SessionAnswers, fresh, script, place, with_label, IsScriptText, LabelTells, LineTells}
-use Rattle.sessions.specs.Serving as serving
-use Rattle.sessions.specs.Serving.{IsServedText}
-use Rattle.sessions.specs.Services.{Call}
-use Rattle.sessions.specs.States.{SessionState, desk}
-use Rattle.features.specs.declared.actors.Subject.{Subject}
-use Rattle.features.specs.declared.rows.Change.{Change}
+use Rattle.sessions.specs.States.{SessionState}
 use Rattle.sessions.specs.Stepping.{AllDrop, AllEnd}
 use Rattle.byte_streams.specs.Written.{Took}
-use Rattle.sessions.specs.Streams.{OnMemory, Ran}
-use Rattle.sessions.specs.declared.streams.ServeFault.{ServeFault}
-use Rattle.sessions.specs.declared.streams.ServeFault.TheVariants.{Memory}
-use Rattle.sessions.proofs.StreamLemmas.{ran_as}
+use Rattle.line_streams.specs.Streams.{NeverEnds, OnMemory, Ran}
+use Rattle.line_streams.specs.declared.streams.Next.{Next}
+use Rattle.line_streams.specs.declared.streams.ServeFault.{ServeFault}
+use Rattle.line_streams.specs.declared.streams.ServeFault.TheVariants.{Memory}
+use Rattle.line_streams.proofs.StreamLemmas.{lines_told, ran_as}
 
 -- what a session answered and wrote is what its label's line tells
 pub label_told : {E : Type 0} (r : Result (Unit {0}) E) (label text : List ℕ) (old : IndexedScript) (world : IndexedWorld) (sessions : List SessionState) (reply : SaidData) (a b : Option (List ℕ))
@@ -39,19 +35,19 @@ label_told r label text old world sessions reply a b room answered written = (
 )
 
 -- a run over a world with its index, as the script text has it
-pub ran_plainly : (r : Result (Unit {0}) ServeFault) (old new : IndexedScript) (input left a b : Option (List ℕ)) → Ran LineRuns r old new input left a b
-    → Ran LineTells r (script old.world.plain old.sessions) (script new.world.plain new.sessions) input left a b
-ran_plainly r old new input left a b run = ran_as (λ (s : IndexedScript). script s.world.plain s.sessions) LineRuns LineTells (λ line x y said h. h.0) r old new input left a b run
+pub ran_plainly : {T : Type 0} (r : Result T ServeFault) (old new : IndexedScript) (input left a b : Option (List ℕ)) → Ran (NeverEnds LineRuns) r old new input left a b
+    → Ran (NeverEnds LineTells) r (script old.world.plain old.sessions) (script new.world.plain new.sessions) input left a b
+ran_plainly r old new input left a b run = ran_as (λ (s : IndexedScript). script s.world.plain s.sessions) (NeverEnds LineRuns) (NeverEnds LineTells) (λ line x y said next h. (h.0.0, h.1)) r old new input left a b run
 
 -- a run that ended well has written the script text of all its known input
-pub script_text_of : (r : Result (Unit {0}) ServeFault) (world last end : WorldData) (sessions : List SessionState) (input left a b : Option (List ℕ)) → Ran LineTells r (script world []) (script last sessions) input left a b
+pub script_text_of : {T : Type 0} (r : Result T ServeFault) (world last end : WorldData) (sessions : List SessionState) (input left a b : Option (List ℕ)) → Ran (NeverEnds LineTells) r (script world []) (script last sessions) input left a b
     → AllDrop sessions last end → OnOk r (IfSome input (λ text. (said : List ℕ) × Appends a b said × IsScriptText world text end said))
 script_text_of (Err e) world last end sessions input left a b run drops = tt
-script_text_of (Ok u) world last end sessions None left a b run drops = tt
-script_text_of (Ok u) world last end sessions (Some text) None a b run drops = absurd run.read
-script_text_of (Ok u) world last end sessions (Some text) (Some rest) a b run drops =
-    let whole : text ≡ run.text = run.read ∙ ap (λ (xs : List ℕ). run.text ++ xs) run.at_end ∙ append-nil run.text in
-    (run.answered.said, run.answered.written, record { sessions = sessions; last = last; tells = rw whole run.answered.told; drops = drops })
+script_text_of (Ok done) world last end sessions None left a b run drops = tt
+script_text_of {T = T} (Ok done) world last end sessions (Some text) left a b run drops =
+    let ended : Result T ServeFault = Ok done in
+    let told = lines_told LineTells ended (script world []) (script last sessions) (Some text) left a b run in
+    (told.0, told.1, record { sessions = sessions; last = last; tells = told.2; drops = drops })
 
 -- what comes of the sessions' open searches, one after another
 module _ {W : Type 0} (Ends : Option ℕ → Option ℕ → W → W → Type 0) where
@@ -74,20 +70,9 @@ module _ {W : Type 0} (Ends : Option ℕ → Option ℕ → W → W → Type 0) 
       subst (λ (n : ℕ). AllEnd Ends (take n xs) w new) next (ends_next xs i x w mid new lt e h d)
 
 -- a run that found no memory for its buffers has no sessions, and so gives up nothing
-pub untouched_so : {W D : Type 0} (sessions : D → List SessionState) (tells : List ℕ → W × D → W × D → List ℕ → Type 0) (r : Result (Unit {0}) ServeFault) (old new : W × D) (end : W) (input left a b : Option (List ℕ)) (P Q : Type 0)
+pub untouched_so : {W D T : Type 0} (sessions : D → List SessionState) (tells : List ℕ → W × D → W × D → List ℕ → Next → Type 0) (r : Result T ServeFault) (old new : W × D) (end : W) (input left a b : Option (List ℕ)) (P Q : Type 0)
     → Ran tells r old new input left a b → sessions old.1 ≡ [] → (sessions new.1 ≡ [] → end ≡ new.0) → IfErr r (λ fault. OnMemory fault (P × Q)) → IfErr r (λ fault. OnMemory fault ((end ≡ old.0) × P × Q))
 untouched_so sessions tells (Err (Memory refused)) old new end input left a b P Q run none same rest =
     let kept : sessions new.1 ≡ [] = ap (λ s. sessions s.1) run.0 ∙ none in
     (same kept ∙ ap (λ s. s.0) run.0, rest.0, rest.1)
 untouched_so sessions tells _ old new end input left a b P Q run none same rest = tt
-
--- the same of a session by itself
-module _ {S : Type 0} (subject_of : S → Option Subject) (serves : Call → S → S → SaidData → Type 0) where
-  pub served_text_of : (r : Result (Unit {0}) ServeFault) (service end : S) (staged : List Change) (input left a b : Option (List ℕ)) → Ran (serving.LineTells subject_of serves) r (desk [] service) (desk staged end) input left a b
-      → OnOk r (IfSome input (λ text. (said : List ℕ) × Appends a b said × IsServedText subject_of serves service text end said))
-  served_text_of (Err e) service end staged input left a b run = tt
-  served_text_of (Ok u) service end staged None left a b run = tt
-  served_text_of (Ok u) service end staged (Some text) None a b run = absurd run.read
-  served_text_of (Ok u) service end staged (Some text) (Some rest) a b run =
-      let whole : text ≡ run.text = run.read ∙ ap (λ (xs : List ℕ). run.text ++ xs) run.at_end ∙ append-nil run.text in
-      (run.answered.said, run.answered.written, record { staged = staged; tells = rw whole run.answered.told })

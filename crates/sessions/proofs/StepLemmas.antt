@@ -8,11 +8,11 @@ use Rattle.tree_answers.specs.declared.answers.Visit.TheVariants as visits
 use Rattle.plain_world.specs.Admitting.{may_go_on}
 use Rattle.plain_world.specs.Events.{VisitNext, Happens, Visited, Refused}
 use Rattle.plain_world.specs.States.{WorldData}
-use Rattle.sessions.specs.Desks.{Answers}
-use Rattle.sessions.specs.Replies.{SaidData}
+use Rattle.session_lines.specs.Desks.{Answers, desk}
+use Rattle.session_lines.specs.Replies.{SaidData}
 use Rattle.sessions.specs.Scripts.{TakesPlain, desk_of, keeps_seat}
 use Rattle.sessions.specs.Services.{Serves, solo_subject}
-use Rattle.sessions.specs.States.{SessionState, desk, solo}
+use Rattle.sessions.specs.States.{SessionState, solo}
 use Rattle.sessions.specs.Stepping.{Drops, FindsMore, GoesOn, SeesMore, VisitsOn}
 use Rattle.sessions.proofs.SearchLemmas.{more_same}
 use Rattle.sessions.specs.Indexed.{ServesThere, Shuts, TakesThere, asks_for, server}

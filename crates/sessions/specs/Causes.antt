@@ -22,8 +22,8 @@ use Rattle.transactions.specs.Index.{Index, IndexedWorld, frames}
 use Rattle.transactions.specs.Stepping.{EndsInIndex, VisitsIndex}
 use Rattle.transactions.specs.Walking.{WalksOn}
 use Rattle.transactions.specs.Walks.{JourneyData, begun as with_place, ended}
-use Rattle.sessions.specs.Replies.{SaidData, line, outcome_reply, rows, told}
-use Rattle.sessions.specs.Services.{Call, Hello, Search, Commit, Govern, Explain, Roll, Leave}
+use Rattle.session_lines.specs.Replies.{SaidData, line, outcome_reply, rows, told}
+use Rattle.session_lines.specs.Services.{Call, Hello, Search, Commit, Govern, Explain, Roll, Leave}
 use Rattle.sessions.specs.States.{IsAtRest, begun}
 use Rattle.sessions.specs.Stepping.{SeesMore}
 use Rattle.sessions.specs.UnderWay.{under}

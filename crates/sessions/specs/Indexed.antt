@@ -13,19 +13,20 @@ use Rattle.tree_answers.specs.declared.answers.Visit.{Visit}
 use Rattle.transactions.specs.Index.{Index, IndexedWorld, slots_of}
 use Rattle.transactions.specs.Refusing.{RefusesGrowth}
 use Rattle.transactions.specs.Stepping.{EndsInIndex, OpensInIndex, TendsIndex}
-use Rattle.sessions.specs.declared.replies.Reply.TheVariants.{Opened}
+use Rattle.session_lines.specs.declared.replies.Reply.TheVariants.{Opened}
 use Rattle.sessions.specs.declared.scripts.TheConstants.{LABEL_LIMIT}
 use Rattle.sessions.specs.declared.stepping.StepCommand.{StepCommand}
 use Rattle.sessions.specs.declared.stepping.StepCommand.TheVariants as commands
 use Rattle.sessions.specs.declared.stepping.StepVerb.{StepVerb}
 use Rattle.sessions.specs.Causes.{Causes, SeeksIn}
-use Rattle.sessions.specs.Desks.{Answers}
-use Rattle.sessions.specs.Lines.{is_too_long}
-use Rattle.sessions.specs.Printed.{said_text}
-use Rattle.sessions.specs.Replies.{SaidData, line, rows, told, visit_reply}
+use Rattle.session_lines.specs.Desks.{Answers, desk}
+use Rattle.line_streams.specs.Lines.{is_too_long}
+use Rattle.session_lines.specs.Printed.{said_text}
+use Rattle.session_lines.specs.Replies.{SaidData, line, rows, told, visit_reply}
 use Rattle.sessions.specs.Scripts.{LineTells, behind, fresh, is_skipped, keeps_seat, parts_of, place, script, with_label}
-use Rattle.sessions.specs.Services.{Call, Serves, is_overrun, solo_subject}
-use Rattle.sessions.specs.States.{SessionState, desk, solo}
+use Rattle.session_lines.specs.Services.{Call}
+use Rattle.sessions.specs.Services.{Serves, is_overrun, solo_subject}
+use Rattle.sessions.specs.States.{SessionState, solo}
 use Rattle.sessions.specs.Stepping.{AllEnd, VisitsOn, step_command_at, step_verb_at}
 
 -- a world with its index that serves one session, and the number of the session's seat from HELLO on

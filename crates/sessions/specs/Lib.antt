@@ -1,17 +1,8 @@
-pub mod Faults
-pub mod Words
-pub mod Commands
-pub mod Replies
 pub mod States
 pub mod Services
 pub mod UnderWay
 pub mod Stepping
 pub mod Causes
-pub mod Desks
-pub mod Printed
-pub mod Lines
-pub mod Streams
 pub mod Scripts
 pub mod Indexed
-pub mod Serving
 pub mod BuiltIn

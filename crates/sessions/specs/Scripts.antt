@@ -9,21 +9,21 @@ use Rattle.plain_world.specs.declared.faults.Fault.{Fault as WorldFault}
 use Rattle.tree_answers.specs.declared.answers.Visit.{Visit}
 use Rattle.plain_world.specs.Answers.{AnswerData}
 use Rattle.plain_world.specs.Events.{OpenSearch, Happens, Number, Rows, reply_of}
-use Rattle.sessions.specs.declared.faults.Fault.TheVariants.{BeforeHello, LineTooLong, NoLabel}
-use Rattle.sessions.specs.declared.replies.Reply.{Reply}
-use Rattle.sessions.specs.declared.replies.Reply.TheVariants.{Error, Opened}
+use Rattle.session_lines.specs.declared.faults.Fault.TheVariants.{BeforeHello, LineTooLong, NoLabel}
+use Rattle.session_lines.specs.declared.replies.Reply.{Reply}
+use Rattle.session_lines.specs.declared.replies.Reply.TheVariants.{Error, Opened}
 use Rattle.sessions.specs.declared.stepping.StepCommand.{StepCommand}
 use Rattle.sessions.specs.declared.stepping.StepCommand.TheVariants as commands
 use Rattle.sessions.specs.declared.stepping.StepVerb.{StepVerb}
-use Rattle.sessions.specs.Desks.{Answers}
-use Rattle.sessions.specs.Lines.{is_too_long, lines_of}
-use Rattle.sessions.specs.Printed.{led, reply_text, said_text}
-use Rattle.sessions.specs.Replies.{SaidData, line, rows, told, visit_reply}
+use Rattle.session_lines.specs.Desks.{Answers, Desk, desk}
+use Rattle.line_streams.specs.Lines.{is_too_long, lines_of}
+use Rattle.session_lines.specs.Printed.{led, reply_text, said_text}
+use Rattle.session_lines.specs.Replies.{SaidData, line, rows, told, visit_reply}
 use Rattle.sessions.specs.Services.{Serves, solo_subject}
 use Rattle.sessions.specs.Stepping.{AllDrop, Drops, Finishes, GoesOn, finished_as, opened_as, step_command_at, step_verb_at, stepped_as}
-use Rattle.sessions.specs.States.{Desk, SessionState, SoloState, desk, solo}
+use Rattle.sessions.specs.States.{SessionState, SoloState, solo}
 use Rattle.plain_world.specs.States.{WorldData}
-use Rattle.sessions.specs.Streams.{LinesTell}
+use Rattle.line_streams.specs.Streams.{LinesTell}
 use Rattle.sessions.specs.declared.scripts.TheConstants.{LABEL_LIMIT}
 
 -- a world, and the sessions of the labels that have come, in their order

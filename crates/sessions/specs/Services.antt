@@ -6,7 +6,6 @@ use Rattle.features.specs.declared.actors.Subject.{Subject}
 use Rattle.features.specs.declared.rows.Change.{Change}
 use Rattle.features.specs.declared.rows.Feature.{Feature}
 use Rattle.features.specs.Changes.{after}
-use Rattle.policy_text.specs.Documents.{DocumentData}
 use Rattle.combining.specs.declared.questions.Question.{Question}
 use Rattle.decision.specs.declared.rulings.Ruling.{Ruling}
 use Rattle.decision.specs.Rulings.{Rules}
@@ -27,20 +26,11 @@ use Rattle.plain_world.specs.Events.{Reply as EventReply, Number, Rows, Ended, T
 use Rattle.plain_world.specs.Rolls.{RolledData}
 use Rattle.plain_world.specs.Staging.{placements}
 use Rattle.plain_world.specs.States.{WorldData}
-use Rattle.sessions.specs.declared.faults.Fault.TheVariants.{BeforeHello}
-use Rattle.sessions.specs.declared.replies.Reply.TheVariants.{Hello as Greets, Edition, Bye, Error}
-use Rattle.sessions.specs.Replies.{SaidData, line, rows, rolled, told, outcome_reply, ruling_reply}
+use Rattle.session_lines.specs.declared.faults.Fault.TheVariants.{BeforeHello}
+use Rattle.session_lines.specs.declared.replies.Reply.TheVariants.{Hello as Greets, Edition, Bye, Error}
+use Rattle.session_lines.specs.Replies.{SaidData, line, rows, rolled, told, outcome_reply, ruling_reply}
+use Rattle.session_lines.specs.Services.{Call, Hello, Search, Commit, Govern, Explain, Roll, Leave}
 use Rattle.sessions.specs.States.{SoloState, WhereAtRest, begun, searched}
-
--- what a session asks of whoever serves it
-pub data Call : Type 0 where
-  Hello : (name : List ℕ) → Call
-  Search : (window : List Point) → Call
-  Commit : (changes : List Change) → Call
-  Govern : (document : DocumentData) → Call
-  Explain : (question : Question) → Call
-  Roll : Call
-  Leave : Call
 
 -- Searches.
 

@@ -4,14 +4,6 @@ use Rattle.features.specs.declared.rows.Change.{Change}
 use Rattle.plain_world.specs.Laws.{AreGiven}
 use Rattle.plain_world.specs.States.{WorldData}
 
--- a session, and whoever serves it: the changes that it has staged, and how the service stands
-pub record Desk (S : Type 0) : Type 0 where
-  pub staged : List Change
-  pub service : S
-
-abbrev pub desk : {S : Type 0} → List Change → S → Desk S
-desk staged service = record { staged = staged; service = service }
-
 -- a world that serves one session, and the number of the session's seat from HELLO on
 pub record SoloState : Type 0 where
   pub world : WorldData

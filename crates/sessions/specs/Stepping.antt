@@ -13,16 +13,16 @@ use Rattle.plain_world.specs.States.{WorldData}
 use Rattle.plain_world.specs.declared.searches.Search.{Search}
 use Rattle.transactions.specs.Index.{Index}
 use Rattle.transactions.specs.Stepping.{VisitsIndex}
-use Rattle.sessions.specs.declared.faults.Fault.{Fault}
-use Rattle.sessions.specs.declared.faults.Fault.TheVariants.{Number, OutOfTurn}
+use Rattle.session_lines.specs.declared.faults.Fault.{Fault}
+use Rattle.session_lines.specs.declared.faults.Fault.TheVariants.{Number, OutOfTurn}
 use Rattle.sessions.specs.declared.stepping.StepCommand.{StepCommand}
 use Rattle.sessions.specs.declared.stepping.StepCommand.TheVariants as commands
 use Rattle.sessions.specs.declared.stepping.StepVerb.{StepVerb}
 use Rattle.sessions.specs.declared.stepping.StepVerb.TheVariants as verbs
-use Rattle.sessions.specs.Commands.{◌>>=◌, end_at, or_fault, shape_at, word_at}
+use Rattle.session_lines.specs.Commands.{◌>>=◌, end_at, or_fault, shape_at, word_at}
 use Rattle.sessions.specs.Services.{is_overrun}
 use Rattle.sessions.specs.States.{SessionState}
-use Rattle.sessions.specs.Words.{next_word, number_of}
+use Rattle.session_lines.specs.Words.{next_word, number_of}
 
 -- What a line asks.
 

@@ -17,7 +17,7 @@ ghost use Rattle.sessions.specs.UnderWay.{Concludes, Places, Stages, under};
 
 use features::{Change, Meter};
 use plane::Shape;
-use policy_text::Document;
+use policy_documents::Document;
 use std::alloc::{Allocator, Global};
 use std::sync::Arc;
 use transactions::{

@@ -4,10 +4,12 @@ ghost use Rattle.std.specs.Prelude.{◌≡◌, List, ℕ};
 ghost use Rattle.decision.specs.Deciders.{DeciderData};
 ghost use Rattle.sessions.specs.Scripts.{LineTells, Script};
 ghost use Rattle.sessions.specs.Services.{Serves, solo_subject};
-ghost use Rattle.sessions.specs.Serving.{LineTells as AloneTells};
-ghost use Rattle.sessions.specs.States.{Desk, IsAtRest, IsIdle, SoloState};
+ghost use Rattle.session_lines.specs.Serving.{LineTells as AloneTells};
+ghost use Rattle.session_lines.specs.Desks.{Desk};
+ghost use Rattle.sessions.specs.States.{IsAtRest, IsIdle, SoloState};
 ghost use Rattle.sessions.specs.declared.scripts.TheConstants.{LABEL_LIMIT};
-ghost use Rattle.sessions.specs.declared.streams.TheConstants.{LINE_LIMIT, READ_LIMIT};
+ghost use Rattle.line_streams.specs.declared.streams.Next.{Next};
+ghost use Rattle.line_streams.specs.declared.streams.TheConstants.{LINE_LIMIT, READ_LIMIT};
 ghost use Rattle.plain_world.specs.States.{WorldData, opened};
 ghost use Rattle.plain_world.specs.declared.settings.TheConstants.{CHANGE_LIMIT, SEARCH_LIMIT, SEAT_LIMIT, STEP_LIMIT, TRANSACTION_LIMIT};
 
@@ -24,7 +26,7 @@ pub fn opened_world_is_idle()
 pub fn lines_leave_worlds_at_rest()
     ensures idle { (world : WorldData) → IsIdle world → IsAtRest world }
     ensures line { (text : List ℕ) (old new : Script) (said : List ℕ) → LineTells text old new said → IsAtRest old.world → IsAtRest new.world }
-    ensures alone { (text : List ℕ) (old new : Desk SoloState) (said : List ℕ) → AloneTells solo_subject Serves text old new said → IsAtRest old.service.world → IsAtRest new.service.world }
+    ensures alone { (text : List ℕ) (old new : Desk SoloState) (said : List ℕ) (next : Next) → AloneTells solo_subject Serves text old new said next → IsAtRest old.service.world → IsAtRest new.service.world }
 {}
 
 /// The limits that the definitions name, in numbers. Of lines: labels of a script, bytes of a line without its end, reads of a

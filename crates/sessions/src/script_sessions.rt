@@ -2,23 +2,20 @@
 
 ghost use Rattle.std.specs.Bool.{MatchBool};
 ghost use Rattle.std.specs.Prelude.{◌≡◌, None};
-ghost use Rattle.sessions.specs.Desks.{Answers};
+ghost use Rattle.session_lines.specs.Desks.{Answers, desk};
 ghost use Rattle.sessions.specs.Indexed.{ServesThere, SessionThere, Shuts, StepsThere, TakesStepThere, TakesThere, asks_for, server};
-ghost use Rattle.sessions.specs.Replies.{line as said_in_line, said_view};
+ghost use Rattle.session_lines.specs.Replies.{line as said_in_line, said_view};
 ghost use Rattle.sessions.specs.Scripts.{Ends, ObeysStep, Opens, SessionAnswers, Steps, TakesPlain, TakesStep, desk_of, fresh, keeps_seat};
 ghost use Rattle.sessions.specs.Services.{Serves, solo_subject};
-ghost use Rattle.sessions.specs.States.{desk};
 ghost use Rattle.sessions.specs.Stepping.{Drops};
 
-use crate::desks::{Staged, answer};
-use crate::faults::Fault;
-use crate::replies::{Reply, Said, fault_reply, visit_reply};
 use crate::solos::Solo;
 use crate::stepping::{
     StepCommand, StepVerb, finish_open, go_on, left_open, read_step_command, read_step_verb,
 };
 use features::Name;
 use plane::Shape;
+use session_lines::{Fault, Reply, Said, Staged, answer, fault_reply, visit_reply};
 use std::alloc::{Allocator, Global};
 use std::marker::Model;
 use transactions::World;

@@ -4,8 +4,8 @@ ghost use Rattle.std.specs.Io.KnownBytes.{Appends};
 ghost use Rattle.std.specs.List.{prefix_len};
 ghost use Rattle.sessions.specs.Indexed.{AllShut, LabelThere, LineRuns, LineThere, SessionThere, indexed};
 ghost use Rattle.sessions.specs.Scripts.{IsScriptText, LabelTells, LineTells, SessionAnswers, behind, is_not_colon, is_skipped, parts_of, place, script, with_label};
-ghost use Rattle.sessions.specs.Printed.{led, reply_text};
-ghost use Rattle.sessions.specs.Replies.{said_view};
+ghost use Rattle.session_lines.specs.Printed.{led, reply_text};
+ghost use Rattle.session_lines.specs.Replies.{said_view};
 ghost use Rattle.plain_world.specs.Events.{Happens, Tend, Tended, reply_of};
 ghost use Rattle.plain_world.specs.declared.faults.Fault.{Fault as WorldFault};
 ghost use Rattle.tree_answers.specs.declared.answers.Tending.{Tending};
@@ -14,19 +14,17 @@ ghost use Rattle.transactions.specs.Index.{IndexedWorld, slots_of};
 ghost use Rattle.transactions.specs.Refusing.{RefusesGrowth};
 ghost use Rattle.transactions.specs.Stepping.{TendsIndex};
 ghost use Rattle.byte_streams.specs.Written.{Took};
-ghost use Rattle.sessions.specs.Streams.{OnMemory, Ran};
+ghost use Rattle.line_streams.specs.Streams.{NeverEnds, OnMemory, Ran};
 ghost use Rattle.sessions.specs.States.{IsIdle, SessionState};
 ghost use Rattle.plain_world.specs.States.{WorldData};
 ghost use Rattle.sessions.specs.declared.scripts.TheConstants.{LABEL_LIMIT};
 
-use crate::faults::Fault;
-use crate::replies::{Reply, Said};
 use crate::script_sessions::Session;
-use crate::streams::{LINE_LIMIT, LineDesk, ServeFault, run_lines};
-use crate::writing::{write_line, write_said};
-use byte_streams::WriteFailed;
+use byte_streams::{Flushed, WriteFailed};
 use features::Name;
+use line_streams::{LINE_LIMIT, LineDesk, Next, ServeFault, run_lines};
 use memory::{Refused, vec_with_room};
+use session_lines::{Fault, Reply, Said, write_line, write_said};
 use std::alloc::{Allocator, Global};
 use std::io::{Read, Write};
 use transactions::World;
@@ -212,22 +210,23 @@ fn refuse<W: Write>(fault: Fault, writer: &mut W) -> Result<(), WriteFailed>
 }
 
 impl<A: Allocator + Copy> LineDesk for Table<A> {
+    ghost use Rattle.line_streams.specs.Streams.{NeverEnds};
     ghost use Rattle.sessions.specs.Indexed.{LineRuns, indexed};
     ghost use Rattle.std.proofs.Common.{rules};
 
     type World = World<A>;
 
-    ghost tells = { λ line old new said. LineRuns line (indexed old.0 old.1.sessions.items old.1.next_slot) (indexed new.0 new.1.sessions.items new.1.next_slot) said };
+    ghost tells = { λ line old new said next. NeverEnds LineRuns line (indexed old.0 old.1.sessions.items old.1.next_slot) (indexed new.0 new.1.sessions.items new.1.next_slot) said next };
 
     fn take_line<W: Write>(
         &mut self,
         world: &mut World<A>,
         line: &[u8],
         writer: &mut W,
-    ) -> Result<(), WriteFailed> {
+    ) -> Result<Next, WriteFailed> {
         let end = self.take(world, line, writer);
         self.tend(world);
-        end
+        Next::Line.behind(end)
     }
 
     ghost long_alike = { Prim.search rules };
@@ -236,7 +235,7 @@ impl<A: Allocator + Copy> LineDesk for Table<A> {
 /// Runs the lines of a script to the end of the input, each line `label: line` of the session of its label, and writes
 /// what each is answered; after each line one slot of the index is tended. `alloc` serves the buffers, and `heap` documents,
 /// their texts and the lines of a roll. Faults: `Memory` where the buffers are refused, before anything is read; `Read` and
-/// `Write` where a read or a write fails; `TooManyTurns` after 16,777,216 reads. What was done before stands, and staged
+/// `Write` where a read or a write fails, or a flush; `TooManyTurns` after 16,777,216 reads. What was done before stands, and staged
 /// lists and open searches are dropped. However the run ends, it leaves no search and no transaction under way, where none
 /// was before it.
 pub fn run_script<A: Allocator + Copy, R: Read, W: Write>(
@@ -245,12 +244,12 @@ pub fn run_script<A: Allocator + Copy, R: Read, W: Write>(
     world: &mut World<A>,
     reader: &mut R,
     writer: &mut W,
-) -> Result<(), ServeFault>
+) -> Result<Flushed, ServeFault>
     ensures script_text { OnOk result (IfSome (R.remaining reader.old) (λ input. (said : List ℕ) × Appends (W.contents writer.old) (W.contents writer.new) said
         × IsScriptText world.old.plain input world.new.plain said)) }
-    ensures ran { (sessions : List SessionState) × (last : WorldData) × Ran LineTells result (script world.old.plain []) (script last sessions)
+    ensures ran { (sessions : List SessionState) × (last : WorldData) × Ran (NeverEnds LineTells) result (script world.old.plain []) (script last sessions)
         (R.remaining reader.old) (R.remaining reader.new) (W.contents writer.old) (W.contents writer.new) × AllDrop sessions last world.new.plain }
-    ensures runs { (sessions : List SessionState) × (slot : ℕ) × (last : IndexedWorld) × Ran LineRuns result (indexed world.old [] 0) (indexed last sessions slot)
+    ensures runs { (sessions : List SessionState) × (slot : ℕ) × (last : IndexedWorld) × Ran (NeverEnds LineRuns) result (indexed world.old [] 0) (indexed last sessions slot)
         (R.remaining reader.old) (R.remaining reader.new) (W.contents writer.old) (W.contents writer.new) × AllShut sessions last world.new }
     ensures idle { IsIdle world.old.plain → IsIdle world.new.plain }
     ensures untouched { IfErr result (λ fault. OnMemory fault ((world.new ≡ world.old) × (reader.new ≡ reader.old) × (writer.new ≡ writer.old))) }

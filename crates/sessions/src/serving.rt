@@ -1,89 +1,22 @@
-//! One session by itself, whose lines have no label.
+//! One session of a world by itself, whose lines have no label.
 
 ghost use Rattle.std.specs.Prelude.{◌≡◌, [], List, Option, None, ℕ, OnOk, IfErr, IfSome};
 ghost use Rattle.std.specs.Io.KnownBytes.{Appends};
 ghost use Rattle.features.specs.declared.rows.Change.{Change};
 ghost use Rattle.sessions.specs.Indexed.{ServesThere, asks_for, server};
-ghost use Rattle.sessions.specs.Replies.{SaidData};
-ghost use Rattle.sessions.specs.Services.{Call, Serves, solo_subject};
-ghost use Rattle.sessions.specs.Serving.{Calls, IsServedText, LineTells};
-ghost use Rattle.sessions.specs.States.{IsIdle, desk, solo};
-ghost use Rattle.byte_streams.specs.Written.{Took};
-ghost use Rattle.sessions.specs.Streams.{OnMemory, Ran};
+ghost use Rattle.sessions.specs.Services.{Serves, solo_subject};
+ghost use Rattle.session_lines.specs.Serving.{IsServedText, LineTells};
+ghost use Rattle.sessions.specs.States.{IsIdle, solo};
+ghost use Rattle.session_lines.specs.Desks.{desk};
+ghost use Rattle.line_streams.specs.Streams.{OnMemory, Ran};
 
-use crate::desks::{Staged, answer};
-use crate::faults::Fault;
-use crate::replies::Reply;
-use crate::services::Service;
 use crate::solos::Solo;
-use crate::streams::{LINE_LIMIT, LineDesk, ServeFault, run_lines};
-use crate::writing::{write_line, write_said};
-use byte_streams::WriteFailed;
+use byte_streams::Flushed;
+use line_streams::ServeFault;
+use session_lines::serve;
 use std::alloc::{Allocator, Global};
 use std::io::{Read, Write};
-use std::marker::PhantomData;
 use transactions::World;
-
-/// What stands of a session by itself between two lines.
-#[derive(Drop)]
-struct Alone<S: Service> {
-    heap: Global,
-    staged: Staged,
-    // The service stands beside the desk, as the world of its `LineDesk`. Its type is named here, since an `impl` for `Alone`
-    // has no other place that fixes `S`.
-    service: PhantomData<S>,
-}
-
-impl<S: Service> LineDesk for Alone<S> {
-    ghost use Rattle.sessions.specs.Serving.{LineTells};
-    ghost use Rattle.sessions.specs.States.{desk};
-    ghost use Rattle.std.proofs.Common.{rules};
-
-    type World = S;
-
-    ghost tells = { λ line old new said. LineTells S.subject_of S.serves line (desk old.1.staged old.0) (desk new.1.staged new.0) said };
-
-    fn take_line<W: Write>(
-        &mut self,
-        service: &mut S,
-        line: &[u8],
-        writer: &mut W,
-    ) -> Result<(), WriteFailed> {
-        if line.len() > LINE_LIMIT {
-            return write_line(b"", &Reply::Error(Fault::LineTooLong), writer);
-        }
-        let said = answer(service, self.heap, &mut self.staged, line);
-        write_said(b"", &said, writer)
-    }
-
-    ghost long_alike = { Prim.search rules };
-}
-
-/// Serves one session to the end of the input: each line is answered as a script answers it, without labels; OPEN, STEP and
-/// FINISH, which scripts alone know, are E2. No line is skipped: an empty one has no command. After BYE a new session may
-/// begin. `alloc` serves the buffers, `heap` the documents that are read. Faults and what stands after them are those of
-/// `run_script`.
-pub fn serve<S: Service, A: Allocator, R: Read, W: Write>(
-    alloc: A,
-    heap: Global,
-    service: &mut S,
-    reader: &mut R,
-    writer: &mut W,
-) -> Result<(), ServeFault>
-    ensures served_text { OnOk result (IfSome (R.remaining reader.old) (λ input. (said : List ℕ) × Appends (W.contents writer.old) (W.contents writer.new) said
-        × IsServedText S.subject_of S.serves service.old input service.new said)) }
-    ensures ran { (staged : List Change) × Ran (LineTells S.subject_of S.serves) result (desk [] service.old) (desk staged service.new)
-        (R.remaining reader.old) (R.remaining reader.new) (W.contents writer.old) (W.contents writer.new) }
-    ensures calls { (calls : List (Call × SaidData)) × Calls S.serves calls service.old service.new }
-    ensures untouched { IfErr result (λ fault. OnMemory fault ((service.new ≡ service.old) × (reader.new ≡ reader.old) × (writer.new ≡ writer.old))) }
-{
-    let mut alone = Alone {
-        heap,
-        staged: Staged::new(),
-        service: PhantomData,
-    };
-    run_lines(alloc, &mut alone, service, reader, writer)
-}
 
 /// Serves one session of a world, as `serve` does, while nobody else uses the world. `alloc` serves the buffers, `heap`
 /// documents and the lines of a trail. However the run ends, it leaves no search and no transaction under way, where none was
@@ -94,7 +27,7 @@ pub fn serve_world<A: Allocator + Copy, R: Read, W: Write>(
     world: &mut World<A>,
     reader: &mut R,
     writer: &mut W,
-) -> Result<(), ServeFault>
+) -> Result<Flushed, ServeFault>
     ensures served_text { (seat : Option ℕ) × OnOk result (IfSome (R.remaining reader.old) (λ input. (said : List ℕ) × Appends (W.contents writer.old) (W.contents writer.new) said
         × IsServedText solo_subject Serves (solo world.old.plain None) input (solo world.new.plain seat) said)) }
     ensures ran { (staged : List Change) × (seat : Option ℕ) × Ran (LineTells solo_subject Serves) result (desk [] (solo world.old.plain None)) (desk staged (solo world.new.plain seat))

@@ -1,18 +1,16 @@
 //! A world that serves one session.
 
 ghost use Rattle.std.specs.Prelude.{◌≡◌, None};
-ghost use Rattle.sessions.specs.Replies.{name_of_rule, ruling_reply};
+ghost use Rattle.session_lines.specs.Replies.{name_of_rule, ruling_reply};
 ghost use Rattle.sessions.specs.Services.{seated};
 
 use crate::calls::{commit, govern, roll, search};
-use crate::faults::Fault;
-use crate::replies::{Reply, Said, fault_reply, outcome_reply};
-use crate::services::Service;
 use combining::Question;
 use decision::{Decider, Ruling};
 use features::{Change, Name, Subject};
 use plane::Shape;
-use policy_text::Document;
+use policy_documents::Document;
+use session_lines::{Fault, Reply, Said, Service, fault_reply, outcome_reply};
 use std::alloc::{Allocator, Global};
 use transactions::World;
 

@@ -8,10 +8,8 @@ ghost use Rattle.sessions.specs.Services.{is_overrun};
 ghost use Rattle.sessions.specs.Stepping.{Finishes, GoesOn, VisitsOn, count_at, left_open, step_command_at, step_count, step_verb_at, step_verb_of};
 
 use crate::calls::seek;
-use crate::commands::{as_number, as_shape, due_word, end};
-use crate::faults::Fault;
-use crate::words::next_word;
 use plane::Shape;
+use session_lines::{Fault, as_number, as_shape, due_word, end, next_word};
 use std::alloc::Allocator;
 use transactions::{Answer, Fault as WorldFault, STEP_LIMIT, TreeFault, Visit, World};
 

@@ -4,7 +4,7 @@ use Rattle.std.specs.Bool.{MatchBool}
 use Rattle.features.specs.declared.actors.Subject.{Subject}
 use Rattle.features.specs.declared.rows.Change.{Change}
 use Rattle.features.specs.Changes.{after}
-use Rattle.policy_text.specs.Documents.{DocumentData}
+use Rattle.policy_documents.specs.Documents.{DocumentData}
 use Rattle.audit_trail.specs.declared.causes.Judgement.{Judgement}
 use Rattle.audit_trail.specs.declared.causes.Judgement.TheVariants as judgements
 use Rattle.audit_trail.specs.Records.{applied}

@@ -9,7 +9,7 @@ use Rattle.plane.specs.Rows.{Meet}
 use Rattle.features.specs.declared.actors.Subject.{Subject}
 use Rattle.features.specs.declared.rows.Change.{Change}
 use Rattle.features.specs.declared.rows.Feature.{Feature}
-use Rattle.policy_text.specs.Documents.{DocumentData}
+use Rattle.policy_documents.specs.Documents.{DocumentData}
 use Rattle.decision.specs.Deciders.{DeciderData}
 use Rattle.audit_trail.specs.Records.{answered}
 use Rattle.plain_world.specs.declared.faults.Fault.{Fault}

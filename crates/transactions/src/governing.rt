@@ -7,7 +7,7 @@ ghost use Rattle.plain_world.specs.Events.{Happens, Govern, Roll, Number, TakenO
 use crate::worlds::World;
 use decision::Decider;
 use plain_world::{Fault, Rolled};
-use policy_text::Document;
+use policy_documents::Document;
 use std::alloc::{Allocator, Global};
 use std::sync::Arc;
 

@@ -18,7 +18,7 @@ use features::{FEATURE_LIMIT, Subject, Subjects};
 use frame_keys::Frames;
 use memory::Refused;
 use plain_world::{Fault, Limits, PlainWorld, ROLLED_LIMIT, STEP_LIMIT, Starts};
-use policy_text::Document;
+use policy_documents::Document;
 use search_tree::{Tree, TreeFault};
 use std::alloc::{Allocator, Global};
 use std::marker::Model;

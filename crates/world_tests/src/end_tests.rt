@@ -9,7 +9,6 @@ use plane::{LIMIT, LISTED_LIMIT};
 use policy_text::{ZONE_LIMIT, print_document};
 use std::alloc::Global;
 use std::process::Abort;
-use std::test::Fail;
 use transactions::{
     Advance, CHANGE_LIMIT, Fault, Limits, Outcome, ROLLED_LIMIT, SEARCH_LIMIT, SEAT_LIMIT,
     STEP_LIMIT, Starts, Step, TRANSACTION_LIMIT, TreeFault, Visit, World,
@@ -65,14 +64,6 @@ fn roll_three_times(rt: &impl Abort, heap: Global, world: &mut World<Global>) {
     assert!(rt; world.trail().first() == 4);
 }
 
-#[test]
-fn pieces_and_their_lines(rt: HostRuntime) -> Result<(), Fail> {
-    let heap = rt.alloc();
-    let mut world = seated(&rt, heap, heap, OPEN, STARTS, LIMITS);
-    roll_three_times(&rt, heap, &mut world);
-    Ok(())
-}
-
 /// What a piece's base is: its version, its edition, its document and its features' ids.
 fn check_base(
     rt: &impl Abort,
@@ -115,14 +106,6 @@ fn end_both(rt: &impl Abort, world: &mut World<Global>, search: u64, open: u64) 
     assert!(rt; world.trail().first() == 3 && world.trail().len() == 2);
 }
 
-#[test]
-fn each_piece_begins_where_the_last_ended(rt: HostRuntime) -> Result<(), Fail> {
-    let heap = rt.alloc();
-    let mut world = seated(&rt, heap, heap, OPEN, STARTS, LIMITS);
-    roll_around_a_policy(&rt, heap, &mut world);
-    Ok(())
-}
-
 /// A world whose trail takes so many records.
 fn recording(rt: &impl Abort, heap: Global, records: u32) -> World<Global> {
     let limits = Limits {
@@ -145,14 +128,6 @@ fn finish_in_vain(rt: &impl Abort, heap: Global, world: &mut World<Global>) {
     assert_eq!(rt; picture(rt, heap, world).as_str(), before.as_str());
 }
 
-#[test]
-fn ends_of_counters(rt: HostRuntime) -> Result<(), Fail> {
-    let heap = rt.alloc();
-    let mut world = recording(&rt, heap, 0);
-    finish_in_vain(&rt, heap, &mut world);
-    Ok(())
-}
-
 /// A search is finished once the trail, which takes one record, is rolled.
 fn finish_after_a_roll(rt: &impl Abort, heap: Global, world: &mut World<Global>) {
     add_mast(rt, world);
@@ -162,14 +137,6 @@ fn finish_after_a_roll(rt: &impl Abort, heap: Global, world: &mut World<Global>)
     check_rolled(rt, heap, world, &[ADDED]);
     assert!(rt; world.finish(1, search, &mut meter).is_ok());
     check_rolled(rt, heap, world, &[LISTED]);
-}
-
-#[test]
-fn a_full_trail_is_rolled(rt: HostRuntime) -> Result<(), Fail> {
-    let heap = rt.alloc();
-    let mut world = recording(&rt, heap, 1);
-    finish_after_a_roll(&rt, heap, &mut world);
-    Ok(())
 }
 
 /// North finds nothing at a place.
@@ -189,18 +156,6 @@ fn roll_in_vain(rt: &impl Abort, heap: Global, world: &mut World<Global>) {
     assert_eq!(rt; picture(rt, heap, world).as_str(), before.as_str());
 }
 
-#[test]
-fn numbers_that_would_not_fit(rt: HostRuntime) -> Result<(), Fail> {
-    let heap = rt.alloc();
-    let starts = Starts {
-        rolled: ROLLED_LIMIT,
-        ..STARTS
-    };
-    let mut world = seated(&rt, heap, heap, OPEN, starts, LIMITS);
-    roll_in_vain(&rt, heap, &mut world);
-    Ok(())
-}
-
 /// No list is applied, but one that fails is turned away all the same.
 fn commit_in_vain(rt: &impl Abort, heap: Global, world: &mut World<Global>) {
     let before = picture(rt, heap, world);
@@ -210,18 +165,6 @@ fn commit_in_vain(rt: &impl Abort, heap: Global, world: &mut World<Global>) {
     let absent = [features::Change::Delete { id: 9, version: 1 }];
     let other = placed(rt, world, 1, &absent);
     assert!(rt; matches!(world.commit(1, other), Ok(Outcome::Refused(_, None))));
-}
-
-#[test]
-fn the_last_version(rt: HostRuntime) -> Result<(), Fail> {
-    let heap = rt.alloc();
-    let starts = Starts {
-        version: u64::MAX,
-        ..STARTS
-    };
-    let mut world = seated(&rt, heap, heap, OPEN, starts, LIMITS);
-    commit_in_vain(&rt, heap, &mut world);
-    Ok(())
 }
 
 /// A document is not put in force, and handed back.
@@ -237,18 +180,6 @@ fn govern_in_vain(rt: &impl Abort, heap: Global, world: &mut World<Global>) {
     assert_eq!(rt; picture(rt, heap, world).as_str(), before.as_str());
 }
 
-#[test]
-fn the_last_edition(rt: HostRuntime) -> Result<(), Fail> {
-    let heap = rt.alloc();
-    let starts = Starts {
-        edition: u64::MAX,
-        ..STARTS
-    };
-    let mut world = seated(&rt, heap, heap, OPEN, starts, LIMITS);
-    govern_in_vain(&rt, heap, &mut world);
-    Ok(())
-}
-
 /// After the last search none is opened.
 fn search_in_vain(rt: &impl Abort, heap: Global, world: &mut World<Global>) {
     find_nothing(rt, world);
@@ -256,18 +187,6 @@ fn search_in_vain(rt: &impl Abort, heap: Global, world: &mut World<Global>) {
     let spent = Err(Fault::Tree(TreeFault::Spent));
     assert!(rt; world.open_search(1, point(rt, 1, 1)) == spent);
     assert_eq!(rt; picture(rt, heap, world).as_str(), before.as_str());
-}
-
-#[test]
-fn the_last_search(rt: HostRuntime) -> Result<(), Fail> {
-    let heap = rt.alloc();
-    let starts = Starts {
-        search: u64::MAX - 1,
-        ..STARTS
-    };
-    let mut world = seated(&rt, heap, heap, OPEN, starts, LIMITS);
-    search_in_vain(&rt, heap, &mut world);
-    Ok(())
 }
 
 /// A world whose searches and walks make so many steps at most.
@@ -308,14 +227,6 @@ fn walk_too_far(rt: &impl Abort, heap: Global, world: &mut World<Global>) {
     assert_eq!(rt; picture(rt, heap, world).as_str(), before.as_str());
 }
 
-#[test]
-fn the_last_step_of_a_walk(rt: HostRuntime) -> Result<(), Fail> {
-    let heap = rt.alloc();
-    let mut world = stepping(&rt, heap, 1, 0);
-    walk_too_far(&rt, heap, &mut world);
-    Ok(())
-}
-
 /// How many steps a search makes before the index gives it up.
 fn steps_of(rt: &impl Abort, world: &mut World<Global>, search: u64) -> u32 {
     let mut steps = 0u32;
@@ -343,14 +254,6 @@ fn search_too_far(rt: &impl Abort, heap: Global, world: &mut World<Global>) {
     assert!(rt; world.visit(1, search) == Err(Fault::NoSuch));
     assert!(rt; world.drop_search(1, search) == Err(Fault::NoSuch));
     assert_eq!(rt; picture(rt, heap, world).as_str(), before.as_str());
-}
-
-#[test]
-fn the_last_step_of_a_search(rt: HostRuntime) -> Result<(), Fail> {
-    let heap = rt.alloc();
-    let mut world = stepping(&rt, heap, 9, 0);
-    search_too_far(&rt, heap, &mut world);
-    Ok(())
 }
 
 /// The walk of a transaction is placed, or the index's counter is at its end, as often as the walk is advanced.
@@ -392,13 +295,6 @@ fn check_placed(rt: &impl Abort, world: &mut World<Global>, count: u64) {
 }
 
 #[test]
-fn the_last_count_of_the_index(rt: HostRuntime) -> Result<(), Fail> {
-    let mut world = stepping(&rt, rt.alloc(), 1_000, u64::MAX);
-    add_until_spent(&rt, &mut world);
-    Ok(())
-}
-
-#[test]
 fn limits_of_every_world(rt: HostRuntime) {
     assert_eq!(rt; (LIMIT, LISTED_LIMIT), (10_000_000, 64));
     assert_eq!(rt; (SUBJECT_LIMIT, ZONE_LIMIT), (64, 64));
@@ -407,4 +303,132 @@ fn limits_of_every_world(rt: HostRuntime) {
     assert_eq!(rt; (SEAT_LIMIT, SEARCH_LIMIT), (1_024, 16));
     assert_eq!(rt; (TRANSACTION_LIMIT, CHANGE_LIMIT), (64, 16));
     assert_eq!(rt; STEP_LIMIT, 1_000_000);
+}
+
+/// What comes to its end, or is rolled.
+#[derive(Clone, Copy, Debug, Drop)]
+enum End {
+    PiecesAndTheirLines,
+    EachPieceBeginsWhereTheLastEnded,
+    EndsOfCounters,
+    AFullTrailIsRolled,
+    NumbersThatWouldNotFit,
+    TheLastVersion,
+    TheLastEdition,
+    TheLastSearch,
+    TheLastStepOfAWalk,
+    TheLastStepOfASearch,
+    TheLastCountOfTheIndex,
+}
+
+/// The world in which that comes.
+fn world_for(rt: &impl Abort, heap: Global, trial: End) -> World<Global> {
+    match trial {
+        End::EndsOfCounters => recording(rt, heap, 0),
+        End::AFullTrailIsRolled => recording(rt, heap, 1),
+        End::NumbersThatWouldNotFit => seated(
+            rt,
+            heap,
+            heap,
+            OPEN,
+            Starts {
+                rolled: ROLLED_LIMIT,
+                ..STARTS
+            },
+            LIMITS,
+        ),
+        End::TheLastVersion => seated(
+            rt,
+            heap,
+            heap,
+            OPEN,
+            Starts {
+                version: u64::MAX,
+                ..STARTS
+            },
+            LIMITS,
+        ),
+        End::TheLastEdition => seated(
+            rt,
+            heap,
+            heap,
+            OPEN,
+            Starts {
+                edition: u64::MAX,
+                ..STARTS
+            },
+            LIMITS,
+        ),
+        End::TheLastSearch => seated(
+            rt,
+            heap,
+            heap,
+            OPEN,
+            Starts {
+                search: u64::MAX - 1,
+                ..STARTS
+            },
+            LIMITS,
+        ),
+        End::TheLastStepOfAWalk => stepping(rt, heap, 1, 0),
+        End::TheLastStepOfASearch => stepping(rt, heap, 9, 0),
+        End::TheLastCountOfTheIndex => stepping(rt, heap, 1_000, u64::MAX),
+        _ => seated(rt, heap, heap, OPEN, STARTS, LIMITS),
+    }
+}
+
+/// It comes to its end.
+fn come_to_end(rt: &impl Abort, heap: Global, world: &mut World<Global>, trial: End) {
+    match trial {
+        End::PiecesAndTheirLines => roll_three_times(rt, heap, world),
+        End::EachPieceBeginsWhereTheLastEnded => roll_around_a_policy(rt, heap, world),
+        End::EndsOfCounters => finish_in_vain(rt, heap, world),
+        End::AFullTrailIsRolled => finish_after_a_roll(rt, heap, world),
+        End::NumbersThatWouldNotFit => roll_in_vain(rt, heap, world),
+        End::TheLastVersion => commit_in_vain(rt, heap, world),
+        End::TheLastEdition => govern_in_vain(rt, heap, world),
+        End::TheLastSearch => search_in_vain(rt, heap, world),
+        End::TheLastStepOfAWalk => walk_too_far(rt, heap, world),
+        End::TheLastStepOfASearch => search_too_far(rt, heap, world),
+        End::TheLastCountOfTheIndex => add_until_spent(rt, world),
+    }
+}
+
+/// Each of these, over a world of its own.
+fn come_to_end_each(rt: &impl Abort, heap: Global, trials: &[End]) {
+    for trial in trials {
+        let mut world = world_for(rt, heap, *trial);
+        come_to_end(rt, heap, &mut world, *trial);
+    }
+}
+
+#[test]
+fn ends_of_trails_and_numbers(rt: HostRuntime) {
+    come_to_end_each(
+        &rt,
+        rt.alloc(),
+        &[
+            End::PiecesAndTheirLines,
+            End::EachPieceBeginsWhereTheLastEnded,
+            End::EndsOfCounters,
+            End::AFullTrailIsRolled,
+            End::NumbersThatWouldNotFit,
+            End::TheLastVersion,
+            End::TheLastEdition,
+            End::TheLastSearch,
+        ],
+    );
+}
+
+#[test]
+fn ends_of_the_index(rt: HostRuntime) {
+    come_to_end_each(
+        &rt,
+        rt.alloc(),
+        &[
+            End::TheLastStepOfAWalk,
+            End::TheLastStepOfASearch,
+            End::TheLastCountOfTheIndex,
+        ],
+    );
 }

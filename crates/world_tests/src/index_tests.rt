@@ -8,7 +8,6 @@ use features::{Change, Meter};
 use plane::Shape;
 use std::alloc::Global;
 use std::process::Abort;
-use std::test::Fail;
 use transactions::{Advance, Answer, Fault, Outcome, Step, Tending, TreeFault, Visit, World};
 
 /// What rounds of tending did.
@@ -113,13 +112,6 @@ fn govern_under_search(rt: &impl Abort, heap: Global, world: &mut World<Global>)
     assert!(rt; answer.rows().iter().all(|row| row.id % 2 == 1));
 }
 
-#[test]
-fn policy_changed_under_search(rt: HostRuntime) -> Result<(), Fail> {
-    let mut world = filled(&rt, rt.alloc(), 40);
-    govern_under_search(&rt, rt.alloc(), &mut world);
-    Ok(())
-}
-
 /// Whether the walk of a transaction of north's parts a node before all is placed.
 fn splits(rt: &impl Abort, world: &mut World<Global>, number: u64) -> bool {
     for _ in 0..100 {
@@ -156,25 +148,11 @@ fn split_meanwhile(rt: &impl Abort, world: &mut World<Global>) {
     check_found(rt, world, 1, id);
 }
 
-#[test]
-fn split_under_search(rt: HostRuntime) -> Result<(), Fail> {
-    let mut world = filled(&rt, rt.alloc(), 40);
-    split_meanwhile(&rt, &mut world);
-    Ok(())
-}
-
 /// Eighty features come while a search has more to see.
 fn fill_meanwhile(rt: &impl Abort, world: &mut World<Global>) {
     let search = begun(rt, world, 300);
     fill(rt, world, 41, 120);
     check_ended(rt, world, search, 1, 120);
-}
-
-#[test]
-fn many_placed_under_search(rt: HostRuntime) -> Result<(), Fail> {
-    let mut world = filled(&rt, rt.alloc(), 40);
-    fill_meanwhile(&rt, &mut world);
-    Ok(())
 }
 
 /// The window of a search by its number: the greater, the wider.
@@ -247,13 +225,6 @@ fn search_and_add(rt: &impl Abort, world: &mut World<Global>) {
     end_the_others(rt, world, 160);
 }
 
-#[test]
-fn stepped_between_placements(rt: HostRuntime) -> Result<(), Fail> {
-    let mut world = filled(&rt, rt.alloc(), 40);
-    search_and_add(&rt, &mut world);
-    Ok(())
-}
-
 /// The walk of a transaction of north's is held by this search, however often it is advanced, and its list can't be
 /// committed.
 fn check_held(rt: &impl Abort, world: &mut World<Global>, number: u64, search: u64) {
@@ -281,13 +252,6 @@ fn hold_until_finished(rt: &impl Abort, world: &mut World<Global>) {
     check_found(rt, world, 1, 41);
 }
 
-#[test]
-fn held_by_ready_search(rt: HostRuntime) -> Result<(), Fail> {
-    let mut world = filled(&rt, rt.alloc(), 40);
-    hold_until_finished(&rt, &mut world);
-    Ok(())
-}
-
 /// A ready search holds a walk until it is dropped.
 fn hold_until_dropped(rt: &impl Abort, world: &mut World<Global>) {
     let search = ready(rt, world, 2, square(rt, 0, 300));
@@ -295,13 +259,6 @@ fn hold_until_dropped(rt: &impl Abort, world: &mut World<Global>) {
     check_held(rt, world, number, search);
     assert!(rt; world.drop_search(2, search) == Ok(()));
     place_and_commit(rt, world, number);
-}
-
-#[test]
-fn held_until_the_search_is_dropped(rt: HostRuntime) -> Result<(), Fail> {
-    let mut world = filled(&rt, rt.alloc(), 40);
-    hold_until_dropped(&rt, &mut world);
-    Ok(())
 }
 
 /// A search that has made no step, and one that looks elsewhere, hold no walk.
@@ -313,13 +270,6 @@ fn hold_nobody(rt: &impl Abort, world: &mut World<Global>) {
     check_ended(rt, world, opened.unwrap(), 1, 60);
     let answer = finished(rt, world, other);
     assert_eq!(rt; answer.rows().len(), 0);
-}
-
-#[test]
-fn held_by_nobody(rt: HostRuntime) -> Result<(), Fail> {
-    let mut world = filled(&rt, rt.alloc(), 40);
-    hold_nobody(&rt, &mut world);
-    Ok(())
 }
 
 /// The feature 7 is reshaped and the feature 40 deleted while a search has more to see.
@@ -348,13 +298,6 @@ fn check_reshaped(rt: &impl Abort, answer: &Answer<Global>, shape: Shape) {
         panic!(rt; "the row of the reshaped feature is missing")
     };
     assert!(rt; row.id == 7 && row.version == 41 && row.shape == shape);
-}
-
-#[test]
-fn reshaped_under_search(rt: HostRuntime) -> Result<(), Fail> {
-    let mut world = filled(&rt, rt.alloc(), 40);
-    change_under_search(&rt, &mut world);
-    Ok(())
 }
 
 /// Each slot is tended, round after round, until there is nothing to do.
@@ -424,26 +367,12 @@ fn check_tended(rt: &impl Abort, world: &mut World<Global>, count: usize) {
     assert_eq!(rt; pairs(rt, world), count);
 }
 
-#[test]
-fn aborted_shapes_are_let_go(rt: HostRuntime) -> Result<(), Fail> {
-    let mut world = filled(&rt, rt.alloc(), 40);
-    place_and_abort(&rt, &mut world);
-    Ok(())
-}
-
 /// What a transaction has placed stays once it is committed.
 fn place_sixteen_and_commit(rt: &impl Abort, world: &mut World<Global>) {
     let number = sixteen_placed(rt, world, 41);
     assert!(rt; matches!(world.commit(1, number), Ok(Outcome::Applied(_))));
     check_tended(rt, world, 56);
     check_found(rt, world, 1, 56);
-}
-
-#[test]
-fn committed_shapes_stay(rt: HostRuntime) -> Result<(), Fail> {
-    let mut world = filled(&rt, rt.alloc(), 40);
-    place_sixteen_and_commit(&rt, &mut world);
-    Ok(())
 }
 
 /// North deletes the features of these numbers, which have their numbers as versions.
@@ -468,13 +397,6 @@ fn delete_and_fill(rt: &impl Abort, world: &mut World<Global>) {
     assert!(rt; world.slots() <= slots);
 }
 
-#[test]
-fn deleted_features_are_let_go(rt: HostRuntime) -> Result<(), Fail> {
-    let mut world = filled(&rt, rt.alloc(), 120);
-    delete_and_fill(&rt, &mut world);
-    Ok(())
-}
-
 /// All features but the last are deleted while a search has more to see.
 fn delete_under_search(rt: &impl Abort, world: &mut World<Global>) {
     let search = begun(rt, world, 300);
@@ -487,13 +409,6 @@ fn delete_under_search(rt: &impl Abort, world: &mut World<Global>) {
     check_found(rt, world, 120, 120);
 }
 
-#[test]
-fn freed_once_the_search_has_ended(rt: HostRuntime) -> Result<(), Fail> {
-    let mut world = filled(&rt, rt.alloc(), 120);
-    delete_under_search(&rt, &mut world);
-    Ok(())
-}
-
 /// All features are deleted while a walk is on its way.
 fn delete_under_walk(rt: &impl Abort, world: &mut World<Global>) {
     let number = staged(rt, world, 1, &[addition(rt, 41)]);
@@ -504,13 +419,6 @@ fn delete_under_walk(rt: &impl Abort, world: &mut World<Global>) {
     place_all(rt, world, 1, number);
     assert!(rt; matches!(world.commit(1, number), Ok(Outcome::Applied(81))));
     check_found(rt, world, 41, 41);
-}
-
-#[test]
-fn walks_begin_anew(rt: HostRuntime) -> Result<(), Fail> {
-    let mut world = filled(&rt, rt.alloc(), 40);
-    delete_under_walk(&rt, &mut world);
-    Ok(())
 }
 
 /// A search for some of the features is seen to its end. Its number, and how much it has found.
@@ -538,9 +446,103 @@ fn delete_what_was_found(rt: &impl Abort, world: &mut World<Global>) {
     assert_eq!(rt; world.found_count(search), 0);
 }
 
+/// What goes on over an index of several leaves.
+#[derive(Clone, Copy, Debug, Drop)]
+enum Course {
+    PolicyChangedUnderSearch,
+    SplitUnderSearch,
+    ManyPlacedUnderSearch,
+    SteppedBetweenPlacements,
+    ReshapedUnderSearch,
+    HeldByReadySearch,
+    HeldUntilTheSearchIsDropped,
+    HeldByNobody,
+    AbortedShapesAreLetGo,
+    CommittedShapesStay,
+    DeletedFeaturesAreLetGo,
+    FreedOnceTheSearchHasEnded,
+    WalksBeginAnew,
+    FoundCountBoundsTheMeter,
+}
+
+/// The world in which it goes on.
+fn world_for(rt: &impl Abort, heap: Global, trial: Course) -> World<Global> {
+    match trial {
+        Course::DeletedFeaturesAreLetGo | Course::FreedOnceTheSearchHasEnded => filled(
+            rt, heap, 120,
+        ),
+        _ => filled(rt, heap, 40),
+    }
+}
+
+/// It goes on, and the answers are right.
+fn go_on(rt: &impl Abort, heap: Global, world: &mut World<Global>, trial: Course) {
+    match trial {
+        Course::PolicyChangedUnderSearch => govern_under_search(rt, heap, world),
+        Course::SplitUnderSearch => split_meanwhile(rt, world),
+        Course::ManyPlacedUnderSearch => fill_meanwhile(rt, world),
+        Course::SteppedBetweenPlacements => search_and_add(rt, world),
+        Course::ReshapedUnderSearch => change_under_search(rt, world),
+        Course::HeldByReadySearch => hold_until_finished(rt, world),
+        Course::HeldUntilTheSearchIsDropped => hold_until_dropped(rt, world),
+        Course::HeldByNobody => hold_nobody(rt, world),
+        Course::AbortedShapesAreLetGo => place_and_abort(rt, world),
+        Course::CommittedShapesStay => place_sixteen_and_commit(rt, world),
+        Course::DeletedFeaturesAreLetGo => delete_and_fill(rt, world),
+        Course::FreedOnceTheSearchHasEnded => delete_under_search(rt, world),
+        Course::WalksBeginAnew => delete_under_walk(rt, world),
+        Course::FoundCountBoundsTheMeter => delete_what_was_found(rt, world),
+    }
+}
+
+/// Each of these, over a world of its own.
+fn go_on_each(rt: &impl Abort, heap: Global, trials: &[Course]) {
+    for trial in trials {
+        let mut world = world_for(rt, heap, *trial);
+        go_on(rt, heap, &mut world, *trial);
+    }
+}
+
 #[test]
-fn found_count_bounds_the_meter(rt: HostRuntime) -> Result<(), Fail> {
-    let mut world = filled(&rt, rt.alloc(), 40);
-    delete_what_was_found(&rt, &mut world);
-    Ok(())
+fn changed_under_search(rt: HostRuntime) {
+    go_on_each(
+        &rt,
+        rt.alloc(),
+        &[
+            Course::PolicyChangedUnderSearch,
+            Course::SplitUnderSearch,
+            Course::ManyPlacedUnderSearch,
+            Course::SteppedBetweenPlacements,
+            Course::ReshapedUnderSearch,
+        ],
+    );
+}
+
+#[test]
+fn held_by_searches(rt: HostRuntime) {
+    go_on_each(
+        &rt,
+        rt.alloc(),
+        &[
+            Course::HeldByReadySearch,
+            Course::HeldUntilTheSearchIsDropped,
+            Course::HeldByNobody,
+        ],
+    );
+}
+
+#[test]
+fn let_go_by_tending(rt: HostRuntime) {
+    go_on_each(
+        &rt,
+        rt.alloc(),
+        &[
+            Course::AbortedShapesAreLetGo,
+            Course::CommittedShapesStay,
+            Course::DeletedFeaturesAreLetGo,
+            Course::FreedOnceTheSearchHasEnded,
+            Course::WalksBeginAnew,
+            Course::FoundCountBoundsTheMeter,
+        ],
+    );
 }

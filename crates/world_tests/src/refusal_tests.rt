@@ -42,17 +42,6 @@ fn ask_for_nobody(rt: &impl Abort, heap: Global, world: &mut World<Global>) {
     check_same(rt, heap, world, before.as_str());
 }
 
-#[test]
-fn seats_that_are_not_given(rt: HostRuntime) -> Result<(), Fail> {
-    let heap = rt.alloc();
-    let mut world = inhabited(&rt, heap);
-    ask_for_nobody(&rt, heap, &mut world);
-    // A fault is shown by its code, and one of the index by the index's.
-    let shown = format!(in heap; "{} {}", Fault::NoSuch, Fault::Tree(TreeFault::Spent))?;
-    assert_eq!(rt; shown.as_str(), "X1 S6");
-    Ok(())
-}
-
 /// South takes each place that is left, and there is none for another seat.
 fn take_each_place(rt: &impl Abort, heap: Global, world: &mut World<Global>) {
     for number in 4..1_025 {
@@ -62,14 +51,6 @@ fn take_each_place(rt: &impl Abort, heap: Global, world: &mut World<Global>) {
     assert!(rt; world.seat(name(rt, "south")) == Err(Fault::NoPlace));
     assert!(rt; world.seat(name(rt, "nobody")) == Err(Fault::NoSubject));
     check_same(rt, heap, world, before.as_str());
-}
-
-#[test]
-fn places_for_1024_seats(rt: HostRuntime) -> Result<(), Fail> {
-    let heap = rt.alloc();
-    let mut world = inhabited(&rt, heap);
-    take_each_place(&rt, heap, &mut world);
-    Ok(())
 }
 
 /// Each event of a seat that was not given.
@@ -126,14 +107,6 @@ fn try_without_a_seat(rt: &impl Abort, heap: Global, world: &mut World<Global>) 
     check_same(rt, heap, world, before.as_str());
 }
 
-#[test]
-fn events_without_a_seat(rt: HostRuntime) -> Result<(), Fail> {
-    let heap = rt.alloc();
-    let mut world = inhabited(&rt, heap);
-    try_without_a_seat(&rt, heap, &mut world);
-    Ok(())
-}
-
 /// Each event on a search or a transaction that is another seat's, or is not there.
 fn try_on(
     rt: &impl Abort,
@@ -174,14 +147,6 @@ fn end_both(rt: &impl Abort, world: &mut World<Global>, search: u64, transaction
     assert!(rt; matches!(world.commit(1, transaction), Ok(Outcome::Applied(2))));
 }
 
-#[test]
-fn searches_and_transactions_of_others(rt: HostRuntime) -> Result<(), Fail> {
-    let heap = rt.alloc();
-    let mut world = inhabited(&rt, heap);
-    try_as_another(&rt, heap, &mut world);
-    Ok(())
-}
-
 /// A search that has made no step is not finished, and once it is ready it is.
 fn finish_too_soon(rt: &impl Abort, heap: Global, world: &mut World<Global>) {
     assert!(rt; world.open_search(1, point(rt, 1, 1)) == Ok(1));
@@ -192,14 +157,6 @@ fn finish_too_soon(rt: &impl Abort, heap: Global, world: &mut World<Global>) {
     assert!(rt; world.visit(1, 1) == Ok(Visit::Ready));
     assert!(rt; world.visit(1, 1) == Ok(Visit::Ready));
     assert!(rt; world.finish(1, 1, &mut meter).is_ok());
-}
-
-#[test]
-fn searches_that_are_not_ready(rt: HostRuntime) -> Result<(), Fail> {
-    let heap = rt.alloc();
-    let mut world = inhabited(&rt, heap);
-    finish_too_soon(&rt, heap, &mut world);
-    Ok(())
 }
 
 /// Sixteen searches run, and there is room for another only once one of them is dropped.
@@ -221,14 +178,6 @@ fn drop_the_fifth(rt: &impl Abort, world: &mut World<Global>) {
     assert!(rt; world.found_count(5) == 0);
 }
 
-#[test]
-fn sixteen_searches_run(rt: HostRuntime) -> Result<(), Fail> {
-    let heap = rt.alloc();
-    let mut world = inhabited(&rt, heap);
-    search_beside_sixteen(&rt, heap, &mut world);
-    Ok(())
-}
-
 /// Sixty-four transactions are open, and there is room for another only once one of them is given up.
 fn begin_beside_sixty_four(rt: &impl Abort, heap: Global, world: &mut World<Global>) {
     for number in 2..66 {
@@ -239,14 +188,6 @@ fn begin_beside_sixty_four(rt: &impl Abort, heap: Global, world: &mut World<Glob
     check_same(rt, heap, world, before.as_str());
     assert!(rt; world.abort(2, 9) == Ok(()));
     assert!(rt; world.begin(1) == Ok(66));
-}
-
-#[test]
-fn sixty_four_transactions_are_open(rt: HostRuntime) -> Result<(), Fail> {
-    let heap = rt.alloc();
-    let mut world = inhabited(&rt, heap);
-    begin_beside_sixty_four(&rt, heap, &mut world);
-    Ok(())
 }
 
 /// Sixteen deletions are staged, of which none is staged twice.
@@ -271,14 +212,6 @@ fn stage_beyond_sixteen(rt: &impl Abort, heap: Global, world: &mut World<Global>
     assert!(rt; world.stage(1, number, Change::Delete { id: 17, version: 1 }) == full);
     assert!(rt; world.stage(1, number, Change::Delete { id: 1, version: 1 }) == full);
     check_same(rt, heap, world, before.as_str());
-}
-
-#[test]
-fn lists_that_take_no_more(rt: HostRuntime) -> Result<(), Fail> {
-    let heap = rt.alloc();
-    let mut world = inhabited(&rt, heap);
-    stage_beyond_sixteen(&rt, heap, &mut world);
-    Ok(())
 }
 
 /// North's transaction adds the road 3, deletes the road 2 and moves the road 1.
@@ -315,14 +248,6 @@ fn place_then_commit(rt: &impl Abort, heap: Global, world: &mut World<Global>) {
     assert_eq!(rt; world.len(), 2);
 }
 
-#[test]
-fn shapes_that_are_not_placed(rt: HostRuntime) -> Result<(), Fail> {
-    let heap = rt.alloc();
-    let mut world = inhabited(&rt, heap);
-    place_then_commit(&rt, heap, &mut world);
-    Ok(())
-}
-
 /// Editors put no document in force and roll no trail.
 fn govern_and_roll_as_editors(rt: &impl Abort, heap: Global, world: &mut World<Global>) {
     let before = picture(rt, heap, world);
@@ -332,14 +257,6 @@ fn govern_and_roll_as_editors(rt: &impl Abort, heap: Global, world: &mut World<G
         assert!(rt; world.tend(slot) == Ok(Tending::Idle));
     }
     check_same(rt, heap, world, before.as_str());
-}
-
-#[test]
-fn stewards_alone_govern_and_roll(rt: HostRuntime) -> Result<(), Fail> {
-    let heap = rt.alloc();
-    let mut world = inhabited(&rt, heap);
-    govern_and_roll_as_editors(&rt, heap, &mut world);
-    Ok(())
 }
 
 /// How a list of north's ends.
@@ -409,13 +326,6 @@ fn turn_away(rt: &impl Abort, world: &mut World<Global>) {
     assert_eq!(rt; world.trail().len(), 11);
 }
 
-#[test]
-fn lists_that_are_turned_away(rt: HostRuntime) -> Result<(), Fail> {
-    let mut world = inhabited(&rt, rt.alloc());
-    turn_away(&rt, &mut world);
-    Ok(())
-}
-
 /// What the steward has closed to all is denied, before any other cause but that there is no such feature.
 fn deny(rt: &impl Abort, heap: Global, world: &mut World<Global>) {
     assert!(rt; matches!(world.govern(heap, 3, document(rt, heap, CLOSED)), Ok(2)));
@@ -434,14 +344,6 @@ fn deny(rt: &impl Abort, heap: Global, world: &mut World<Global>) {
     let absent = Change::Delete { id: 9, version: 1 };
     assert!(rt; outcome(rt, world, absent) == (1, "absent", false));
     assert_eq!(rt; found(rt, world, 1, square(rt, -9, 9)).rows().len(), 0);
-}
-
-#[test]
-fn lists_that_are_denied(rt: HostRuntime) -> Result<(), Fail> {
-    let heap = rt.alloc();
-    let mut world = inhabited(&rt, heap);
-    deny(&rt, heap, &mut world);
-    Ok(())
 }
 
 /// A world whose trail takes so many records and whose store so many features.
@@ -482,14 +384,6 @@ fn fill_and_roll(rt: &impl Abort, heap: Global, world: &mut World<Global>) {
     finish_after_a_roll(rt, heap, world, search);
 }
 
-#[test]
-fn full_trails(rt: HostRuntime) -> Result<(), Fail> {
-    let heap = rt.alloc();
-    let mut world = limited(&rt, heap, 1, 9);
-    fill_and_roll(&rt, heap, &mut world);
-    Ok(())
-}
-
 /// A second road is not added to a store that has room for one, and its transaction goes on.
 fn add_beyond_the_store(rt: &impl Abort, heap: Global, world: &mut World<Global>) -> u64 {
     let before = picture(rt, heap, world);
@@ -518,10 +412,101 @@ fn fill_and_exchange(rt: &impl Abort, heap: Global, world: &mut World<Global>) {
     exchange(rt, world);
 }
 
+/// What is refused.
+#[derive(Clone, Copy, Debug, Drop)]
+enum Refused {
+    SeatsThatAreNotGiven,
+    PlacesFor1024Seats,
+    EventsWithoutASeat,
+    SearchesAndTransactionsOfOthers,
+    SearchesThatAreNotReady,
+    SixteenSearchesRun,
+    SixtyFourTransactionsAreOpen,
+    ListsThatTakeNoMore,
+    ShapesThatAreNotPlaced,
+    StewardsAloneGovernAndRoll,
+    ListsThatAreTurnedAway,
+    ListsThatAreDenied,
+    FullTrails,
+    FullStores,
+}
+
+/// The world in which it is tried.
+fn world_for(rt: &impl Abort, heap: Global, trial: Refused) -> World<Global> {
+    match trial {
+        Refused::FullTrails => limited(rt, heap, 1, 9),
+        Refused::FullStores => limited(rt, heap, 9, 1),
+        _ => inhabited(rt, heap),
+    }
+}
+
+/// What is tried is refused, and changes nothing.
+fn refuse(rt: &impl Abort, heap: Global, world: &mut World<Global>, trial: Refused) {
+    match trial {
+        Refused::SeatsThatAreNotGiven => ask_for_nobody(rt, heap, world),
+        Refused::PlacesFor1024Seats => take_each_place(rt, heap, world),
+        Refused::EventsWithoutASeat => try_without_a_seat(rt, heap, world),
+        Refused::SearchesAndTransactionsOfOthers => try_as_another(rt, heap, world),
+        Refused::SearchesThatAreNotReady => finish_too_soon(rt, heap, world),
+        Refused::SixteenSearchesRun => search_beside_sixteen(rt, heap, world),
+        Refused::SixtyFourTransactionsAreOpen => begin_beside_sixty_four(rt, heap, world),
+        Refused::ListsThatTakeNoMore => stage_beyond_sixteen(rt, heap, world),
+        Refused::ShapesThatAreNotPlaced => place_then_commit(rt, heap, world),
+        Refused::StewardsAloneGovernAndRoll => govern_and_roll_as_editors(rt, heap, world),
+        Refused::ListsThatAreTurnedAway => turn_away(rt, world),
+        Refused::ListsThatAreDenied => deny(rt, heap, world),
+        Refused::FullTrails => fill_and_roll(rt, heap, world),
+        Refused::FullStores => fill_and_exchange(rt, heap, world),
+    }
+}
+
+/// Each of these, over a world of its own.
+fn refuse_each(rt: &impl Abort, heap: Global, trials: &[Refused]) {
+    for trial in trials {
+        let mut world = world_for(rt, heap, *trial);
+        refuse(rt, heap, &mut world, *trial);
+    }
+}
+
 #[test]
-fn full_stores(rt: HostRuntime) -> Result<(), Fail> {
+fn refused_to_seats_and_searches(rt: HostRuntime) {
+    refuse_each(
+        &rt,
+        rt.alloc(),
+        &[
+            Refused::SeatsThatAreNotGiven,
+            Refused::PlacesFor1024Seats,
+            Refused::EventsWithoutASeat,
+            Refused::SearchesAndTransactionsOfOthers,
+            Refused::SearchesThatAreNotReady,
+            Refused::SixteenSearchesRun,
+        ],
+    );
+}
+
+#[test]
+fn refused_to_lists_and_policies(rt: HostRuntime) {
+    refuse_each(
+        &rt,
+        rt.alloc(),
+        &[
+            Refused::SixtyFourTransactionsAreOpen,
+            Refused::ListsThatTakeNoMore,
+            Refused::ShapesThatAreNotPlaced,
+            Refused::StewardsAloneGovernAndRoll,
+            Refused::ListsThatAreTurnedAway,
+            Refused::ListsThatAreDenied,
+            Refused::FullTrails,
+            Refused::FullStores,
+        ],
+    );
+}
+
+/// A fault is shown by its code, and one of the index by the index's.
+#[test]
+fn codes_of_faults(rt: HostRuntime) -> Result<(), Fail> {
     let heap = rt.alloc();
-    let mut world = limited(&rt, heap, 9, 1);
-    fill_and_exchange(&rt, heap, &mut world);
+    let shown = format!(in heap; "{} {}", Fault::NoSuch, Fault::Tree(TreeFault::Spent))?;
+    assert_eq!(rt; shown.as_str(), "X1 S6");
     Ok(())
 }

@@ -55,9 +55,10 @@ pub fn square(rt: &impl Abort, low: i32, high: i32) -> Shape {
 }
 
 pub fn document(rt: &impl Abort, heap: Global, text: &str) -> Document<Global> {
-    let read = read_document(heap, heap, text.as_bytes());
-    assert!(rt; read.is_ok(), "{text}");
-    read.unwrap()
+    match read_document(heap, heap, text.as_bytes()) {
+        Ok(document) => document,
+        Err(_) => panic!(rt; "no document: {text}"),
+    }
 }
 
 /// A subject whose name and office are one.
@@ -81,8 +82,8 @@ pub fn subjects(rt: &impl Abort) -> Subjects {
     made.unwrap()
 }
 
-/// A world of this policy, with three seats: north has the first, south the second, chief the third.
-pub fn seated<A: Allocator + Copy>(
+/// A world of this policy.
+fn opened<A: Allocator + Copy>(
     rt: &impl Abort,
     alloc: A,
     heap: Global,
@@ -92,16 +93,23 @@ pub fn seated<A: Allocator + Copy>(
 ) -> World<A> {
     assert!(rt; starts.rolled <= ROLLED_LIMIT && limits.steps <= STEP_LIMIT);
     assert!(rt; limits.records <= 1_000 && limits.features as usize <= FEATURE_LIMIT);
-    let opened = World::open_at(
-        alloc,
-        heap,
-        subjects(rt),
-        document(rt, heap, policy),
-        starts,
-        limits,
-    );
-    assert!(rt; opened.is_ok());
-    let mut world = opened.unwrap();
+    let document = document(rt, heap, policy);
+    match World::open_at(alloc, heap, subjects(rt), document, starts, limits) {
+        Ok(world) => world,
+        Err(_) => panic!(rt; "no world"),
+    }
+}
+
+/// The same, with three seats: north has the first, south the second, chief the third.
+pub fn seated<A: Allocator + Copy>(
+    rt: &impl Abort,
+    alloc: A,
+    heap: Global,
+    policy: &str,
+    starts: Starts,
+    limits: Limits,
+) -> World<A> {
+    let mut world = opened(rt, alloc, heap, policy, starts, limits);
     give_seats(rt, &mut world);
     world
 }
@@ -201,9 +209,10 @@ pub fn found<A: Allocator + Copy>(
 ) -> Answer<A> {
     let number = ready(rt, world, seat, window);
     let mut meter = Meter::new();
-    let answered = world.finish(seat, number, &mut meter);
-    assert!(rt; answered.is_ok());
-    answered.unwrap()
+    match world.finish(seat, number, &mut meter) {
+        Ok(answer) => answer,
+        Err(fault) => panic!(rt; "{fault}"),
+    }
 }
 
 /// All that a world tells without an event: how many features there are, the edition, the document in force, and the

@@ -1,6 +1,6 @@
 use Rattle.std.proofs.Common.{rules, ◌+◌, ◌≤◌, length, take, arith, ◌∙◌, sym}
-use Rattle.policy_text.specs.Documents.{rules_of}
-use Rattle.policy_text.specs.Views.{node_view}
+use Rattle.policy_documents.specs.Documents.{rules_of}
+use Rattle.policy_documents.specs.Views.{node_view}
 use Rattle.combining.proofs.GatherLemmas.{total, total-more, total-some}
 use denote.Param.Weighed.{at_most}
 use Rattle.combining.proofs.deciding.+count.Goals as goal

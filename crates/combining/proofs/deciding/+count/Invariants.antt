@@ -1,5 +1,5 @@
 use Rattle.std.proofs.Common.{◌≡◌, take}
-use Rattle.policy_text.specs.Views.{node_view}
+use Rattle.policy_documents.specs.Views.{node_view}
 use Rattle.combining.proofs.GatherLemmas.{total}
 use Rattle.combining.proofs.deciding.+count.Given as goal
 

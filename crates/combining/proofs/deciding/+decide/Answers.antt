@@ -1,7 +1,7 @@
 use Rattle.std.proofs.Common.{rules, ◌+◌, map, take, arith, ap, ◌∙◌, sym}
 use Rattle.std.proofs.lemmas.List.{take_all}
-use Rattle.policy_text.specs.Views.{node_view}
-use Rattle.policy_text.proofs.NodeLemmas.{node_view-Set, node_view-Policy}
+use Rattle.policy_documents.specs.Views.{node_view}
+use Rattle.policy_documents.proofs.NodeLemmas.{node_view-Set, node_view-Policy}
 use Rattle.combining.specs.Gathering.{gathered_of, part_verdict, node_part, settled_verdict}
 use Rattle.combining.proofs.PlacedLemmas.{parts_of-map}
 use Rattle.combining.proofs.GatherLemmas.{total-more, total-some, sizes_of-total, gathered-more, own_node, settled-set, settled-policy, left-set, left-policy}

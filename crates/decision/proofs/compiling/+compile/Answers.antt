@@ -1,7 +1,7 @@
 use Rattle.std.proofs.Common.{rules, ◌+◌, List, map, take, arith, sym, ap, ◌∙◌, subst}
 use Rattle.std.proofs.lemmas.List.{take_all}
-use Rattle.policy_text.specs.Views.{node_view}
-use Rattle.policy_text.proofs.NodeLemmas.{node_view-Set, node_view-Policy}
+use Rattle.policy_documents.specs.Views.{node_view}
+use Rattle.policy_documents.proofs.NodeLemmas.{node_view-Set, node_view-Policy}
 use Rattle.combining.specs.Gathering.{node_part}
 use Rattle.combining.proofs.GatherLemmas.{total-more, total-some, sizes_of-total, own_node}
 use Rattle.decision.specs.Compiled.{Appends, AllStandFor}

@@ -1,5 +1,5 @@
 use Rattle.std.proofs.Common.{◌≡◌, ◌+◌, map, take}
-use Rattle.policy_text.specs.Views.{node_view}
+use Rattle.policy_documents.specs.Views.{node_view}
 use Rattle.combining.specs.Gathering.{node_part}
 use Rattle.combining.proofs.GatherLemmas.{total}
 use Rattle.decision.specs.Compiled.{Appends, AllStandFor}

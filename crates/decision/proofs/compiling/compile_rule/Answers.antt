@@ -1,4 +1,4 @@
-use Rattle.policy_text.specs.Documents.{RuleData}
+use Rattle.policy_documents.specs.Documents.{RuleData}
 use Rattle.decision.proofs.CompileLemmas.{target-never, when-never, rule-kept}
 use Rattle.decision.proofs.compiling.compile_rule.Goals as goal
 

@@ -1,6 +1,6 @@
 use Rattle.std.proofs.Common.{◌+◌, List, map, take, sym, ap, ◌∙◌, subst, arith, length-take-le}
 use Rattle.std.proofs.lemmas.List.{take_all}
-use Rattle.policy_text.specs.Documents.{RuleData}
+use Rattle.policy_documents.specs.Documents.{RuleData}
 use Rattle.combining.specs.Deciding.{rule_part}
 use Rattle.combining.proofs.GatherLemmas.{own_rule, sizes_of-rules}
 use Rattle.decision.specs.Compiled.{Appends, AllStandFor}

@@ -1,6 +1,6 @@
 use Rattle.std.proofs.Common.{◌≡◌, [], map}
 use Rattle.serde_json.specs.View.{items_view}
-use Rattle.policy_text.specs.Views.{zone_of}
+use Rattle.policy_documents.specs.Views.{zone_of}
 use Rattle.policy_text.specs.Reading.{zones_at}
 use Rattle.policy_text.proofs.ZoneReadLemmas.{zones_left}
 use Rattle.policy_text.proofs.areas.zones_at.Given as goal

@@ -2,8 +2,8 @@ use Rattle.std.proofs.Common.{map, sym, ap, ◌∙◌}
 use Rattle.std.proofs.lemmas.Result.{IfOk-weaker}
 use Rattle.serde_json.specs.View.{view}
 use Rattle.policy_text.specs.Printed.{node_data, rule_data}
-use Rattle.policy_text.specs.Views.{node_view}
-use Rattle.policy_text.proofs.NodeLemmas.{node_view-Set, node_view-Policy, mapped_more}
+use Rattle.policy_documents.specs.Views.{node_view}
+use Rattle.policy_documents.proofs.NodeLemmas.{node_view-Set, node_view-Policy, mapped_more}
 use Rattle.policy_text.proofs.PutMembers.{set-put, policy-put}
 use Rattle.policy_text.proofs.printing.+print.Goals as goal
 

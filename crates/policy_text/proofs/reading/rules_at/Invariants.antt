@@ -1,6 +1,6 @@
 use Rattle.std.proofs.Common.{◌≡◌, map}
 use Rattle.serde_json.specs.View.{items_view}
-use Rattle.policy_text.specs.Views.{zone_of}
+use Rattle.policy_documents.specs.Views.{zone_of}
 use Rattle.policy_text.specs.SeenViews.{seen_view}
 use Rattle.policy_text.specs.Reading.{each_at, rule_at}
 use Rattle.policy_text.proofs.EachLemmas.{behind, left_at}

@@ -1,5 +1,5 @@
 use Rattle.std.proofs.Common.{map, sym, ap, ◌∙◌, subst, Ok}
-use Rattle.policy_text.specs.Views.{zone_of}
+use Rattle.policy_documents.specs.Views.{zone_of}
 use Rattle.policy_text.specs.Reading.{Fails}
 use Rattle.policy_text.proofs.EachLemmas.{Gives-residual, left_at-more, left_at-fails, left_at-end}
 use Rattle.policy_text.proofs.targets.parts_at.Goals as goal

@@ -1,5 +1,5 @@
 use Rattle.std.proofs.Common.{◌∙◌}
-use Rattle.policy_text.proofs.ZoneLemmas.{lookup-list_any}
+use Rattle.policy_documents.proofs.ZoneLemmas.{lookup-list_any}
 use Rattle.policy_text.proofs.terms.has_zone.Goals as goal
 
 pub returns : goal.returns

@@ -1,5 +1,5 @@
 use Rattle.std.proofs.Common.{Err, IfErr}
-use Rattle.sessions.proofs.LeavingLemmas.{left_by}
+use Rattle.line_streams.proofs.LeavingLemmas.{left_by}
 use Rattle.program.proofs.RunLemmas.{came, of_run, served}
 use Rattle.program.specs.Configs.{config_data}
 use Rattle.program.specs.RunFaults.{IsOfRun}

@@ -1,4 +1,4 @@
-use Rattle.sessions.proofs.WritingLemmas.{took_first, took_then}
+use Rattle.session_lines.proofs.WritingLemmas.{took_first, took_then}
 use Rattle.program.proofs.telling.write_both.Goals as goal
 
 pub returns-in_err-write_whole : goal.returns-in_err-write_whole

@@ -2,7 +2,7 @@ use Rattle.std.proofs.Common.{Ok, Err, refl, inl, ◌∙◌}
 use Rattle.sessions.specs.Causes.{CommitsIn}
 use Rattle.sessions.specs.States.{begun}
 use Rattle.sessions.proofs.CauseLemmas.{commits_in, lets_go}
-use Rattle.sessions.proofs.LeavingLemmas.{left_by}
+use Rattle.line_streams.proofs.LeavingLemmas.{left_by}
 use Rattle.sessions.proofs.CommitLemmas.{begins, commit_ended, commit_refused}
 use Rattle.sessions.proofs.calls.commit.Goals as goal
 

@@ -3,7 +3,7 @@ use Rattle.plain_world.specs.Events.{Commit, Ended, reply_of}
 use Rattle.sessions.specs.Causes.{ConcludesIn}
 use Rattle.sessions.specs.UnderWay.{ConcludesAll}
 use Rattle.sessions.proofs.CauseLemmas.{commit_own, ends_own, lets_go}
-use Rattle.sessions.proofs.LeavingLemmas.{left_by}
+use Rattle.line_streams.proofs.LeavingLemmas.{left_by}
 use Rattle.sessions.proofs.SearchLemmas.{from_same}
 use Rattle.sessions.proofs.calls.conclude.Goals as goal
 

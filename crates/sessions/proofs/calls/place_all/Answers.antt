@@ -3,7 +3,7 @@ use Rattle.plain_world.specs.declared.steps.Advance.TheVariants as advances
 use Rattle.plain_world.specs.Events.{AdvanceWalk, Advanced, Refused}
 use Rattle.sessions.specs.Causes.{PlacesIn}
 use Rattle.sessions.proofs.CauseLemmas.{walks_further}
-use Rattle.sessions.proofs.LeavingLemmas.{left_by}
+use Rattle.line_streams.proofs.LeavingLemmas.{left_by}
 use Rattle.sessions.proofs.SearchLemmas.{from_same}
 use Rattle.sessions.proofs.CommitLemmas.{advancing}
 use Rattle.sessions.specs.Services.{Brings}

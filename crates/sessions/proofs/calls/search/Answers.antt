@@ -1,6 +1,6 @@
 use Rattle.std.proofs.Common.{refl, inl, inr, ◌∙◌}
 use Rattle.sessions.specs.Causes.{SearchesIn}
-use Rattle.sessions.proofs.LeavingLemmas.{left_by}
+use Rattle.line_streams.proofs.LeavingLemmas.{left_by}
 use Rattle.sessions.proofs.SearchLemmas.{search_answered, search_refused}
 use Rattle.sessions.proofs.calls.search.Goals as goal
 

@@ -4,7 +4,7 @@ use Rattle.plain_world.specs.Admitting.{may_go_on}
 use Rattle.sessions.specs.Causes.{SeeksIn}
 use Rattle.sessions.specs.Stepping.{Seeks}
 use Rattle.sessions.proofs.CauseLemmas.{seeks_further, seeks_no_longer_in, seeks_ready_in, seeks_refused_in}
-use Rattle.sessions.proofs.LeavingLemmas.{left_by}
+use Rattle.line_streams.proofs.LeavingLemmas.{left_by}
 use Rattle.sessions.proofs.SearchLemmas.{from_same, seeks_on}
 use Rattle.sessions.proofs.calls.seek.Goals as goal
 

@@ -2,7 +2,7 @@ use Rattle.std.proofs.Common.{take, Err, IfErr}
 use Rattle.plain_world.specs.Events.{Stage, Refused}
 use Rattle.sessions.specs.Causes.{IsOwn}
 use Rattle.sessions.proofs.CauseLemmas.{stage_own}
-use Rattle.sessions.proofs.LeavingLemmas.{left_by}
+use Rattle.line_streams.proofs.LeavingLemmas.{left_by}
 use Rattle.sessions.proofs.SearchLemmas.{from_same}
 use Rattle.sessions.proofs.CommitLemmas.{may_stage_at, stage_one}
 use Rattle.sessions.proofs.calls.stage_all.Goals as goal

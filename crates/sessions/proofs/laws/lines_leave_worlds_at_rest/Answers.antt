@@ -9,4 +9,4 @@ pub returns-clause-line : goal.returns-clause-line
 returns-clause-line c = λ text old new said told still. line_rests text old new said told still
 
 pub returns-clause-alone : goal.returns-clause-alone
-returns-clause-alone c = λ text old new said told still. alone_rests text old new said told still
+returns-clause-alone c = λ text old new said next told still. alone_rests text old new said next told still

@@ -1,22 +1,22 @@
 use Rattle.std.proofs.Common.{[], refl}
 use Rattle.sessions.specs.Indexed.{LineRuns, indexed}
-use Rattle.sessions.specs.Streams.{Ran}
-use Rattle.sessions.proofs.LeavingLemmas.{left_by}
+use Rattle.line_streams.specs.Streams.{NeverEnds, Ran}
+use Rattle.line_streams.proofs.LeavingLemmas.{left_by}
 use Rattle.sessions.proofs.LineLemmas.{run_idle}
 use Rattle.sessions.proofs.ScriptLemmas.{ran_plainly, script_text_of, untouched_so}
-use Rattle.sessions.proofs.StreamLemmas.{ran_along}
+use Rattle.line_streams.proofs.StreamLemmas.{ran_along}
 use Rattle.sessions.proofs.scripts.run_script.Goals as goal
 
 pub returns-clause-script_text : goal.returns-clause-script_text
 returns-clause-script_text g c =
-    let runs = ran_along (λ s. indexed s.0 s.1.sessions.items s.1.next_slot) LineRuns c.run_lines-end.result _ _ _ _ _ _ c.run_lines-end.ensures.ran in
+    let runs = ran_along (λ s. indexed s.0 s.1.sessions.items s.1.next_slot) (NeverEnds LineRuns) c.run_lines-end.result _ _ _ _ _ _ c.run_lines-end.ensures.ran in
     let ran = rw c.in_ok-table.ensures.sessions at (ran_plainly c.run_lines-end.result _ _ _ _ _ _ runs) in
     let drops = rw c.deref.ensures.value at c.drop_all.ensures.drops in
     script_text_of c.run_lines-end.result _ _ _ _ _ _ _ _ ran drops
 
 pub returns-clause-ran : goal.returns-clause-ran
 returns-clause-ran g c =
-    let runs = ran_along (λ s. indexed s.0 s.1.sessions.items s.1.next_slot) LineRuns c.run_lines-end.result _ _ _ _ _ _ c.run_lines-end.ensures.ran in
+    let runs = ran_along (λ s. indexed s.0 s.1.sessions.items s.1.next_slot) (NeverEnds LineRuns) c.run_lines-end.result _ _ _ _ _ _ c.run_lines-end.ensures.ran in
     let ran = rw c.in_ok-table.ensures.sessions at (ran_plainly c.run_lines-end.result _ _ _ _ _ _ runs) in
     let drops = rw c.deref.ensures.value at c.drop_all.ensures.drops in
     (c.run_lines-end.new.desk.sessions.items, c.run_lines-end.new.world.plain, ran, drops)
@@ -29,19 +29,19 @@ returns-in_err-table-clause-runs g c =
       [],
       0,
       c.args.world.now,
-      left_by c.from_residual.result _ (λ r. Ran LineRuns r first first input input output output) c.from_residual.ensures.1 (refl, refl, refl),
+      left_by c.from_residual.result _ (λ r. Ran (NeverEnds LineRuns) r first first input input output output) c.from_residual.ensures.1 (refl, refl, refl),
       refl,
     )
 
 pub returns-clause-runs : goal.returns-clause-runs
 returns-clause-runs g c =
-    let runs = rw (c.in_ok-table.ensures.sessions, c.in_ok-table.ensures.turn) at (ran_along (λ s. indexed s.0 s.1.sessions.items s.1.next_slot) LineRuns c.run_lines-end.result _ _ _ _ _ _ c.run_lines-end.ensures.ran) in
+    let runs = rw (c.in_ok-table.ensures.sessions, c.in_ok-table.ensures.turn) at (ran_along (λ s. indexed s.0 s.1.sessions.items s.1.next_slot) (NeverEnds LineRuns) c.run_lines-end.result _ _ _ _ _ _ c.run_lines-end.ensures.ran) in
     let shuts = rw c.deref.ensures.value at c.drop_all.ensures.shuts in
     (c.run_lines-end.new.desk.sessions.items, c.run_lines-end.new.desk.next_slot, c.run_lines-end.new.world, runs, shuts)
 
 pub returns-clause-idle : goal.returns-clause-idle
 returns-clause-idle g c idle =
-    let runs = ran_along (λ s. indexed s.0 s.1.sessions.items s.1.next_slot) LineRuns c.run_lines-end.result _ _ _ _ _ _ c.run_lines-end.ensures.ran in
+    let runs = ran_along (λ s. indexed s.0 s.1.sessions.items s.1.next_slot) (NeverEnds LineRuns) c.run_lines-end.result _ _ _ _ _ _ c.run_lines-end.ensures.ran in
     let ran = rw c.in_ok-table.ensures.sessions at (ran_plainly c.run_lines-end.result _ _ _ _ _ _ runs) in
     let drops = rw c.deref.ensures.value at c.drop_all.ensures.drops in
     run_idle c.run_lines-end.result _ _ _ _ _ _ _ _ ran drops idle

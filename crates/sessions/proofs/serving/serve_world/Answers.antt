@@ -2,11 +2,12 @@ use Rattle.std.proofs.Common.{◌≡◌, None, rules}
 use Rattle.sessions.specs.declared.solos.Solo.{Solo}
 use Rattle.sessions.specs.Causes.{Causes}
 use Rattle.sessions.specs.Indexed.{Server, ServesThere, asks_for, server}
-use Rattle.sessions.specs.Replies.{SaidData}
-use Rattle.sessions.specs.Services.{Call, Serves, solo_subject}
+use Rattle.session_lines.specs.Replies.{SaidData}
+use Rattle.session_lines.specs.Services.{Call}
+use Rattle.sessions.specs.Services.{Serves, solo_subject}
 use Rattle.sessions.specs.States.{SoloState, solo}
 use Rattle.sessions.proofs.LentLemmas.{run_idles, run_shown}
-use Rattle.sessions.proofs.ScriptLemmas.{served_text_of}
+use Rattle.session_lines.proofs.ServingLemmas.{served_text_of}
 use Rattle.sessions.proofs.serving.serve_world.Goals as goal
 
 pub returns-clause-served_text : goal.returns-clause-served_text

@@ -1,7 +1,7 @@
 use Rattle.std.proofs.Common.{◌∙◌}
 use Rattle.sessions.specs.Stepping.{GoesOn, VisitsOn}
 use Rattle.plain_world.specs.Admitting.{may_go_on}
-use Rattle.sessions.proofs.LeavingLemmas.{left_by}
+use Rattle.line_streams.proofs.LeavingLemmas.{left_by}
 use Rattle.sessions.proofs.StepLemmas.{finds_one_more, goes_refused, sees_one_more, sees_ready, sees_refused}
 use Rattle.sessions.proofs.stepping.go_on.Goals as goal
 

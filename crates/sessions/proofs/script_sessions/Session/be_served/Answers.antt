@@ -2,9 +2,11 @@ use Rattle.std.proofs.Common.{◌≡◌, refl, rules}
 use Rattle.sessions.specs.declared.solos.Solo.{Solo}
 use Rattle.sessions.specs.Causes.{Causes}
 use Rattle.sessions.specs.Indexed.{Server, ServesThere, asks_for, server}
-use Rattle.sessions.specs.Replies.{SaidData, said_view}
-use Rattle.sessions.specs.Services.{Call, Serves, solo_subject}
-use Rattle.sessions.specs.States.{SoloState, desk, solo}
+use Rattle.session_lines.specs.Replies.{SaidData, said_view}
+use Rattle.session_lines.specs.Services.{Call}
+use Rattle.sessions.specs.Services.{Serves, solo_subject}
+use Rattle.sessions.specs.States.{SoloState, solo}
+use Rattle.session_lines.specs.Desks.{desk}
 use Rattle.sessions.proofs.LentLemmas.{session_shown}
 use Rattle.sessions.proofs.script_sessions.Session.be_served.Goals as goal
 

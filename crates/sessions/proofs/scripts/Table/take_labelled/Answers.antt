@@ -1,5 +1,5 @@
 use Rattle.std.proofs.Common.{◌≡◌, ◌<◌, ◌∙◌, ap, arith}
-use Rattle.sessions.specs.Replies.{said_view}
+use Rattle.session_lines.specs.Replies.{said_view}
 use Rattle.sessions.specs.Indexed.{indexed}
 use Rattle.sessions.specs.Scripts.{place}
 use Rattle.sessions.specs.declared.scripts.TheConstants.{LABEL_LIMIT}

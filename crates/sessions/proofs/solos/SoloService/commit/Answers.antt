@@ -1,5 +1,5 @@
 use Rattle.std.proofs.Common.{Ok, Err, refl, ap}
-use Rattle.sessions.specs.Replies.{line}
+use Rattle.session_lines.specs.Replies.{line}
 use Rattle.sessions.specs.States.{solo}
 use Rattle.sessions.proofs.CauseLemmas.{commit_so, commit_there}
 use Rattle.sessions.proofs.solos.SoloService.commit.Goals as goal

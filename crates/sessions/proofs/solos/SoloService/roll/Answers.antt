@@ -1,6 +1,6 @@
 use Rattle.std.proofs.Common.{Ok, Err, refl, ap}
 use Rattle.std.specs.Arc.{arc_value}
-use Rattle.sessions.specs.Replies.{line, rolled}
+use Rattle.session_lines.specs.Replies.{line, rolled}
 use Rattle.sessions.specs.States.{solo}
 use Rattle.sessions.proofs.RollLemmas.{rolled_so}
 use Rattle.sessions.proofs.solos.SoloService.roll.Goals as goal

@@ -1,5 +1,5 @@
 use Rattle.std.proofs.Common.{Ok, Err, refl, ap}
-use Rattle.sessions.specs.Replies.{line, rows}
+use Rattle.session_lines.specs.Replies.{line, rows}
 use Rattle.sessions.specs.States.{solo}
 use Rattle.sessions.proofs.CauseLemmas.{search_so, search_there}
 use Rattle.sessions.proofs.solos.SoloService.search.Goals as goal

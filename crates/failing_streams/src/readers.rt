@@ -1,0 +1,64 @@
+//! Readers that fail, that count their calls, and that go on for long.
+use std::io;
+use std::io::{ErrorKind, Read};
+
+/// A reader that gives one byte a call. One call fails, counted from 1, or none at 0, and the next goes on.
+#[derive(Drop)]
+pub struct FailingReader<'a> {
+    pub bytes: &'a [u8],
+    pub fails_at: u64,
+}
+
+impl Read for FailingReader<'_> {
+    fn read(&mut self, buf: &mut [u8]) -> io::Result<usize> {
+        let fails = self.fails_at == 1;
+        self.fails_at = self.fails_at.saturating_sub(1);
+        if fails {
+            return Err(ErrorKind::Other.into());
+        }
+        if self.bytes.is_empty() || buf.is_empty() {
+            return Ok(0);
+        }
+        buf[0] = self.bytes[0];
+        self.bytes = &self.bytes[1..];
+        Ok(1)
+    }
+}
+
+/// A reader that gives one byte a call, this one, so many times, and counts its calls.
+#[derive(Drop)]
+pub struct CountingReader {
+    pub gives: u8,
+    pub left: u64,
+    pub calls: u64,
+}
+
+impl Read for CountingReader {
+    fn read(&mut self, buf: &mut [u8]) -> io::Result<usize> {
+        self.calls = self.calls.saturating_add(1);
+        if buf.is_empty() || self.left == 0 {
+            return Ok(0);
+        }
+        self.left -= 1;
+        buf[0] = self.gives;
+        Ok(1)
+    }
+}
+
+/// A reader that fills what it is given with one comment line, so many bytes in all.
+#[derive(Drop)]
+pub struct LongReader {
+    pub left: usize,
+}
+
+impl Read for LongReader {
+    fn read(&mut self, buf: &mut [u8]) -> io::Result<usize> {
+        let count = buf.len().min(self.left);
+        buf[..count].fill(b'#');
+        if let Some(last) = buf[..count].last_mut() {
+            *last = b'\n';
+        }
+        self.left -= count;
+        Ok(count)
+    }
+}

@@ -1,0 +1,2 @@
+pub mod LeavingLemmas
+pub mod StreamLemmas

@@ -1,0 +1,315 @@
+//! Lines from any reader, answered to any writer. What a line is answered is not known here.
+ghost use Rattle.std.specs.Prelude.{◌≡◌, ℕ, ◌≤◌, ◌++◌, ◌∷◌, [], List, Option, true, IfOk, IfErr, vec_len, vec_capacity};
+ghost use Rattle.std.specs.Io.BufRead.{strip_last};
+ghost use Rattle.byte_streams.specs.Written.{Took};
+ghost use Rattle.line_streams.specs.Lines.{is_too_long, lines_of};
+ghost use Rattle.line_streams.specs.Streams.{Concludes, IsLine, OnMemory, Passes, Ran, TookLast, TookLine, TookOne, held_of, held_with};
+ghost use Rattle.line_streams.specs.declared.streams.TheConstants.{HELD};
+
+use byte_streams::{Flushed, ReadFailed, Turns, WriteFailed, flush};
+use memory::{Refused, vec_with_room};
+use std::alloc::Allocator;
+use std::fmt;
+use std::io::{Read, Write};
+
+/// How many bytes a line has at most, without its end.
+pub const LINE_LIMIT: usize = 65_536;
+
+/// How many bytes of a line are held: a return more, and one more, by which a line that is too long is known.
+const HELD: usize = 65_538;
+
+/// How many times an input is read from at most.
+pub const READ_LIMIT: u32 = 16_777_216;
+
+/// How many bytes are read at once.
+const CHUNK: usize = 4_096;
+
+/// Why a run of lines ends before its input does, and before a line ends it. What was done before stands.
+#[derive(Debug, Drop, PartialEq, Eq)]
+pub enum ServeFault {
+    /// V1: a read failed.
+    Read(ReadFailed),
+    /// V2: a write failed, or a flush.
+    Write(WriteFailed),
+    /// V3: the input did not end in as many reads as a run has. These were made.
+    TooManyTurns(Turns),
+    /// V4: the buffers were refused, before anything was read.
+    Memory(Refused),
+}
+
+impl ServeFault {
+    ghost use Rattle.line_streams.specs.Faults.{serve_code_of};
+
+    /// The code that the program shows.
+    pub fn code(&self) -> &'static str
+        ensures { result.now ≡ serve_code_of self.now }
+    {
+        match self {
+            ServeFault::Read(_) => "V1",
+            ServeFault::Write(_) => "V2",
+            ServeFault::TooManyTurns(_) => "V3",
+            ServeFault::Memory(_) => "V4",
+        }
+    }
+}
+
+impl fmt::Display for ServeFault {
+    ghost use Rattle.std.specs.Prelude.{Some};
+    ghost use Rattle.line_streams.specs.Faults.{serve_code_of};
+
+    ghost output = { λ fault. Some (serve_code_of fault) };
+
+    fn fmt<W: fmt::Write>(&self, f: &mut fmt::Formatter<W>) -> fmt::Result {
+        f.write_str(self.code())
+    }
+}
+
+impl From<ReadFailed> for ServeFault {
+    ghost use Rattle.line_streams.specs.declared.streams.ServeFault.TheVariants as reasons;
+
+    ghost from_gives = { λ failed fault. fault ≡ reasons.Read failed };
+
+    fn from(failed: ReadFailed) -> ServeFault {
+        ServeFault::Read(failed)
+    }
+}
+
+impl From<WriteFailed> for ServeFault {
+    ghost use Rattle.line_streams.specs.declared.streams.ServeFault.TheVariants as reasons;
+
+    ghost from_gives = { λ failed fault. fault ≡ reasons.Write failed };
+
+    fn from(failed: WriteFailed) -> ServeFault {
+        ServeFault::Write(failed)
+    }
+}
+
+impl From<Refused> for ServeFault {
+    ghost use Rattle.line_streams.specs.declared.streams.ServeFault.TheVariants.{Memory};
+
+    ghost from_gives = { λ refused fault. fault ≡ Memory refused };
+
+    fn from(refused: Refused) -> ServeFault {
+        ServeFault::Memory(refused)
+    }
+}
+
+/// Whether a stream of lines goes on behind a line that was answered.
+#[derive(Clone, Copy, Debug, Drop, PartialEq, Eq)]
+pub enum Next {
+    /// The next line is answered, where there is one.
+    Line,
+    /// No further line is answered.
+    End,
+}
+
+impl Next {
+    /// Says so of the stream behind a line whose answer was written, or not.
+    pub fn behind(self, written: Result<(), WriteFailed>) -> Result<Next, WriteFailed>
+        ensures { (before after : Option (List ℕ)) (said : List ℕ) → Took written before after said
+            → TookLine result before after said self }
+    {
+        match written {
+            Ok(()) => Ok(self),
+            Err(failed) => Err(failed),
+        }
+    }
+}
+
+/// What answers lines, over a world of its own kind.
+pub trait LineDesk {
+    ghost use Rattle.line_streams.specs.declared.streams.Next.{Next};
+
+    /// What the lines are about, which stays when the desk is gone.
+    type World;
+
+    // how a line is answered: from a world and a desk to others, with these bytes, and whether the stream goes on
+    ghost tells: { List ℕ → Self.World × Self → Self.World × Self → List ℕ → Next → Type 0 };
+
+    /// Answers a line, which has no line feed, and says whether the stream goes on behind it. An error is the writer's; the
+    /// line is done all the same.
+    fn take_line<W: Write>(
+        &mut self,
+        world: &mut Self::World,
+        line: &[u8],
+        writer: &mut W,
+    ) -> Result<Next, WriteFailed>
+        ensures { (said : List ℕ) × (next : Next)
+            × TookLine result (W.contents writer.old) (W.contents writer.new) said next
+            × tells line.now (world.old, self.old) (world.new, self.new) said next };
+
+    // lines that are too long are answered alike
+    ghost long_alike: { (line other : List ℕ) (old new : Self.World × Self) (said : List ℕ) (next : Next)
+        → is_too_long line ≡ true → is_too_long other ≡ true
+        → tells line old new said next → tells other old new said next };
+}
+
+/// Why no further line is answered.
+#[derive(Drop)]
+enum Stop {
+    /// A line ended the stream.
+    Ended,
+    /// The answer of a line was not written in full.
+    Failed(WriteFailed),
+}
+
+impl From<WriteFailed> for Stop {
+    ghost use Rattle.line_streams.specs.declared.streams.Stop.TheVariants as stops;
+
+    ghost from_gives = { λ failed stop. stop ≡ stops.Failed failed };
+
+    fn from(failed: WriteFailed) -> Stop {
+        Stop::Failed(failed)
+    }
+}
+
+/// The bytes of a line that has begun, as far as they count.
+#[derive(Drop)]
+struct Held<A: Allocator> {
+    bytes: Vec<u8, A>,
+    ghost room: { HELD ≤ vec_capacity bytes },
+    ghost within: { vec_len bytes ≤ HELD },
+}
+
+impl<A: Allocator> Held<A> {
+    /// No line has begun.
+    fn new(alloc: A) -> Result<Self, Refused>
+        ensures { IfOk result (λ held. held.bytes.items ≡ []) }
+    {
+        let bytes = vec_with_room(alloc, HELD)?;
+        Ok(Held { bytes })
+    }
+
+    /// One more byte of the line, which counts only while the line may still be short enough.
+    fn hold(&mut self, byte: u8)
+        ensures { self.new.bytes.items ≡ held_with byte self.old.bytes.items }
+    {
+        if self.bytes.len() < HELD {
+            self.bytes.push_reserved(byte);
+        }
+    }
+
+    /// The line without the return at its end.
+    fn without_return(&self) -> &[u8]
+        ensures { result.now ≡ strip_last 13 self.now.bytes.items }
+    {
+        match self.bytes.as_slice() {
+            [line @ .., b'\r'] => line,
+            line => line,
+        }
+    }
+}
+
+/// Answers a line; the stream stops where the line ends it.
+fn answer_line<D: LineDesk, W: Write>(
+    desk: &mut D,
+    world: &mut D::World,
+    line: &[u8],
+    writer: &mut W,
+) -> Result<(), Stop>
+    ensures { TookOne D.tells result line.now (world.old, desk.old) (world.new, desk.new)
+        (W.contents writer.old) (W.contents writer.new) }
+{
+    match desk.take_line(world, line, writer) {
+        Ok(Next::Line) => Ok(()),
+        Ok(Next::End) => Err(Stop::Ended),
+        Err(failed) => Err(Stop::Failed(failed)),
+    }
+}
+
+/// Takes one byte of the input.
+fn take_byte<D: LineDesk, A: Allocator, W: Write>(
+    desk: &mut D,
+    world: &mut D::World,
+    held: &mut Held<A>,
+    byte: u8,
+    writer: &mut W,
+) -> Result<(), Stop>
+    ensures { (begun : List ℕ) → IsLine begun → held.old.bytes.items ≡ held_of begun → Passes D.tells result (begun ++ byte ∷ []) (world.old, desk.old) (world.new, desk.new)
+        held.new.bytes.items (W.contents writer.old) (W.contents writer.new) }
+{
+    if byte != b'\n' {
+        held.hold(byte);
+        return Ok(());
+    }
+    answer_line(desk, world, held.without_return(), writer)?;
+    held.bytes.clear();
+    Ok(())
+}
+
+/// Takes some bytes of the input.
+fn take_bytes<D: LineDesk, A: Allocator, W: Write>(
+    desk: &mut D,
+    world: &mut D::World,
+    held: &mut Held<A>,
+    bytes: &[u8],
+    writer: &mut W,
+) -> Result<(), Stop>
+    ensures { (begun : List ℕ) → IsLine begun → held.old.bytes.items ≡ held_of begun → Passes D.tells result (begun ++ bytes.now) (world.old, desk.old) (world.new, desk.new)
+        held.new.bytes.items (W.contents writer.old) (W.contents writer.new) }
+{
+    for byte in bytes {
+        take_byte(desk, world, held, *byte, writer)?;
+    }
+    Ok(())
+}
+
+/// Answers the last line, which has no line feed, where there is one.
+fn end<D: LineDesk, A: Allocator, W: Write>(
+    desk: &mut D,
+    world: &mut D::World,
+    held: &Held<A>,
+    writer: &mut W,
+) -> Result<(), Stop>
+    ensures { (begun : List ℕ) → IsLine begun → held.now.bytes.items ≡ held_of begun → TookLast D.tells result (lines_of begun) (world.old, desk.old) (world.new, desk.new)
+        (W.contents writer.old) (W.contents writer.new) }
+{
+    if held.bytes.is_empty() {
+        return Ok(());
+    }
+    answer_line(desk, world, held.bytes.as_slice(), writer)
+}
+
+/// Ends a run behind its last line: by a flush, unless the line's answer could not be written.
+fn conclude<W: Write>(end: Result<(), Stop>, writer: &mut W) -> Result<Flushed, ServeFault>
+    ensures { Concludes end result (W.contents writer.old) (W.contents writer.new) }
+{
+    match end {
+        Ok(()) | Err(Stop::Ended) => Ok(flush(writer)?),
+        Err(Stop::Failed(failed)) => Err(ServeFault::Write(failed)),
+    }
+}
+
+/// Reads lines to the end of the input, or to the line that ends the stream, and has the desk answer each. A line ends with a
+/// line feed, or with the input; a return right before the line feed is dropped. Behind a line that ends the stream no
+/// further one is answered, and nothing more is read. The writer is flushed before each read, and before the run ends other
+/// than by a write that failed. Takes memory for one line before anything is read, and none later. Faults: `Memory` where
+/// that is refused; `Read` and `Write` where a read or a write fails, or a flush; `TooManyTurns` after 16,777,216 reads of
+/// which none failed or ended the input.
+pub fn run_lines<D: LineDesk, A: Allocator, R: Read, W: Write>(
+    alloc: A,
+    desk: &mut D,
+    world: &mut D::World,
+    reader: &mut R,
+    writer: &mut W,
+) -> Result<Flushed, ServeFault>
+    ensures ran { Ran D.tells result (world.old, desk.old) (world.new, desk.new) (R.remaining reader.old) (R.remaining reader.new) (W.contents writer.old) (W.contents writer.new) }
+    ensures untouched { IfErr result (λ fault. OnMemory fault ((reader.new ≡ reader.old) × (writer.new ≡ writer.old))) }
+{
+    let mut held = Held::new(alloc)?;
+    let mut chunk = [0; CHUNK];
+    let mut turns = Turns::none();
+    for _ in 0..READ_LIMIT {
+        flush(writer)?;
+        let count = turns.read_some(reader, &mut chunk)?;
+        if count == 0 {
+            let end = end(desk, world, &held, writer);
+            return conclude(end, writer);
+        }
+        if let Err(stop) = take_bytes(desk, world, &mut held, &chunk[..count], writer) {
+            return conclude(Err(stop), writer);
+        }
+    }
+    flush(writer)?;
+    Err(ServeFault::TooManyTurns(turns))
+}

@@ -1,0 +1,5 @@
+pub mod NodeLemmas
+pub mod RuleLemmas
+pub mod ZoneLemmas
+pub mod EqualLemmas
+pub mod RowLemmas

@@ -1,0 +1,4 @@
+pub mod Documents
+pub mod Views
+pub mod Equality
+pub mod Coding

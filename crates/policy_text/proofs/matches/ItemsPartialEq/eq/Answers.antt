@@ -1,5 +1,0 @@
-use Rattle.policy_text.proofs.EqualLemmas.{exact_items}
-use Rattle.policy_text.proofs.matches.ItemsPartialEq.eq.Goals as goal
-
-pub returns-clause-exact : goal.returns-clause-exact
-returns-clause-exact g c = exact_items _ _ _ _ _ _ c.eq.ensures c.as_slice.ensures c.as_slice-2.ensures

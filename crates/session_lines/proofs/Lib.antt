@@ -1,0 +1,3 @@
+pub mod DeskLemmas
+pub mod WritingLemmas
+pub mod ServingLemmas

@@ -1,0 +1,9 @@
+use Rattle.std.proofs.Common.{codes}
+use Rattle.session_lines.proofs.WritingLemmas.{took_first, took_then}
+use Rattle.session_lines.proofs.writing.write_ended.Goals as goal
+
+pub returns-in_err-write_whole : goal.returns-in_err-write_whole
+returns-in_err-write_whole g c = took_first c.from_residual.result c.from_residual.ensures.0 _ _ c.args.text.now (codes "\n") c.in_err-write_whole.ensures
+
+pub returns : goal.returns
+returns g c = took_then c.write_whole-2.result _ _ _ c.args.text.now (codes "\n") c.in_ok-write_whole.ensures c.write_whole-2.ensures

@@ -1,0 +1,16 @@
+-- What a session asks of whoever serves it.
+use Rattle.std.specs.Prelude.{ℕ, List}
+use Rattle.plane.specs.declared.point.Point.{Point}
+use Rattle.features.specs.declared.rows.Change.{Change}
+use Rattle.policy_documents.specs.Documents.{DocumentData}
+use Rattle.combining.specs.declared.questions.Question.{Question}
+
+-- what a session asks of whoever serves it
+pub data Call : Type 0 where
+  Hello : (name : List ℕ) → Call
+  Search : (window : List Point) → Call
+  Commit : (changes : List Change) → Call
+  Govern : (document : DocumentData) → Call
+  Explain : (question : Question) → Call
+  Roll : Call
+  Leave : Call

@@ -1,0 +1,275 @@
+//! What a line asks of its session: the one table of commands, their words and the order of faults.
+
+ghost use Rattle.std.specs.Prelude.{◌≡◌};
+ghost use Rattle.features.specs.Names.{name_of};
+ghost use Rattle.session_lines.specs.Words.{action_of, number_of};
+ghost use Rattle.session_lines.specs.Commands.{Gives, verb_of, verb_at, verb_for, allowed, or_fault, word_at, shape_at, end_at, hello_at, add_at, reshape_at, delete_at, explain_at, alone_at, arguments_at};
+
+use crate::faults::Fault;
+use crate::words::{action_named, next_word, read_number};
+use features::{Action, Change, Name};
+use plane::Shape;
+use wkt::read_shape;
+
+/// What a line asks of its session. POLICY is none of these: its document takes all the rest of the line.
+#[derive(Clone, Copy, Debug, PartialEq, Eq)]
+pub(crate) enum Command {
+    /// HELLO: to begin, as the subject of this name.
+    Hello(Name),
+    /// SEARCH: the features that meet this window.
+    Search(Shape),
+    /// ADD, RESHAPE, DELETE: to stage a change.
+    Stage(Change),
+    /// COMMIT: to commit the staged list.
+    Commit,
+    /// ABORT: to drop the staged list.
+    Abort,
+    /// EXPLAIN: whether the session's subject may do this.
+    Explain(Asking),
+    /// ROLL: to take the trail out.
+    Roll,
+    /// BYE: to end.
+    Bye,
+}
+
+/// What EXPLAIN asks: may the session's subject do this with a feature of this office and class, at this shape?
+#[derive(Clone, Copy, Debug, PartialEq, Eq)]
+pub(crate) struct Asking {
+    /// What would be done.
+    pub action: Action,
+    /// The office whose feature it is.
+    pub owner: Name,
+    /// The feature's class.
+    pub class: Name,
+    /// Where it is.
+    pub shape: Shape,
+}
+
+/// The first word of a line.
+#[derive(Clone, Copy, Debug, PartialEq, Eq)]
+pub(crate) enum Verb {
+    Hello,
+    Search,
+    Add,
+    Reshape,
+    Delete,
+    Commit,
+    Abort,
+    Policy,
+    Explain,
+    Roll,
+    Bye,
+}
+
+/// Reads the command of what stands behind a line's label, for a session that has begun or not, and what is left behind
+/// it. Faults in this order: `Command` for an unknown command, then `BeforeHello` or `HelloAgain`.
+#[tactic(auto, unfolding(crate::specs::Commands::verb_for))]
+pub(crate) fn read_verb(begun: bool, text: &[u8]) -> Result<(Verb, &[u8]), Fault>
+    ensures { Gives (λ r. (r.0, r.1.now)) result (verb_for begun text.now) }
+{
+    let (verb, rest) = first_verb(text)?;
+    allow(begun, verb)?;
+    Ok((verb, rest))
+}
+
+/// The command that a word names.
+fn verb_named(word: &[u8]) -> Option<Verb>
+    ensures { result ≡ verb_of word.now }
+{
+    if word == b"HELLO".as_slice() {
+        Some(Verb::Hello)
+    } else if word == b"SEARCH".as_slice() {
+        Some(Verb::Search)
+    } else if word == b"ADD".as_slice() {
+        Some(Verb::Add)
+    } else if word == b"RESHAPE".as_slice() {
+        Some(Verb::Reshape)
+    } else if word == b"DELETE".as_slice() {
+        Some(Verb::Delete)
+    } else if word == b"COMMIT".as_slice() {
+        Some(Verb::Commit)
+    } else if word == b"ABORT".as_slice() {
+        Some(Verb::Abort)
+    } else if word == b"POLICY".as_slice() {
+        Some(Verb::Policy)
+    } else if word == b"EXPLAIN".as_slice() {
+        Some(Verb::Explain)
+    } else if word == b"ROLL".as_slice() {
+        Some(Verb::Roll)
+    } else if word == b"BYE".as_slice() {
+        Some(Verb::Bye)
+    } else {
+        None
+    }
+}
+
+/// The command's word, and what is left behind it.
+#[tactic(auto, unfolding(crate::specs::Commands::verb_at))]
+fn first_verb(text: &[u8]) -> Result<(Verb, &[u8]), Fault>
+    ensures { Gives (λ r. (r.0, r.1.now)) result (verb_at text.now) }
+{
+    let (word, rest) = due_word(text)?;
+    let verb = verb_named(word).ok_or(Fault::Command)?;
+    Ok((verb, rest))
+}
+
+/// Whether the command may come now.
+fn allow(begun: bool, verb: Verb) -> Result<(), Fault>
+    ensures { result ≡ allowed begun verb }
+{
+    match verb {
+        Verb::Bye => Ok(()),
+        Verb::Hello if begun => Err(Fault::HelloAgain),
+        Verb::Hello => Ok(()),
+        _ if begun => Ok(()),
+        _ => Err(Fault::BeforeHello),
+    }
+}
+
+/// Reads the words of a command. Faults by the words from left to right: `Command` for a missing one, `Number`, `Name`;
+/// then those of the shape's text; then `Command` for something left over.
+#[tactic(auto, unfolding(crate::specs::Commands::arguments_at))]
+pub(crate) fn read_arguments(verb: Verb, rest: &[u8]) -> Result<Command, Fault>
+    ensures { result ≡ arguments_at verb rest.now }
+{
+    match verb {
+        Verb::Hello => hello(rest),
+        Verb::Search => Ok(Command::Search(as_shape(rest)?)),
+        Verb::Add => add(rest),
+        Verb::Reshape => reshape(rest),
+        Verb::Delete => delete(rest),
+        Verb::Commit => alone(Command::Commit, rest),
+        Verb::Abort => alone(Command::Abort, rest),
+        // A policy's text is no row of words: `take_command` reads it before it comes here.
+        Verb::Policy => Err(Fault::Command),
+        Verb::Explain => explain(rest),
+        Verb::Roll => alone(Command::Roll, rest),
+        Verb::Bye => alone(Command::Bye, rest),
+    }
+}
+
+/// A command that has no words.
+#[tactic(auto, unfolding(crate::specs::Commands::alone_at))]
+fn alone(command: Command, rest: &[u8]) -> Result<Command, Fault>
+    ensures { result ≡ alone_at command rest.now }
+{
+    end(rest)?;
+    Ok(command)
+}
+
+/// The words of HELLO: a name.
+#[tactic(auto, unfolding(crate::specs::Commands::hello_at))]
+fn hello(rest: &[u8]) -> Result<Command, Fault>
+    ensures { result ≡ hello_at rest.now }
+{
+    let (word, rest) = due_word(rest)?;
+    let name = as_name(word)?;
+    end(rest)?;
+    Ok(Command::Hello(name))
+}
+
+/// The words of ADD: the id, the class, and the shape.
+#[tactic(auto, unfolding(crate::specs::Commands::add_at))]
+fn add(rest: &[u8]) -> Result<Command, Fault>
+    ensures { result ≡ add_at rest.now }
+{
+    let (word, rest) = due_word(rest)?;
+    let id = as_number(word)?;
+    let (word, rest) = due_word(rest)?;
+    let class = as_name(word)?;
+    let shape = as_shape(rest)?;
+    Ok(Command::Stage(Change::Add { id, class, shape }))
+}
+
+/// The words of RESHAPE: the id, the version that the editor has seen, and the shape.
+#[tactic(auto, unfolding(crate::specs::Commands::reshape_at))]
+fn reshape(rest: &[u8]) -> Result<Command, Fault>
+    ensures { result ≡ reshape_at rest.now }
+{
+    let (word, rest) = due_word(rest)?;
+    let id = as_number(word)?;
+    let (word, rest) = due_word(rest)?;
+    let version = as_number(word)?;
+    let shape = as_shape(rest)?;
+    Ok(Command::Stage(Change::Reshape { id, version, shape }))
+}
+
+/// The words of DELETE: the id, and the version that the editor has seen.
+#[tactic(auto, unfolding(crate::specs::Commands::delete_at))]
+fn delete(rest: &[u8]) -> Result<Command, Fault>
+    ensures { result ≡ delete_at rest.now }
+{
+    let (word, rest) = due_word(rest)?;
+    let id = as_number(word)?;
+    let (word, rest) = due_word(rest)?;
+    let version = as_number(word)?;
+    end(rest)?;
+    Ok(Command::Stage(Change::Delete { id, version }))
+}
+
+/// The words of EXPLAIN: the action, the office, the class, and the shape.
+#[tactic(auto, unfolding(crate::specs::Commands::explain_at))]
+fn explain(rest: &[u8]) -> Result<Command, Fault>
+    ensures { result ≡ explain_at rest.now }
+{
+    let (word, rest) = due_word(rest)?;
+    let action = as_action(word)?;
+    let (word, rest) = due_word(rest)?;
+    let owner = as_name(word)?;
+    let (word, rest) = due_word(rest)?;
+    let class = as_name(word)?;
+    let shape = as_shape(rest)?;
+    Ok(Command::Explain(Asking {
+        action,
+        owner,
+        class,
+        shape,
+    }))
+}
+
+/// The action that a word names, or `Name`.
+fn as_action(word: &[u8]) -> Result<Action, Fault>
+    ensures { result ≡ or_fault Fault.Name (action_of word.now) }
+{
+    action_named(word).ok_or(Fault::Name)
+}
+
+/// The next word, which is due, and what is left behind it.
+pub fn due_word(text: &[u8]) -> Result<(&[u8], &[u8]), Fault>
+    ensures { Gives (λ r. (r.0.now, r.1.now)) result (word_at text.now) }
+{
+    next_word(text).ok_or(Fault::Command)
+}
+
+/// The number that a word spells, or `Number`.
+pub fn as_number(word: &[u8]) -> Result<u64, Fault>
+    ensures { result ≡ or_fault Fault.Number (number_of word.now) }
+{
+    read_number(word).ok_or(Fault::Number)
+}
+
+/// The name that a word is, or `Name`.
+fn as_name(word: &[u8]) -> Result<Name, Fault>
+    ensures { result ≡ or_fault Fault.Name (name_of word.now) }
+{
+    Name::new(word).ok_or(Fault::Name)
+}
+
+/// The shape that all the rest of a line spells, or its fault.
+#[tactic(auto, unfolding(crate::specs::Commands::shape_at))]
+pub fn as_shape(text: &[u8]) -> Result<Shape, Fault>
+    ensures { result ≡ shape_at text.now }
+{
+    read_shape(text).map_err(Fault::Shape)
+}
+
+/// Nothing but spaces is left.
+#[tactic(auto, unfolding(crate::specs::Commands::end_at))]
+pub fn end(text: &[u8]) -> Result<(), Fault>
+    ensures { result ≡ end_at text.now }
+{
+    match next_word(text) {
+        None => Ok(()),
+        Some(_) => Err(Fault::Command),
+    }
+}

@@ -1,0 +1,70 @@
+//! Why a line is answered `error`.
+
+ghost use Rattle.std.specs.Prelude.{◌≡◌};
+
+use std::fmt;
+use wkt::WktFault;
+
+/// Why a line asks nothing, or is not its session's.
+#[derive(Clone, Copy, Debug, PartialEq, Eq)]
+pub enum Fault {
+    /// E1: the line is longer than 65,536 bytes.
+    LineTooLong,
+    /// E2: the command is unknown, a word is missing, or something is left over.
+    Command,
+    /// E3: a word is no number of 1 to 20 digits below 2^64, or no number of steps from 1 to 1,000,000.
+    Number,
+    /// E4: a word is no name, or no action.
+    Name,
+    /// E5: the session has not begun.
+    BeforeHello,
+    /// E6: the session has begun already.
+    HelloAgain,
+    /// E7: nothing is staged.
+    NothingStaged,
+    /// E8: OPEN where the session has a search open, STEP or FINISH where it has none.
+    OutOfTurn,
+    /// E9: the line has no label, or one more than 64.
+    NoLabel,
+    /// H1: no subject has that name.
+    NoSubject,
+    /// H2: all seats are given.
+    NoPlace,
+    /// K1 to K5, or the code of what its points lack: the text spells no shape.
+    Shape(WktFault),
+}
+
+impl Fault {
+    ghost use Rattle.session_lines.specs.Faults.{code_of};
+
+    /// The code that the reply shows.
+    pub fn code(self) -> &'static str
+        ensures { result.now ≡ code_of self }
+    {
+        match self {
+            Fault::LineTooLong => "E1",
+            Fault::Command => "E2",
+            Fault::Number => "E3",
+            Fault::Name => "E4",
+            Fault::BeforeHello => "E5",
+            Fault::HelloAgain => "E6",
+            Fault::NothingStaged => "E7",
+            Fault::OutOfTurn => "E8",
+            Fault::NoLabel => "E9",
+            Fault::NoSubject => "H1",
+            Fault::NoPlace => "H2",
+            Fault::Shape(fault) => fault.code(),
+        }
+    }
+}
+
+impl fmt::Display for Fault {
+    ghost use Rattle.std.specs.Prelude.{Some};
+    ghost use Rattle.session_lines.specs.Faults.{code_of};
+
+    ghost output = { λ fault. Some (code_of fault) };
+
+    fn fmt<W: fmt::Write>(&self, f: &mut fmt::Formatter<W>) -> fmt::Result {
+        f.write_str(self.code())
+    }
+}

@@ -1,0 +1,21 @@
+//! Session lines: what one asks, what it is answered, and one session by itself, whoever serves it.
+#![tactic(auto)]
+
+mod commands;
+mod desks;
+mod faults;
+mod lists;
+mod replies;
+mod services;
+mod serving;
+mod words;
+mod writing;
+
+pub use commands::{as_number, as_shape, due_word, end};
+pub use desks::{Staged, answer};
+pub use faults::Fault;
+pub use replies::{Reply, Said, fault_reply, outcome_reply, visit_reply};
+pub use services::Service;
+pub use serving::serve;
+pub use words::next_word;
+pub use writing::{LEAD_LIMIT, write_line, write_said};

@@ -1,0 +1,153 @@
+//! What a line is answered, as values.
+
+ghost use Rattle.std.specs.Prelude.{◌≡◌};
+ghost use Rattle.session_lines.specs.Replies.{denial_rule, ends_list as reply_ends_list, fault_reply, outcome_reply, policy_reply, refusal_reply, visit_reply};
+
+use crate::faults::Fault;
+use audit_trail::{Cause, Refusal};
+use features::Name;
+use memory::Refused;
+use plain_world::{Answer, Denial, Fault as WorldFault, Outcome, Rolled};
+use policy_text::TextFault;
+use std::alloc::Allocator;
+use std::sync::Arc;
+use tree_answers::{TreeFault, Visit};
+
+/// A reply of one line.
+#[derive(Debug, Drop)]
+pub enum Reply {
+    /// `hello NAME`
+    Hello(Name),
+    /// `staged`
+    Staged,
+    /// `applied VERSION`
+    Applied(u64),
+    /// `denied rule NAME change K`, or `denied none change K` where no rule decides.
+    Denied(Option<Name>, u64),
+    /// `absent change K`: there is no feature that the change of this number, counted from 1, could change.
+    Absent(u64),
+    /// `exists change K`: the change adds a feature that is there already.
+    Exists(u64),
+    /// `stale CURRENT change K`: the feature's present version, which the change does not name.
+    Stale(u64, u64),
+    /// `held`: a search that is under way looks for what would be placed.
+    Held,
+    /// `opened`
+    Opened,
+    /// `more`: the open search has more to see.
+    More,
+    /// `ready`: the open search has found all there is to find, and may be finished.
+    Ready,
+    /// `aborted`
+    Aborted,
+    /// `edition N`
+    Edition(u64),
+    /// `permit rule NAME edition N`, or `permit none edition N` where the document permits by default.
+    Permitted(Option<Name>, u64),
+    /// `denied rule NAME edition N`, or `denied none edition N` where no rule decides.
+    Forbidden(Option<Name>, u64),
+    /// `bye`
+    Bye,
+    /// `memory`: an allocation was refused.
+    Memory(Refused),
+    /// `error CODE`: the line asks nothing, or is not its session's.
+    Error(Fault),
+    /// `error CODE`, D1 to D8: the text is no policy document.
+    Unread(TextFault),
+    /// `error CODE`, an X or an S: the world refuses the call. X9 is shown as the code of the index; want of memory, a subject
+    /// that is unknown, a seat too many and a list that is held back have replies of their own.
+    Refused(WorldFault),
+}
+
+impl Reply {
+    /// Whether the session's staged list is dropped: it was applied, or turned away for one of its changes.
+    pub fn ends_list(&self) -> bool
+        ensures { result ≡ reply_ends_list self.now }
+    {
+        matches!(
+            self,
+            Reply::Applied(_)
+                | Reply::Denied(..)
+                | Reply::Absent(_)
+                | Reply::Exists(_)
+                | Reply::Stale(..)
+        )
+    }
+}
+
+/// What a line is answered.
+#[derive(Debug, Drop)]
+pub enum Said<A: Allocator> {
+    /// A reply of one line.
+    Line(Reply),
+    /// `rows N`, and then the rows.
+    Rows(Answer<A>),
+    /// `rolled N`, and then a line for each record that was taken out.
+    Rolled(Arc<Rolled<A>, A>),
+}
+
+/// What a call that the world refuses is answered.
+pub fn fault_reply(fault: WorldFault) -> Reply
+    ensures { result ≡ fault_reply fault }
+{
+    match fault {
+        WorldFault::Memory(refusal) => Reply::Memory(refusal),
+        WorldFault::Tree(TreeFault::Memory(refusal)) => Reply::Memory(refusal),
+        WorldFault::Tree(TreeFault::Held(_)) => Reply::Held,
+        WorldFault::NoSubject => Reply::Error(Fault::NoSubject),
+        WorldFault::NoPlace => Reply::Error(Fault::NoPlace),
+        other => Reply::Refused(other),
+    }
+}
+
+/// What steps of a search are answered.
+pub fn visit_reply(visit: Visit) -> Reply
+    ensures { result ≡ visit_reply visit }
+{
+    match visit {
+        Visit::More => Reply::More,
+        Visit::Ready => Reply::Ready,
+    }
+}
+
+/// What a text that is no document is answered.
+pub(crate) fn policy_reply(fault: TextFault) -> Reply
+    ensures { result ≡ policy_reply fault }
+{
+    match fault {
+        TextFault::Memory(refusal) => Reply::Memory(refusal),
+        other => Reply::Unread(other),
+    }
+}
+
+/// The name of the rule by which a denial denies, if one does.
+fn denial_rule(denial: &Option<Denial>) -> Option<Name>
+    ensures { result ≡ denial_rule denial.now }
+{
+    let denial = denial.as_ref()?;
+    let rule = denial.rule()?;
+    denial.decider().rule_name(rule)
+}
+
+/// What a commit is answered that the world has judged.
+pub fn outcome_reply(outcome: &Outcome) -> Reply
+    ensures { result ≡ outcome_reply outcome.now }
+{
+    match outcome {
+        Outcome::Applied(version) => Reply::Applied(*version),
+        Outcome::Refused(refusal, denial) => refusal_reply(refusal, denial),
+    }
+}
+
+/// What a list is answered that is turned away.
+fn refusal_reply(refusal: &Refusal, denial: &Option<Denial>) -> Reply
+    ensures { result ≡ refusal_reply refusal.now.cause refusal.now.change denial.now }
+{
+    let change = refusal.change;
+    match refusal.cause {
+        Cause::Denied(_) => Reply::Denied(denial_rule(denial), change),
+        Cause::Exists => Reply::Exists(change),
+        Cause::Absent => Reply::Absent(change),
+        Cause::Stale(current) => Reply::Stale(current, change),
+    }
+}

@@ -1,7 +1,0 @@
-use Rattle.sessions.proofs.StreamLemmas.{Standing}
-use Rattle.sessions.proofs.streams.run_lines.Given as goal
-
-abbrev pub invariant-loop : goal.invariant-loop
-invariant-loop g l =
-    Standing g.D.LineDesk.tells (l.fn.world, l.fn.desk) (l.world, l.desk) l.held.bytes.items l.counter
-    (g.R.Read.remaining l.fn.reader) (g.R.Read.remaining l.reader) (g.W.Write.contents l.fn.writer) (g.W.Write.contents l.writer)
