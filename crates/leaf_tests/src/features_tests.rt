@@ -114,21 +114,23 @@ fn subject(rt: &impl Abort, text: &[u8]) -> Subject {
 #[test]
 fn subjects_refused(rt: HostRuntime) -> Result<(), Fail> {
     assert_eq!(rt; Subjects::new(&[]).err(), Some(SubjectsFault::NoneGiven));
-    let north = subject(&rt, b"north");
-    let twice = [north, subject(&rt, b"south"), north];
+    let twice = [
+        subject(&rt, b"north"),
+        subject(&rt, b"south"),
+        subject(&rt, b"north"),
+    ];
     assert_eq!(rt; Subjects::new(&twice).err(), Some(SubjectsFault::NameTwice));
-    let many = [north; 65];
+    let many = [subject(&rt, b"north"); 65];
     assert_eq!(rt; Subjects::new(&many).err(), Some(SubjectsFault::TooMany));
     Ok(())
 }
 
 #[test]
 fn subjects(rt: HostRuntime) -> Result<(), Fail> {
-    let south = subject(&rt, b"south");
-    let both = Subjects::new(&[subject(&rt, b"north"), south]);
+    let both = Subjects::new(&[subject(&rt, b"north"), subject(&rt, b"south")]);
     assert!(rt; both.is_ok());
     let both = both.unwrap();
-    assert_eq!(rt; both.get(south.name), Some(south));
+    assert_eq!(rt; both.get(name(&rt, b"south")), Some(subject(&rt, b"south")));
     assert_eq!(rt; both.get(name(&rt, b"west")), None);
     Ok(())
 }

@@ -72,7 +72,7 @@ const EQUALITIES: &str = r#"0 0, 4 0, 0 4, 0 0 | 0 4, 0 0, 4 0, 0 4 => equal
 0 0, 4 0 | 0 0, 4 0, 0 4, 0 0 => unequal
 0 0 | 0 0, 4 0 => unequal
 0 0 | 0 0 => equal
-0 0, 4 0, 4 4, 0 4, 0 0 | 4 4, 0 4, 0 0, 4 0, 4 4 => equal
+0 0, 0 4, 4 4, 4 2, 4 0, 0 0 | 4 4, 0 4, 0 0, 4 0, 4 4 => equal
 "#;
 
 /// What the frames of two shapes are to one another.

@@ -190,6 +190,11 @@ fn sixteen_corners(rt: HostRuntime) -> Result<(), Fail> {
     Ok(())
 }
 
+/// The text is refused for this fault.
+fn check_fault(rt: &impl Abort, text: &str, fault: WktFault) {
+    assert_eq!(rt; read_shape(text.as_bytes()).err(), Some(fault), "{text}");
+}
+
 /// The text of a ring of so many points behind its first, with a letter behind it.
 fn ring_text(alloc: Global, more: usize) -> Result<String, AllocError> {
     let points = ", 7 7".repeat(alloc, more)?;

@@ -33,43 +33,42 @@ fn shape_in(name: Name, text: &str) -> Result<Shape, TextFault>
     }
 }
 
-/// The zones with one more, whose name is new.
+/// Puts one more zone behind the others, whose name is new.
 #[tactic(auto, unfolding(crate::specs::Reading::with_zone))]
-fn with_zone<A: Allocator + Copy>(
+fn put_zone<A: Allocator + Copy>(
     name: Name,
     shape: Shape,
-    zones: Zones<A>,
-) -> Result<Zones<A>, TextFault>
-    ensures value { Gives (λ z. map zone_of z.entries) result (with_zone name shape (map zone_of zones.entries)) }
-    ensures told { Tells result (with_zone name shape (map zone_of zones.entries)) }
+    zones: &mut Zones<A>,
+) -> Result<(), TextFault>
+    ensures value { Gives (λ _. map zone_of zones.new.entries) result (with_zone name shape (map zone_of zones.old.entries)) }
+    ensures told { Tells result (with_zone name shape (map zone_of zones.old.entries)) }
 {
-    if has_zone(&zones, name) {
+    if has_zone(zones, name) {
         return Err(TextFault::NameTwice(name));
     }
     if zones.len() >= ZONE_LIMIT {
         return Err(TextFault::TooMany);
     }
-    let mut zones = zones;
-    put(&mut zones, ZoneName { name }, shape)?;
-    Ok(zones)
+    put(zones, ZoneName { name }, shape)?;
+    Ok(())
 }
 
-/// A zone, with those before it.
+/// Reads a zone, and puts it behind those before it.
 #[tactic(auto, unfolding(crate::specs::Reading::zone_at))]
 fn zone_at<A: Allocator + Copy>(
     value: &Value,
     path: Path,
-    zones: Zones<A>,
-) -> Result<Zones<A>, TextFault>
+    zones: &mut Zones<A>,
+) -> Result<(), TextFault>
     requires { length path < STEP_LIMIT }
-    ensures value { Gives (λ z. map zone_of z.entries) result (zone_at path (map zone_of zones.entries) (view value.now)) }
-    ensures told { Tells result (zone_at path (map zone_of zones.entries) (view value.now)) }
+    ensures value { Gives (λ _. map zone_of zones.new.entries) result (zone_at path (map zone_of zones.old.entries) (view value.now)) }
+    ensures told { Tells result (zone_at path (map zone_of zones.old.entries) (view value.now)) }
 {
     object_in(value, &ZONE_KEYS, path)?;
     let name = name_in(value, Key::Zone, path)?;
     let text = text_in(value, Key::Shape, path)?;
     let shape = shape_in(name, text)?;
-    with_zone(name, shape, zones)
+    put_zone(name, shape, zones)
 }
 
 /// The zones of an array.
@@ -79,7 +78,7 @@ fn zones_at<A: Allocator + Copy>(alloc: A, items: &[Value]) -> Result<Zones<A>, 
     let path = Path::new().with(Step::Key(Key::Zones));
     let mut zones = IndexMap::new(alloc);
     for (index, value) in items.iter().enumerate() {
-        zones = zone_at(value, path.with(Step::Item(index)), zones)?;
+        zone_at(value, path.with(Step::Item(index)), &mut zones)?;
     }
     Ok(zones)
 }
@@ -97,19 +96,19 @@ pub(crate) fn document_in<A: Allocator + Copy>(
     let items = optional_array_in(value, Key::Zones, path)?;
     let root = value_in(value, Key::Root, path)?;
     let zones = zones_at(alloc, items)?;
-    let seen = SoFar {
+    let mut seen = SoFar {
         names: Vec::new(alloc),
         nodes: 0,
         rules: 0,
         tests: 0,
     };
-    let (root, _) = node_at(
+    let root = node_at(
         alloc,
         &zones,
         root,
         DEPTH_LIMIT,
         path.with(Step::Key(Key::Root)),
-        seen,
+        &mut seen,
     )?;
     Ok((zones, root))
 }

@@ -66,41 +66,38 @@ fn has_name(names: &[Name], name: Name) -> bool
     names.iter().any(|other| name == *other)
 }
 
-/// The names with one more, that was not there before.
-pub(crate) fn fresh<A: Allocator>(
-    name: Name,
-    names: Vec<Name, A>,
-) -> Result<Vec<Name, A>, TextFault>
-    ensures value { Gives (λ v. v.items) result (fresh name names.items) }
-    ensures told { Tells result (fresh name names.items) }
+/// Puts one more name behind the others, that was not there before.
+pub(crate) fn fresh<A: Allocator>(name: Name, names: &mut Vec<Name, A>) -> Result<(), TextFault>
+    ensures value { Gives (λ _. names.new.items) result (fresh name names.old.items) }
+    ensures told { Tells result (fresh name names.old.items) }
 {
-    if has_name(&names, name) {
+    if has_name(names, name) {
         return Err(TextFault::NameTwice(name));
     }
-    let mut names = names;
     names.try_push(name)?;
-    Ok(names)
+    Ok(())
 }
 
-/// A rule, with what was seen behind it.
+/// A rule; what was seen behind it stands in `seen`.
 #[tactic(auto, unfolding(crate::specs::Reading::rule_at, crate::specs::Reading::target_at, crate::specs::Reading::any_of_at, crate::specs::Reading::all_of_at, crate::specs::Reading::when_at))]
 fn rule_at<A: Allocator + Copy, B: Allocator>(
     alloc: A,
     zones: &Zones<B>,
     value: &Value,
     path: Path,
-    seen: SoFar<A>,
-) -> Result<(Rule<A>, SoFar<A>), TextFault>
+    seen: &mut SoFar<A>,
+) -> Result<Rule<A>, TextFault>
     requires { length path < 20 }
-    ensures { Gives (λ r. (r.0, seen_view r.1)) result (rule_at (map zone_of zones.now.entries) path (seen_view seen) (view value.now)) }
+    ensures { Gives (λ rule. (rule, seen_view seen.new)) result
+        (rule_at (map zone_of zones.now.entries) path (seen_view seen.old) (view value.now)) }
 {
     object_in(value, &RULE_KEYS, path)?;
     let name = name_in(value, Key::Rule, path)?;
     let effect = effect_in(value, path)?;
     let target = optional_array_in(value, Key::Target, path)?;
     let when = optional_array_in(value, Key::When, path)?;
-    let names = fresh(name, seen.names)?;
-    let rules = within(RULE_LIMIT, seen.rules)?;
+    fresh(name, &mut seen.names)?;
+    seen.rules = within(RULE_LIMIT, seen.rules)?;
     let (target, tests) = parts_at(
         alloc,
         zones,
@@ -109,45 +106,36 @@ fn rule_at<A: Allocator + Copy, B: Allocator>(
         seen.tests,
     )?;
     let (when, tests) = parts_at(alloc, zones, when, path.with(Step::Key(Key::When)), tests)?;
-    let rule = Rule {
+    seen.tests = tests;
+    Ok(Rule {
         name,
         effect,
         target,
         when,
-    };
-    Ok((
-        rule,
-        SoFar {
-            names,
-            nodes: seen.nodes,
-            rules,
-            tests,
-        },
-    ))
+    })
 }
 
-/// The rules of an array, with what was seen behind them.
+/// The rules of an array.
 fn rules_at<A: Allocator + Copy, B: Allocator>(
     alloc: A,
     zones: &Zones<B>,
     items: &[Value],
     path: Path,
-    seen: SoFar<A>,
-) -> Result<(Vec<Rule<A>, A>, SoFar<A>), TextFault>
+    seen: &mut SoFar<A>,
+) -> Result<Vec<Rule<A>, A>, TextFault>
     requires { length path < 19 }
-    ensures { Gives (λ r. (r.0.items, seen_view r.1)) result (each_at (rule_at (map zone_of zones.now.entries)) path 0 (seen_view seen) (items_view items.now)) }
+    ensures { Gives (λ rules. (rules.items, seen_view seen.new)) result
+        (each_at (rule_at (map zone_of zones.now.entries)) path 0 (seen_view seen.old) (items_view items.now)) }
 {
     let mut rules = Vec::new(alloc);
-    let mut seen = seen;
     for (index, value) in items.iter().enumerate() {
-        let (rule, after) = rule_at(alloc, zones, value, path.with(Step::Item(index)), seen)?;
+        let rule = rule_at(alloc, zones, value, path.with(Step::Item(index)), seen)?;
         rules.try_push(rule)?;
-        seen = after;
     }
-    Ok((rules, seen))
+    Ok(rules)
 }
 
-/// A set or a policy without its children, with what was seen behind its target, and its children's array.
+/// A set or a policy without its children, and its children's array.
 #[tactic(auto, unfolding(crate::specs::Reading::head_at, crate::specs::Reading::target_at, crate::specs::Reading::any_of_at, crate::specs::Reading::all_of_at))]
 fn head_at<'v, A: Allocator + Copy, B: Allocator>(
     alloc: A,
@@ -155,19 +143,19 @@ fn head_at<'v, A: Allocator + Copy, B: Allocator>(
     value: &'v Value,
     form: NodeForm,
     path: Path,
-    seen: SoFar<A>,
-) -> Result<(Headed<A>, SoFar<A>, &'v [Value]), TextFault>
+    seen: &mut SoFar<A>,
+) -> Result<(Headed<A>, &'v [Value]), TextFault>
     requires { length path < 20 }
-    ensures { Gives (λ r. (head_view r.0, (seen_view r.1, items_view r.2.now))) result
-        (head_at (map zone_of zones.now.entries) form.listed form.name form.children path (seen_view seen) (view value.now)) }
+    ensures { Gives (λ r. (head_view r.0, (seen_view seen.new, items_view r.1.now))) result
+        (head_at (map zone_of zones.now.entries) form.listed form.name form.children path (seen_view seen.old) (view value.now)) }
 {
     object_in(value, &form.listed, path)?;
     let name = name_in(value, form.name, path)?;
     let combine = algorithm_in(value, path)?;
     let target = optional_array_in(value, Key::Target, path)?;
     let items = array_in(value, form.children, path)?;
-    let names = fresh(name, seen.names)?;
-    let nodes = within(NODE_LIMIT, seen.nodes)?;
+    fresh(name, &mut seen.names)?;
+    seen.nodes = within(NODE_LIMIT, seen.nodes)?;
     let (target, tests) = parts_at(
         alloc,
         zones,
@@ -175,21 +163,13 @@ fn head_at<'v, A: Allocator + Copy, B: Allocator>(
         path.with(Step::Key(Key::Target)),
         seen.tests,
     )?;
+    seen.tests = tests;
     let head = Headed {
         name,
         combine,
         target,
     };
-    Ok((
-        head,
-        SoFar {
-            names,
-            nodes,
-            rules: seen.rules,
-            tests,
-        },
-        items,
-    ))
+    Ok((head, items))
 }
 
 /// A policy.
@@ -199,27 +179,25 @@ fn policy_at<A: Allocator + Copy, B: Allocator>(
     zones: &Zones<B>,
     value: &Value,
     path: Path,
-    seen: SoFar<A>,
-) -> Result<(Node<A>, SoFar<A>), TextFault>
+    seen: &mut SoFar<A>,
+) -> Result<Node<A>, TextFault>
     requires { length path < 18 }
-    ensures { Gives (λ r. (node_view r.0, seen_view r.1)) result (policy_at (map zone_of zones.now.entries) path (seen_view seen) (view value.now)) }
+    ensures { Gives (λ node. (node_view node, seen_view seen.new)) result
+        (policy_at (map zone_of zones.now.entries) path (seen_view seen.old) (view value.now)) }
 {
-    let (head, seen, items) = head_at(alloc, zones, value, POLICY, path, seen)?;
-    let (rules, seen) = rules_at(alloc, zones, items, path.with(Step::Key(Key::Rules)), seen)?;
+    let (head, items) = head_at(alloc, zones, value, POLICY, path, seen)?;
+    let rules = rules_at(alloc, zones, items, path.with(Step::Key(Key::Rules)), seen)?;
     let Headed {
         name,
         combine,
         target,
     } = head;
-    Ok((
-        Node::Policy {
-            name,
-            combine,
-            target,
-            rules,
-        },
-        seen,
-    ))
+    Ok(Node::Policy {
+        name,
+        combine,
+        target,
+        rules,
+    })
 }
 
 /// A set or a policy, where so many levels may stand, its own among them.
@@ -230,10 +208,11 @@ pub(crate) fn node_at<A: Allocator + Copy, B: Allocator>(
     value: &Value,
     levels: usize,
     path: Path,
-    seen: SoFar<A>,
-) -> Result<(Node<A>, SoFar<A>), TextFault>
+    seen: &mut SoFar<A>,
+) -> Result<Node<A>, TextFault>
     requires { length path + 2 * levels ≤ 17 }
-    ensures { Gives (λ r. (node_view r.0, seen_view r.1)) result (node_at (map zone_of zones.now.entries) levels path (seen_view seen) (view value.now)) }
+    ensures { Gives (λ node. (node_view node, seen_view seen.new)) result
+        (node_at (map zone_of zones.now.entries) levels path (seen_view seen.old) (view value.now)) }
 {
     if levels == 0 {
         return Err(TextFault::TooDeep);
@@ -255,14 +234,14 @@ fn set_at<A: Allocator + Copy, B: Allocator>(
     value: &Value,
     below: usize,
     path: Path,
-    seen: SoFar<A>,
-) -> Result<(Node<A>, SoFar<A>), TextFault>
+    seen: &mut SoFar<A>,
+) -> Result<Node<A>, TextFault>
     requires { length path + 2 * below ≤ 15 }
-    ensures { Gives (λ r. (node_view r.0, seen_view r.1)) result
-        (set_at (node_at (map zone_of zones.now.entries) below) (map zone_of zones.now.entries) path (seen_view seen) (view value.now)) }
+    ensures { Gives (λ node. (node_view node, seen_view seen.new)) result
+        (set_at (node_at (map zone_of zones.now.entries) below) (map zone_of zones.now.entries) path (seen_view seen.old) (view value.now)) }
 {
-    let (head, seen, items) = head_at(alloc, zones, value, SET, path, seen)?;
-    let (of, seen) = nodes_at(
+    let (head, items) = head_at(alloc, zones, value, SET, path, seen)?;
+    let of = nodes_at(
         alloc,
         zones,
         items,
@@ -275,18 +254,15 @@ fn set_at<A: Allocator + Copy, B: Allocator>(
         combine,
         target,
     } = head;
-    Ok((
-        Node::Set {
-            name,
-            combine,
-            target,
-            of,
-        },
-        seen,
-    ))
+    Ok(Node::Set {
+        name,
+        combine,
+        target,
+        of,
+    })
 }
 
-/// The sets and policies of an array, with what was seen behind them.
+/// The sets and policies of an array.
 #[cycle(read)]
 fn nodes_at<A: Allocator + Copy, B: Allocator>(
     alloc: A,
@@ -294,16 +270,15 @@ fn nodes_at<A: Allocator + Copy, B: Allocator>(
     items: &[Value],
     levels: usize,
     path: Path,
-    seen: SoFar<A>,
-) -> Result<(Vec<Node<A>, A>, SoFar<A>), TextFault>
+    seen: &mut SoFar<A>,
+) -> Result<Vec<Node<A>, A>, TextFault>
     requires { length path + 2 * levels ≤ 16 }
-    ensures { Gives (λ r. (map node_view r.0.items, seen_view r.1)) result
-        (each_at (node_at (map zone_of zones.now.entries) levels) path 0 (seen_view seen) (items_view items.now)) }
+    ensures { Gives (λ nodes. (map node_view nodes.items, seen_view seen.new)) result
+        (each_at (node_at (map zone_of zones.now.entries) levels) path 0 (seen_view seen.old) (items_view items.now)) }
 {
     let mut nodes = Vec::new(alloc);
-    let mut seen = seen;
     for (index, value) in items.iter().enumerate() {
-        let (node, after) = node_at(
+        let node = node_at(
             alloc,
             zones,
             value,
@@ -312,7 +287,6 @@ fn nodes_at<A: Allocator + Copy, B: Allocator>(
             seen,
         )?;
         nodes.try_push(node)?;
-        seen = after;
     }
-    Ok((nodes, seen))
+    Ok(nodes)
 }

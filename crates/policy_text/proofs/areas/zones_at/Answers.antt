@@ -11,10 +11,10 @@ returns g c = sym c.loop-index.invariant ∙ zones_left-end c.loop-index.index (
 pub loop-index-preserved : goal.loop-index-preserved
 loop-index-preserved g c =
     let place : c.with.result ≡ at_item zones_place c.loop-index.index = rw (c.with.ensures, c.with-path.ensures, c.new.ensures) refl in
-    zones_left-more c.loop-index.index (map zone_of c.loop-index.zones.entries) _ c.args.items.now c.index-items-index.result c.loop-index-test.true c.index-items-index.is (rw (← place) c.in_ok-zones.ensures.value) ∙ c.loop-index.invariant
+    zones_left-more c.loop-index.index (map zone_of c.loop-index.zones.entries) _ c.args.items.now c.index-items-index.result c.loop-index-test.true c.index-items-index.is (rw (← place) c.in_ok-zone_at.ensures.value) ∙ c.loop-index.invariant
 
-pub returns-in_err-zones : goal.returns-in_err-zones
-returns-in_err-zones g c =
+pub returns-in_err-zone_at : goal.returns-in_err-zone_at
+returns-in_err-zone_at g c =
     let place : c.with.result ≡ at_item zones_place c.loop-index.index = rw (c.with.ensures, c.with-path.ensures, c.new.ensures) refl in
-    Gives-residual _ _ _ _ c.from_residual.ensures.1 (subst (Fails c.in_err-zones.field-0.0) c.loop-index.invariant
-    (zones_left-fails c.loop-index.index (map zone_of c.loop-index.zones.entries) c.args.items.now c.index-items-index.result c.in_err-zones.field-0.0 c.loop-index-test.true c.index-items-index.is (rw (← place) c.in_err-zones.ensures.value)))
+    Gives-residual _ _ _ _ c.from_residual.ensures.1 (subst (Fails c.in_err-zone_at.field-0.0) c.loop-index.invariant
+    (zones_left-fails c.loop-index.index (map zone_of c.loop-index.zones.entries) c.args.items.now c.index-items-index.result c.in_err-zone_at.field-0.0 c.loop-index-test.true c.index-items-index.is (rw (← place) c.in_err-zone_at.ensures.value)))

@@ -17,5 +17,5 @@ returns g c =
 
 pub loop-index-preserved : goal.loop-index-preserved
 loop-index-preserved g c =
-    rw c.in_ok-try_push.ensures.items (left_at-more (rule_at (map zone_of c.args.zones.now.entries)) c.args.path c.loop-index.rules.items c.loop-index.index (seen_view c.loop-index.seen) (seen_view c.in_ok-rule.after) c.args.items.now
+    rw c.in_ok-try_push.ensures.items (left_at-more (rule_at (map zone_of c.args.zones.now.entries)) c.args.path c.loop-index.rules.items c.loop-index.index (seen_view c.loop-index.seen) (seen_view c.rule_at.new.seen) c.args.items.now
     c.index-items-index.result c.in_ok-rule.rule c.loop-index-test.true c.index-items-index.is (rw (← c.with.ensures) c.in_ok-rule.ensures) ∙ c.loop-index.invariant)
