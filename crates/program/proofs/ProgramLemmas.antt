@@ -1,5 +1,5 @@
 -- What is done with the words of a command line, and what is answered of it.
-use Rattle.std.proofs.Common.{◌≡◌, ℕ, List, Option, None, Some, Result, Ok, option_map, sym, subst}
+use Rattle.std.proofs.Common.{◌≡◌, ℕ, List, Option, Some, Result, Ok, option_map, sym, subst}
 use Rattle.clap.specs.Words.{IsAmong, Text as Words, kind_of}
 use Rattle.clap.specs.declared.error.Error.{Error}
 use Rattle.clap.specs.declared.error.kind.ErrorKind.{ErrorKind}
@@ -13,6 +13,9 @@ use Rattle.program.specs.Programs.{AreTurnedDown, IsAnswer, IsDone, IsFault}
 use Rattle.program.specs.RunFaults.{BrokeOff}
 use Rattle.program.specs.Runs.{RanScript}
 use Rattle.program.specs.declared.faults.ProgramFault.{ProgramFault}
+use Rattle.program.specs.declared.runs.Answer.{Answer}
+use Rattle.program.specs.declared.runs.Answer.TheVariants.{Done, Mistaken}
+use Rattle.byte_streams.specs.declared.writing.Flushed.{Flushed}
 
 -- the name of the configuration's file, where one is asked for
 abbrev config_name : ScriptWords → Option (List ℕ)
@@ -37,11 +40,11 @@ pub help_asked : (words : List Words) (asked : Asked) (help : Error) → IsAsked
 help_asked words asked help is_asked is kind = subst (λ k. IsAmong k (refusals words)) kind (subst (IsAsked words) is is_asked)
 
 -- what was answered of the words, read off by cases
-module _ {O : Type 0} (words : List Words) (held : List ℕ → Option (List ℕ)) (closed : List ℕ → Type 0) (written : O → Option (List ℕ)) (output after : O) (result : Result (Option Error) ProgramFault) (text : Option Error) where
-  pub was_done : IsAnswer words held closed written output after result → result ≡ Ok text → text ≡ None → IsDone words held (written output) (written after)
-  was_done h is none = subst (λ (o : Option Error). IsAnswer words held closed written output after (Ok o)) none (subst (IsAnswer words held closed written output after) is h)
+module _ {O : Type 0} (words : List Words) (held : List ℕ → Option (List ℕ)) (closed : List ℕ → Type 0) (written : O → Option (List ℕ)) (output after : O) (result : Result Answer ProgramFault) (answer : Answer) where
+  pub was_done : (flushed : Flushed) → IsAnswer words held closed written output after result → result ≡ Ok answer → answer ≡ Done flushed → IsDone words held (written output) (written after)
+  was_done flushed h is done = subst (λ (a : Answer). IsAnswer words held closed written output after (Ok a)) done (subst (IsAnswer words held closed written output after) is h)
 
-  pub was_turned_down : (mistake : Error) → IsAnswer words held closed written output after result → result ≡ Ok text → text ≡ Some mistake → (kind : ErrorKind) × AreTurnedDown words kind × (after ≡ output)
+  pub was_turned_down : (mistake : Error) → IsAnswer words held closed written output after result → result ≡ Ok answer → answer ≡ Mistaken mistake → (kind : ErrorKind) × AreTurnedDown words kind × (after ≡ output)
   was_turned_down mistake h is some =
-      let down = subst (λ (o : Option Error). IsAnswer words held closed written output after (Ok o)) some (subst (IsAnswer words held closed written output after) is h) in
+      let down = subst (λ (a : Answer). IsAnswer words held closed written output after (Ok a)) some (subst (IsAnswer words held closed written output after) is h) in
       (kind_of mistake, down.0, down.1)

@@ -29,14 +29,14 @@ misconfigured known text fault same h = subst (λ known. IfSome known (λ text. 
 
 module _ (held : List ℕ → Option (List ℕ)) (config : Option (List ℕ)) (name : List ℕ) (c : ConfigData) (known before after : Option (List ℕ)) where
   -- a run by a configuration served the script of a file
-  pub ran : (result : Result (Unit {0}) ProgramFault) → IsConfigOf held config c → known ≡ held name → OnOk result (IfSome known (λ text. Served c text before after)) →
+  pub ran : (result : Result Flushed ProgramFault) → IsConfigOf held config c → known ≡ held name → OnOk result (IfSome known (λ text. Served c text before after)) →
       OnOk result (RanScript held config name before after)
   ran (Ok u) is_config same served =
       record { configured = c; is_config = is_config; served = subst (λ known. IfSome known (λ text. Served c text before after)) same served }
   ran (Err e) is_config same served = tt
 
   -- or it broke off
-  pub broke_off : (closed : List ℕ → Type 0) (result : Result (Unit {0}) ProgramFault) → IsConfigOf held config c → known ≡ held name → IfErr result (IsOfRun c known before after) →
+  pub broke_off : (closed : List ℕ → Type 0) (result : Result Flushed ProgramFault) → IsConfigOf held config c → known ≡ held name → IfErr result (IsOfRun c known before after) →
       IfErr result (BrokeOff held closed config name before after)
   broke_off closed (Ok u) is_config same h = tt
   broke_off closed (Err fault) is_config same h = BrokeOff.in_run c is_config (subst (λ known. IsOfRun c known before after fault) same h)

@@ -43,6 +43,6 @@ IsUnwritten _ = ⊥
 
 -- The exit status of the program.
 abbrev pub exit_status : Ended → ℕ
-exit_status Well = 0
+exit_status (Well flushed) = 0
 exit_status (Failed fault line) = 1
 exit_status TurnedDown = 2

@@ -9,6 +9,8 @@ use Rattle.program.specs.CommandLine.{refusals, word_for}
 use Rattle.program.specs.Ends.{IsUnwritten, fault_line}
 use Rattle.program.specs.RunFaults.{BrokeOff}
 use Rattle.program.specs.Runs.{RanScript}
+use Rattle.program.specs.declared.runs.Answer.{Answer}
+use Rattle.program.specs.declared.runs.Answer.TheVariants.{Done, Mistaken}
 use Rattle.program.specs.declared.ends.Ended.{Ended}
 use Rattle.program.specs.declared.ends.Ended.TheVariants.{Well, Failed, TurnedDown}
 use Rattle.program.specs.declared.faults.ProgramFault.{ProgramFault}
@@ -39,15 +41,15 @@ AreTurnedDown words kind = IsAmong kind (refusals words) × (kind ≢ DisplayHel
 
 -- What is done with these words, before anything of it is told: what they ask for; or nothing, where clap turns them down
 -- by a text; or a fault came.
-abbrev pub IsAnswer : {O : Type 0} → List Text → (List ℕ → Option (List ℕ)) → (List ℕ → Type 0) → (O → Option (List ℕ)) → O → O → Result (Option Error) ProgramFault → Type 0
-IsAnswer words held closed written output output_after (Ok None) = IsDone words held (written output) (written output_after)
-IsAnswer words held closed written output output_after (Ok (Some mistake)) = AreTurnedDown words (kind_of mistake) × (output_after ≡ output)
+abbrev pub IsAnswer : {O : Type 0} → List Text → (List ℕ → Option (List ℕ)) → (List ℕ → Type 0) → (O → Option (List ℕ)) → O → O → Result Answer ProgramFault → Type 0
+IsAnswer words held closed written output output_after (Ok (Done flushed)) = IsDone words held (written output) (written output_after)
+IsAnswer words held closed written output output_after (Ok (Mistaken mistake)) = AreTurnedDown words (kind_of mistake) × (output_after ≡ output)
 IsAnswer words held closed written output output_after (Err fault) = IsFault words held closed (written output) (written output_after) fault
 
 -- What a run of the program with these words leaves, by how it ended. Of one that ended well nothing is on standard error,
 -- and of one that ended by a fault that fault's line, or, where a write of it failed, the line's front.
 abbrev pub IsRun : {O E : Type 0} → List Text → (List ℕ → Option (List ℕ)) → (List ℕ → Type 0) → (O → Option (List ℕ)) → O → O → (E → Option (List ℕ)) → E → E → Ended → Type 0
-IsRun words held closed written output output_after told errors errors_after Well = IsDone words held (written output) (written output_after) × (errors_after ≡ errors)
+IsRun words held closed written output output_after told errors errors_after (Well flushed) = IsDone words held (written output) (written output_after) × (errors_after ≡ errors)
 IsRun words held closed written output output_after told errors errors_after (Failed fault line) =
     IsFault words held closed (written output) (written output_after) fault × Took line (told errors) (told errors_after) (fault_line fault)
 IsRun words held closed written output output_after told errors errors_after TurnedDown = (kind : ErrorKind) × AreTurnedDown words kind × (output_after ≡ output)

@@ -4,13 +4,13 @@ ghost use Rattle.std.specs.Prelude.{◌≡◌};
 ghost use Rattle.program.specs.Ends.{exit_status};
 
 use crate::faults::ProgramFault;
-use byte_streams::WriteFailed;
+use byte_streams::{Flushed, WriteFailed};
 
 /// How a run of the program ended.
 #[derive(Debug, Drop)]
 pub enum Ended<'a> {
-    /// What was asked for is done.
-    Well,
+    /// What was asked for is done, and all that it wrote has left by a flush.
+    Well(Flushed),
     /// It ended by this fault; and whether the fault's one line was told.
     Failed(ProgramFault<'a>, Result<(), WriteFailed>),
     /// clap turned the words of the command line down.
@@ -23,7 +23,7 @@ impl Ended<'_> {
         ensures { result ≡ exit_status self.now }
     {
         match self {
-            Ended::Well => 0,
+            Ended::Well(_) => 0,
             Ended::Failed(..) => 1,
             Ended::TurnedDown => 2,
         }

@@ -15,7 +15,7 @@ use crate::faults::ProgramFault;
 use crate::files::{FileFault, ReadFault, read_config_file};
 use crate::telling::tell;
 use crate::words::{Asked, ScriptWords, read_words};
-use byte_streams::{NotOpened, flush, write_shown};
+use byte_streams::{Flushed, NotOpened, flush, write_shown};
 use clap::Error;
 use clap::error::ErrorKind;
 use sessions::run_script;
@@ -49,7 +49,7 @@ pub fn run_file<'a, A: Allocator + Copy, R: Read, W: Write>(
     config: Config<Global>,
     file: &mut R,
     output: &mut W,
-) -> Result<(), ProgramFault<'a>>
+) -> Result<Flushed, ProgramFault<'a>>
     ensures served { OnOk result (IfSome (R.remaining file.old) (λ script. Served (config_data config) script (W.contents output.old) (W.contents output.new))) }
     ensures err { IfErr result (IsOfRun (config_data config) (R.remaining file.old) (W.contents output.old) (W.contents output.new)) }
 {
@@ -58,9 +58,9 @@ pub fn run_file<'a, A: Allocator + Copy, R: Read, W: Write>(
         Err((_, fault)) => return Err(ProgramFault::World(fault)),
     };
     let end = run_script(alloc, heap, &mut world, file, output);
-    flush(output)?;
+    let flushed = flush(output)?;
     end?;
-    Ok(())
+    Ok(flushed)
 }
 
 /// The configuration that stands in the file of this name.
@@ -111,7 +111,7 @@ pub fn run_named<'a, F: Folder, W: Write>(
     words: ScriptWords<'a>,
     folder: &F,
     output: &mut W,
-) -> Result<(), ProgramFault<'a>>
+) -> Result<Flushed, ProgramFault<'a>>
     ensures ran { OnOk result (RanScript (F.holds folder.now) (option_map (λ name. name.now) words.entry.config) words.entry.script.now (W.contents output.old) (W.contents output.new)) }
     ensures err { IfErr result (BrokeOff (F.holds folder.now) (F.closed folder.now) (option_map (λ name. name.now) words.entry.config) words.entry.script.now (W.contents output.old) (W.contents output.new)) }
 {
@@ -137,12 +137,20 @@ fn is_help(text: &Error) -> bool
 }
 
 /// Writes help to the output.
-fn show_help<'a, W: Write>(help: &Error, output: &mut W) -> Result<(), ProgramFault<'a>>
+fn show_help<'a, W: Write>(help: &Error, output: &mut W) -> Result<Flushed, ProgramFault<'a>>
     ensures { IfErr result (λ fault. IsUnwritten fault) }
 {
     write_shown(help, output)?;
-    flush(output)?;
-    Ok(())
+    Ok(flush(output)?)
+}
+
+/// What came of the words of a command line, where no fault did.
+#[derive(Drop)]
+enum Answer {
+    /// What they ask for is done, and all of it has left by a flush.
+    Done(Flushed),
+    /// clap turned them down, by this text.
+    Mistaken(Error),
 }
 
 /// Does what the words of the command line ask for. Where clap turns them down nothing is done, and the answer is clap's
@@ -153,19 +161,19 @@ fn run_asked<'a, F: Folder, O: Write>(
     words: &'a [String],
     folder: &F,
     output: &mut O,
-) -> Result<Option<Error>, ProgramFault<'a>>
+) -> Result<Answer, ProgramFault<'a>>
     ensures { IsAnswer (map (λ word. string_bytes word) words.entry.now) (F.holds folder.now) (F.closed folder.now) O.contents output.old output.new result }
 {
     match read_words(alloc, words) {
         Ok(Asked::Script(files)) => match run_named(alloc, files, folder, output) {
-            Ok(()) => Ok(None),
+            Ok(flushed) => Ok(Answer::Done(flushed)),
             Err(fault) => Err(fault),
         },
         Ok(Asked::Text(help)) if is_help(&help) => match show_help(&help, output) {
-            Ok(()) => Ok(None),
+            Ok(flushed) => Ok(Answer::Done(flushed)),
             Err(fault) => Err(fault),
         },
-        Ok(Asked::Text(mistake)) => Ok(Some(mistake)),
+        Ok(Asked::Text(mistake)) => Ok(Answer::Mistaken(mistake)),
         Err(refused) => Err(ProgramFault::Words(refused)),
     }
 }
@@ -183,8 +191,8 @@ pub fn run_program<'a, F: Folder, O: Write, E: Write>(
     ensures { IsRun (map (λ word. string_bytes word) words.entry.now) (F.holds folder.now) (F.closed folder.now) O.contents output.old output.new E.contents errors.old errors.new result }
 {
     match run_asked(alloc, words, folder, output) {
-        Ok(None) => Ended::Well,
-        Ok(Some(mistake)) => {
+        Ok(Answer::Done(flushed)) => Ended::Well(flushed),
+        Ok(Answer::Mistaken(mistake)) => {
             let _ = write_shown(&mistake, errors);
             Ended::TurnedDown
         }

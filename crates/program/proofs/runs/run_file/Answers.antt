@@ -16,8 +16,8 @@ returns-in_err-end-clause-err g c =
     let far = came opened (Err fault) c.in-Ok.world.plain ran.1 ran.0 script (g.R.Read.remaining c.run_script-end.new.reader) before (g.W.Write.contents c.run_script-end.new.writer) after c.in-Ok.ensures.ok ran.2 c.flush.ensures in
     left_by c.from_residual-in_err-end.result _ (λ r. IfErr r (IsOfRun opened script before after)) c.from_residual-in_err-end.ensures.1 (of_run opened fault script before after far)
 
-pub returns-in_err-flush-clause-err : goal.returns-in_err-flush-clause-err
-returns-in_err-flush-clause-err g c =
+pub returns-in_err-flushed-clause-err : goal.returns-in_err-flushed-clause-err
+returns-in_err-flushed-clause-err g c =
     let opened = config_data c.args.config in
     let script = g.R.Read.remaining c.args.file.now in
     let before = g.W.Write.contents c.args.output.now in

@@ -2,9 +2,9 @@ use Rattle.std.proofs.Common.{refl}
 use Rattle.program.proofs.ProgramLemmas.{was_done, was_turned_down}
 use Rattle.program.proofs.runs.run_program.Goals as goal
 
-pub returns-in-Ok-None : goal.returns-in-Ok-None
-returns-in-Ok-None g c = (was_done _ _ _ g.O.Write.contents c.args.output.now c.run_asked.new.output c.run_asked.result c.in-Ok-None.field-0 c.run_asked.ensures c.in-Ok-None.is c.in-Ok-None.field-0-is, refl)
+pub returns-in-Ok-Done : goal.returns-in-Ok-Done
+returns-in-Ok-Done g c = (was_done _ _ _ g.O.Write.contents c.args.output.now c.run_asked.new.output c.run_asked.result c.in-Ok-Done.field-0 c.in-Ok-Done.flushed c.run_asked.ensures c.in-Ok-Done.is c.in-Ok-Done.field-0-is, refl)
 
-pub returns-in-Ok-Some : goal.returns-in-Ok-Some
-returns-in-Ok-Some g c =
-    was_turned_down _ _ _ g.O.Write.contents c.args.output.now c.run_asked.new.output c.run_asked.result c.in-Ok-Some.field-0 c.in-Ok-Some.mistake c.run_asked.ensures c.in-Ok-Some.is c.in-Ok-Some.field-0-is
+pub returns-in-Ok-Mistaken : goal.returns-in-Ok-Mistaken
+returns-in-Ok-Mistaken g c =
+    was_turned_down _ _ _ g.O.Write.contents c.args.output.now c.run_asked.new.output c.run_asked.result c.in-Ok-Mistaken.field-0 c.in-Ok-Mistaken.mistake c.run_asked.ensures c.in-Ok-Mistaken.is c.in-Ok-Mistaken.field-0-is
