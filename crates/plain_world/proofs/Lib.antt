@@ -15,3 +15,4 @@ pub mod RunLemmas
 pub mod FindingLemmas
 pub mod EventLemmas
 pub mod SettingsLemmas
+pub mod GoingOnLemmas

@@ -1,7 +1,8 @@
 //! Policies are put in force.
 
-ghost use Rattle.std.specs.Prelude.{◌≡◌, ◌<◌, ◌+◌, IfErr};
+ghost use Rattle.std.specs.Prelude.{◌≡◌, ◌<◌, ◌+◌, IfErr, OnOk};
 ghost use Rattle.std.specs.Arc.{arc_value};
+ghost use Rattle.plain_world.specs.Admitting.{map_ok, may_govern};
 ghost use Rattle.plain_world.specs.Events.{Happens, Govern, Number, reply_of, reply_handing};
 
 use crate::faults::Fault;
@@ -12,6 +13,18 @@ use memory::another;
 use policy_documents::Document;
 use std::alloc::{Allocator, Global};
 use std::sync::Arc;
+
+impl<A: Allocator> PlainWorld<A> {
+    /// The edition under which a seat may put a document in force next. X1 where the seat was not given, X7 where its
+    /// subject is no steward, X8 where the edition is at its end, X10 where the trail is full. It takes no memory.
+    pub fn next_edition(&self, seat: u32) -> Result<u64, Fault>
+        ensures value { result ≡ map_ok (λ _. self.now.state.decider.edition + 1) (may_govern seat self.now) }
+        ensures left { OnOk result (self.now.state.decider.edition < u64.MAX) }
+    {
+        self.may_govern(seat)?;
+        Ok(self.decider.edition() + 1)
+    }
+}
 
 impl<A: Allocator + Copy> PlainWorld<A> {
     /// Puts a document in force by a decider that was made before, of the next edition. X1 where the seat was not given,
@@ -46,8 +59,7 @@ impl<A: Allocator + Copy> PlainWorld<A> {
     ) -> Result<u64, Fault>
         ensures { Happens (Govern seat document.now) self.old self.new (reply_of Number result) }
     {
-        self.may_govern(seat)?;
-        let edition = self.decider.edition() + 1;
+        let edition = self.next_edition(seat)?;
         let decider = made_decider(heap, document, edition)?;
         self.govern_by(seat, decider)
     }

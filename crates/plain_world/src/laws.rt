@@ -1,6 +1,6 @@
 //! Laws over runs. The functions do nothing: each is its contract.
 
-ghost use Rattle.std.specs.Prelude.{◌≡◌, ◌⊎◌, ℕ, ◌++◌, IsTrue, List, Some};
+ghost use Rattle.std.specs.Prelude.{◌≡◌, ◌⊎◌, ℕ, ◌++◌, ◌∷◌, [], IsTrue, List, Some};
 ghost use Rattle.features.specs.Rows.{IsSortedById};
 ghost use Rattle.policy_documents.specs.Documents.{DocumentData};
 ghost use Rattle.decision.specs.Deciders.{DeciderData};
@@ -19,6 +19,14 @@ ghost use Rattle.plain_world.specs.declared.outcomes.Outcome.{Outcome};
 
 use crate::settings::{Limits, Starts};
 use features::Subject;
+
+/// A run goes on by what happens next, and by a run that begins where it ends. So events that come one after another, each to
+/// the world that the one before it left, are a run, whatever they are and in whatever order.
+pub fn runs_go_on()
+    ensures event { (old mid new : WorldData) (steps : List (Event × Reply)) (event : Event) (reply : Reply)
+        → Run old steps mid → Happens event mid new reply → Run old (steps ++ (event, reply) ∷ []) new }
+    ensures run { (old mid new : WorldData) (before later : List (Event × Reply)) → Run old before mid → Run mid later new → Run old (before ++ later) new }
+{}
 
 /// Over every run from a sound world, the trail is legal from its base and the state is its replay.
 pub fn every_run_is_sound()

@@ -27,7 +27,7 @@ pub use laws::{
     every_answer_is_exact, every_commit_ends_as_judged, every_outcome_is_the_judgement,
     every_piece_leads_on, every_policy_is_a_stewards, every_refusal_changes_nothing,
     every_roll_is_a_stewards, every_run_is_ordered, every_run_is_sound, numbers_are_given_once,
-    pieces_and_trail_join, policy_in_force_is_the_last, records_are_added_alone,
+    pieces_and_trail_join, policy_in_force_is_the_last, records_are_added_alone, runs_go_on,
     what_is_under_way_is_in_order, what_is_under_way_was_asked,
 };
 pub use outcomes::Outcome;

@@ -11,7 +11,7 @@ use crate::answers::Answer;
 use crate::faults::Fault;
 use crate::listing::{answered, ids_found, listed};
 use crate::searches::Search;
-use crate::settings::SEARCH_LIMIT;
+use crate::settings::{SEARCH_LIMIT, SEAT_LIMIT};
 use crate::worlds::PlainWorld;
 use features::{Action, Meter, Name, Subject};
 use memory::{GrowVec, Refused, another};
@@ -20,9 +20,10 @@ use std::alloc::Allocator;
 
 impl<A: Allocator> PlainWorld<A> {
     /// Gives a seat to the subject of a name, and answers its number, from 1. X13 where there is no such subject, X14
-    /// where all seats are given, X12 where a growth is refused.
+    /// where all seats are given, X12 where a growth is refused. No number is above `SEAT_LIMIT`.
     pub fn seat(&mut self, name: Name) -> Result<u32, Fault>
-        ensures { Happens (TakeSeat name) self.old self.new (reply_of Number result) }
+        ensures happens { Happens (TakeSeat name) self.old self.new (reply_of Number result) }
+        ensures few { IfOk result (λ number. number ≤ SEAT_LIMIT) }
     {
         let subject = self.may_sit(name)?;
         self.seats.make_room(1)?;

@@ -4,15 +4,17 @@ ghost use Rattle.std.specs.Prelude.{◌≡◌, ◌≤◌, length, IfOk, IfErr};
 ghost use Rattle.std.specs.Arc.{arc_value};
 ghost use Rattle.memory.specs.Refused.{refused};
 ghost use Rattle.audit_trail.specs.Legal.{IsLegal, replay};
-ghost use Rattle.plain_world.specs.States.{opened};
+ghost use Rattle.audit_trail.specs.Judging.{AreDistinct};
+ghost use Rattle.plain_world.specs.Staging.{staged_in};
+ghost use Rattle.plain_world.specs.States.{IsSoundWorld, opened};
 
 use crate::faults::Fault;
 use crate::searches::Searches;
-use crate::settings::{Limits, ROLLED_LIMIT, STEP_LIMIT, Starts};
-use crate::staging::Transaction;
+use crate::settings::{CHANGE_LIMIT, Limits, ROLLED_LIMIT, SEAT_LIMIT, STEP_LIMIT, Starts};
+use crate::staging::{Transaction, staged_in};
 use audit_trail::{RECORD_LIMIT, Trail};
 use decision::Decider;
-use features::{FEATURE_LIMIT, Feature, Store, Subject, Subjects};
+use features::{Change, FEATURE_LIMIT, Feature, Store, Subject, Subjects};
 use memory::{Refused, another, shared};
 use policy_documents::Document;
 use std::alloc::{Allocator, Global};
@@ -115,6 +117,13 @@ impl<A: Allocator> PlainWorld<A> {
     pub fn decider(&self) -> &Decider
         ensures { result.now ≡ self.now.state.decider }
     {
+        self.decider_in_force()
+    }
+
+    /// The decider in force, of which another owner may be made.
+    pub fn decider_in_force(&self) -> &Arc<Decider>
+        ensures { arc_value result.now ≡ self.now.state.decider }
+    {
         &self.decider
     }
 
@@ -130,6 +139,32 @@ impl<A: Allocator> PlainWorld<A> {
         ensures { result ≡ length self.now.state.features }
     {
         self.store.len()
+    }
+
+    /// How many seats were given: `SEAT_LIMIT` at most.
+    pub fn seats_given(&self) -> usize
+        ensures value { result ≡ length self.now.seats }
+        ensures most { result ≤ SEAT_LIMIT }
+    {
+        self.seats.len()
+    }
+
+    /// What the transaction of a number has staged, in order; nothing where no such transaction is open. No two of the
+    /// changes name one feature, and there are `CHANGE_LIMIT` at most. It takes no memory.
+    pub fn staged(&self, number: u64) -> &[Change]
+        ensures value { result.now ≡ staged_in number self.now.transactions }
+        ensures distinct { AreDistinct result.now }
+        ensures few { length result.now ≤ CHANGE_LIMIT }
+    {
+        staged_in(&self.transactions, number)
+    }
+
+    /// What every world keeps: its trail is legal from its base, the state is its replay, and no more than `SEAT_LIMIT`
+    /// seats were given. The function does nothing: it is its contract.
+    pub fn world_is_sound(&self)
+        ensures { IsSoundWorld self.now }
+    {
+        let _seats = &self.seats;
     }
 }
 
