@@ -1,5 +1,5 @@
 -- Runs that come one after another are one run.
-use Rattle.std.proofs.Common.{List, [], ◌∷◌, ◌++◌, sym, subst}
+use Rattle.std.proofs.Common.{List, [], ◌∷◌, ◌++◌, subst}
 use Rattle.plain_world.specs.Events.{Event, Reply, Run}
 use Rattle.plain_world.specs.States.{WorldData}
 

@@ -9,3 +9,4 @@ pub mod EventWalkLemmas
 pub mod WorldLemmas
 pub mod AdvanceLemmas
 pub mod TendLemmas
+pub mod WorkedRunLemmas

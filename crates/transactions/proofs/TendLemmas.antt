@@ -2,6 +2,7 @@
 use Rattle.std.proofs.Common.{◌≡◌, ℕ, IfErr, Result, Err, refl, sym, subst}
 use Rattle.plain_world.specs.declared.faults.Fault.{Fault}
 use Rattle.plain_world.specs.declared.faults.Fault.TheVariants as faults
+use Rattle.plain_world.specs.Events.{Tend, Tended, Refused, Reply, Happens}
 use Rattle.plain_world.specs.States.{WorldData}
 use Rattle.tree_answers.specs.declared.answers.Tending.{Tending}
 use Rattle.tree_answers.specs.declared.fault.TreeFault.{TreeFault}
@@ -19,3 +20,9 @@ told_spent P answer fault is spent =
     let own : fault ≡ tree.Spent = (subst (λ (r : Result Tending TreeFault). IfErr r (λ f. (f ≡ tree.Spent) × P f)) is spent).0 in
     subst (λ (r : Result Tending TreeFault). ◌≡◌ {A = Result Tending Fault} (Err (faults.Tree fault)) (told_as r)) (sym is)
     (subst (λ (f : TreeFault). ◌≡◌ {A = Result Tending Fault} (Err (faults.Tree f)) (told_as (Err f))) (sym own) refl)
+
+-- where a slot is tended, what is served stays
+pub tended_same : (slot : ℕ) (old new : WorldData) (reply : Reply) → Happens (Tend slot) old new reply → new ≡ old
+tended_same slot old new (Tended tending) h = h
+tended_same slot old new (Refused (faults.Tree tree.Spent)) h = h
+tended_same slot old new _ h = absurd h

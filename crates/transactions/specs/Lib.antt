@@ -4,3 +4,5 @@ pub mod Refusing
 pub mod Walks
 pub mod Walking
 pub mod Stepping
+pub mod Turns
+pub mod WorkedRun

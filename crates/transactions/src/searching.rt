@@ -1,6 +1,6 @@
 //! Seats and searches.
 
-ghost use Rattle.std.specs.Prelude.{◌≡◌, ◌+◌, ◌≤◌, length, IfErr, OnErr};
+ghost use Rattle.std.specs.Prelude.{◌≡◌, ◌+◌, ◌≤◌, length, IfErr, IfOk, OnErr};
 ghost use Rattle.plain_world.specs.Events.{Happens, TakeSeat, OpenSearch, VisitNext, Finish, DropSearch, Number, Done, Visited, Rows, reply_of};
 ghost use Rattle.search_tree.specs.Calls.{found_in};
 ghost use Rattle.plain_world.specs.Admitting.{may_finish, may_go_on};
@@ -10,16 +10,17 @@ ghost use Rattle.transactions.specs.Stepping.{EndsInIndex, OpensInIndex, VisitsI
 use crate::faults::{fault_of, is_overrun, refusal_of};
 use crate::worlds::World;
 use features::{Meter, Name};
-use plain_world::{Answer, Fault};
+use plain_world::{Answer, Fault, SEAT_LIMIT};
 use plane::Shape;
 use search_tree::Visit;
 use std::alloc::Allocator;
 
 impl<A: Allocator> World<A> {
     /// Gives a seat to the subject of a name, and answers its number, from 1. X13 where there is no such subject, X14
-    /// where all seats are given, X12 where a growth is refused.
+    /// where all seats are given, X12 where a growth is refused. No number is above `SEAT_LIMIT`.
     pub fn seat(&mut self, name: Name) -> Result<u32, Fault>
         ensures happens { Happens (TakeSeat name) self.old.plain self.new.plain (reply_of Number result) }
+        ensures few { IfOk result (λ number. number ≤ SEAT_LIMIT) }
         ensures index { self.new.index ≡ self.old.index }
         ensures walks { self.new.walks ≡ self.old.walks }
     {

@@ -2,8 +2,10 @@
 
 ghost use Rattle.std.specs.Prelude.{◌≡◌, IfErr};
 ghost use Rattle.plain_world.specs.Events.{Happens, Tend, Tended, reply_of};
+ghost use Rattle.transactions.specs.Index.{slots_of};
 ghost use Rattle.transactions.specs.Refusing.{RefusesGrowth};
 ghost use Rattle.transactions.specs.Stepping.{TendsIndex};
+ghost use Rattle.transactions.specs.Turns.{behind};
 
 use crate::worlds::World;
 use plain_world::Fault;
@@ -24,5 +26,31 @@ impl<A: Allocator> World<A> {
             Ok(tending) => Ok(tending),
             Err(fault) => Err(Fault::Tree(fault)),
         }
+    }
+
+    /// Tends the slot of the index whose turn it is, as `tend` does, and answers the same. The next one's turn comes, also
+    /// where the index refuses: from slot 0 on, and behind the last one 0 again. It takes no memory.
+    pub fn tend_next(&mut self, turn: &mut u32) -> Result<Tending, Fault>
+        ensures happens { Happens (Tend turn.old) self.old.plain self.new.plain (reply_of Tended result) }
+        ensures plain { self.new.plain ≡ self.old.plain }
+        ensures refused { IfErr result (RefusesGrowth self.old.index) }
+        ensures walks { self.new.walks ≡ self.old.walks }
+        ensures index { TendsIndex self.old.plain turn.old self.old.index self.new.index result }
+        ensures turn { turn.new ≡ behind turn.old (slots_of self.new.index) }
+    {
+        let tended = self.tend(*turn);
+        *turn = slot_behind(*turn, self.slots());
+        tended
+    }
+}
+
+/// The slot whose turn comes behind this one's, of so many: from 0 on, and behind the last one 0 again.
+fn slot_behind(slot: u32, slots: u32) -> u32
+    ensures { result ≡ behind slot slots }
+{
+    if slot < slots && slot + 1 < slots {
+        slot + 1
+    } else {
+        0
     }
 }

@@ -1,11 +1,15 @@
 //! The world: what stands, and how it is opened and read.
 
-ghost use Rattle.std.specs.Prelude.{◌≡◌, ◌≤◌, [], length, IfOk, IfErr};
+ghost use Rattle.std.specs.Prelude.{◌≡◌, ◌≤◌, ◌<◌, ◌+◌, [], length, IfOk, IfErr, OnOk};
+ghost use Rattle.std.specs.Arc.{arc_value};
 ghost use Rattle.memory.specs.Refused.{refused};
+ghost use Rattle.audit_trail.specs.Judging.{AreDistinct};
 ghost use Rattle.audit_trail.specs.Legal.{IsLegal, replay, subject_of};
 ghost use Rattle.node_arena.specs.Slots.{taken_count};
-ghost use Rattle.plain_world.specs.Admitting.{subject_at};
-ghost use Rattle.plain_world.specs.States.{opened};
+ghost use Rattle.plain_world.specs.Admitting.{map_ok, may_go_on, may_govern, subject_at};
+ghost use Rattle.plain_world.specs.Laws.{IsOrdered, IsUnderWay};
+ghost use Rattle.plain_world.specs.Staging.{staged_in};
+ghost use Rattle.plain_world.specs.States.{IsSoundWorld, opened};
 ghost use Rattle.search_tree.specs.Calls.{found_in};
 ghost use Rattle.search_tree.specs.Trees.{IsFirst};
 ghost use Rattle.transactions.specs.Index.{Serves, frames, slots_of};
@@ -14,14 +18,17 @@ ghost use Rattle.transactions.specs.Walks.{AreWalks};
 use crate::walks::Walks;
 use audit_trail::{RECORD_LIMIT, Trail};
 use decision::Decider;
-use features::{FEATURE_LIMIT, Subject, Subjects};
+use features::{Change, FEATURE_LIMIT, Subject, Subjects};
 use frame_keys::Frames;
 use memory::Refused;
-use plain_world::{Fault, Limits, PlainWorld, ROLLED_LIMIT, STEP_LIMIT, Starts};
+use plain_world::{
+    CHANGE_LIMIT, Fault, Limits, PlainWorld, ROLLED_LIMIT, SEAT_LIMIT, STEP_LIMIT, Search, Starts,
+};
 use policy_documents::Document;
 use search_tree::{Tree, TreeFault};
 use std::alloc::{Allocator, Global};
 use std::marker::Model;
+use std::sync::Arc;
 
 /// The world of many sessions: the features, the policy in force and the trail, the seats that were given, the searches and
 /// transactions that are under way, the index over the features, and the walks of the transactions. A contract sees all but
@@ -72,11 +79,27 @@ impl<A: Allocator> World<A> {
         self.plain.decider()
     }
 
+    /// The decider in force, of which another owner may be made.
+    pub fn decider_in_force(&self) -> &Arc<Decider>
+        ensures { arc_value result.now ≡ self.now.plain.state.decider }
+    {
+        self.plain.decider_in_force()
+    }
+
     /// The edition of the document in force.
     pub fn edition(&self) -> u64
         ensures { result ≡ self.now.plain.state.decider.edition }
     {
         self.plain.edition()
+    }
+
+    /// The edition under which a seat may put a document in force next. X1 where the seat was not given, X7 where its
+    /// subject is no steward, X8 where the edition is at its end, X10 where the trail is full. It takes no memory.
+    pub fn next_edition(&self, seat: u32) -> Result<u64, Fault>
+        ensures value { result ≡ map_ok (λ _. self.now.plain.state.decider.edition + 1) (may_govern seat self.now.plain) }
+        ensures left { OnOk result (self.now.plain.state.decider.edition < u64.MAX) }
+    {
+        self.plain.next_edition(seat)
     }
 
     /// How many pairs a search has found in the index, and so how many look-ups its `finish` makes at most; 0 where no such
@@ -100,6 +123,44 @@ impl<A: Allocator> World<A> {
         ensures taken { taken_count self.now.index.nodes ≤ result }
     {
         self.index.slots()
+    }
+
+    /// How many seats were given: `SEAT_LIMIT` at most.
+    pub fn seats_given(&self) -> usize
+        ensures value { result ≡ length self.now.plain.seats }
+        ensures most { result ≤ SEAT_LIMIT }
+    {
+        self.plain.seats_given()
+    }
+
+    /// A seat's own search: its window, and whether it has answered Ready. X1 where the seat was not given or no such
+    /// search runs, X2 where it is another seat's. It takes no memory.
+    pub fn search_of(&self, seat: u32, number: u64) -> Result<Search, Fault>
+        ensures { result ≡ may_go_on seat number self.now.plain }
+    {
+        self.plain.may_go_on(seat, number)
+    }
+
+    /// What the transaction of a number has staged, in order; nothing where no such transaction is open. No two of the
+    /// changes name one feature, and there are `CHANGE_LIMIT` at most. It takes no memory.
+    pub fn staged(&self, number: u64) -> &[Change]
+        ensures value { result.now ≡ staged_in number self.now.plain.transactions }
+        ensures distinct { AreDistinct result.now }
+        ensures few { length result.now ≤ CHANGE_LIMIT }
+    {
+        self.plain.staged(number)
+    }
+
+    /// What every world keeps of what is served, so that the laws over runs begin at any world in hand: its trail is legal
+    /// from its base, the state is its replay, and no more than `SEAT_LIMIT` seats were given; its features stand by rising
+    /// id, and no list that is staged names a feature twice; what is under way is in order. The function does nothing: it is
+    /// its contract.
+    pub fn world_is_sound(&self)
+        ensures sound { IsSoundWorld self.now.plain }
+        ensures ordered { IsOrdered self.now.plain }
+        ensures under_way { IsUnderWay self.now.plain }
+    {
+        self.plain.world_is_sound();
     }
 
     /// What the index owes to the world: it has each feature's id and shape, and each shape that an open transaction has

@@ -20,6 +20,8 @@ mod memory_tests;
 #[cfg(test)]
 mod model_tests;
 #[cfg(test)]
+mod reading_tests;
+#[cfg(test)]
 mod refusal_tests;
 #[cfg(test)]
 mod worlds;
