@@ -88,7 +88,7 @@ adds event old new reply first rolled seat deed unseating happens same h leads =
     let s = no_seat_given event old new reply unseating happens in
     let r : RecordData = record { seat = seat; deed = deed } in
     let records : rolled ++ new.trail ≡ (rolled ++ old.trail) ++ r ∷ [] =
-        ap (λ (trail : List RecordData). rolled ++ trail) h.0 ∙ sym (append_assoc rolled old.trail (r ∷ [])) in
+    ap (λ (trail : List RecordData). rolled ++ trail) h.0 ∙ sym (append_assoc rolled old.trail (r ∷ [])) in
     let decider : new.state.decider ≡ old.state.decider = ap (λ (state : PlainState). state.decider) h.1 ∙ same in (
       λ i. record { opening = o.0 i; seats = s i; records = records i; decider = decider i },
       leads_on event old new reply first rolled happens h.2 h.3 leads,
@@ -103,7 +103,7 @@ governs event old new reply first rolled seat deed decider unseating happens the
     let s = no_seat_given event old new reply unseating happens in
     let r : RecordData = record { seat = seat; deed = deed } in
     let records : rolled ++ new.trail ≡ (rolled ++ old.trail) ++ r ∷ [] =
-        ap (λ (trail : List RecordData). rolled ++ trail) h.0 ∙ sym (append_assoc rolled old.trail (r ∷ [])) in
+    ap (λ (trail : List RecordData). rolled ++ trail) h.0 ∙ sym (append_assoc rolled old.trail (r ∷ [])) in
     let in_force : new.state.decider ≡ decider = ap (λ (state : PlainState). state.decider) h.1 ∙ there in
     λ i. record { opening = o.0 i; seats = s i; records = records i; decider = in_force i }
 
@@ -126,12 +126,12 @@ rolls seat old new piece first rolled happens sound h state leads =
     let o = opens (Roll seat) old new (TakenOut piece) happens in
     let s = no_seat_given (Roll seat) old new (TakenOut piece) tt happens in
     let records : (rolled ++ piece.records) ++ new.trail ≡ rolled ++ old.trail =
-        ap (λ (trail : List RecordData). (rolled ++ piece.records) ++ trail) h.6 ∙ append-nil (rolled ++ piece.records) ∙ ap (λ (more : List RecordData). rolled ++ more) h.5 in
+    ap (λ (trail : List RecordData). (rolled ++ piece.records) ++ trail) h.6 ∙ append-nil (rolled ++ piece.records) ∙ ap (λ (more : List RecordData). rolled ++ more) h.5 in
     let all : IsSoundChronicle (seen rolled old) = sound_seen first rolled old leads sound in
     let held : rolled ++ piece.records ≡ rolled ++ old.trail = ap (λ (more : List RecordData). rolled ++ more) h.5 in
     let to_base : replay (opening_state 0 old.opening) (rolled ++ piece.records) ≡ new.base =
-        ap (λ (rs : List RecordData). replay (opening_state 0 old.opening) rs) held ∙ all.replayed ∙ sym sound.replayed
-        ∙ ap (λ (b : PlainState). replay b old.trail) (sym h.3) ∙ ap (λ (rs : List RecordData). replay piece.base rs) (sym h.5) ∙ h.1 in (
+    ap (λ (rs : List RecordData). replay (opening_state 0 old.opening) rs) held ∙ all.replayed ∙ sym sound.replayed
+    ∙ ap (λ (b : PlainState). replay b old.trail) (sym h.3) ∙ ap (λ (rs : List RecordData). replay piece.base rs) (sym h.5) ∙ h.1 in (
       λ i. record { opening = o.0 i; seats = s i; records = records i; decider = (state i).decider },
       record {
         version = ap (λ t. t.version) o.1 ∙ leads.version;

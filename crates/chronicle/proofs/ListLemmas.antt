@@ -136,4 +136,3 @@ last_none (x ∷ xs) e = absurd (some_last x xs e)
 pub last_at : {X : Type 0} (o : Option X) (x : X) (xs : List X) → last_or o (x ∷ xs) ≡ slice_get (x ∷ xs) (length xs)
 last_at o x [] = refl
 last_at o x (y ∷ ys) = last_at (Some x) y ys
-

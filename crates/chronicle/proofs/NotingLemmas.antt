@@ -110,7 +110,7 @@ list_ended first rolled seat number changes old new (Ok outcome) same happens le
       seated = alone.1;
       told = subst (λ (list : List Change). seen rolled new ≡ noted seat (deed_of alone.0 list outcome) (seen rolled old)) same
           (adds (Commit seat number) old new (Ended outcome) first rolled seat (deed_of alone.0 staged outcome) tt happens
-              (decider_stays old.state alone.0 staged outcome) alone.2 leads).0;
+          (decider_stays old.state alone.0 staged outcome) alone.2 leads).0;
     }
 list_ended first rolled seat number changes old new (Err fault) same happens leads = tt
 

@@ -60,8 +60,8 @@ pub record_told : (records : List RecordData) (index told seat : ℕ) (before re
 record_told records index told seat before receipts r e own h next =
     let calls = calls_of seat (take index records) in
     let longer : before ++ calls_of seat (take (index + 1) records) ≡ (before ++ calls) ++ r ∷ [] =
-        ap (λ (more : List RecordData). before ++ more) (filter_keeps (λ (r : RecordData). r.seat == seat) records index r e (of_seat r.seat seat own))
-        ∙ sym (append_assoc before calls (r ∷ [])) in
+    ap (λ (more : List RecordData). before ++ more) (filter_keeps (λ (r : RecordData). r.seat == seat) records index r e (of_seat r.seat seat own))
+    ∙ sym (append_assoc before calls (r ∷ [])) in
     subst (λ (seen : List RecordData). AreTold (told + 1) seen receipts) (sym longer) (one_more_told receipts (before ++ calls) told r h next)
 
 -- a record of the seat that is not the next receipt
@@ -72,8 +72,8 @@ record_parts records index told seat before receipts r e own h other =
     let calls = calls_of seat (take index records) in
     let later = calls_of seat (drop (suc index) records) in
     let whole : before ++ calls_of seat records ≡ (before ++ calls) ++ r ∷ later =
-        ap (λ (more : List RecordData). before ++ more) (filter_around (λ (r : RecordData). r.seat == seat) records index r e (of_seat r.seat seat own))
-        ∙ sym (append_assoc before calls (r ∷ later)) in
+    ap (λ (more : List RecordData). before ++ more) (filter_around (λ (r : RecordData). r.seat == seat) records index r e (of_seat r.seat seat own))
+    ∙ sym (append_assoc before calls (r ∷ later)) in
     subst (λ (seen : List RecordData). PartsAt told seen receipts) (sym whole) (parts_here receipts (before ++ calls) later told r h other)
 
 -- the records of pieces in two parts
@@ -94,8 +94,8 @@ pub piece_told : (ps : List RolledData) (i told more seat : ℕ) (p : RolledData
     → AreTold more (calls_of seat (records_in (take (i + 1) ps))) receipts
 piece_told ps i told more seat p receipts e h k =
     let longer : take told receipts ++ calls_of seat p.records ≡ calls_of seat (records_in (take (i + 1) ps)) =
-        ap (λ (calls : List RecordData). calls ++ calls_of seat p.records) h.same
-        ∙ sym (filter-append (λ (r : RecordData). r.seat == seat) (records_in (take i ps)) p.records) ∙ sym (ap (calls_of seat) (up_to ps i p e)) in
+    ap (λ (calls : List RecordData). calls ++ calls_of seat p.records) h.same
+    ∙ sym (filter-append (λ (r : RecordData). r.seat == seat) (records_in (take i ps)) p.records) ∙ sym (ap (calls_of seat) (up_to ps i p e)) in
     subst (λ (seen : List RecordData). AreTold more seen receipts) longer k
 
 -- a piece parts from what was told
@@ -106,14 +106,14 @@ piece_parts ps i told place seat p rest receipts e h k =
     let before = records_in (take i ps) in
     let later = records_in (drop (suc i) ps) ++ rest in
     let whole : records_in ps ++ rest ≡ (before ++ p.records) ++ later =
-        ap (λ (rs : List RecordData). rs ++ rest) (ap records_in (around ps i p e) ∙ in_parts (take i ps) (p ∷ drop (suc i) ps))
-        ∙ append_assoc before (p.records ++ records_in (drop (suc i) ps)) rest
-        ∙ ap (λ (rs : List RecordData). before ++ rs) (append_assoc p.records (records_in (drop (suc i) ps)) rest)
-        ∙ sym (append_assoc before p.records later) in
+    ap (λ (rs : List RecordData). rs ++ rest) (ap records_in (around ps i p e) ∙ in_parts (take i ps) (p ∷ drop (suc i) ps))
+    ∙ append_assoc before (p.records ++ records_in (drop (suc i) ps)) rest
+    ∙ ap (λ (rs : List RecordData). before ++ rs) (append_assoc p.records (records_in (drop (suc i) ps)) rest)
+    ∙ sym (append_assoc before p.records later) in
     let calls : calls_of seat (records_in ps ++ rest) ≡ (take told receipts ++ calls_of seat p.records) ++ calls_of seat later =
-        ap (calls_of seat) whole ∙ filter-append (λ (r : RecordData). r.seat == seat) (before ++ p.records) later
-        ∙ ap (λ (rs : List RecordData). rs ++ calls_of seat later) (filter-append (λ (r : RecordData). r.seat == seat) before p.records
-            ∙ ap (λ (rs : List RecordData). rs ++ calls_of seat p.records) (sym h.same)) in
+    ap (calls_of seat) whole ∙ filter-append (λ (r : RecordData). r.seat == seat) (before ++ p.records) later
+    ∙ ap (λ (rs : List RecordData). rs ++ calls_of seat later) (filter-append (λ (r : RecordData). r.seat == seat) before p.records
+    ∙ ap (λ (rs : List RecordData). rs ++ calls_of seat p.records) (sym h.same)) in
     subst (λ (seen : List RecordData). DifferFirst place seen receipts) (sym calls)
     (parts_still receipts (take told receipts ++ calls_of seat p.records) (calls_of seat later) place k).first
 

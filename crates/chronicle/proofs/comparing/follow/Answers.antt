@@ -15,6 +15,7 @@ not_next b x y e exact = λ same. absurd (refuted b e (exact (some_same x y same
   where
     some_same : (x y : RecordData) → Some x ≡ Some y → x ≡ y
     some_same x y e = cc
+
     refuted : (b : Bool) → b ≡ false → IsTrue b → ⊥
     refuted b e h = cc
 
@@ -38,7 +39,7 @@ returns-else-eq-clause-err g c =
     let there = numbered trail (c.first.result + c.loop-index.index) c.loop-index.index (Some r) (omega (arith, c.first.ensures.value)) c.in-Some.ensures.value in
     let own : r.seat ≡ c.args.seat = cc (c.seat.ensures, c.deref.ensures, c.if-seat.true) in
     let next : slice_get receipts c.loop-index.told ≡ Some receipt =
-        item_seen arc_value c.args.receipts.now c.loop-index.told c.in-Some-get.receipt.now (omega (arith, c.in-Some-get.ensures.lookup.3.0)) c.in-Some-get.ensures.lookup.1 in
+    item_seen arc_value c.args.receipts.now c.loop-index.told c.in-Some-get.receipt.now (omega (arith, c.in-Some-get.ensures.lookup.3.0)) c.in-Some-get.ensures.lookup.1 in
     let exact : receipt ≡ r → IsTrue c.eq.result = λ e. c.eq.ensures.exact.1 (c.deref-then-seat.ensures ∙ e ∙ sym c.deref-then-seat-2.ensures) in
     record_parts trail.records c.loop-index.index c.loop-index.told c.args.seat (take c.args.before receipts) receipts r there own c.loop-index.invariant
     (λ e. not_next c.eq.result receipt r c.if-eq.false exact (sym next ∙ e))
@@ -53,14 +54,14 @@ loop-index-preserved g c =
     let before = take c.args.before receipts in
     let seen = before ++ calls_of c.args.seat (take (c.loop-index.index + 1) trail.records) in
     elim c.if-seat.branch [
-      then-seat+in-Some-get+then-eq w ↦
-        let receipt : RecordData = arc_value w.in-Some-get.receipt.now in
-        let next : slice_get receipts c.loop-index.told ≡ Some receipt =
-            item_seen arc_value c.args.receipts.now c.loop-index.told w.in-Some-get.receipt.now (omega (arith, w.in-Some-get.ensures.lookup.3.0)) w.in-Some-get.ensures.lookup.1 in
-        let same : receipt ≡ r = sym w.deref-then-seat.ensures ∙ w.eq.ensures.exact.0 w.if-eq.true ∙ w.deref-then-seat-2.ensures in
-        subst (λ (k : _). AreTold k seen receipts) (sym w.told-is)
-        (record_told trail.records c.loop-index.index c.loop-index.told c.args.seat before receipts r there (sym seat ∙ w.if-seat.true) c.loop-index.invariant (next ∙ ap Some same)) |
-      else-seat w ↦
-        subst (λ (k : _). AreTold k seen receipts) (sym w.told-is)
-        (record_passed trail.records c.loop-index.index c.loop-index.told c.args.seat before receipts r there (λ e. w.if-seat.false (seat ∙ e)) c.loop-index.invariant)
+      | then-seat+in-Some-get+then-eq w ↦
+          let receipt : RecordData = arc_value w.in-Some-get.receipt.now in
+          let next : slice_get receipts c.loop-index.told ≡ Some receipt =
+          item_seen arc_value c.args.receipts.now c.loop-index.told w.in-Some-get.receipt.now (omega (arith, w.in-Some-get.ensures.lookup.3.0)) w.in-Some-get.ensures.lookup.1 in
+          let same : receipt ≡ r = sym w.deref-then-seat.ensures ∙ w.eq.ensures.exact.0 w.if-eq.true ∙ w.deref-then-seat-2.ensures in
+          subst (λ (k : _). AreTold k seen receipts) (sym w.told-is)
+          (record_told trail.records c.loop-index.index c.loop-index.told c.args.seat before receipts r there (sym seat ∙ w.if-seat.true) c.loop-index.invariant (next ∙ ap Some same))
+      | else-seat w ↦
+          subst (λ (k : _). AreTold k seen receipts) (sym w.told-is)
+          (record_passed trail.records c.loop-index.index c.loop-index.told c.args.seat before receipts r there (λ e. w.if-seat.false (seat ∙ e)) c.loop-index.invariant)
     ]

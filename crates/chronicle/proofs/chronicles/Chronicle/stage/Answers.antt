@@ -14,7 +14,7 @@ invariant_of-self g c =
     let reply = reply_of (λ _. Done) c.stage.result in
     let happens = c.stage.ensures.happens in
     (stands event old new reply c.self.inside.first (records_in (map arc_value c.self.inside.pieces.items)) tt happens
-        (adds_alone event old new reply happens) c.self.invariant).1
+    (adds_alone event old new reply happens) c.self.invariant).1
 
 pub returns : goal.returns
 returns g c =
@@ -24,5 +24,5 @@ returns g c =
     let reply = reply_of (λ _. Done) c.stage.result in
     let happens = c.stage.ensures.happens in
     (stands event old new reply c.self.inside.first (records_in (map arc_value c.self.inside.pieces.items)) tt happens
-        (adds_alone event old new reply happens) c.self.invariant).0
+    (adds_alone event old new reply happens) c.self.invariant).0
     ∙ c.self.view_is
