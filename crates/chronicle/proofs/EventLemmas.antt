@@ -130,8 +130,8 @@ rolls seat old new piece first rolled happens sound h state leads =
     let all : IsSoundChronicle (seen rolled old) = sound_seen first rolled old leads sound in
     let held : rolled ++ piece.records ≡ rolled ++ old.trail = ap (λ (more : List RecordData). rolled ++ more) h.5 in
     let to_base : replay (opening_state 0 old.opening) (rolled ++ piece.records) ≡ new.base =
-    ap (λ (rs : List RecordData). replay (opening_state 0 old.opening) rs) held ∙ all.replayed ∙ sym sound.replayed
-    ∙ ap (λ (b : PlainState). replay b old.trail) (sym h.3) ∙ ap (λ (rs : List RecordData). replay piece.base rs) (sym h.5) ∙ h.1 in (
+    ap (λ (rs : List RecordData). replay (opening_state 0 old.opening) rs) held ∙ replay-append (opening_state 0 old.opening) rolled old.trail
+    ∙ ap (λ (b : PlainState). replay b old.trail) leads.replayed ∙ ap (λ (b : PlainState). replay b old.trail) (sym h.3) ∙ ap (λ (rs : List RecordData). replay piece.base rs) (sym h.5) ∙ h.1 in (
       λ i. record { opening = o.0 i; seats = s i; records = records i; decider = (state i).decider },
       record {
         version = ap (λ t. t.version) o.1 ∙ leads.version;

@@ -10,7 +10,7 @@ use Rattle.audit_trail.specs.Legal.{IsSeated, after_deed}
 use Rattle.audit_trail.specs.Records.{DeedData, answered, governed, PlainState, RecordData}
 use Rattle.plain_world.specs.Admitting.{given, may_go_on, may_sit, own_search, owned, search_with, subject_at}
 use Rattle.plain_world.specs.Answers.{AnswerData}
-use Rattle.plain_world.specs.Events.{Commit, Ended, Finish, Govern, Happens, Number, Reply, Roll, Rows, TakenOut, TakeSeat, reply_of}
+use Rattle.plain_world.specs.Events.{Commit, Ended, Finish, Govern, Happens, Number, Refused, Reply, Roll, Rows, TakenOut, TakeSeat, reply_of}
 use Rattle.plain_world.specs.Laws.{AddsAlone, HasOneMore, deed_of}
 use Rattle.plain_world.specs.Rolls.{RolledData}
 use Rattle.plain_world.specs.Staging.{staged_in}
@@ -151,7 +151,7 @@ govern_refused rolled seat document old new (Err fault) happens = seen_same roll
 -- Rolling.
 
 -- a roll that is refused leaves all
-pub roll_refused : (seat : ℕ) (old new : WorldData) (fault : Fault) (first : ℕ) (rolled : List RecordData) → Happens (Roll seat) old new (reply_of TakenOut (Err fault)) → LeadsTo first rolled old
+pub roll_refused : (seat : ℕ) (old new : WorldData) (fault : Fault) (first : ℕ) (rolled : List RecordData) → Happens (Roll seat) old new (Refused fault) → LeadsTo first rolled old
     → (seen rolled new ≡ seen rolled old) × LeadsTo first rolled new
 roll_refused seat old new fault first rolled happens leads =
     let same = leaves (Roll seat) old new fault happens in
