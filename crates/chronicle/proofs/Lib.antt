@@ -1,0 +1,4 @@
+pub mod EventLemmas
+pub mod ListLemmas
+pub mod NotingLemmas
+pub mod TrailLemmas

@@ -1,0 +1,28 @@
+use Rattle.std.proofs.Common.{map, ◌∙◌}
+use Rattle.std.specs.Arc.{arc_value}
+use Rattle.plain_world.specs.Events.{DropSearch, Done, reply_of}
+use Rattle.plain_world.proofs.RecordLemmas.{adds_alone}
+use Rattle.chronicle.specs.Chronicles.{records_in}
+use Rattle.chronicle.proofs.EventLemmas.{stands}
+use Rattle.chronicle.proofs.chronicles.Chronicle.drop_search.Goals as goal
+
+pub invariant_of-self : goal.invariant_of-self
+invariant_of-self g c =
+    let event = DropSearch c.args.seat c.args.number in
+    let old = c.self.inside.world.plain in
+    let new = c.drop_search.new.self.plain in
+    let reply = reply_of (λ _. Done) c.drop_search.result in
+    let happens = c.drop_search.ensures.happens in
+    (stands event old new reply c.self.inside.first (records_in (map arc_value c.self.inside.pieces.items)) tt happens
+    (adds_alone event old new reply happens) c.self.invariant).1
+
+pub returns : goal.returns
+returns g c =
+    let event = DropSearch c.args.seat c.args.number in
+    let old = c.self.inside.world.plain in
+    let new = c.drop_search.new.self.plain in
+    let reply = reply_of (λ _. Done) c.drop_search.result in
+    let happens = c.drop_search.ensures.happens in
+    (stands event old new reply c.self.inside.first (records_in (map arc_value c.self.inside.pieces.items)) tt happens
+    (adds_alone event old new reply happens) c.self.invariant).0
+    ∙ c.self.view_is

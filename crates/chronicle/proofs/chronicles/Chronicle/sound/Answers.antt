@@ -1,0 +1,11 @@
+use Rattle.std.proofs.Common.{map, subst}
+use Rattle.std.specs.Arc.{arc_value}
+use Rattle.chronicle.specs.Chronicles.{ChronicleData, IsSoundChronicle, records_in}
+use Rattle.chronicle.proofs.EventLemmas.{sound_seen}
+use Rattle.chronicle.proofs.chronicles.Chronicle.sound.Goals as goal
+
+pub returns : goal.returns
+returns g c =
+    subst (λ (d : ChronicleData). IsSoundChronicle d) c.self.view_is
+    (sound_seen c.self.inside.first (records_in (map arc_value c.self.inside.pieces.items)) c.self.inside.world.plain c.self.invariant
+    c.world_is_sound.ensures.sound)

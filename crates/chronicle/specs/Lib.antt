@@ -1,0 +1,4 @@
+pub mod Chronicles
+pub mod Coding
+pub mod Comparing
+pub mod Noting

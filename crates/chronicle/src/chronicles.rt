@@ -1,0 +1,99 @@
+//! A world and the pieces that were rolled out of it.
+
+ghost use Rattle.std.specs.Prelude.{◌≡◌, ◌≤◌, IfOk, IfErr};
+ghost use Rattle.chronicle.specs.Chronicles.{IsSoundChronicle, opened_by};
+ghost use Rattle.memory.specs.Refused.{refused};
+
+use audit_trail::RECORD_LIMIT;
+use features::{FEATURE_LIMIT, Subjects};
+use policy_documents::Document;
+use std::alloc::{Allocator, Global};
+use std::marker::Model;
+use std::sync::Arc;
+use transactions::{Fault, Limits, ROLLED_LIMIT, Rolled, STEP_LIMIT, Starts, World};
+
+/// A world and the pieces that were rolled out of it. A contract sees the opening decider, who has a seat, all records and
+/// the decider in force.
+#[derive(Drop)]
+pub struct Chronicle<A: Allocator> {
+    pub(crate) world: World<A>,
+    pub(crate) pieces: Vec<Arc<Rolled<A>, A>, A>,
+    pub(crate) first: u32,
+}
+
+impl<A: Allocator> Model for Chronicle<A> {
+    ghost use Rattle.std.specs.Prelude.{map};
+    ghost use Rattle.std.specs.Arc.{arc_value};
+    ghost use Rattle.std.specs.Coded.{code_by, codes};
+    ghost use Rattle.chronicle.specs.Chronicles.{ChronicleData, LeadsTo, records_in, seen};
+    ghost use Rattle.chronicle.specs.Coding.{StoredChronicle, stored_chronicle, restored_chronicle, restored_chronicle-stored_chronicle};
+
+    ghost Value = { ChronicleData };
+
+    ghost coded = { code_by StoredChronicle (Prim.hlevel codes) stored_chronicle restored_chronicle restored_chronicle-stored_chronicle };
+
+    ghost view = { λ c. seen (records_in (map arc_value c.pieces.items)) c.world.plain };
+
+    ghost invariant = { λ c. LeadsTo c.first (records_in (map arc_value c.pieces.items)) c.world.plain };
+}
+
+impl<A: Allocator> Chronicle<A> {
+    /// All records are one legal trail from the opening on, its replay has the decider in force, and no more than
+    /// `SEAT_LIMIT` seats were given. The function does nothing: it is its contract.
+    pub fn sound(&self)
+        ensures { IsSoundChronicle self.now }
+    {
+        self.world.world_is_sound();
+    }
+}
+
+impl<A: Allocator + Copy> Chronicle<A> {
+    /// A world with no features, no seats and no records, by a document of the first edition. X12 where a growth is
+    /// refused: then the document is handed back.
+    pub fn open(
+        alloc: A,
+        heap: Global,
+        subjects: Subjects,
+        document: Document<Global>,
+    ) -> Result<Self, (Document<Global>, Fault)>
+        ensures ok { IfOk result (λ c. c ≡ opened_by (record { document = document; edition = 1 })) }
+        ensures err { IfErr result (λ e. e ≡ (document, Fault.Memory refused)) }
+    {
+        Chronicle::open_at(
+            alloc,
+            heap,
+            subjects,
+            document,
+            Starts::FIRST,
+            Limits::GREATEST,
+        )
+    }
+
+    /// The same, where the numbers start elsewhere and the limits are other ones, for tests of what comes at their ends. No
+    /// list was applied before, no limit is above that of `Limits::GREATEST`, and no more than `ROLLED_LIMIT` records were
+    /// rolled out before.
+    pub fn open_at(
+        alloc: A,
+        heap: Global,
+        subjects: Subjects,
+        document: Document<Global>,
+        starts: Starts,
+        limits: Limits,
+    ) -> Result<Self, (Document<Global>, Fault)>
+        requires version { starts.version ≡ 0 }
+        requires rolled { starts.rolled ≤ ROLLED_LIMIT }
+        requires records { limits.records ≤ RECORD_LIMIT }
+        requires features { limits.features ≤ FEATURE_LIMIT }
+        requires steps { limits.steps ≤ STEP_LIMIT }
+        ensures ok { IfOk result (λ c. c ≡ opened_by (record { document = document; edition = starts.edition })) }
+        ensures err { IfErr result (λ e. e ≡ (document, Fault.Memory refused)) }
+    {
+        let world = World::open_at(alloc, heap, subjects, document, starts, limits)?;
+        let first = world.trail().first();
+        Ok(Chronicle {
+            world,
+            pieces: Vec::new(alloc),
+            first,
+        })
+    }
+}

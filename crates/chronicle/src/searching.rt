@@ -1,0 +1,63 @@
+//! Seats and searches.
+
+ghost use Rattle.std.specs.Prelude.{◌≡◌, IfOk, OnErr};
+ghost use Rattle.chronicle.specs.Noting.{IsAnswered, IsSeatGiven};
+
+use crate::chronicles::Chronicle;
+use features::{Meter, Name};
+use plane::Shape;
+use std::alloc::Allocator;
+use transactions::{Answer, Fault, Visit};
+
+impl<A: Allocator> Chronicle<A> {
+    /// Gives a seat to the subject of a name, and answers its number, from 1. X13 where there is no such subject, X14
+    /// where all seats are given, X12 where a growth is refused.
+    pub fn seat(&mut self, name: Name) -> Result<u32, Fault>
+        ensures ok { IfOk result (λ number. IsSeatGiven number self.old self.new) }
+        ensures err { OnErr result (self.new ≡ self.old) }
+    {
+        self.world.seat(name)
+    }
+
+    /// Gives a search up. X1 where the seat was not given or no such search runs, X2 where it is another seat's. It takes
+    /// no memory.
+    pub fn drop_search(&mut self, seat: u32, number: u64) -> Result<(), Fault>
+        ensures { self.new ≡ self.old }
+    {
+        self.world.drop_search(seat, number)
+    }
+}
+
+impl<A: Allocator + Copy> Chronicle<A> {
+    /// Opens a search of a seat, and answers its number. X1 where the seat was not given, X9 where 16 searches run (S2)
+    /// or the number is at its end (S6), X12 where a growth is refused.
+    pub fn open_search(&mut self, seat: u32, window: Shape) -> Result<u64, Fault>
+        ensures { self.new ≡ self.old }
+    {
+        self.world.open_search(seat, window)
+    }
+
+    /// Makes a step of a search: it sees one place of the index. X1 where the seat was not given or no such search runs, X2
+    /// where it is another seat's, X9 where it has made all its steps (S7): then it is ended; X12 where a growth is refused.
+    pub fn visit(&mut self, seat: u32, number: u64) -> Result<Visit, Fault>
+        ensures { self.new ≡ self.old }
+    {
+        self.world.visit(seat, number)
+    }
+
+    /// Finishes the search of a window: its answer is written to the trail. X1 where the seat was not given, no such search
+    /// runs or it looks elsewhere, X2 where it is another seat's, X3 where it has not answered Ready, X10 where the trail is
+    /// full, X12 where a growth is refused.
+    pub fn finish(&mut self, seat: u32, number: u64, window: &Shape) -> Result<Answer<A>, Fault>
+        ensures ok { IfOk result (λ answer. IsAnswered seat window.now answer self.old self.new) }
+        ensures err { OnErr result (self.new ≡ self.old) }
+    {
+        let search = self.world.search_of(seat, number)?;
+        if search.window == *window {
+            let mut meter = Meter::new();
+            self.world.finish(seat, number, &mut meter)
+        } else {
+            Err(Fault::NoSuch)
+        }
+    }
+}
