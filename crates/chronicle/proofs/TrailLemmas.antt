@@ -5,6 +5,7 @@ use Rattle.std.proofs.lemmas.Bool.Decides.{Decides-eqb}
 use Rattle.std.proofs.lemmas.Grind.{common_steps}
 use Rattle.std.proofs.lemmas.List.Elements.{filter-append}
 use Rattle.std.proofs.lemmas.Option.{slice_get_read, slice_get-map}
+use Rattle.std.proofs.lemmas.List.{map-append}
 use Rattle.std.proofs.Math.Seq.{take-length}
 use Rattle.audit_trail.specs.Calls.{calls_of}
 use Rattle.audit_trail.specs.Records.{RecordData, TrailData, record_at}
@@ -84,6 +85,12 @@ in_parts (p ∷ ps) rest = ap (λ (rs : List RecordData). p.records ++ rs) (in_p
 -- those of one piece more
 pub one_more_in : (ps : List RolledData) (p : RolledData) → records_in (ps ++ p ∷ []) ≡ records_in ps ++ p.records
 one_more_in ps p = in_parts ps (p ∷ []) ∙ ap (λ (rs : List RecordData). records_in ps ++ rs) (append-nil p.records)
+
+-- a piece is put behind others, where room was made before
+pub piece_pushed : {P : Type 0} (f : P → RolledData) (before made after : List P) (piece : P) → made ≡ before → after ≡ made ++ piece ∷ []
+    → records_in (map f after) ≡ records_in (map f before) ++ (f piece).records
+piece_pushed f before made after piece m a =
+    ap (λ ps. records_in (map f ps)) (a ∙ ap (λ ps. ps ++ piece ∷ []) m) ∙ ap records_in (map-append f before (piece ∷ [])) ∙ one_more_in (map f before) (f piece)
 
 up_to : (ps : List RolledData) (i : ℕ) (p : RolledData) → slice_get ps i ≡ Some p → records_in (take (i + 1) ps) ≡ records_in (take i ps) ++ p.records
 up_to ps i p e = ap records_in (take_one_more ps i p e) ∙ one_more_in (take i ps) p

@@ -16,5 +16,6 @@ returns-in-Some g c =
 pub returns-in-None : goal.returns-in-None
 returns-in-None g c =
     let rolled = records_in (map arc_value c.self.inside.pieces.items) in
-    last_of_pieces rolled c.self.inside.world.plain.trail _ (c.in-None.ensures ∙ ap (last_or None) c.trail.ensures.records) c.last_in.ensures
+    last_of_pieces rolled c.self.inside.world.plain.trail _ (c.in-None.ensures ∙ ap (last_or None) c.trail.ensures.records)
+    (rw c.deref.ensures.value at c.last_in.ensures)
     ∙ ap (λ (d : ChronicleData). last_or None d.records) c.self.view_is
