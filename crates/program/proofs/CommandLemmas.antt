@@ -1,5 +1,5 @@
 -- Commands in hand, an argument more at a time.
-use Rattle.std.proofs.Common.{◌≡◌, ◌∙◌, ap, ap₂, true, false, Bool, ◌||◌, Option, Some, subst}
+use Rattle.std.proofs.Common.{◌≡◌, ◌∙◌, ap, ap₂, true, Bool, ◌||◌, Option, Some, subst}
 use Rattle.std.specs.Prelude.{pos, ℕ, ℤ}
 use Rattle.std.specs.Int.{int_max, int_min}
 use Rattle.clap.specs.Words.{AddsArg, App, NarrowsTo, Rule, rule_of, signed_between, with_rule}

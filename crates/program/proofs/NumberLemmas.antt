@@ -1,5 +1,5 @@
 -- What clap's getters read of rows that passed: the first value of an argument, as a number or a flag.
-use Rattle.std.proofs.Common.{◌≡◌, ◌<◌, ◌^◌, ℕ, Bool, true, false, ◌||◌, if◌then◌else◌, List, [], ◌∷◌, Option, None, Some, IfSome, is_some, option_map, unwrap_or, Result, Ok, Err, refl, ap, ◌∙◌, sym, subst, codes, true≢false, arith}
+use Rattle.std.proofs.Common.{◌≡◌, ◌<◌, ◌^◌, ℕ, Bool, true, false, ◌||◌, if◌then◌else◌, List, [], ◌∷◌, Option, None, Some, IfSome, is_some, option_map, Result, Ok, refl, ap, ◌∙◌, sym, subst, codes, true≢false, arith}
 use Rattle.std.specs.Prelude.{find, option_and_then, pos, slice_get}
 use Rattle.std.specs.Option.{option_map_or}
 use Rattle.std.specs.Str.{bytes_eq}
@@ -10,7 +10,6 @@ use Rattle.clap.proofs.CallerReads.{signed_reads}
 use Rattle.clap.proofs.ValueTestLemmas.{accepts-Accepts}
 use Rattle.clap.specs.Facts.{explicit_source, parser_of_value}
 use Rattle.clap.specs.Faults.{values_fault}
-use Rattle.clap.specs.Kinds.{Kinds}
 use Rattle.clap.specs.Lexer.{without_minus}
 use Rattle.clap.proofs.WalkLemmas.{one_text-rows}
 use Rattle.clap.specs.Matches.{ReadsOne, one_text}
@@ -26,7 +25,7 @@ use Rattle.clap.specs.declared.parser.matches.Found.{Found}
 use Rattle.std.specs.declared.num.ParseIntError.{ParseIntError}
 use Rattle.program.specs.Asking.{IsUpTo}
 use Rattle.program.specs.CommandLine.{number_of}
-use Rattle.program.proofs.RowLemmas.{ArePassed, HasValue, IsPassed, IsPassedBy, at_some, both_pass}
+use Rattle.program.proofs.RowLemmas.{ArePassed, HasValue, IsPassedBy, at_some, both_pass}
 
 -- the row of an argument, if there is one, passed
 abbrev pub Passes : Rule → List Row → Type 0

@@ -1,5 +1,5 @@
 -- What is done with the words of a command line, and what is answered of it.
-use Rattle.std.proofs.Common.{◌≡◌, ℕ, List, Option, Some, Result, Ok, option_map, refl, sym, subst}
+use Rattle.std.proofs.Common.{◌≡◌, ℕ, List, Option, Result, Ok, option_map, refl, sym, subst}
 use Rattle.clap.specs.Words.{IsAmong, Text as Words, kind_of}
 use Rattle.clap.specs.declared.error.Error.{Error}
 use Rattle.clap.specs.declared.error.kind.ErrorKind.{ErrorKind}
@@ -54,7 +54,7 @@ pub server_failed : (words : List Words) (held : List ℕ → Option (List ℕ))
     → IsServerFault held closed given fault → IsFault words held closed standing standing fault
 server_failed words held closed standing asked given fault is_asked is failed =
     let of_given = subst (IsAsked words) is is_asked in
-    IsFault.server fault of_given.0 (subst (λ c. IsOfConfig held closed c fault) (sym of_given.1.1) failed) refl
+    IsFault.no_server fault of_given.0 (subst (λ c. IsOfConfig held closed c fault) (sym of_given.1.1) failed) refl
 
 -- the words ask for help
 pub help_asked : (words : List Words) (asked : Asked) (help : Error) → IsAsked words asked → asked ≡ Text help → kind_of help ≡ DisplayHelp → IsAmong DisplayHelp (refusals words)

@@ -1,7 +1,6 @@
 -- What a run of the program leaves.
 use Rattle.std.specs.Prelude.{◌≡◌, ◌≢◌, ℕ, List, Option, Some, Result, Ok, Err, codes, option_map}
 use Rattle.clap.specs.Words.{IsAmong, Text, kind_of}
-use Rattle.clap.specs.declared.error.Error.{Error}
 use Rattle.clap.specs.declared.error.kind.ErrorKind.{ErrorKind}
 use Rattle.clap.specs.declared.error.kind.ErrorKind.TheVariants.{DisplayHelp}
 use Rattle.byte_streams.specs.Written.{Took}
@@ -38,7 +37,7 @@ pub data IsFault (words : List Text) (held : List ℕ → Option (List ℕ)) (cl
   script : (name : List ℕ) (fault : ProgramFault) → AskFor (codes "script") words → given_by words (codes "FILE") ≡ Some name
       → BrokeOff held closed (given_by words (codes "config")) name before after fault → IsFault words held closed before after fault
   -- they ask for a server, and there is no configuration
-  server : (fault : ProgramFault) → AskFor (codes "serve") words → IsOfConfig held closed (given_by words (codes "config")) fault → after ≡ before
+  no_server : (fault : ProgramFault) → AskFor (codes "serve") words → IsOfConfig held closed (given_by words (codes "config")) fault → after ≡ before
       → IsFault words held closed before after fault
   -- they ask for help, which could not be written
   help : (fault : ProgramFault) → IsAmong DisplayHelp (refusals words) → IsUnwritten fault → IsFault words held closed before after fault

@@ -1,4 +1,4 @@
-use Rattle.std.proofs.Common.{ap, codes, inl, inr, map, option_map, string_bytes, subst, sym, true≢false, List, Some, ◌∙◌, ◌≡◌, ◌⊎◌}
+use Rattle.std.proofs.Common.{ap, inl, inr, map, option_map, string_bytes, subst, sym, true≢false, List, ◌∙◌, ◌≡◌}
 use Rattle.clap.specs.Words.{Text, subcommand_name_of}
 use Rattle.program.specs.Asking.{IsReading}
 use Rattle.program.specs.CommandLine.{command_for}

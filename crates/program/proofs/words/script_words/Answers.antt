@@ -1,4 +1,4 @@
-use Rattle.std.proofs.Common.{ap, codes, is_some, sym, true≢false, List, None, Option, ◌≡◌, ◌∙◌}
+use Rattle.std.proofs.Common.{ap, codes, is_some, sym, true≢false, None, ◌≡◌, ◌∙◌}
 use Rattle.clap.proofs.WalkLemmas.{first_value-rows}
 use Rattle.clap.specs.Words.{Text, first_of, first_value, found_of, rows_of}
 use Rattle.program.proofs.AskedLemmas.{script_has_file}

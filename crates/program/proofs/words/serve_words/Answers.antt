@@ -1,4 +1,4 @@
-use Rattle.std.proofs.Common.{ap, codes, is_some, refl, lit<, lit≤, subst, sym, true≢false, unwrap_or, ℕ, IfSome, List, None, Some, Option, ◌≡◌, ◌∙◌}
+use Rattle.std.proofs.Common.{ap, codes, is_some, refl, lit<, lit≤, subst, sym, true≢false, unwrap_or, ℕ, IfSome, None, Some, Option, ◌≡◌, ◌∙◌}
 use Rattle.clap.proofs.WalkLemmas.{first_value-rows}
 use Rattle.clap.specs.Words.{Text, first_of, first_value, found_of, rows_of}
 use Rattle.program.specs.Asking.{IsUpTo}
