@@ -95,15 +95,14 @@ fn serve_command<'a>(alloc: Global) -> Result<Command<'a>, AllocError>
     ensures { IfOk result (IsCommand serve_line) }
 {
     let socket = option_argument(alloc, "socket", "PATH", SOCKET_HELP).required(true);
+    let connection_range = value_parser!(u16).range(1..=i64::from(CONNECTION_LIMIT));
+    let worker_range = value_parser!(u8).range(1..=i64::from(WORKER_LIMIT));
+    let idle_range = value_parser!(u32).range(1..=i64::from(IDLE_LIMIT));
     let connections = option_argument(alloc, "connections", "N", CONNECTIONS_HELP)
         .required(true)
-        .value_parser(value_parser!(u16).range(1..=i64::from(CONNECTION_LIMIT)));
-    let workers = option_argument(alloc, "workers", "N", WORKERS_HELP).value_parser(value_parser!(
-        u8
-    ).range(1..=i64::from(WORKER_LIMIT)));
-    let idle = option_argument(alloc, "idle", "SECONDS", IDLE_HELP).value_parser(value_parser!(
-        u32
-    ).range(1..=i64::from(IDLE_LIMIT)));
+        .value_parser(connection_range);
+    let workers = option_argument(alloc, "workers", "N", WORKERS_HELP).value_parser(worker_range);
+    let idle = option_argument(alloc, "idle", "SECONDS", IDLE_HELP).value_parser(idle_range);
     Command::new(alloc, "serve")
         .about(SERVE_ABOUT)
         .long_about(SERVE_LONG_ABOUT)

@@ -103,16 +103,16 @@ the socket's file is removed and `closed R records` is printed, R being the
 number of records in the audit trail. Nothing is stored: then, or when the
 process is killed, features, policies and records are gone.
 
-A client that for the seconds of --idle neither sends nor reads is left, and its
-worker serves another. Without --idle a silent client keeps its worker.
+With --idle, a client that neither sends nor reads for so many seconds is left,
+and its worker serves another. Without it a silent client keeps its worker.
 
 --takeover removes a socket's file at PATH that nobody listens on, as a server
 that was killed leaves one. Whatever else is there stays, and the socket cannot
 be bound. To find out whether somebody listens it connects, which uses up one
 connection of a server that does.
 
-With --until-stdin-ends nobody more is accepted, either, once standard input
-ends. Sessions that have begun go on to their end.
+With --until-stdin-ends the end of standard input, too, ends the accepting.
+Sessions that have begun go on to their end.
 
 A client is whoever its HELLO says. Who may connect is up to the rights of the
 socket's folder.
@@ -160,11 +160,13 @@ Exit status:
      `landmap: cannot bind PATH`, `landmap: cannot write`, or `landmap: CODE`,
      where CODE is
 
-       B1 to D8  the configuration is at fault, as `landmap script --help` says
+       B1, B2, N1 to N3, D2 to D8
+                 the configuration is at fault: `landmap script --help` has how
        B5        there was no memory for the configuration
-       X12, H6   there was no memory for the world, or to serve it
+       X12       there was no memory for the world
+       H6        there was no memory to serve it
        V4        there was no memory for the buffers or the command line
-       C1        a session was told another record than the trail has
-       C2        a session has not given back its seat
+       C1        a session was told of another record than the trail has
+       C2        a session did not give back its seat
 
   2  the command line is wrong"#;

@@ -38,8 +38,8 @@ const TURNED_DOWN: [(&str, &str); 15] = [
         "error: invalid value '1025' for '--connections <N>': 1025 is not in 1..=1024\n",
     ),
     (
-        "serve --socket m.sock --connections many",
-        "error: invalid value 'many' for '--connections <N>': invalid digit found in string\n",
+        "serve --socket m.sock --connections x",
+        "error: invalid value 'x' for '--connections <N>': invalid digit found in string\n",
     ),
     (
         "serve --socket m.sock --connections 7 --workers 0",
@@ -271,7 +271,7 @@ fn help_of_servers(rt: HostRuntime) -> Result<(), Fail> {
             "Accepts nobody once standard input ends\n",
             "\n  `landmap serve --socket map.sock --connections 100` writes\n\n    listening map.sock\n",
             "\n     `landmap: cannot bind PATH`, `landmap: cannot write`, or `landmap: CODE`,\n",
-            "\n       C2        a session has not given back its seat\n",
+            "\n       C2        a session did not give back its seat\n",
             "\n  2  the command line is wrong",
         ],
     )?;
