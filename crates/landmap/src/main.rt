@@ -3,16 +3,23 @@
 
 use byte_streams::let_go;
 use memory::buffered;
-use program::{Ended, HostFolder, ProgramFault, WordsFault, host_words, run_program, tell};
+use program::{
+    Ended, HostFolder, Next, ProgramFault, WantedServer, WordsFault, host_words, run_program, tell,
+};
 use std::io;
 use std::io::{Stderr, Write};
 use std::process::ExitCode;
 
-/// The program ends by a fault before it runs, with the status of `Ended::Failed`. That one would have to own the fault, and
-/// rattle makes no proof of a function here that takes a fault by value.
+/// The program ends by a fault outside `run_program`, with the status of `Ended::Failed`. That one would have to own the
+/// fault, and rattle makes no proof of a function here that takes a fault by value.
 fn fail(fault: &ProgramFault<'_>, errors: &mut Stderr) -> ExitCode {
     let _ = tell(fault, errors);
     ExitCode::from(1)
+}
+
+/// Runs the server that the command line asks for. There is none yet, so nothing is bound.
+fn serve(server: WantedServer<'_>, errors: &mut Stderr) -> ExitCode {
+    fail(&ProgramFault::CannotBind(server.options.socket), errors)
 }
 
 fn main(rt: HostRuntime) -> ExitCode {
@@ -32,7 +39,7 @@ fn main(rt: HostRuntime) -> ExitCode {
         Err(refused) => return fail(&ProgramFault::Memory(refused), &mut errors),
     };
     let folder = HostFolder::of(&rt);
-    let ended = run_program(
+    let next = run_program(
         rt.alloc(),
         words.as_slice(),
         &folder,
@@ -41,5 +48,8 @@ fn main(rt: HostRuntime) -> ExitCode {
     );
     // All that was written has left by a flush, unless a write failed; then the rest is not written once more.
     let _ = let_go(output);
-    ExitCode::from(ended.status())
+    match next {
+        Next::Exit(ended) => ExitCode::from(ended.status()),
+        Next::Serve(server) => serve(server, &mut errors),
+    }
 }

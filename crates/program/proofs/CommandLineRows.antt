@@ -1,9 +1,9 @@
 -- What clap reads in some command lines.
-use Rattle.std.proofs.Common.{◌≡◌, List, [], ◌∷◌, None, Some, codes, refl}
+use Rattle.std.proofs.Common.{◌≡◌, true, false, List, [], ◌∷◌, ◌++◌, None, Some, codes, refl}
 use Rattle.clap.proofs.OnLiterals.{clap_on_literals}
 use Rattle.clap.specs.Words.{Text}
-use Rattle.clap.specs.declared.error.kind.ErrorKind.TheVariants.{DisplayHelp, DisplayHelpOnMissingArgumentOrSubcommand, MissingRequiredArgument, UnknownArgument}
-use Rattle.program.specs.CommandLine.{refusals, word_for}
+use Rattle.clap.specs.declared.error.kind.ErrorKind.TheVariants.{DisplayHelp, DisplayHelpOnMissingArgumentOrSubcommand, MissingRequiredArgument, UnknownArgument, ValueValidation}
+use Rattle.program.specs.CommandLine.{command_for, flag_at, given_by, number_at, refusals}
 
 abbrev plain : List Text
 plain = codes "landmap" ∷ codes "script" ∷ codes "day.map" ∷ []
@@ -12,11 +12,15 @@ plain_is_taken : refusals plain ≡ []
 unfolding clap_on_literals
 plain_is_taken = refl
 
-plain_file : word_for (codes "FILE") plain ≡ Some (codes "day.map")
+plain_names : command_for plain ≡ Some (codes "script")
+unfolding clap_on_literals
+plain_names = refl
+
+plain_file : given_by plain (codes "FILE") ≡ Some (codes "day.map")
 unfolding clap_on_literals
 plain_file = refl
 
-plain_config : word_for (codes "config") plain ≡ None
+plain_config : given_by plain (codes "config") ≡ None
 unfolding clap_on_literals
 plain_config = refl
 
@@ -27,13 +31,60 @@ configured_is_taken : refusals configured ≡ []
 unfolding clap_on_literals
 configured_is_taken = refl
 
-configured_file : word_for (codes "FILE") configured ≡ Some (codes "day.map")
+configured_file : given_by configured (codes "FILE") ≡ Some (codes "day.map")
 unfolding clap_on_literals
 configured_file = refl
 
-configured_config : word_for (codes "config") configured ≡ Some (codes "a.json")
+configured_config : given_by configured (codes "config") ≡ Some (codes "a.json")
 unfolding clap_on_literals
 configured_config = refl
+
+-- a server with the options that it has to have, and with more
+abbrev serving : List Text
+serving = codes "landmap" ∷ codes "serve" ∷ codes "--socket" ∷ codes "m.sock" ∷ codes "--connections" ∷ codes "1024" ∷ []
+
+serving_is_taken : refusals serving ≡ []
+unfolding clap_on_literals
+serving_is_taken = refl
+
+serving_names : command_for serving ≡ Some (codes "serve")
+unfolding clap_on_literals
+serving_names = refl
+
+serving_socket : given_by serving (codes "socket") ≡ Some (codes "m.sock")
+unfolding clap_on_literals
+serving_socket = refl
+
+serving_connections : number_at (given_by serving) (codes "connections") ≡ Some 1024
+unfolding clap_on_literals
+serving_connections = refl
+
+serving_workers : given_by serving (codes "workers") ≡ None
+unfolding clap_on_literals
+serving_workers = refl
+
+serving_takeover : flag_at (given_by serving) (codes "takeover") ≡ false
+unfolding clap_on_literals
+serving_takeover = refl
+
+abbrev optional : List Text
+optional = serving ++ (codes "--workers=64" ∷ codes "--takeover" ∷ codes "--idle" ∷ codes "60" ∷ codes "--until-stdin-ends" ∷ [])
+
+optional_is_taken : refusals optional ≡ []
+unfolding clap_on_literals
+optional_is_taken = refl
+
+optional_workers : number_at (given_by optional) (codes "workers") ≡ Some 64
+unfolding clap_on_literals
+optional_workers = refl
+
+optional_idle : number_at (given_by optional) (codes "idle") ≡ Some 60
+unfolding clap_on_literals
+optional_idle = refl
+
+optional_takeover : flag_at (given_by optional) (codes "takeover") ≡ true
+unfolding clap_on_literals
+optional_takeover = refl
 
 for_help : refusals (codes "landmap" ∷ codes "--help" ∷ []) ≡ DisplayHelp ∷ []
 unfolding clap_on_literals
@@ -50,3 +101,7 @@ no_file = refl
 strange_word : refusals (codes "landmap" ∷ codes "script" ∷ codes "day.map" ∷ codes "--fast" ∷ []) ≡ UnknownArgument ∷ []
 unfolding clap_on_literals
 strange_word = refl
+
+too_many_connections : refusals (codes "landmap" ∷ codes "serve" ∷ codes "--socket" ∷ codes "m.sock" ∷ codes "--connections" ∷ codes "1025" ∷ []) ≡ ValueValidation ∷ []
+unfolding clap_on_literals
+too_many_connections = refl

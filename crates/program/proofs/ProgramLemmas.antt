@@ -1,20 +1,23 @@
 -- What is done with the words of a command line, and what is answered of it.
-use Rattle.std.proofs.Common.{◌≡◌, ℕ, List, Option, Some, Result, Ok, option_map, sym, subst}
+use Rattle.std.proofs.Common.{◌≡◌, ℕ, List, Option, Result, Ok, option_map, refl, sym, subst}
 use Rattle.clap.specs.Words.{IsAmong, Text as Words, kind_of}
 use Rattle.clap.specs.declared.error.Error.{Error}
 use Rattle.clap.specs.declared.error.kind.ErrorKind.{ErrorKind}
 use Rattle.clap.specs.declared.error.kind.ErrorKind.TheVariants.{DisplayHelp}
-use Rattle.program.specs.Asking.{IsAsked}
-use Rattle.program.specs.CommandLine.{refusals}
+use Rattle.program.specs.Asking.{HasOptions, IsAsked}
+use Rattle.program.specs.CommandLine.{given_by, refusals}
 use Rattle.program.specs.declared.words.Asked.{Asked}
-use Rattle.program.specs.declared.words.Asked.TheVariants.{Script, Text}
+use Rattle.program.specs.declared.words.Asked.TheVariants.{Script, Serve, Text}
 use Rattle.program.specs.declared.words.ScriptWords.{ScriptWords}
-use Rattle.program.specs.Programs.{AreTurnedDown, IsAnswer, IsDone, IsFault}
-use Rattle.program.specs.RunFaults.{BrokeOff}
-use Rattle.program.specs.Runs.{RanScript}
+use Rattle.program.specs.declared.words.ServeWords.{ServeWords}
+use Rattle.program.specs.Programs.{AreTurnedDown, IsAnswer, IsDone, IsFault, IsServerFault, IsServerOf, WantServer}
+use Rattle.program.specs.Configs.{config_data}
+use Rattle.program.specs.RunFaults.{BrokeOff, IsOfConfig}
+use Rattle.program.specs.Runs.{IsConfigOf, RanScript}
+use Rattle.program.specs.declared.ends.WantedServer.{WantedServer}
 use Rattle.program.specs.declared.faults.ProgramFault.{ProgramFault}
 use Rattle.program.specs.declared.runs.Answer.{Answer}
-use Rattle.program.specs.declared.runs.Answer.TheVariants.{Done, Mistaken}
+use Rattle.program.specs.declared.runs.Answer.TheVariants as answers
 use Rattle.byte_streams.specs.declared.writing.Flushed.{Flushed}
 
 -- the name of the configuration's file, where one is asked for
@@ -26,14 +29,32 @@ module _ (words : List Words) (held : List ℕ → Option (List ℕ)) (before af
   pub script_served : (asked : Asked) (files : ScriptWords) → IsAsked words asked → asked ≡ Script files → RanScript held (config_name files) files.script.now before after → IsDone words held before after
   script_served asked files is_asked is ran =
       let of_files = subst (IsAsked words) is is_asked in
-      IsDone.serves files.script.now of_files.0 of_files.1 (subst (λ c. RanScript held c files.script.now before after) (sym of_files.2) ran)
+      IsDone.serves files.script.now of_files.0 of_files.1.0 (subst (λ c. RanScript held c files.script.now before after) (sym of_files.1.1) ran)
 
   -- or its run broke off
   pub script_broke : (closed : List ℕ → Type 0) (asked : Asked) (files : ScriptWords) (fault : ProgramFault) → IsAsked words asked → asked ≡ Script files → BrokeOff held closed (config_name files) files.script.now before after fault
       → IsFault words held closed before after fault
   script_broke closed asked files fault is_asked is broke =
       let of_files = subst (IsAsked words) is is_asked in
-      IsFault.script files.script.now fault of_files.0 of_files.1 (subst (λ c. BrokeOff held closed c files.script.now before after fault) (sym of_files.2) broke)
+      IsFault.script files.script.now fault of_files.0 of_files.1.0 (subst (λ c. BrokeOff held closed c files.script.now before after fault) (sym of_files.1.1) broke)
+
+-- the words ask for a server, and this is it
+pub server_wanted : (words : List Words) (held : List ℕ → Option (List ℕ)) (asked : Asked) (given : ServeWords) (server : WantedServer) → IsAsked words asked → asked ≡ Serve given
+    → IsServerOf held given server → WantServer words held server
+server_wanted words held asked given server is_asked is made =
+    let of_given = subst (IsAsked words) is is_asked in
+    record {
+      asked = of_given.0;
+      options = subst (HasOptions (given_by words)) (sym made.0) of_given.1.0;
+      config = subst (λ c. IsConfigOf held c (config_data server.config)) (sym of_given.1.1) made.1;
+    }
+
+-- or its configuration is at fault
+pub server_failed : (words : List Words) (held : List ℕ → Option (List ℕ)) (closed : List ℕ → Type 0) (standing : Option (List ℕ)) (asked : Asked) (given : ServeWords) (fault : ProgramFault) → IsAsked words asked → asked ≡ Serve given
+    → IsServerFault held closed given fault → IsFault words held closed standing standing fault
+server_failed words held closed standing asked given fault is_asked is failed =
+    let of_given = subst (IsAsked words) is is_asked in
+    IsFault.no_server fault of_given.0 (subst (λ c. IsOfConfig held closed c fault) (sym of_given.1.1) failed) refl
 
 -- the words ask for help
 pub help_asked : (words : List Words) (asked : Asked) (help : Error) → IsAsked words asked → asked ≡ Text help → kind_of help ≡ DisplayHelp → IsAmong DisplayHelp (refusals words)
@@ -41,10 +62,13 @@ help_asked words asked help is_asked is kind = subst (λ k. IsAmong k (refusals 
 
 -- what was answered of the words, read off by cases
 module _ {O : Type 0} (words : List Words) (held : List ℕ → Option (List ℕ)) (closed : List ℕ → Type 0) (written : O → Option (List ℕ)) (output after : O) (result : Result Answer ProgramFault) (answer : Answer) where
-  pub was_done : (flushed : Flushed) → IsAnswer words held closed written output after result → result ≡ Ok answer → answer ≡ Done flushed → IsDone words held (written output) (written after)
+  pub was_done : (flushed : Flushed) → IsAnswer words held closed written output after result → result ≡ Ok answer → answer ≡ answers.Done flushed → IsDone words held (written output) (written after)
   was_done flushed h is done = subst (λ (a : Answer). IsAnswer words held closed written output after (Ok a)) done (subst (IsAnswer words held closed written output after) is h)
 
-  pub was_turned_down : (mistake : Error) → IsAnswer words held closed written output after result → result ≡ Ok answer → answer ≡ Mistaken mistake → (kind : ErrorKind) × AreTurnedDown words kind × (after ≡ output)
+  pub was_wanted : (server : WantedServer) → IsAnswer words held closed written output after result → result ≡ Ok answer → answer ≡ answers.Serve server → WantServer words held server × (after ≡ output)
+  was_wanted server h is some = subst (λ (a : Answer). IsAnswer words held closed written output after (Ok a)) some (subst (IsAnswer words held closed written output after) is h)
+
+  pub was_turned_down : (mistake : Error) → IsAnswer words held closed written output after result → result ≡ Ok answer → answer ≡ answers.Mistaken mistake → (kind : ErrorKind) × AreTurnedDown words kind × (after ≡ output)
   was_turned_down mistake h is some =
       let down = subst (λ (a : Answer). IsAnswer words held closed written output after (Ok a)) some (subst (IsAnswer words held closed written output after) is h) in
       (kind_of mistake, down.0, down.1)

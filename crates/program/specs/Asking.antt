@@ -1,19 +1,51 @@
 -- What the words of a command line ask for.
-use Rattle.std.specs.Prelude.{◌≡◌, ℕ, List, [], Some, codes, option_map}
-use Rattle.clap.specs.Words.{IsAmong, kind_of, subcommand_of, subcommand_rows_of}
-use Rattle.program.specs.CommandLine.{command_line, refusals, word_for}
+use Rattle.std.specs.Prelude.{◌≡◌, ◌≤◌, ℕ, List, [], IfSome, Option, Some, codes, option_map, unwrap_or}
+use Rattle.clap.specs.Words.{IsAmong, Row, Text, kind_of, subcommand_of, subcommand_rows_of}
+use Rattle.program.specs.CommandLine.{AskFor, command_line, flag_at, given_by, number_at, refusals}
 use Rattle.program.specs.declared.command_line.Reading.{Reading}
 use Rattle.program.specs.declared.command_line.Reading.TheVariants.{Given, Told}
+use Rattle.program.specs.declared.options.ServerOptions.{ServerOptions}
+use Rattle.program.specs.declared.options.TheConstants.{CONNECTION_LIMIT, DEFAULT_WORKERS, IDLE_LIMIT, WORKER_LIMIT}
 use Rattle.program.specs.declared.words.Asked.{Asked}
-use Rattle.program.specs.declared.words.Asked.TheVariants.{Script, Text}
+use Rattle.program.specs.declared.words.Asked.TheVariants.{Script, Serve, Text as Shown}
+use Rattle.program.specs.declared.words.ScriptWords.{ScriptWords}
+use Rattle.program.specs.declared.words.ServeWords.{ServeWords}
 
 -- clap has nothing against the words, and has what they give its subcommand; or a text with one of its reasons
 abbrev pub IsReading : List (List ℕ) → Reading → Type 0
 IsReading words (Given matches) = (refusals words ≡ []) × (subcommand_rows_of matches ≡ subcommand_of command_line words)
 IsReading words (Told text) = IsAmong (kind_of text) (refusals words)
 
--- a script of these files, or a text: help, or what is wrong
+-- clap has nothing against some words, which name this subcommand, and give it these rows
+abbrev pub IsGiven : Text → List Row → Type 0
+IsGiven name rows = (words : List Text) × (refusals words ≡ []) × (subcommand_of command_line words ≡ Some (name, rows))
+
+-- a number from 1 to `most`
+abbrev pub IsUpTo : ℕ → ℕ → Type 0
+IsUpTo most n = (1 ≤ n) × (n ≤ most)
+
+-- the options of a server are those that are given, within their limits
+pub record HasOptions (given : Text → Option Text) (options : ServerOptions) : Type 0 where
+  pub socket : given (codes "socket") ≡ Some options.socket.now
+  pub connections : number_at given (codes "connections") ≡ Some options.connections
+  pub workers : options.workers ≡ unwrap_or (number_at given (codes "workers")) DEFAULT_WORKERS
+  pub idle : options.idle_seconds ≡ number_at given (codes "idle")
+  pub takeover : options.takeover ≡ flag_at given (codes "takeover")
+  pub until_stdin_ends : options.until_stdin_ends ≡ flag_at given (codes "until-stdin-ends")
+  pub connections_fit : IsUpTo CONNECTION_LIMIT options.connections
+  pub workers_fit : IsUpTo WORKER_LIMIT options.workers
+  pub idle_fits : IfSome options.idle_seconds (IsUpTo IDLE_LIMIT)
+
+-- the files of a script
+abbrev pub HasFiles : (Text → Option Text) → ScriptWords → Type 0
+HasFiles given files = (given (codes "FILE") ≡ Some files.script.now) × (given (codes "config") ≡ option_map (λ name. name.now) files.config)
+
+-- the options of a server, and its configuration's file
+abbrev pub HasServer : (Text → Option Text) → ServeWords → Type 0
+HasServer given server = HasOptions given server.options × (given (codes "config") ≡ option_map (λ name. name.now) server.config)
+
+-- a script of these files, or this server, or a text: help, or what is wrong
 abbrev pub IsAsked : List (List ℕ) → Asked → Type 0
-IsAsked words (Script files) =
-    (refusals words ≡ []) × (word_for (codes "FILE") words ≡ Some files.script.now) × (word_for (codes "config") words ≡ option_map (λ name. name.now) files.config)
-IsAsked words (Text text) = IsAmong (kind_of text) (refusals words)
+IsAsked words (Script files) = AskFor (codes "script") words × HasFiles (given_by words) files
+IsAsked words (Serve server) = AskFor (codes "serve") words × HasServer (given_by words) server
+IsAsked words (Shown text) = IsAmong (kind_of text) (refusals words)

@@ -1,27 +1,82 @@
--- The command line, as clap reads it: `landmap script [--config FILE] FILE`.
-use Rattle.std.specs.Prelude.{true, List, Option, Some, codes, option_map, option_and_then}
-use Rattle.clap.specs.Words.{App, Kinds, Rule, Text, fault_of, first_of, new_app, new_rule, subcommand_of, with_rule, with_subcommand}
+-- The command line, as clap reads it: `landmap script [--config FILE] FILE`, and `landmap serve` with its options.
+use Rattle.std.specs.Prelude.{◌≡◌, ℕ, Bool, true, false, List, [], ◌∷◌, Option, Some, codes, fold, option_map, option_and_then, pos}
+use Rattle.std.specs.Option.{option_map_or}
+use Rattle.std.specs.Str.{bytes_eq}
+use Rattle.std.specs.Str.Parse.{digits_value, without_leading_plus}
+use Rattle.clap.specs.Words.{App, Kinds, Rule, Text, app_of, fault_of, first_of, new_app, new_rule, rule_of, subcommand_of, with_rule, with_subcommand}
 use Rattle.clap.specs.Simple.{on_top}
+use Rattle.clap.specs.declared.builder.action.ArgAction.TheVariants.{SetTrue}
+use Rattle.clap.specs.declared.builder.arg.Arg.{Arg}
+use Rattle.clap.specs.declared.builder.command.Command.{Command}
+use Rattle.clap.specs.declared.builder.command.Command.TheViews.{out-Command}
+use Rattle.clap.specs.declared.builder.value_parser.ValueParser.TheVariants.{Signed}
+use Rattle.program.specs.declared.options.TheConstants.{CONNECTION_LIMIT, IDLE_LIMIT, WORKER_LIMIT}
 
--- `--config FILE`
-abbrev pub config_rule : Rule
-config_rule = record (new_rule (codes "config")) { long = Some (codes "config"); value_names = 1 }
+-- `--NAME VALUE`
+abbrev pub option_rule : Text → Rule
+option_rule name = record (new_rule name) { long = Some name; value_names = 1 }
 
--- `FILE`, which has to be there
-abbrev pub file_rule : Rule
-file_rule = record (new_rule (codes "FILE")) { required = true }
+-- `--NAME`
+abbrev pub flag_rule : Text → Rule
+flag_rule name = record (new_rule name) { long = Some name; action = Some SetTrue }
 
+-- which has to be there
+abbrev pub needed : Rule → Rule
+needed rule = record rule { required = true }
+
+-- whose value is a number from 1 to `most`
+abbrev pub up_to : ℕ → Rule → Rule
+up_to most rule = record rule { parser = Some (Signed (pos 1) (pos most)) }
+
+-- an argument in hand is this one, and stands at its own subcommand alone
+abbrev pub IsArgument : Rule → Arg → Type 0
+IsArgument rule argument = (rule_of argument ≡ rule) × (argument.global ≡ false)
+
+-- a command in hand is this one, without arguments that stand at others too
+abbrev pub IsCommand : App → Command → Type 0
+IsCommand app command = (app_of command ≡ app) × ((out-Command command).has_globals ≡ false)
+
+abbrev pub subcommand_line : Text → List Rule → App
+subcommand_line name rules = fold with_rule (new_app name) rules
+
+-- `script [--config FILE] FILE`
 abbrev pub script_line : App
-script_line = with_rule (with_rule (new_app (codes "script")) config_rule) file_rule
+script_line = subcommand_line (codes "script") (option_rule (codes "config") ∷ needed (new_rule (codes "FILE")) ∷ [])
 
--- the one subcommand is `script`, and has to be there
+-- `serve --socket PATH [--config FILE] --connections N [--workers N] [--idle SECONDS] [--takeover] [--until-stdin-ends]`
+abbrev pub serve_line : App
+serve_line = subcommand_line (codes "serve") (
+    needed (option_rule (codes "socket")) ∷ option_rule (codes "config") ∷ needed (up_to CONNECTION_LIMIT (option_rule (codes "connections")))
+    ∷ up_to WORKER_LIMIT (option_rule (codes "workers")) ∷ up_to IDLE_LIMIT (option_rule (codes "idle"))
+    ∷ flag_rule (codes "takeover") ∷ flag_rule (codes "until-stdin-ends") ∷ [])
+
+-- the subcommands are these two, and one has to be there
 abbrev pub command_line : App
-command_line = with_subcommand (on_top (λ s. record s { subcommand_required = true; arg_required_else_help = true }) (new_app (codes "landmap"))) script_line.top
+command_line = with_subcommand (with_subcommand (on_top (λ s. record s { subcommand_required = true; arg_required_else_help = true }) (new_app (codes "landmap"))) script_line.top) serve_line.top
 
--- why clap turns the words down, or that they ask for help. Of words that ask for a script there is nothing
+-- why clap turns the words down, or that they ask for help. Of words that ask for a script or a server there is nothing
 abbrev pub refusals : List Text → Kinds
 refusals words = fault_of command_line words
 
--- what the words give the subcommand for this argument
-abbrev pub word_for : Text → List Text → Option Text
-word_for id words = option_and_then (first_of id) (option_map (λ sub. sub.1) (subcommand_of command_line words))
+-- the subcommand that the words name
+abbrev pub command_for : List Text → Option Text
+command_for words = option_map (λ sub. sub.0) (subcommand_of command_line words)
+
+-- clap has nothing against the words, and they name this subcommand
+abbrev pub AskFor : Text → List Text → Type 0
+AskFor name words = (refusals words ≡ []) × (command_for words ≡ Some name)
+
+-- what the words give the subcommand for an argument
+abbrev pub given_by : List Text → Text → Option Text
+given_by words id = option_and_then (first_of id) (option_map (λ sub. sub.1) (subcommand_of command_line words))
+
+-- the number that digits spell, behind a plus or none
+abbrev pub number_of : Text → ℕ
+number_of text = digits_value 10 (without_leading_plus text)
+
+-- what is given for an argument, as a number, and as a flag
+abbrev pub number_at : (Text → Option Text) → Text → Option ℕ
+number_at given id = option_map number_of (given id)
+
+abbrev pub flag_at : (Text → Option Text) → Text → Bool
+flag_at given id = option_map_or (λ text. bytes_eq text (codes "true")) (given id) false

@@ -1,27 +1,32 @@
 -- What a run of the program leaves.
-use Rattle.std.specs.Prelude.{◌≡◌, ◌≢◌, ℕ, List, [], Option, None, Some, Result, Ok, Err, codes}
+use Rattle.std.specs.Prelude.{◌≡◌, ◌≢◌, ℕ, List, Option, Some, Result, Ok, Err, codes, option_map}
 use Rattle.clap.specs.Words.{IsAmong, Text, kind_of}
-use Rattle.clap.specs.declared.error.Error.{Error}
 use Rattle.clap.specs.declared.error.kind.ErrorKind.{ErrorKind}
 use Rattle.clap.specs.declared.error.kind.ErrorKind.TheVariants.{DisplayHelp}
 use Rattle.byte_streams.specs.Written.{Took}
-use Rattle.program.specs.CommandLine.{refusals, word_for}
+use Rattle.program.specs.Asking.{HasOptions}
+use Rattle.program.specs.CommandLine.{AskFor, given_by, refusals}
+use Rattle.program.specs.Configs.{config_data}
 use Rattle.program.specs.Ends.{IsUnwritten, fault_line}
-use Rattle.program.specs.RunFaults.{BrokeOff}
-use Rattle.program.specs.Runs.{RanScript}
+use Rattle.program.specs.RunFaults.{BrokeOff, IsOfConfig}
+use Rattle.program.specs.Runs.{IsConfigOf, RanScript}
 use Rattle.program.specs.declared.runs.Answer.{Answer}
-use Rattle.program.specs.declared.runs.Answer.TheVariants.{Done, Mistaken}
+use Rattle.program.specs.declared.runs.Answer.TheVariants as answers
 use Rattle.program.specs.declared.ends.Ended.{Ended}
 use Rattle.program.specs.declared.ends.Ended.TheVariants.{Well, Failed, TurnedDown}
+use Rattle.program.specs.declared.ends.Next.{Next}
+use Rattle.program.specs.declared.ends.Next.TheVariants as next
+use Rattle.program.specs.declared.ends.WantedServer.{WantedServer}
 use Rattle.program.specs.declared.faults.ProgramFault.{ProgramFault}
 use Rattle.program.specs.declared.faults.ProgramFault.TheVariants.{Words}
 use Rattle.program.specs.declared.command_line.WordsRefused.{WordsRefused}
+use Rattle.program.specs.declared.words.ServeWords.{ServeWords}
 
 -- What these words ask for is done. `held` is what the file of a name reads, where that is known.
 pub data IsDone (words : List Text) (held : List ℕ → Option (List ℕ)) (before after : Option (List ℕ)) : Type 0 where
   -- they ask for a script, which is served
-  serves : (script : List ℕ) → refusals words ≡ [] → word_for (codes "FILE") words ≡ Some script
-      → RanScript held (word_for (codes "config") words) script before after → IsDone words held before after
+  serves : (script : List ℕ) → AskFor (codes "script") words → given_by words (codes "FILE") ≡ Some script
+      → RanScript held (given_by words (codes "config")) script before after → IsDone words held before after
   -- they ask for help
   helps : IsAmong DisplayHelp (refusals words) → IsDone words held before after
 
@@ -29,21 +34,39 @@ pub data IsDone (words : List Text) (held : List ℕ → Option (List ℕ)) (bef
 -- memory for the command line may come of any words.
 pub data IsFault (words : List Text) (held : List ℕ → Option (List ℕ)) (closed : List ℕ → Type 0) (before after : Option (List ℕ)) : ProgramFault → Type 0 where
   -- they ask for a script, and its run broke off
-  script : (name : List ℕ) (fault : ProgramFault) → refusals words ≡ [] → word_for (codes "FILE") words ≡ Some name
-      → BrokeOff held closed (word_for (codes "config") words) name before after fault → IsFault words held closed before after fault
+  script : (name : List ℕ) (fault : ProgramFault) → AskFor (codes "script") words → given_by words (codes "FILE") ≡ Some name
+      → BrokeOff held closed (given_by words (codes "config")) name before after fault → IsFault words held closed before after fault
+  -- they ask for a server, and there is no configuration
+  no_server : (fault : ProgramFault) → AskFor (codes "serve") words → IsOfConfig held closed (given_by words (codes "config")) fault → after ≡ before
+      → IsFault words held closed before after fault
   -- they ask for help, which could not be written
   help : (fault : ProgramFault) → IsAmong DisplayHelp (refusals words) → IsUnwritten fault → IsFault words held closed before after fault
   unread : (refused : WordsRefused) → after ≡ before → IsFault words held closed before after (Words refused)
+
+-- These words ask for this server: its options are theirs, and its configuration is the built-in one, or that of the file that
+-- they name.
+pub record WantServer (words : List Text) (held : List ℕ → Option (List ℕ)) (server : WantedServer) : Type 0 where
+  pub asked : AskFor (codes "serve") words
+  pub options : HasOptions (given_by words) server.options
+  pub config : IsConfigOf held (given_by words (codes "config")) (config_data server.config)
+
+-- this server is made out of what is given; or there is none, since its configuration is at fault
+abbrev pub IsServerOf : (List ℕ → Option (List ℕ)) → ServeWords → WantedServer → Type 0
+IsServerOf held given server = (server.options ≡ given.options) × IsConfigOf held (option_map (λ name. name.now) given.config) (config_data server.config)
+
+abbrev pub IsServerFault : (List ℕ → Option (List ℕ)) → (List ℕ → Type 0) → ServeWords → ProgramFault → Type 0
+IsServerFault held closed given fault = IsOfConfig held closed (option_map (λ name. name.now) given.config) fault
 
 -- clap turns these words down, for a reason of this kind
 abbrev pub AreTurnedDown : List Text → ErrorKind → Type 0
 AreTurnedDown words kind = IsAmong kind (refusals words) × (kind ≢ DisplayHelp)
 
--- What is done with these words, before anything of it is told: what they ask for; or nothing, where clap turns them down
--- by a text; or a fault came.
+-- What is done with these words, before anything of it is told: what they ask for; or nothing, where they ask for a server, or
+-- clap turns them down by a text; or a fault came.
 abbrev pub IsAnswer : {O : Type 0} → List Text → (List ℕ → Option (List ℕ)) → (List ℕ → Type 0) → (O → Option (List ℕ)) → O → O → Result Answer ProgramFault → Type 0
-IsAnswer words held closed written output output_after (Ok (Done flushed)) = IsDone words held (written output) (written output_after)
-IsAnswer words held closed written output output_after (Ok (Mistaken mistake)) = AreTurnedDown words (kind_of mistake) × (output_after ≡ output)
+IsAnswer words held closed written output output_after (Ok (answers.Done flushed)) = IsDone words held (written output) (written output_after)
+IsAnswer words held closed written output output_after (Ok (answers.Serve server)) = WantServer words held server × (output_after ≡ output)
+IsAnswer words held closed written output output_after (Ok (answers.Mistaken mistake)) = AreTurnedDown words (kind_of mistake) × (output_after ≡ output)
 IsAnswer words held closed written output output_after (Err fault) = IsFault words held closed (written output) (written output_after) fault
 
 -- What a run of the program with these words leaves, by how it ended. Of one that ended well nothing is on standard error,
@@ -53,3 +76,9 @@ IsRun words held closed written output output_after told errors errors_after (We
 IsRun words held closed written output output_after told errors errors_after (Failed fault line) =
     IsFault words held closed (written output) (written output_after) fault × Took line (told errors) (told errors_after) (fault_line fault)
 IsRun words held closed written output output_after told errors errors_after TurnedDown = (kind : ErrorKind) × AreTurnedDown words kind × (output_after ≡ output)
+
+-- What is left to do once a run of the program with these words returns: to exit, of a run that has ended so; or to run the
+-- server that the words ask for, and then nothing is written.
+abbrev pub IsNext : {O E : Type 0} → List Text → (List ℕ → Option (List ℕ)) → (List ℕ → Type 0) → (O → Option (List ℕ)) → O → O → (E → Option (List ℕ)) → E → E → Next → Type 0
+IsNext words held closed written output output_after told errors errors_after (next.Exit ended) = IsRun words held closed written output output_after told errors errors_after ended
+IsNext words held closed written output output_after told errors errors_after (next.Serve server) = WantServer words held server × (output_after ≡ output) × (errors_after ≡ errors)

@@ -1,16 +1,18 @@
 //! What the host and clap make of a command line. Only this module makes a `WordsRefused`.
 
-ghost use Rattle.std.specs.Prelude.{◌≡◌, false, map, string_bytes, IfOk};
+ghost use Rattle.std.specs.Prelude.{◌≡◌, map, string_bytes, IfOk};
 ghost use Rattle.clap.specs.Words.{app_of};
-ghost use Rattle.clap.specs.declared.builder.command.Command.TheViews.{out-Command as fields_of};
 ghost use Rattle.program.specs.Asking.{IsReading};
-ghost use Rattle.program.specs.CommandLine.{command_line, script_line};
+ghost use Rattle.program.specs.CommandLine.{IsArgument, IsCommand, command_line, flag_rule, option_rule, script_line, serve_line};
 
 use crate::help_texts::{
-    ABOUT, EXAMPLES, LONG_ABOUT, SCRIPT_ABOUT, SCRIPT_EXAMPLES, SCRIPT_LONG_ABOUT,
+    ABOUT, CONFIG_HELP, CONNECTIONS_HELP, EXAMPLES, IDLE_HELP, LONG_ABOUT, SCRIPT_ABOUT,
+    SCRIPT_EXAMPLES, SCRIPT_FILE_HELP, SCRIPT_LONG_ABOUT, SERVE_ABOUT, SERVE_EXAMPLES,
+    SERVE_LONG_ABOUT, SOCKET_HELP, TAKEOVER_HELP, UNTIL_STDIN_ENDS_HELP, WORKERS_HELP,
 };
+use crate::options::{CONNECTION_LIMIT, IDLE_LIMIT, WORKER_LIMIT};
 use clap::error::ErrorKind;
-use clap::{Arg, ArgMatches, Command, Error};
+use clap::{Arg, ArgAction, ArgMatches, Command, Error, value_parser};
 use std::alloc::{AllocError, Global};
 use std::{env, io};
 
@@ -53,24 +55,65 @@ pub fn host_words(rt: &HostRuntime) -> Result<Vec<String>, WordsFault> {
     }
 }
 
+/// An option of one value, `--NAME VALUE`.
+fn option_argument<'a>(alloc: Global, name: &'a str, value_name: &'a str, help: &'a str) -> Arg<'a>
+    ensures { IsArgument (option_rule name.entry.now) result }
+{
+    Arg::new(alloc, name)
+        .long(name)
+        .value_name(value_name)
+        .help(help)
+}
+
+/// A flag, `--NAME`.
+fn flag_argument<'a>(alloc: Global, name: &'a str, help: &'a str) -> Arg<'a>
+    ensures { IsArgument (flag_rule name.entry.now) result }
+{
+    Arg::new(alloc, name)
+        .long(name)
+        .action(ArgAction::SetTrue)
+        .help(help)
+}
+
 /// The subcommand that runs a script.
 fn script_command<'a>(alloc: Global) -> Result<Command<'a>, AllocError>
-    ensures app { IfOk result (λ command. app_of command ≡ script_line) }
-    ensures local { IfOk result (λ command. (fields_of command).has_globals ≡ false) }
+    ensures { IfOk result (IsCommand script_line) }
 {
-    let config = Arg::new(alloc, "config")
-        .long("config")
-        .value_name("FILE")
-        .help("The subjects and the first policies, as JSON");
     let file = Arg::new(alloc, "FILE")
-        .help("The script: lines `label: command`")
+        .help(SCRIPT_FILE_HELP)
         .required(true);
     Command::new(alloc, "script")
         .about(SCRIPT_ABOUT)
         .long_about(SCRIPT_LONG_ABOUT)
         .after_long_help(SCRIPT_EXAMPLES)
-        .arg(config)?
+        .arg(option_argument(alloc, "config", "FILE", CONFIG_HELP))?
         .arg(file)
+}
+
+/// The subcommand that serves a socket.
+fn serve_command<'a>(alloc: Global) -> Result<Command<'a>, AllocError>
+    ensures { IfOk result (IsCommand serve_line) }
+{
+    let socket = option_argument(alloc, "socket", "PATH", SOCKET_HELP).required(true);
+    let connection_range = value_parser!(u16).range(1..=i64::from(CONNECTION_LIMIT));
+    let worker_range = value_parser!(u8).range(1..=i64::from(WORKER_LIMIT));
+    let idle_range = value_parser!(u32).range(1..=i64::from(IDLE_LIMIT));
+    let connections = option_argument(alloc, "connections", "N", CONNECTIONS_HELP)
+        .required(true)
+        .value_parser(connection_range);
+    let workers = option_argument(alloc, "workers", "N", WORKERS_HELP).value_parser(worker_range);
+    let idle = option_argument(alloc, "idle", "SECONDS", IDLE_HELP).value_parser(idle_range);
+    Command::new(alloc, "serve")
+        .about(SERVE_ABOUT)
+        .long_about(SERVE_LONG_ABOUT)
+        .after_long_help(SERVE_EXAMPLES)
+        .arg(socket)?
+        .arg(option_argument(alloc, "config", "FILE", CONFIG_HELP))?
+        .arg(connections)?
+        .arg(workers)?
+        .arg(idle)?
+        .arg(flag_argument(alloc, "takeover", TAKEOVER_HELP))?
+        .arg(flag_argument(alloc, "until-stdin-ends", UNTIL_STDIN_ENDS_HELP))
 }
 
 /// The command line.
@@ -83,7 +126,8 @@ fn command<'a>(alloc: Global) -> Result<Command<'a>, AllocError>
         .after_long_help(EXAMPLES)
         .subcommand_required(true)
         .arg_required_else_help(true)
-        .subcommand(script_command(alloc)?)
+        .subcommand(script_command(alloc)?)?
+        .subcommand(serve_command(alloc)?)
 }
 
 /// How clap reads the words of a command line.

@@ -1,10 +1,13 @@
-//! How a run of the program ends, and the exit status by which it tells so.
+//! How a run of the program ends, and the exit status by which it tells so; or that a server is to be run.
 
 ghost use Rattle.std.specs.Prelude.{◌≡◌};
 ghost use Rattle.program.specs.Ends.{exit_status};
 
+use crate::configs::Config;
 use crate::faults::ProgramFault;
+use crate::options::ServerOptions;
 use byte_streams::{Flushed, WriteFailed};
+use std::alloc::Global;
 
 /// How a run of the program ended.
 #[derive(Debug, Drop)]
@@ -28,4 +31,22 @@ impl Ended<'_> {
             Ended::TurnedDown => 2,
         }
     }
+}
+
+/// A server that the command line asks for.
+#[derive(Debug, Drop)]
+pub struct WantedServer<'a> {
+    /// Where it listens, and how it serves.
+    pub options: ServerOptions<'a>,
+    /// What it is opened with.
+    pub config: Config<Global>,
+}
+
+/// What is left to do once `run_program` returns.
+#[derive(Debug, Drop)]
+pub enum Next<'a> {
+    /// To exit: the run has ended.
+    Exit(Ended<'a>),
+    /// To serve: nothing is bound yet.
+    Serve(WantedServer<'a>),
 }

@@ -17,6 +17,8 @@ pub enum ProgramFault<'a> {
     /// The file of this name cannot be opened, or is a folder; or that of a configuration cannot be read, or is longer
     /// than 16,777,216 bytes.
     CannotRead(&'a str, ReadFault),
+    /// A server's socket cannot be bound at this path.
+    CannotBind(&'a str),
     /// What the program has to say cannot be written.
     CannotWrite(WriteFailed),
     /// There is no memory for the command line. It is shown as V4.
@@ -29,31 +31,35 @@ pub enum ProgramFault<'a> {
     World(Fault),
     /// The run ended by a fault of its own.
     Run(ServeFault),
+    /// The server ended by a fault of its own, which has this code.
+    Server(&'static str),
 }
 
 impl ProgramFault<'_> {
     ghost use Rattle.program.specs.Ends.{fault_name, fault_word};
 
-    /// What is told of the fault: the code of one that has a code. Behind it stands the name of the file, if there is one.
+    /// What is told of the fault: the code of one that has a code. Behind it stands the name of a file, if there is one.
     pub fn word(&self) -> &'static str
         ensures { result.now ≡ fault_word self.now }
     {
         match self {
             ProgramFault::CannotRead(..) => "cannot read ",
+            ProgramFault::CannotBind(_) => "cannot bind ",
             ProgramFault::CannotWrite(_) => "cannot write",
             ProgramFault::Words(_) | ProgramFault::Memory(_) => "V4",
             ProgramFault::Config(fault) => fault.code(),
             ProgramFault::World(fault) => fault.code(),
             ProgramFault::Run(fault) => fault.code(),
+            ProgramFault::Server(code) => code,
         }
     }
 
-    /// The name of the file that cannot be read. Other faults have none.
+    /// The name of the file that cannot be read, or the path at which a socket cannot be bound. Other faults have none.
     pub fn name(&self) -> &str
         ensures { result.now ≡ fault_name self.now }
     {
         match self {
-            ProgramFault::CannotRead(name, _) => name,
+            ProgramFault::CannotRead(name, _) | ProgramFault::CannotBind(name) => name,
             _ => "",
         }
     }

@@ -9,14 +9,15 @@ and change them by lists; policies rule what each office may read and change.";
 pub(crate) const EXAMPLES: &str = "Examples:
   landmap script day.map
   landmap script --config agency.json day.map
+  landmap serve --socket map.sock --connections 100
 
 `landmap script --help` has the lines of a script, and the codes by which a run
-ends.
+ends; `landmap serve --help` has the options of a server, and its codes.
 
 Exit status:
   0  what was asked is done
-  1  a file cannot be read, the configuration is faulty, or the run broke off;
-     one line on standard error says which
+  1  a file cannot be read, the configuration is faulty, the socket cannot be
+     bound, or the run broke off; one line on standard error says which
   2  the command line is wrong";
 
 pub(crate) const SCRIPT_ABOUT: &str = "Runs the session lines of a file, and writes the replies";
@@ -80,5 +81,92 @@ Exit status:
        B5        there was no memory for the configuration
        X12       there was no memory for the world
        V4        there was no memory for the buffers or the command line
+
+  2  the command line is wrong"#;
+
+pub(crate) const SCRIPT_FILE_HELP: &str = "The script: lines `label: command`";
+
+pub(crate) const CONFIG_HELP: &str = "The subjects and the first policies, as JSON";
+
+pub(crate) const SERVE_ABOUT: &str = "Serves sessions over a Unix socket";
+
+pub(crate) const SERVE_LONG_ABOUT: &str = "Serves sessions over a Unix socket.
+
+The socket is bound at PATH, and `listening PATH` is printed. A client that
+connects has a session: it sends a script's lines without their labels, but for
+OPEN, STEP and FINISH. So many clients are served at a time as there are
+workers; others wait. All work on one world, opened by the configuration as for
+a script.
+
+After N connections nobody more is accepted. Once the last session has ended,
+the socket's file is removed and `closed R records` is printed, R being the
+number of records in the audit trail. Nothing is stored: then, or when the
+process is killed, features, policies and records are gone.
+
+With --idle, a client that neither sends nor reads for so many seconds is left,
+and its worker serves another. Without it a silent client keeps its worker.
+
+--takeover removes a socket's file at PATH that nobody listens on, as a server
+that was killed leaves one. Whatever else is there stays, and the socket cannot
+be bound. To find out whether somebody listens it connects, which uses up one
+connection of a server that does.
+
+With --until-stdin-ends the end of standard input, too, ends the accepting.
+Sessions that have begun go on to their end.
+
+A client is whoever its HELLO says. Who may connect is up to the rights of the
+socket's folder.
+
+docs/SESSIONS.md tells what each reply and each `error CODE` means.";
+
+pub(crate) const SOCKET_HELP: &str = "Where the Unix socket is bound";
+
+pub(crate) const CONNECTIONS_HELP: &str = "How many connections are served, 1 to 1024";
+
+pub(crate) const WORKERS_HELP: &str = "How many of them at a time, 1 to 64 [default: 4]";
+
+pub(crate) const IDLE_HELP: &str = "How long a client may be idle, 1 to 86400";
+
+pub(crate) const TAKEOVER_HELP: &str = "Takes over a socket that nobody listens on";
+
+pub(crate) const UNTIL_STDIN_ENDS_HELP: &str = "Accepts nobody once standard input ends";
+
+pub(crate) const SERVE_EXAMPLES: &str = r#"Examples:
+  `landmap serve --socket map.sock --connections 100` writes
+
+    listening map.sock
+
+  and serves a hundred sessions, four at a time. For example, the lines
+
+    HELLO north
+    SEARCH POINT (3 4)
+    BYE
+
+  that a client sends to map.sock are answered
+
+    hello north
+    rows 0
+    bye
+
+  landmap serve --socket map.sock --connections 1024 --config agency.json
+    has the subjects and the policies of the file agency.json
+
+  landmap serve --socket map.sock --connections 1024 --workers 16 --idle 60
+    serves sixteen clients at a time, and leaves one that is idle for a minute
+
+Exit status:
+  0  all sessions have ended, and their records are those of the trail
+  1  one line on standard error says why: `landmap: cannot read FILE`,
+     `landmap: cannot bind PATH`, `landmap: cannot write`, or `landmap: CODE`,
+     where CODE is
+
+       B1, B2, N1 to N3, D2 to D8
+                 the configuration is at fault: `landmap script --help` has how
+       B5        there was no memory for the configuration
+       X12       there was no memory for the world
+       H6        there was no memory to serve it
+       V4        there was no memory for the buffers or the command line
+       C1        a session was told of another record than the trail has
+       C2        a session did not give back its seat
 
   2  the command line is wrong"#;

@@ -4,6 +4,7 @@ ghost use Rattle.std.specs.Prelude.{◌≡◌, ℕ, List, Ok};
 ghost use Rattle.program.specs.Configs.{ConfigData, config_of};
 ghost use Rattle.program.specs.Spelling.{Spells};
 ghost use Rattle.program.specs.declared.files.TheConstants.{CONFIG_LIMIT};
+ghost use Rattle.program.specs.declared.options.TheConstants.{CONNECTION_LIMIT, DEFAULT_WORKERS, IDLE_LIMIT, WORKER_LIMIT};
 ghost use Rattle.features.specs.declared.actors.TheConstants.{SUBJECT_LIMIT};
 ghost use Rattle.features.specs.declared.tables.TheConstants.{FEATURE_LIMIT};
 ghost use Rattle.audit_trail.specs.declared.trails.TheConstants.{RECORD_LIMIT};
@@ -21,11 +22,16 @@ pub fn configurations_are_one()
 {}
 
 /// The limits that the definitions name, in numbers: bytes of a configuration's file, its subjects, and, of the world that it
-/// opens, features, records of the trail, and steps of a search or of the walk for one change.
+/// opens, features, records of the trail, and steps of a search or of the walk for one change; and of a server its
+/// connections, its workers, the workers that it has where no number is given, and the seconds of `--idle`.
 pub fn limits_in_numbers()
     ensures file { CONFIG_LIMIT ≡ 16777216 }
     ensures subjects { SUBJECT_LIMIT ≡ 64 }
     ensures features { FEATURE_LIMIT ≡ 100000 }
     ensures records { RECORD_LIMIT ≡ 1048576 }
     ensures steps { STEP_LIMIT ≡ 1000000 }
+    ensures connections { CONNECTION_LIMIT ≡ 1024 }
+    ensures workers { WORKER_LIMIT ≡ 64 }
+    ensures default_workers { DEFAULT_WORKERS ≡ 4 }
+    ensures idle { IDLE_LIMIT ≡ 86400 }
 {}

@@ -4,17 +4,17 @@ ghost use Rattle.std.specs.Prelude.{◌≡◌, ◌↔◌, ℕ, List, Option, Som
 ghost use Rattle.clap.specs.Words.{kind_of};
 ghost use Rattle.program.specs.Configs.{config_data};
 ghost use Rattle.program.specs.Ends.{IsUnwritten};
-ghost use Rattle.program.specs.Programs.{IsAnswer, IsRun};
+ghost use Rattle.program.specs.Programs.{IsAnswer, IsNext, IsServerFault, IsServerOf};
 ghost use Rattle.program.specs.RunFaults.{BrokeOff, IsOfConfig, IsOfRun};
 ghost use Rattle.program.specs.Runs.{IsConfigOf, RanScript, Served};
 
 use crate::built_in::built_in_config;
 use crate::configs::Config;
-use crate::ends::Ended;
+use crate::ends::{Ended, Next, WantedServer};
 use crate::faults::ProgramFault;
 use crate::files::{FileFault, ReadFault, read_config_file};
 use crate::telling::tell;
-use crate::words::{Asked, ScriptWords, read_words};
+use crate::words::{Asked, ScriptWords, ServeWords, read_words};
 use byte_streams::{Flushed, NotOpened, flush, write_shown};
 use clap::Error;
 use clap::error::ErrorKind;
@@ -146,27 +146,52 @@ fn show_help<'a, W: Write>(help: &Error, output: &mut W) -> Result<Flushed, Prog
 
 /// What came of the words of a command line, where no fault did.
 #[derive(Drop)]
-enum Answer {
+enum Answer<'a> {
     /// What they ask for is done, and all of it has left by a flush.
     Done(Flushed),
+    /// They ask for this server.
+    Serve(WantedServer<'a>),
     /// clap turned them down, by this text.
     Mistaken(Error),
 }
 
-/// Does what the words of the command line ask for. Where clap turns them down nothing is done, and the answer is clap's
-/// text that says why. Faults: `Words` where there is no memory for the command line, `CannotWrite` where help cannot be
-/// written, and those of `run_named`.
+/// The server that the command line asks for. The faults are those of its configuration.
+fn wanted_server<'a, F: Folder>(
+    heap: Global,
+    words: ServeWords<'a>,
+    folder: &F,
+) -> Result<WantedServer<'a>, ProgramFault<'a>>
+    ensures ok { IfOk result (IsServerOf (F.holds folder.now) words.entry) }
+    ensures err { IfErr result (IsServerFault (F.holds folder.now) (F.closed folder.now) words.entry) }
+{
+    match asked_config(heap, words.config, folder) {
+        Ok(config) => Ok(WantedServer {
+            options: words.options,
+            config,
+        }),
+        Err(fault) => Err(fault),
+    }
+}
+
+/// Does what the words of the command line ask for, but for a server, which is only made out. Where clap turns them down
+/// nothing is done, and the answer is clap's text that says why. Faults: `Words` where there is no memory for the command
+/// line, `CannotWrite` where help cannot be written, those of `run_named`, and those of a server's configuration.
 fn run_asked<'a, F: Folder, O: Write>(
     alloc: Global,
     words: &'a [String],
     folder: &F,
     output: &mut O,
-) -> Result<Answer, ProgramFault<'a>>
-    ensures { IsAnswer (map (λ word. string_bytes word) words.entry.now) (F.holds folder.now) (F.closed folder.now) O.contents output.old output.new result }
+) -> Result<Answer<'a>, ProgramFault<'a>>
+    ensures { IsAnswer (map (λ word. string_bytes word) words.entry.now) (F.holds folder.now)
+        (F.closed folder.now) O.contents output.old output.new result }
 {
     match read_words(alloc, words) {
         Ok(Asked::Script(files)) => match run_named(alloc, files, folder, output) {
             Ok(flushed) => Ok(Answer::Done(flushed)),
+            Err(fault) => Err(fault),
+        },
+        Ok(Asked::Serve(given)) => match wanted_server(alloc, given, folder) {
+            Ok(server) => Ok(Answer::Serve(server)),
             Err(fault) => Err(fault),
         },
         Ok(Asked::Text(help)) if is_help(&help) => match show_help(&help, output) {
@@ -178,27 +203,30 @@ fn run_asked<'a, F: Folder, O: Write>(
     }
 }
 
-/// Runs the program with these words, of which the first is its name, and answers how it ended. Where that is by a fault,
-/// one line on `errors` tells of it, or the line's front where a write there failed; where clap turns the words down, it
-/// says there why. A fault of `errors` changes nothing of how the run ended.
+/// Runs the program with these words, of which the first is its name, and answers what is left to do: to exit, or to run a
+/// server. Where the run has ended by a fault, one line on `errors` tells of it, or the line's front where a write there
+/// failed; where clap turns the words down, it says there why. A fault of `errors` changes nothing of how the run ended.
+/// Of a server the configuration is read, and nothing else is done.
 pub fn run_program<'a, F: Folder, O: Write, E: Write>(
     alloc: Global,
     words: &'a [String],
     folder: &F,
     output: &mut O,
     errors: &mut E,
-) -> Ended<'a>
-    ensures { IsRun (map (λ word. string_bytes word) words.entry.now) (F.holds folder.now) (F.closed folder.now) O.contents output.old output.new E.contents errors.old errors.new result }
+) -> Next<'a>
+    ensures { IsNext (map (λ word. string_bytes word) words.entry.now) (F.holds folder.now)
+        (F.closed folder.now) O.contents output.old output.new E.contents errors.old errors.new result }
 {
     match run_asked(alloc, words, folder, output) {
-        Ok(Answer::Done(flushed)) => Ended::Well(flushed),
+        Ok(Answer::Done(flushed)) => Next::Exit(Ended::Well(flushed)),
+        Ok(Answer::Serve(server)) => Next::Serve(server),
         Ok(Answer::Mistaken(mistake)) => {
             let _ = write_shown(&mistake, errors);
-            Ended::TurnedDown
+            Next::Exit(Ended::TurnedDown)
         }
         Err(fault) => {
             let line = tell(&fault, errors);
-            Ended::Failed(fault, line)
+            Next::Exit(Ended::Failed(fault, line))
         }
     }
 }

@@ -1,7 +1,11 @@
-//! Tests of configurations, and of the program's runs.
+//! Tests of configurations, of the program's runs, and of how a server is asked for.
 #![tactic(auto)]
 
 #[cfg(test)]
 mod config_tests;
 #[cfg(test)]
 mod run_tests;
+#[cfg(test)]
+mod running;
+#[cfg(test)]
+mod serve_tests;

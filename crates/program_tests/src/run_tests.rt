@@ -1,9 +1,12 @@
 //! The program's exit statuses, and what it writes.
-use byte_streams::{NotOpened, open_file};
-use failing_streams::{CountingReader, FailingReader, FailingWriter, Failure, LongReader};
+use crate::running::{
+    AS_BUILT_IN, BY_INES, FIRST_POINT, Text, Two, check, shows, status_of, words,
+};
+use byte_streams::NotOpened;
+use failing_streams::{CountingReader, FailingWriter, Failure, LongReader};
 use program::{
-    CONFIG_LIMIT, ConfigFault, Ended, Folder, ProgramFault, built_in_config, run_file, run_program,
-    tell,
+    CONFIG_LIMIT, ConfigFault, Ended, Folder, Next, ProgramFault, built_in_config, run_file,
+    run_program, tell,
 };
 use refusing::Refusing;
 use std::alloc::{AllocError, Global};
@@ -11,78 +14,9 @@ use std::io::Read;
 use std::process::Abort;
 use std::test::Fail;
 
-/// The worked script of a point that is added and found again.
-const FIRST_POINT: &str =
-    "n: HELLO north\nn: ADD 1 mast POINT (3 4)\nn: COMMIT\nn: SEARCH point(3 4)\nn: SEARCH POINT (3 5)\n";
-
 /// Its replies.
 const FIRST_REPLIES: &str =
     "n: hello north\nn: staged\nn: applied 1\nn: rows 1\nn: 1 1 north mast POINT (3 4)\nn: rows 0\n";
-
-/// What the host tells of a file that is not there.
-fn absent<'a>(host: &HostRuntime) -> Result<FailingReader<'a>, NotOpened> {
-    open_file(host, "no/such/file")?;
-    Ok(FailingReader {
-        bytes: b"",
-        fails_at: 0,
-    })
-}
-
-/// A folder with one file, `a.map`, which reads this.
-#[derive(Drop)]
-struct Text<'a> {
-    host: &'a HostRuntime,
-    bytes: &'a [u8],
-    fails_at: u64,
-}
-
-impl<'a> Folder for Text<'a> {
-    ghost use Rattle.std.specs.Prelude.{None};
-
-    type File = FailingReader<'a>;
-
-    ghost holds = { λ folder name. None };
-
-    ghost closed = { λ folder name. Unit {0} };
-
-    fn open_file(&self, name: &str) -> Result<FailingReader<'a>, NotOpened> {
-        if name != "a.map" {
-            return absent(self.host);
-        }
-        Ok(FailingReader {
-            bytes: self.bytes,
-            fails_at: self.fails_at,
-        })
-    }
-}
-
-/// A folder with two files, `a.json` and `a.map`. One read of the latter fails, counted from 1, or none at 0.
-#[derive(Drop)]
-struct Two<'a> {
-    host: &'a HostRuntime,
-    config: &'a [u8],
-    script: &'a [u8],
-    fails_at: u64,
-}
-
-impl<'a> Folder for Two<'a> {
-    ghost use Rattle.std.specs.Prelude.{None};
-
-    type File = FailingReader<'a>;
-
-    ghost holds = { λ folder name. None };
-
-    ghost closed = { λ folder name. Unit {0} };
-
-    fn open_file(&self, name: &str) -> Result<FailingReader<'a>, NotOpened> {
-        let (bytes, fails_at) = match name {
-            "a.json" => (self.config, 0),
-            "a.map" => (self.script, self.fails_at),
-            _ => return absent(self.host),
-        };
-        Ok(FailingReader { bytes, fails_at })
-    }
-}
 
 /// A folder in which each file never ends.
 #[derive(Drop)]
@@ -106,16 +40,6 @@ impl Folder for Endless {
     }
 }
 
-/// The words of a command line, with the program's name before them.
-fn words(alloc: Global, texts: &[&str]) -> Result<Vec<String>, AllocError> {
-    let mut words = Vec::new(alloc);
-    words.push(String::from_str(alloc, "landmap")?)?;
-    for text in texts {
-        words.push(String::from_str(alloc, text)?)?;
-    }
-    Ok(words)
-}
-
 /// A writer that fails so.
 fn writer(alloc: Global, fails_at: u64, with: Failure) -> FailingWriter {
     FailingWriter {
@@ -124,25 +48,6 @@ fn writer(alloc: Global, fails_at: u64, with: Failure) -> FailingWriter {
         fails_at,
         with,
     }
-}
-
-/// The program, run with these words over this folder, ends with this status, and writes this to both writers.
-fn check<F: Folder>(
-    rt: &impl Abort,
-    alloc: Global,
-    texts: &[&str],
-    folder: &F,
-    status: u8,
-    written: (&str, &str),
-) -> Result<(), AllocError> {
-    let words = words(alloc, texts)?;
-    let mut output = Vec::new(alloc);
-    let mut errors = Vec::new(alloc);
-    let ended = run_program(alloc, words.as_slice(), folder, &mut output, &mut errors);
-    assert_eq!(rt; ended.status(), status);
-    assert_eq!(rt; output.as_slice(), written.0.as_bytes());
-    assert_eq!(rt; errors.as_slice(), written.1.as_bytes());
-    Ok(())
 }
 
 #[test]
@@ -186,13 +91,6 @@ fn a_script_is_run(rt: HostRuntime) -> Result<(), Fail> {
 
 /// A script of one session of `ines`, who is there by the configuration alone.
 const OF_INES: &str = "n: HELLO north\ni: HELLO ines\ni: EXPLAIN read north mast POINT (3 4)\n";
-
-const BY_INES: &str =
-    r#"{"subjects":[{"name":"ines","office":"north","role":"editor"}],"policies":{"root":{"combine":"first-applicable","policy":"start","rules":[]}}}"#;
-
-/// The configuration of a run that names none.
-const AS_BUILT_IN: &str =
-    r#"{"subjects":[{"name":"north","office":"north","role":"editor"},{"name":"south","office":"south","role":"viewer"},{"name":"chief","office":"hq","role":"chief","steward":true}],"policies":{"root":{"combine":"first-applicable","policy":"start","rules":[{"effect":"permit","rule":"open"}]}}}"#;
 
 /// This script by this configuration is answered so.
 fn configured(
@@ -564,6 +462,14 @@ fn buffer_without_memory(rt: &impl Abort, alloc: Global) {
     is_told(rt, alloc, &ProgramFault::Memory(refused), "landmap: V4\n");
 }
 
+#[test]
+fn faults_of_a_server(rt: HostRuntime) {
+    let alloc = rt.alloc();
+    let bind = ProgramFault::CannotBind("m.sock");
+    is_told(&rt, alloc, &bind, "landmap: cannot bind m.sock\n");
+    is_told(&rt, alloc, &ProgramFault::Server("C1"), "landmap: C1\n");
+}
+
 /// This fault is told by this line.
 fn is_told(rt: &impl Abort, alloc: Global, fault: &ProgramFault<'_>, line: &str) {
     let mut errors = Vec::new(alloc);
@@ -590,8 +496,8 @@ fn with_output(
     let words = words(alloc, texts)?;
     let mut output = writer(alloc, 1, with);
     let mut errors = Vec::new(alloc);
-    let ended = run_program(alloc, words.as_slice(), &folder, &mut output, &mut errors);
-    assert_eq!(rt; ended.status(), 1);
+    let next = run_program(alloc, words.as_slice(), &folder, &mut output, &mut errors);
+    assert_eq!(rt; status_of(rt, &next), 1);
     assert_eq!(rt; errors.as_slice(), b"landmap: cannot write\n".as_slice());
     let taken = output.taken.as_slice();
     assert!(rt; taken.starts_with(begins.as_bytes()));
@@ -642,9 +548,9 @@ fn with_errors(
     let words = words(alloc, texts)?;
     let mut output = Vec::new(alloc);
     let mut errors = writer(alloc, 1, Failure::Error);
-    let ended = run_program(alloc, words.as_slice(), &folder, &mut output, &mut errors);
-    assert_eq!(rt; ended.status(), status);
-    if let Ended::Failed(_, told) = &ended {
+    let next = run_program(alloc, words.as_slice(), &folder, &mut output, &mut errors);
+    assert_eq!(rt; status_of(rt, &next), status);
+    if let Next::Exit(Ended::Failed(_, told)) = &next {
         assert!(rt; told.is_err());
     }
     assert_eq!(rt; errors.taken.len(), 0);
@@ -659,50 +565,6 @@ fn standard_error_fails(rt: HostRuntime) -> Result<(), Fail> {
     Ok(())
 }
 
-/// The words are shown a text of clap's, which begins so, and has these parts, on the output or on standard error.
-fn shows(
-    rt: &impl Abort,
-    host: &HostRuntime,
-    texts: &[&str],
-    status: u8,
-    begins: &str,
-    parts: &[&str],
-) -> Result<(), AllocError> {
-    let alloc = host.alloc();
-    let folder = Text {
-        host,
-        bytes: FIRST_POINT.as_bytes(),
-        fails_at: 0,
-    };
-    let words = words(alloc, texts)?;
-    let mut output = Vec::new(alloc);
-    let mut errors = Vec::new(alloc);
-    let ended = run_program(alloc, words.as_slice(), &folder, &mut output, &mut errors);
-    assert_eq!(rt; ended.status(), status);
-    let (shown, other) = if status == 0 {
-        (&output, &errors)
-    } else {
-        (&errors, &output)
-    };
-    assert!(rt; shown.starts_with(begins.as_bytes()), "{begins}");
-    assert_eq!(rt; other.len(), 0);
-    has_parts(rt, shown.as_slice(), parts);
-    Ok(())
-}
-
-/// A text has each of these parts, and no line of more than 80 columns.
-fn has_parts(rt: &impl Abort, text: &[u8], parts: &[&str]) {
-    let read = str::from_utf8(text);
-    assert!(rt; read.is_ok());
-    let text = read.unwrap();
-    for part in parts {
-        assert!(rt; text.contains(*part), "{part}");
-    }
-    for line in text.lines() {
-        assert!(rt; line.len() <= 80, "{line}");
-    }
-}
-
 #[test]
 fn help_of_the_program(rt: HostRuntime) -> Result<(), Fail> {
     shows(
@@ -714,9 +576,10 @@ fn help_of_the_program(rt: HostRuntime) -> Result<(), Fail> {
         &[
             "\n  landmap script day.map\n",
             "\n  landmap script --config agency.json day.map\n",
-            "\n`landmap script --help` has the lines of a script, and the codes by which a run\nends.\n",
+            "\n  landmap serve --socket map.sock --connections 100\n",
+            "\n`landmap script --help` has the lines of a script, and the codes by which a run\nends; `landmap serve --help` has the options of a server, and its codes.\n",
             "\nExit status:\n  0  ",
-            "\n  1  a file cannot be read, the configuration is faulty, or the run broke off;\n     one line on standard error says which\n",
+            "\n  1  a file cannot be read, the configuration is faulty, the socket cannot be\n     bound, or the run broke off; one line on standard error says which\n",
             "\n  2  the command line is wrong",
         ],
     )?;
