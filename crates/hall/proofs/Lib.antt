@@ -1,0 +1,4 @@
+pub mod Gathering
+pub mod Governed
+pub mod Lasts
+pub mod Seating

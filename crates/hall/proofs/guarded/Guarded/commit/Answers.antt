@@ -1,0 +1,10 @@
+use Rattle.hall.proofs.Lasts.{pushed_last}
+use Rattle.hall.proofs.Seating.{one_subject}
+use Rattle.hall.proofs.guarded.Guarded.commit.Goals as goal
+
+pub returns-clause-receipt : goal.returns-clause-receipt
+returns-clause-receipt g c =
+    let done = c.in_ok-outcome.ensures.ok in
+    let own = one_subject c.args.seat c.args.self.now.chronicle.seats done.subject c.args.subject.now done.seated c.in_ok-is_seat_of.ensures in
+    let last = rw done.told at c.receipt.ensures.last in
+    rw (← own) (pushed_last c.args.self.now.chronicle.records _ _ last)

@@ -1,0 +1,35 @@
+-- What a call of a seat answers, and the receipt that it adds.
+use Rattle.std.specs.Prelude.{◌≡◌, ◌+◌, ℕ, List}
+use Rattle.plane.specs.declared.point.Point.{Point}
+use Rattle.features.specs.declared.actors.Subject.{Subject}
+use Rattle.features.specs.declared.rows.Change.{Change}
+use Rattle.policy_documents.specs.Documents.{DocumentData}
+use Rattle.decision.specs.Deciders.{DeciderData}
+use Rattle.audit_trail.specs.Records.{RecordData, governed}
+use Rattle.plain_world.specs.Answers.{AnswerData}
+use Rattle.plain_world.specs.Laws.{deed_of}
+use Rattle.plain_world.specs.declared.outcomes.Outcome.{Outcome}
+use Rattle.chronicle.specs.Chronicles.{ChronicleData}
+use Rattle.chronicle.specs.Noting.{told_answer}
+use Rattle.hall.specs.Seats.{SeatData, receipted}
+
+-- the seat's subject was answered for this window, and the receipt tells just that: the window, and the ids and versions of the rows
+pub record IsSearched (asked : List Point) (answer : AnswerData) (old new : SeatData) : Type 0 where
+  pub subject : answer.subject ≡ old.subject
+  pub window : answer.window ≡ asked
+  pub receipt : new ≡ receipted (told_answer answer) old
+
+-- the seat's subject committed these changes with this outcome, and the receipt tells just that
+pub record IsCommitted (changes : List Change) (outcome : Outcome) (old new : SeatData) : Type 0 where
+  pub receipt : new ≡ receipted (deed_of old.subject changes outcome) old
+
+-- the seat's subject put this document in force as this edition, and the receipt tells just that
+abbrev pub IsGoverned : DocumentData → ℕ → SeatData → SeatData → Type 0
+IsGoverned document edition old new =
+    let decider : DeciderData = record { document = document; edition = edition } in
+    new ≡ receipted (governed edition decider) old
+
+-- the decider of a document that is to be in force next
+pub record IsNext (asked : DocumentData) (c : ChronicleData) (decider : DeciderData) : Type 0 where
+  pub document : decider.document ≡ asked
+  pub edition : decider.edition ≡ c.decider.edition + 1

@@ -1,0 +1,4 @@
+pub mod FaultCodes
+pub mod Seats
+pub mod Calls
+pub mod Closing

@@ -1,0 +1,105 @@
+//! The end of a hall.
+
+ghost use Rattle.std.specs.Prelude.{◌≡◌, ◌+◌, false, IfOk, IfErr, IfNone, IfSome, length, All};
+ghost use Rattle.hall.specs.Closing.{IsCause};
+ghost use Rattle.hall.specs.Seats.{IsKeptBy, receipts_of};
+
+use crate::faults::CloseFault;
+use crate::guarded::Guarded;
+use crate::seats::Seat;
+use chronicle::Chronicle;
+use std::alloc::Allocator;
+use std::sync::ledger::{Ledger, Share};
+
+/// What a hall was, once it is closed.
+#[derive(Clone, Copy, Debug, PartialEq, Eq)]
+pub struct Closed {
+    /// How many records there are, those that were rolled out too.
+    pub records: u64,
+    /// How many seats were given.
+    pub seats: usize,
+}
+
+/// The first of the seats whose receipts are not what the records tell of it.
+fn mismatch<'h, L: Ledger, A: Allocator>(
+    chronicle: &Chronicle<A>,
+    seats: &Vec<Seat<'h, L, A>, A>,
+) -> Option<CloseFault>
+    ensures same { IfNone result (All (IsKeptBy chronicle.now.records) seats.now.items) }
+    ensures differ { IfSome result (IsCause chronicle.now false seats.now.items) }
+{
+    for seat in seats {
+        match chronicle.differs(seat.number, seat.receipts.as_slice()) {
+            Some(place) => return Some(CloseFault::Mismatch(seat.number, place)),
+            None => {}
+        }
+    }
+    None
+}
+
+/// Takes in the share of a seat.
+fn take_in<'h, L: Ledger, A: Allocator>(spare: &mut Share<L>, seat: Seat<'h, L, A>)
+    ensures parts { spare.new.parts ≡ spare.old.parts + 1 }
+    ensures amount { spare.new.amount ≡ spare.old.amount + length seat.entry.receipts }
+{
+    let Seat {
+        hall: _,
+        number: _,
+        subject: _,
+        share,
+        receipts: _receipts,
+    } = seat;
+    spare.merge(share);
+}
+
+/// Takes in the shares of these seats.
+fn gather<'h, L: Ledger, A: Allocator>(spare: &mut Share<L>, seats: Vec<Seat<'h, L, A>, A>)
+    ensures parts { spare.new.parts ≡ spare.old.parts + length seats.entry.items }
+    ensures amount { spare.new.amount ≡ spare.old.amount + receipts_of seats.entry.items }
+{
+    let mut left = seats;
+    while let Some(seat) = left.pop() {
+        take_in(spare, seat);
+    }
+}
+
+/// Closes what the lock guards: takes the seats in, where all that were given are here, and each has as its receipts what the
+/// records tell of it.
+pub(crate) fn settle<'h, L: Ledger, A: Allocator>(
+    guarded: &mut Guarded<L, A>,
+    seats: Vec<Seat<'h, L, A>, A>,
+) -> Result<Closed, (CloseFault, Vec<Seat<'h, L, A>, A>)>
+    requires { L.parts ≡ 1025 }
+    ensures same { guarded.new.chronicle ≡ guarded.old.chronicle }
+    ensures kept { IfOk result (λ _. All (IsKeptBy guarded.old.chronicle.records) seats.entry.items) }
+    ensures records { IfOk result (λ closed. closed.records ≡ length guarded.old.chronicle.records) }
+    ensures sum { IfOk result (λ closed. closed.records ≡ receipts_of seats.entry.items) }
+    ensures seats { IfOk result (λ closed. closed.seats ≡ length seats.entry.items) }
+    ensures given { IfOk result (λ closed. closed.seats ≡ length guarded.old.chronicle.seats) }
+    ensures back { IfErr result (λ e. e.1.items ≡ seats.entry.items) }
+    ensures cause { IfErr result (λ e. IsCause guarded.old.chronicle guarded.old.gathered seats.entry.items e.0) }
+{
+    let Guarded {
+        chronicle,
+        book,
+        spare,
+        closed,
+        gathered,
+        ..
+    } = guarded;
+    if let Some(fault) = mismatch(chronicle, &seats) {
+        return Err((fault, seats));
+    }
+    if *gathered || seats.len() != chronicle.seats_given() {
+        return Err((CloseFault::SeatOut, seats));
+    }
+    let account = Closed {
+        records: chronicle.len(),
+        seats: seats.len(),
+    };
+    gather(spare, seats);
+    book.audit(spare);
+    *closed = true;
+    *gathered = account.seats > 0;
+    Ok(account)
+}

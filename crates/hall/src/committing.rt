@@ -1,0 +1,167 @@
+//! Change lists of a seat.
+
+ghost use Rattle.std.specs.Prelude.{◌≡◌, IfOk, OnErr};
+ghost use Rattle.hall.specs.Calls.{IsCommitted};
+
+use crate::faults::HallFault;
+use crate::halls::Hall;
+use crate::seats::{Gate, Seat};
+use features::Change;
+use memory::GrowVec;
+use std::alloc::Allocator;
+use std::sync::Wait;
+use std::sync::ledger::Ledger;
+use transactions::{Advance, Fault, Outcome, TreeFault};
+
+/// How often a list is tried that a search holds back.
+pub const TRY_LIMIT: u32 = 64;
+
+/// How far the placing of a list is.
+enum Placing {
+    /// A walk has made a step.
+    Walking,
+    /// All shapes are placed.
+    AllPlaced,
+    /// A search held the list back; the transaction is given up.
+    Held,
+}
+
+/// Gives a transaction up, where it is still open.
+fn give_up<L: Ledger, A: Allocator, W: Wait>(rt: &W, hall: &Hall<L, A>, seat: u32, number: u64) {
+    hall.lock.lock(rt).abort(seat, number);
+}
+
+/// Stages each of the changes. The gate is called before each of them, without the lock.
+fn stage_all<L: Ledger, A: Allocator, W: Wait, G: Gate>(
+    rt: &W,
+    hall: &Hall<L, A>,
+    seat: u32,
+    number: u64,
+    changes: &[Change],
+    gate: &mut G,
+) -> Result<(), HallFault> {
+    for change in changes {
+        gate.between();
+        let staged = hall.lock.lock(rt).chronicle.stage(seat, number, *change);
+        staged?;
+    }
+    Ok(())
+}
+
+/// Makes a step of a walk. Where a search holds the list back, waits in the same critical section, so that no search's end is
+/// missed, until a search ends, and gives the transaction up.
+fn place_one<L: Ledger, A: Allocator + Copy, W: Wait>(
+    rt: &W,
+    hall: &Hall<L, A>,
+    seat: u32,
+    number: u64,
+) -> Result<Placing, HallFault> {
+    let mut guarded = hall.lock.lock(rt);
+    match guarded.advance(seat, number) {
+        Ok(Advance::Walked(_)) => Ok(Placing::Walking),
+        Ok(Advance::AllPlaced) => Ok(Placing::AllPlaced),
+        Err(Fault::Tree(TreeFault::Held(_))) => {
+            let mut guarded = hall.search_ended.wait(rt, guarded);
+            guarded.abort(seat, number);
+            Ok(Placing::Held)
+        }
+        Err(fault) => Err(HallFault::from(fault)),
+    }
+}
+
+/// Places what the list brings, step by step, and answers whether all is placed: where a search held it back, the transaction
+/// is given up. The gate is called before each step, without the lock.
+fn place_all<L: Ledger, A: Allocator + Copy, W: Wait, G: Gate>(
+    rt: &W,
+    hall: &Hall<L, A>,
+    seat: u32,
+    number: u64,
+    gate: &mut G,
+) -> Result<bool, HallFault> {
+    for _ in rt.forever() {
+        gate.between();
+        match place_one(rt, hall, seat, number)? {
+            Placing::Walking => {}
+            Placing::AllPlaced => return Ok(true),
+            Placing::Held => return Ok(false),
+        }
+    }
+    unreachable!()
+}
+
+/// Begins a transaction, and stages and places the list in it. None where a search held it back.
+fn try_once<L: Ledger, A: Allocator + Copy, W: Wait, G: Gate>(
+    rt: &W,
+    hall: &Hall<L, A>,
+    seat: u32,
+    changes: &[Change],
+    gate: &mut G,
+) -> Result<Option<u64>, HallFault> {
+    let begun = hall.lock.lock(rt).chronicle.begin(seat);
+    let number = begun?;
+    if let Err(fault) = stage_all(rt, hall, seat, number, changes, gate) {
+        give_up(rt, hall, seat, number);
+        return Err(fault);
+    }
+    match place_all(rt, hall, seat, number, gate) {
+        Ok(true) => Ok(Some(number)),
+        Ok(false) => Ok(None),
+        Err(fault) => {
+            give_up(rt, hall, seat, number);
+            Err(fault)
+        }
+    }
+}
+
+/// The transaction in which the list is placed, after `TRY_LIMIT` tries at most. H4 where searches held each of them back.
+fn placed<L: Ledger, A: Allocator + Copy, W: Wait, G: Gate>(
+    rt: &W,
+    hall: &Hall<L, A>,
+    seat: u32,
+    changes: &[Change],
+    gate: &mut G,
+) -> Result<u64, HallFault> {
+    for _ in 0..TRY_LIMIT {
+        if let Some(number) = try_once(rt, hall, seat, changes, gate)? {
+            return Ok(number);
+        }
+        gate.between();
+    }
+    Err(HallFault::Held)
+}
+
+impl<'h, L: Ledger, A: Allocator + Copy> Seat<'h, L, A> {
+    /// Commits a list of changes, all or none of it. A list that a search holds back waits until a search ends and is tried anew,
+    /// `TRY_LIMIT` times at most: then H4. H6 where there is no room for the receipt; H5 with X15 where 64 transactions are open,
+    /// X5 and X6 as the list cannot be staged, S4 to S7 where the index does not place a shape, X10 where the trail is full, X8
+    /// where a number is at its end, X11 where more features would stand than may, X12 where a growth is refused.
+    pub fn commit<W: Wait, G: Gate>(
+        &mut self,
+        rt: &W,
+        changes: &[Change],
+        gate: &mut G,
+    ) -> Result<Outcome, HallFault>
+        ensures ok { IfOk result (λ outcome. IsCommitted changes.now outcome self.old self.new) }
+        ensures err { OnErr result (self.new ≡ self.old) }
+    {
+        self.receipts.make_place()?;
+        let hall = self.hall;
+        let seat = self.number;
+        let number = placed(rt, hall, seat, changes, gate)?;
+        gate.between();
+        let committed = hall
+            .lock
+            .lock(rt)
+            .commit(rt, seat, &self.subject, &mut self.share, number, changes);
+        match committed {
+            Ok((outcome, receipt)) => {
+                self.receipts.push_reserved(receipt);
+                Ok(outcome)
+            }
+            Err(fault) => {
+                give_up(rt, hall, seat, number);
+                Err(HallFault::from(fault))
+            }
+        }
+    }
+}

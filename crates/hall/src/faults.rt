@@ -1,0 +1,113 @@
+//! Why a hall refuses a call.
+
+ghost use Rattle.std.specs.Prelude.{◌≡◌};
+
+use memory::Refused;
+use std::fmt;
+use transactions::Fault;
+
+/// Why a hall refuses a call. What it refuses leaves no record, and nothing of the call is under way afterwards.
+#[derive(Debug, Drop, PartialEq, Eq)]
+pub enum HallFault {
+    /// H1: no subject has that name.
+    NoSubject,
+    /// H2: all seats are given.
+    NoPlace,
+    /// H3: the hall is closed.
+    Closed,
+    /// H4: searches held the list back, as often as it is tried.
+    Held,
+    /// H5: the world refuses an event of the call. It is shown as the world's code.
+    Core(Fault),
+    /// H6: a growth was refused before any event of the call.
+    Memory(Refused),
+}
+
+impl HallFault {
+    ghost use Rattle.hall.specs.FaultCodes.{hall_code};
+
+    /// The code by which users know the fault; of a refusal of the world, the world's own.
+    pub fn code(&self) -> &'static str
+        ensures { result.now ≡ hall_code self.now }
+    {
+        match self {
+            HallFault::NoSubject => "H1",
+            HallFault::NoPlace => "H2",
+            HallFault::Closed => "H3",
+            HallFault::Held => "H4",
+            HallFault::Core(fault) => fault.code(),
+            HallFault::Memory(_) => "H6",
+        }
+    }
+}
+
+impl fmt::Display for HallFault {
+    ghost use Rattle.std.specs.Prelude.{Some};
+    ghost use Rattle.hall.specs.FaultCodes.{hall_code};
+
+    ghost output = { λ fault. Some (hall_code fault) };
+
+    fn fmt<W: fmt::Write>(&self, f: &mut fmt::Formatter<W>) -> fmt::Result {
+        f.write_str(self.code())
+    }
+}
+
+impl From<Refused> for HallFault {
+    ghost use Rattle.std.specs.Prelude.{◌≡◌};
+    ghost use Rattle.hall.specs.declared.faults.HallFault.TheVariants.{Memory};
+
+    ghost from_gives = { λ refused fault. fault ≡ Memory refused };
+
+    fn from(refused: Refused) -> Self {
+        HallFault::Memory(refused)
+    }
+}
+
+impl From<Fault> for HallFault {
+    ghost use Rattle.std.specs.Prelude.{◌≡◌};
+    ghost use Rattle.hall.specs.FaultCodes.{hall_fault};
+
+    ghost from_gives = { λ refusal fault. fault ≡ hall_fault refusal };
+
+    fn from(refusal: Fault) -> Self {
+        match refusal {
+            Fault::NoSubject => HallFault::NoSubject,
+            Fault::NoPlace => HallFault::NoPlace,
+            other => HallFault::Core(other),
+        }
+    }
+}
+
+/// Why a hall does not close.
+#[derive(Clone, Copy, Debug, PartialEq, Eq)]
+pub enum CloseFault {
+    /// C1: the receipts of the seat of this number and its records differ first at this place, counted from 0.
+    Mismatch(u32, usize),
+    /// C2: a seat that was given is not among those that are handed in.
+    SeatOut,
+}
+
+impl CloseFault {
+    ghost use Rattle.hall.specs.FaultCodes.{close_code};
+
+    /// The code by which users know the fault.
+    pub fn code(&self) -> &'static str
+        ensures { result.now ≡ close_code self.now }
+    {
+        match self {
+            CloseFault::Mismatch(..) => "C1",
+            CloseFault::SeatOut => "C2",
+        }
+    }
+}
+
+impl fmt::Display for CloseFault {
+    ghost use Rattle.std.specs.Prelude.{Some};
+    ghost use Rattle.hall.specs.FaultCodes.{close_code};
+
+    ghost output = { λ fault. Some (close_code fault) };
+
+    fn fmt<W: fmt::Write>(&self, f: &mut fmt::Formatter<W>) -> fmt::Result {
+        f.write_str(self.code())
+    }
+}

@@ -1,0 +1,42 @@
+//! Policies put in force by a seat, and the trail taken out.
+
+ghost use Rattle.std.specs.Prelude.{◌≡◌, IfOk, OnErr};
+ghost use Rattle.hall.specs.Calls.{IsGoverned};
+
+use crate::faults::HallFault;
+use crate::seats::Seat;
+use memory::GrowVec;
+use policy_documents::Document;
+use std::alloc::{Allocator, Global};
+use std::sync::ledger::Ledger;
+use std::sync::{Arc, Wait};
+use transactions::Rolled;
+
+impl<'h, L: Ledger, A: Allocator + Copy> Seat<'h, L, A> {
+    /// Puts a document in force, and answers its edition. H6 where there is no room for the receipt; H5 with X7 where the seat's
+    /// subject is no steward, X8 where the edition is at its end, X10 where the trail is full; then H6 where there is no memory
+    /// for what decides by the document, and H5 with X12 where there is none for the event.
+    pub fn govern<W: Wait>(&mut self, rt: &W, document: Document<Global>) -> Result<u64, HallFault>
+        ensures ok { IfOk result (λ edition. IsGoverned document edition self.old self.new) }
+        ensures err { OnErr result (self.new ≡ self.old) }
+    {
+        self.receipts.make_place()?;
+        let hall = self.hall;
+        let governed = hall
+            .lock
+            .lock(rt)
+            .govern(rt, hall.heap, self.number, &mut self.share, document);
+        let (edition, receipt) = governed?;
+        self.receipts.push_reserved(receipt);
+        Ok(edition)
+    }
+
+    /// Takes the trail out: the records since the last roll, with their lines. The hall keeps them too. H5 with X7 where the seat's
+    /// subject is no steward, X8 where the numbers of the records are at their end, X12 where a growth is refused.
+    pub fn roll<W: Wait>(&mut self, rt: &W) -> Result<Arc<Rolled<A>, A>, HallFault>
+        ensures { self.new ≡ self.old }
+    {
+        let hall = self.hall;
+        hall.lock.lock(rt).roll(rt, hall.heap, self.number)
+    }
+}

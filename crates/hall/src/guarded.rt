@@ -1,0 +1,305 @@
+//! What the lock guards.
+
+ghost use Rattle.std.specs.Prelude.{◌≡◌, ◌<◌, ◌+◌, [], false, length, None, Some, Ok, IfOk, OnOk, OnErr};
+ghost use Rattle.std.specs.Arc.{arc_value};
+ghost use Rattle.std.specs.List.{last_or};
+ghost use Rattle.audit_trail.specs.Records.{governed};
+ghost use Rattle.chronicle.specs.Chronicles.{subject_given};
+ghost use Rattle.chronicle.specs.Noting.{told_answer};
+ghost use Rattle.plain_world.specs.Laws.{deed_of};
+ghost use Rattle.hall.specs.Calls.{IsNext};
+
+use crate::faults::HallFault;
+use crate::upkeep::Upkeep;
+use audit_trail::Record;
+use chronicle::Chronicle;
+use decision::Decider;
+use features::{Change, Name, Subject};
+use memory::{Refused, another, shared};
+use plane::Shape;
+use policy_documents::Document;
+use std::alloc::{Allocator, Global};
+use std::sync::ledger::{Blank, Book, Ledger, Share};
+use std::sync::{Arc, Wait};
+use transactions::{Advance, Answer, Fault, Outcome, Rolled};
+
+/// Into how many parts the ledger of a hall is cut: one for each seat that may be given, and one that stays.
+pub const LEDGER_PARTS: u64 = 1_025;
+
+/// What the lock guards: the world with all its records, and how many records there are, of which each seat has its share.
+/// Whenever the lock is got, the facts below hold, and those of a chronicle.
+#[derive(Drop)]
+pub(crate) struct Guarded<L: Ledger, A: Allocator> {
+    pub(crate) chronicle: Chronicle<A>,
+    /// How many records there are.
+    pub(crate) book: Book<L>,
+    /// The parts of the seats that are not given yet.
+    pub(crate) spare: Share<L>,
+    /// No seat is given any more, and nothing is tended.
+    pub(crate) closed: bool,
+    /// Seats were given, and all of them are handed in.
+    pub(crate) gathered: bool,
+    pub(crate) upkeep: Upkeep,
+    pub ghost ends: { closed ≡ false → gathered ≡ false },
+    pub ghost counted: { book.total ≡ length chronicle.records },
+    pub ghost idle: { gathered ≡ false → spare.amount ≡ 0 },
+    pub ghost cut: { gathered ≡ false → spare.parts + length chronicle.seats ≡ 1025 },
+}
+
+/// Counts the record that was just written in a seat's share, and answers another owner of it. Only its number of owners can
+/// refuse one more, and then it is tried again.
+fn receipt<L: Ledger, W: Wait, A: Allocator>(
+    rt: &W,
+    chronicle: &Chronicle<A>,
+    book: &mut Book<L>,
+    share: &mut Share<L>,
+) -> Arc<Record<A>, A>
+    requires { 0 < share.old.parts }
+    ensures last { last_or None chronicle.now.records ≡ Some (arc_value result) }
+    ensures total { book.new.total ≡ book.old.total + 1 }
+    ensures amount { share.new.amount ≡ share.old.amount + 1 }
+    ensures parts { share.new.parts ≡ share.old.parts }
+{
+    book.add(share, 1);
+    last_record(rt, chronicle)
+}
+
+/// Another owner of the last record.
+fn last_record<W: Wait, A: Allocator>(rt: &W, chronicle: &Chronicle<A>) -> Arc<Record<A>, A>
+    ensures { last_or None chronicle.now.records ≡ Some (arc_value result) }
+{
+    for _ in rt.forever() {
+        match chronicle.last() {
+            None => {}
+            Some(record) => match another(record) {
+                Ok(receipt) => return receipt,
+                Err(_) => {}
+            },
+        }
+    }
+    unreachable!()
+}
+
+/// That a seat is this subject's. X1 where it is not.
+fn is_seat_of<A: Allocator>(
+    chronicle: &Chronicle<A>,
+    seat: u32,
+    subject: &Subject,
+) -> Result<(), Fault>
+    ensures { OnOk result (subject_given seat chronicle.now.seats ≡ Ok subject.now) }
+{
+    let seated = chronicle.subject_at(seat)?;
+    if seated == *subject {
+        Ok(())
+    } else {
+        Err(Fault::NoSuch)
+    }
+}
+
+/// The decider of a document, for the edition under which the seat may put it in force next. X1, X7, X8, X10 as the world
+/// refuses that; H6 where a growth is refused.
+fn next_decider<A: Allocator>(
+    chronicle: &Chronicle<A>,
+    heap: Global,
+    seat: u32,
+    document: Document<Global>,
+) -> Result<Arc<Decider>, HallFault>
+    ensures { IfOk result (λ decider. IsNext document chronicle.now (arc_value decider)) }
+{
+    let edition = chronicle.next_edition(seat)?;
+    let decider = match Decider::new(document, edition) {
+        Ok(decider) => decider,
+        Err(failed) => return Err(HallFault::Memory(Refused::from(failed))),
+    };
+    match shared(heap, decider) {
+        Ok(decider) => Ok(decider),
+        Err(failed) => Err(HallFault::Memory(Refused::from(failed))),
+    }
+}
+
+impl<L: Ledger, A: Allocator> Guarded<L, A> {
+    /// A chronicle with no records and no seats, under a new ledger.
+    pub(crate) fn new(chronicle: Chronicle<A>, blank: Blank) -> Self
+        requires name { blank.name ≡ L.name }
+        requires parts { (blank.parts ≡ L.parts) × (L.parts ≡ 1025) }
+        requires opening { (chronicle.records ≡ []) × (chronicle.seats ≡ []) }
+        ensures { result.chronicle ≡ chronicle }
+    {
+        let (book, spare) = blank.open::<L>();
+        Guarded {
+            chronicle,
+            book,
+            spare,
+            closed: false,
+            gathered: false,
+            upkeep: Upkeep::new(),
+        }
+    }
+
+    /// Gives a seat, with the subject of the name and a part of the ledger. H3 where the hall is closed, H1 where there is
+    /// no such subject, H2 where all seats are given, H5 where a growth is refused.
+    pub(crate) fn seat(&mut self, name: Name) -> Result<(u32, Subject, Share<L>), HallFault>
+        ensures { IfOk result (λ given. (given.2.parts ≡ 1) × (given.2.amount ≡ 0)) }
+    {
+        let Guarded {
+            chronicle,
+            spare,
+            closed,
+            ..
+        } = self;
+        if *closed {
+            return Err(HallFault::Closed);
+        }
+        let number = chronicle.seat(name)?;
+        let Ok(subject) = chronicle.subject_at(number) else {
+            unreachable!()
+        };
+        Ok((number, subject, spare.split_off(1, 0)))
+    }
+
+    /// Gives a search up, where it still runs.
+    pub(crate) fn drop_search(&mut self, seat: u32, number: u64) {
+        let _ = self.chronicle.drop_search(seat, number);
+        self.upkeep.search_ended();
+    }
+
+    /// Gives a transaction up, where it is still open.
+    pub(crate) fn abort(&mut self, seat: u32, number: u64) {
+        let _ = self.chronicle.abort(seat, number);
+        self.upkeep.changed();
+    }
+
+    /// How many slots a round of tending has, if one is due: none where nothing has changed. H3 where the hall is closed.
+    pub(crate) fn begin_round(&mut self) -> Result<u32, HallFault> {
+        if self.closed {
+            Err(HallFault::Closed)
+        } else if self.upkeep.begin_round() {
+            Ok(self.chronicle.slots())
+        } else {
+            Ok(0)
+        }
+    }
+
+    /// Tends a slot. H3 where the hall is closed, H5 where the index's counter is at its end (S6).
+    pub(crate) fn tend(&mut self, slot: u32) -> Result<(), HallFault> {
+        if self.closed {
+            return Err(HallFault::Closed);
+        }
+        let tending = self.chronicle.tend(slot)?;
+        self.upkeep.tended(tending);
+        Ok(())
+    }
+}
+
+impl<L: Ledger, A: Allocator + Copy> Guarded<L, A> {
+    /// Makes a step of a walk of a transaction.
+    pub(crate) fn advance(&mut self, seat: u32, number: u64) -> Result<Advance, Fault> {
+        self.upkeep.changed();
+        self.chronicle.advance(seat, number)
+    }
+
+    /// Finishes a search of a seat of this subject for a window. The record is counted in the seat's share.
+    pub(crate) fn finish<W: Wait>(
+        &mut self,
+        rt: &W,
+        seat: u32,
+        subject: &Subject,
+        share: &mut Share<L>,
+        number: u64,
+        window: &Shape,
+    ) -> Result<(Answer<A>, Arc<Record<A>, A>), Fault>
+        requires { 0 < share.old.parts }
+        ensures subject { IfOk result (λ done. done.0.subject ≡ subject.now) }
+        ensures window { IfOk result (λ done. done.0.window ≡ window.now) }
+        ensures receipt { IfOk result (λ done. arc_value done.1 ≡ record { seat = seat; deed = told_answer done.0 }) }
+        ensures amount { OnOk result (share.new.amount ≡ share.old.amount + 1) }
+        ensures err { OnErr result (share.new.amount ≡ share.old.amount) }
+        ensures parts { share.new.parts ≡ share.old.parts }
+    {
+        let Guarded {
+            chronicle,
+            book,
+            upkeep,
+            ..
+        } = self;
+        is_seat_of(chronicle, seat, subject)?;
+        let answer = chronicle.finish(seat, number, window)?;
+        upkeep.search_ended();
+        Ok((answer, receipt(rt, chronicle, book, share)))
+    }
+
+    /// Commits a list of a seat of this subject. The record is counted in the seat's share.
+    pub(crate) fn commit<W: Wait>(
+        &mut self,
+        rt: &W,
+        seat: u32,
+        subject: &Subject,
+        share: &mut Share<L>,
+        number: u64,
+        changes: &[Change],
+    ) -> Result<(Outcome, Arc<Record<A>, A>), Fault>
+        requires { 0 < share.old.parts }
+        ensures receipt { IfOk result (λ done. arc_value done.1 ≡ record { seat = seat; deed = deed_of subject.now changes.now done.0 }) }
+        ensures amount { OnOk result (share.new.amount ≡ share.old.amount + 1) }
+        ensures err { OnErr result (share.new.amount ≡ share.old.amount) }
+        ensures parts { share.new.parts ≡ share.old.parts }
+    {
+        let Guarded {
+            chronicle,
+            book,
+            upkeep,
+            ..
+        } = self;
+        is_seat_of(chronicle, seat, subject)?;
+        let outcome = chronicle.commit(seat, number, changes)?;
+        upkeep.changed();
+        Ok((outcome, receipt(rt, chronicle, book, share)))
+    }
+
+    /// Puts a document in force for a seat, and answers its edition. The record is counted in the seat's share. X1, X7, X8, X10
+    /// as the world refuses the event; then H6 where there is no memory for the decider, and X12 where there is none for the
+    /// event.
+    pub(crate) fn govern<W: Wait>(
+        &mut self,
+        rt: &W,
+        heap: Global,
+        seat: u32,
+        share: &mut Share<L>,
+        document: Document<Global>,
+    ) -> Result<(u64, Arc<Record<A>, A>), HallFault>
+        requires { 0 < share.old.parts }
+        ensures receipt { IfOk result (λ done. arc_value done.1 ≡ record { seat = seat; deed = governed done.0 (record { document = document; edition = done.0 }) }) }
+        ensures amount { OnOk result (share.new.amount ≡ share.old.amount + 1) }
+        ensures err { OnErr result (share.new.amount ≡ share.old.amount) }
+        ensures parts { share.new.parts ≡ share.old.parts }
+    {
+        let Guarded {
+            chronicle,
+            book,
+            ..
+        } = self;
+        let decider = next_decider(chronicle, heap, seat, document)?;
+        let edition = chronicle.govern_by(seat, decider)?;
+        Ok((edition, receipt(rt, chronicle, book, share)))
+    }
+
+    /// Takes the present trail out, and answers it. All its records stay in the chronicle.
+    pub(crate) fn roll<W: Wait>(
+        &mut self,
+        rt: &W,
+        heap: Global,
+        seat: u32,
+    ) -> Result<Arc<Rolled<A>, A>, HallFault> {
+        self.chronicle.roll(heap, seat)?;
+        for _ in rt.forever() {
+            match self.chronicle.last_piece() {
+                None => {}
+                Some(piece) => match another(piece) {
+                    Ok(piece) => return Ok(piece),
+                    Err(_) => {}
+                },
+            }
+        }
+        unreachable!()
+    }
+}

@@ -1,0 +1,80 @@
+//! Searches of a seat.
+
+ghost use Rattle.std.specs.Prelude.{◌≡◌, IfOk, OnErr};
+ghost use Rattle.hall.specs.Calls.{IsSearched};
+
+use crate::faults::HallFault;
+use crate::halls::Hall;
+use crate::seats::{Gate, Seat};
+use memory::GrowVec;
+use plane::Shape;
+use std::alloc::Allocator;
+use std::sync::Wait;
+use std::sync::ledger::Ledger;
+use transactions::{Answer, Visit};
+
+/// Lets a search go on until it is ready, step by step. The gate is called before each step, without the lock.
+fn visit_all<L: Ledger, A: Allocator + Copy, W: Wait, G: Gate>(
+    rt: &W,
+    hall: &Hall<L, A>,
+    seat: u32,
+    number: u64,
+    gate: &mut G,
+) -> Result<(), HallFault> {
+    for _ in rt.forever() {
+        gate.between();
+        let visit = hall.lock.lock(rt).chronicle.visit(seat, number);
+        match visit? {
+            Visit::More => {}
+            Visit::Ready => return Ok(()),
+        }
+    }
+    unreachable!()
+}
+
+/// Gives a search up, where it still runs, and wakes those whose lists it held back.
+fn give_up<L: Ledger, A: Allocator, W: Wait>(rt: &W, hall: &Hall<L, A>, seat: u32, number: u64) {
+    hall.lock.lock(rt).drop_search(seat, number);
+    hall.search_ended.notify_all();
+}
+
+impl<'h, L: Ledger, A: Allocator + Copy> Seat<'h, L, A> {
+    /// Searches a window: what meets it and the seat's subject may read, at the moment at which the search finishes. H6 where
+    /// there is no room for the receipt; H5 with S2 where 16 searches run, S6 where the numbers of searches are at their end, S7
+    /// where the index gives the search up, X10 where the trail is full, X12 where a growth is refused.
+    pub fn search<W: Wait, G: Gate>(
+        &mut self,
+        rt: &W,
+        window: Shape,
+        gate: &mut G,
+    ) -> Result<Answer<A>, HallFault>
+        ensures ok { IfOk result (λ answer. IsSearched window answer self.old self.new) }
+        ensures err { OnErr result (self.new ≡ self.old) }
+    {
+        self.receipts.make_place()?;
+        let hall = self.hall;
+        let seat = self.number;
+        let opened = hall.lock.lock(rt).chronicle.open_search(seat, window);
+        let number = opened?;
+        if let Err(fault) = visit_all(rt, hall, seat, number, gate) {
+            give_up(rt, hall, seat, number);
+            return Err(fault);
+        }
+        gate.between();
+        let finished = hall
+            .lock
+            .lock(rt)
+            .finish(rt, seat, &self.subject, &mut self.share, number, &window);
+        match finished {
+            Ok((answer, receipt)) => {
+                hall.search_ended.notify_all();
+                self.receipts.push_reserved(receipt);
+                Ok(answer)
+            }
+            Err(fault) => {
+                give_up(rt, hall, seat, number);
+                Err(HallFault::from(fault))
+            }
+        }
+    }
+}

@@ -1,0 +1,76 @@
+//! Seats, and what happens between two events of a call.
+
+ghost use Rattle.std.specs.Prelude.{◌≡◌, map};
+ghost use Rattle.std.specs.Arc.{arc_value};
+
+use crate::halls::Hall;
+use audit_trail::Record;
+use features::Subject;
+use std::alloc::Allocator;
+use std::marker::Model;
+use std::sync::Arc;
+use std::sync::ledger::{Ledger, Share};
+
+/// What is done between two events of a call, while the lock is free.
+pub trait Gate {
+    /// Is called between two events of a call, without the lock.
+    fn between(&mut self);
+}
+
+/// A gate that does nothing.
+#[derive(Clone, Copy, Debug)]
+pub struct NoGate;
+
+impl Gate for NoGate {
+    fn between(&mut self) {}
+}
+
+/// A seat of a hall, for one session. It keeps a receipt for each of its calls that the trail tells of: the record itself, of
+/// which it is another owner. A contract sees its number, its subject and its receipts.
+#[derive(Drop)]
+pub struct Seat<'h, L: Ledger, A: Allocator> {
+    pub(crate) hall: &'h Hall<L, A>,
+    pub(crate) number: u32,
+    pub(crate) subject: Subject,
+    pub(crate) share: Share<L>,
+    pub(crate) receipts: Vec<Arc<Record<A>, A>, A>,
+}
+
+impl<'h, L: Ledger, A: Allocator> Model for Seat<'h, L, A> {
+    ghost use Rattle.std.specs.Prelude.{◌≡◌, map, length};
+    ghost use Rattle.std.specs.Arc.{arc_value};
+    ghost use Rattle.std.specs.Coded.{code_by, codes};
+    ghost use Rattle.hall.specs.Seats.{SeatData, StoredSeat, stored_seat, restored_seat, restored_seat-stored_seat};
+
+    ghost Value = { SeatData };
+
+    ghost coded = { code_by StoredSeat (Prim.hlevel codes) stored_seat restored_seat restored_seat-stored_seat };
+
+    ghost view = { λ s. record { number = s.number; subject = s.subject; receipts = map arc_value s.receipts.items } };
+
+    // one part of the ledger stands behind a seat, with as much in its share as it has receipts
+    ghost invariant = { λ s. (s.share.parts ≡ 1) × (s.share.amount ≡ length s.receipts.items) };
+}
+
+impl<'h, L: Ledger, A: Allocator> Seat<'h, L, A> {
+    /// The seat's number, from 1.
+    pub fn number(&self) -> u32
+        ensures { result ≡ self.now.number }
+    {
+        self.number
+    }
+
+    /// Whose the seat is.
+    pub fn subject(&self) -> Subject
+        ensures { result ≡ self.now.subject }
+    {
+        self.subject
+    }
+
+    /// The records of the seat's calls, in order.
+    pub fn receipts(&self) -> &[Arc<Record<A>, A>]
+        ensures { map arc_value result.now ≡ self.now.receipts }
+    {
+        self.receipts.as_slice()
+    }
+}

@@ -1,0 +1,103 @@
+//! What a hall refuses, how it is tended, and its end.
+ghost use Rattle.std.specs.Prelude.{◌≡◌};
+
+use crate::halls::{ROADS, applied, document, name, opened, road, rows, seat, square};
+use features::Change;
+use hall::{Closed, Hall, HallFault, LEDGER_PARTS, NoGate, Seat};
+use std::alloc::Global;
+use std::marker::Brand;
+use std::process::Abort;
+use std::sync::Wait;
+use std::sync::ledger::{Blank, Ledger};
+use transactions::Fault;
+
+/// What is refused leaves no receipt.
+fn refuse_one<L: Ledger, R: Wait + Abort>(
+    rt: &R,
+    heap: Global,
+    hall: &Hall<L, Global>,
+    north: &mut Seat<'_, L, Global>,
+) {
+    assert!(rt; matches!(hall.seat(rt, name(rt, "nobody")), Err(HallFault::NoSubject)));
+    let refused = north.govern(rt, document(rt, heap, ROADS));
+    assert!(rt; refused == Err(HallFault::Core(Fault::NotSteward)));
+    assert!(rt; matches!(north.roll(rt), Err(HallFault::Core(Fault::NotSteward))));
+    let twice = [road(rt, 1, 1, 1), road(rt, 1, 2, 2)];
+    let refused = north.commit(rt, &twice, &mut NoGate);
+    assert!(rt; matches!(refused, Err(HallFault::Core(Fault::NamedTwice))));
+    assert_eq!(rt; north.receipts().len(), 0);
+}
+
+/// Features come and go, and the index is tended in between.
+fn tend_all<L: Ledger, R: Wait + Abort>(
+    rt: &R,
+    hall: &Hall<L, Global>,
+    north: &mut Seat<'_, L, Global>,
+) {
+    for id in 1..41 {
+        assert!(rt; applied(rt, north, road(rt, id, 1, 1), &mut NoGate).is_some());
+    }
+    assert_eq!(rt; rows(rt, north, square(rt), &mut NoGate), Some(40));
+    for id in 1..41 {
+        let gone = Change::Delete { id, version: id };
+        assert!(rt; applied(rt, north, gone, &mut NoGate).is_some());
+        assert!(rt; hall.tend_round(rt) == Ok(()));
+    }
+    assert_eq!(rt; rows(rt, north, square(rt), &mut NoGate), Some(0));
+    assert_eq!(rt; north.receipts().len(), 82);
+}
+
+/// A hall closes with its one seat, and then gives none and is not tended.
+fn close_one<'h, L: Ledger, R: Wait + Abort>(
+    rt: &R,
+    heap: Global,
+    hall: &'h Hall<L, Global>,
+    seat: Seat<'h, L, Global>,
+)
+    requires { L.parts ≡ 1025 }
+{
+    let mut seats = Vec::new(heap);
+    assert!(rt; seats.push(seat).is_ok());
+    match hall.close(rt, seats) {
+        Ok(closed) => assert_eq!(rt; closed, Closed { records: 82, seats: 1 }),
+        Err((fault, _)) => panic!(rt; "not closed: {fault}"),
+    }
+    assert!(rt; matches!(hall.seat(rt, name(rt, "north")), Err(HallFault::Closed)));
+    assert!(rt; hall.tend_round(rt) == Err(HallFault::Closed));
+}
+
+fn opens_and_closes_in<L: Ledger, R: Wait + Abort>(rt: &R, heap: Global, blank: Blank)
+    requires name { blank.name ≡ L.name }
+    requires parts { (blank.parts ≡ L.parts) × (L.parts ≡ 1025) }
+{
+    let hall = opened::<L>(rt, heap, blank);
+    let mut north = seat(rt, &hall, "north");
+    assert_eq!(rt; north.number(), 1);
+    refuse_one(rt, heap, &hall, &mut north);
+    tend_all(rt, &hall, &mut north);
+    close_one(rt, heap, &hall, north);
+}
+
+#[test]
+fn opens_and_closes(rt: HostRuntime) {
+    opens_and_closes_in::<Brand, _>(&rt, rt.alloc(), Blank::new(LEDGER_PARTS));
+}
+
+/// A hall that gave no seat closes, and closes once more.
+fn empty_in<L: Ledger, R: Wait + Abort>(rt: &R, heap: Global, blank: Blank)
+    requires name { blank.name ≡ L.name }
+    requires parts { (blank.parts ≡ L.parts) × (L.parts ≡ 1025) }
+{
+    let hall = opened::<L>(rt, heap, blank);
+    for _ in 0..2 {
+        match hall.close(rt, Vec::new(heap)) {
+            Ok(closed) => assert_eq!(rt; closed, Closed { records: 0, seats: 0 }),
+            Err((fault, _)) => panic!(rt; "not closed: {fault}"),
+        }
+    }
+}
+
+#[test]
+fn closes_empty(rt: HostRuntime) {
+    empty_in::<Brand, _>(&rt, rt.alloc(), Blank::new(LEDGER_PARTS));
+}

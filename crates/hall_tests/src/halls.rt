@@ -1,0 +1,176 @@
+//! Halls, and what is done in them.
+use features::{Change, Name, Subject, Subjects};
+use hall::{Gate, Hall, HallFault, NoGate, Seat};
+use plane::{Point, Shape};
+use policy_text::{Document, read_document};
+use std::alloc::Global;
+use std::process::Abort;
+use std::sync::Wait;
+use std::sync::atomic::{AtomicU64, Ordering};
+use std::sync::ledger::{Blank, Ledger};
+use std::thread;
+use transactions::Outcome;
+
+/// Everything is permitted.
+pub const OPEN: &str =
+    r#"{"root":{"combine":"first-applicable","policy":"start","rules":[{"effect":"permit","rule":"open"}]}}"#;
+
+/// What is done with roads is permitted, and nothing is said of anything else.
+pub const ROADS: &str =
+    r#"{"root":{"combine":"first-applicable","policy":"p","rules":[{"effect":"permit","rule":"roads","target":[[[{"class":"road"}]]]}]}}"#;
+
+/// How often a thread waits for another at most.
+pub const TURNS: u64 = 1_000_000;
+
+pub fn name(rt: &impl Abort, text: &str) -> Name {
+    let name = Name::new(text.as_bytes());
+    assert!(rt; name.is_some(), "{text}");
+    name.unwrap()
+}
+
+pub fn point(rt: &impl Abort, x: i32, y: i32) -> Shape {
+    let shape = Shape::point(Point { x, y });
+    assert!(rt; shape.is_ok());
+    shape.unwrap()
+}
+
+/// The square from (0, 0) to (4, 4).
+pub fn square(rt: &impl Abort) -> Shape {
+    let ring = [
+        Point { x: 0, y: 0 },
+        Point { x: 4, y: 0 },
+        Point { x: 4, y: 4 },
+        Point { x: 0, y: 4 },
+        Point { x: 0, y: 0 },
+    ];
+    let shape = Shape::polygon(&ring);
+    assert!(rt; shape.is_ok());
+    shape.unwrap()
+}
+
+/// The addition of a road at a point.
+pub fn road(rt: &impl Abort, id: u64, x: i32, y: i32) -> Change {
+    Change::Add {
+        id,
+        class: name(rt, "road"),
+        shape: point(rt, x, y),
+    }
+}
+
+pub fn document(rt: &impl Abort, heap: Global, text: &str) -> Document<Global> {
+    match read_document(heap, heap, text.as_bytes()) {
+        Ok(document) => document,
+        Err(_) => panic!(rt; "no document: {text}"),
+    }
+}
+
+/// A subject whose name and office are one.
+fn subject(rt: &impl Abort, office: &str, steward: bool) -> Subject {
+    Subject {
+        name: name(rt, office),
+        office: name(rt, office),
+        role: name(rt, "editor"),
+        steward,
+    }
+}
+
+/// Two editors, and a steward.
+fn subjects(rt: &impl Abort) -> Subjects {
+    let made = Subjects::new(&[
+        subject(rt, "north", false),
+        subject(rt, "south", false),
+        subject(rt, "chief", true),
+    ]);
+    assert!(rt; made.is_ok());
+    made.unwrap()
+}
+
+/// A hall in which everything is permitted.
+pub fn opened<L: Ledger>(rt: &impl Abort, heap: Global, blank: Blank) -> Hall<L, Global>
+    requires name { blank.name ≡ L.name }
+    requires parts { (blank.parts ≡ L.parts) × (L.parts ≡ 1025) }
+{
+    match Hall::open(heap, heap, blank, subjects(rt), document(rt, heap, OPEN)) {
+        Ok(hall) => hall,
+        Err(_) => panic!(rt; "no hall"),
+    }
+}
+
+/// A seat of the subject of this name.
+pub fn seat<'h, L: Ledger>(
+    rt: &(impl Abort + Wait),
+    hall: &'h Hall<L, Global>,
+    office: &str,
+) -> Seat<'h, L, Global> {
+    match hall.seat(rt, name(rt, office)) {
+        Ok(seat) => seat,
+        Err(fault) => panic!(rt; "{office} has no seat: {fault}"),
+    }
+}
+
+/// The version under which a list of one change is applied, or none where it is not.
+pub fn applied<L: Ledger, G: Gate>(
+    rt: &impl Wait,
+    seat: &mut Seat<'_, L, Global>,
+    change: Change,
+    gate: &mut G,
+) -> Option<u64> {
+    match seat.commit(rt, &[change], gate) {
+        Ok(Outcome::Applied(version)) => Some(version),
+        _ => None,
+    }
+}
+
+/// How many rows a search is answered with.
+pub fn rows<L: Ledger, G: Gate>(
+    rt: &impl Wait,
+    seat: &mut Seat<'_, L, Global>,
+    window: Shape,
+    gate: &mut G,
+) -> Option<usize> {
+    match seat.search(rt, window, gate) {
+        Ok(answer) => Some(answer.rows().len()),
+        Err(_) => None,
+    }
+}
+
+/// Sets a flag before the second step of a search, and waits there for another.
+#[derive(Drop)]
+pub struct Meeting<'a> {
+    calls: u64,
+    mine: &'a AtomicU64,
+    other: &'a AtomicU64,
+}
+
+impl<'a> Meeting<'a> {
+    pub fn new(mine: &'a AtomicU64, other: &'a AtomicU64) -> Self {
+        Meeting {
+            calls: 0,
+            mine,
+            other,
+        }
+    }
+}
+
+/// Waits until a flag is set, for `TURNS` turns at most, and answers whether it is.
+pub fn wait_for(flag: &AtomicU64) -> bool {
+    for _ in 0..TURNS {
+        if flag.load(Ordering::SeqCst) > 0 {
+            return true;
+        }
+        thread::yield_now();
+    }
+    false
+}
+
+impl Gate for Meeting<'_> {
+    fn between(&mut self) {
+        self.calls = self.calls.saturating_add(1);
+        if self.calls == 2 {
+            self.mine.store(1, Ordering::SeqCst);
+            if wait_for(self.other) {
+                self.mine.store(2, Ordering::SeqCst);
+            }
+        }
+    }
+}

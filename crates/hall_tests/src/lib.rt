@@ -1,0 +1,11 @@
+//! Tests of halls: many threads over one world.
+#![tactic(auto)]
+
+#[cfg(test)]
+mod close_tests;
+#[cfg(test)]
+mod halls;
+#[cfg(test)]
+mod held_tests;
+#[cfg(test)]
+mod thread_tests;
