@@ -2,7 +2,7 @@
 use Rattle.std.specs.Prelude.{ℕ, List, codes}
 use Rattle.wkt.specs.FaultCodes.{code_of as wkt_code_of}
 use Rattle.session_lines.specs.declared.faults.Fault.{Fault}
-use Rattle.session_lines.specs.declared.faults.Fault.TheVariants.{LineTooLong, Command, Number, Name, BeforeHello, HelloAgain, NothingStaged, OutOfTurn, NoLabel, NoSubject, NoPlace, Shape}
+use Rattle.session_lines.specs.declared.faults.Fault.TheVariants.{LineTooLong, Command, Number, Name, BeforeHello, HelloAgain, NothingStaged, OutOfTurn, NoLabel, NoSubject, NoPlace, Closed, Shape}
 
 abbrev pub code_of : Fault → List ℕ
 code_of LineTooLong = codes "E1"
@@ -16,4 +16,5 @@ code_of OutOfTurn = codes "E8"
 code_of NoLabel = codes "E9"
 code_of NoSubject = codes "H1"
 code_of NoPlace = codes "H2"
+code_of Closed = codes "H3"
 code_of (Shape fault) = wkt_code_of fault

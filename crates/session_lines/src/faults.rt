@@ -30,6 +30,8 @@ pub enum Fault {
     NoSubject,
     /// H2: all seats are given.
     NoPlace,
+    /// H3: the hall is closed.
+    Closed,
     /// K1 to K5, or the code of what its points lack: the text spells no shape.
     Shape(WktFault),
 }
@@ -53,6 +55,7 @@ impl Fault {
             Fault::NoLabel => "E9",
             Fault::NoSubject => "H1",
             Fault::NoPlace => "H2",
+            Fault::Closed => "H3",
             Fault::Shape(fault) => fault.code(),
         }
     }

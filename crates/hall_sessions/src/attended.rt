@@ -1,0 +1,131 @@
+//! A session over a hall.
+
+ghost use Rattle.std.specs.Prelude.{◌≡◌, length};
+
+use crate::replies::hall_reply;
+use combining::Question;
+use features::{Change, Name, Subject};
+use hall::{Gate, Hall, Seat};
+use memory::GrowVec;
+use plane::Shape;
+use policy_documents::Document;
+use session_lines::{Fault, Reply, Said, Service, outcome_reply};
+use std::alloc::{Allocator, Global};
+use std::sync::Wait;
+use std::sync::ledger::Ledger;
+
+/// A session over a hall. HELLO takes a seat for it, and puts it behind those of the worker's earlier sessions; there it stays when
+/// the session ends, since a hall is closed with all its seats. Between two events of a call the gate is called.
+#[derive(Drop)]
+pub struct Attended<'a, 'h, L: Ledger, A: Allocator, W: Wait, G: Gate> {
+    rt: &'a W,
+    hall: &'h Hall<L, A>,
+    seats: &'a mut Vec<Seat<'h, L, A>, A>,
+    gate: &'a mut G,
+    /// How many seats stand before the session's.
+    earlier: usize,
+}
+
+impl<'a, 'h, L: Ledger, A: Allocator + Copy, W: Wait, G: Gate> Attended<'a, 'h, L, A, W, G> {
+    /// A session that has not begun. `seats` are those of the worker's earlier sessions.
+    pub fn new(
+        rt: &'a W,
+        hall: &'h Hall<L, A>,
+        seats: &'a mut Vec<Seat<'h, L, A>, A>,
+        gate: &'a mut G,
+    ) -> Self
+        ensures same_reference { result.seats.ghost_name ≡ seats.entry.ghost_name }
+        ensures seats { result.seats.now ≡ seats.old }
+        ensures earlier { result.earlier ≡ length seats.old.items }
+    {
+        let earlier = seats.len();
+        Attended {
+            rt,
+            hall,
+            seats,
+            gate,
+            earlier,
+        }
+    }
+}
+
+impl<'a, 'h, L: Ledger, A: Allocator + Copy, W: Wait, G: Gate> Service
+    for Attended<'a, 'h, L, A, W, G> {
+    ghost use Rattle.std.specs.Prelude.{◌≡◌};
+    ghost use Rattle.hall_sessions.specs.Services.{Serves};
+    ghost use Rattle.hall_sessions.specs.Sessions.{session, session_subject};
+
+    type Memory = A;
+
+    ghost subject_of = { λ s. session_subject (session s.earlier s.seats.now.items) };
+
+    ghost serves = { λ call old new said. (new.seats.ghost_name ≡ old.seats.ghost_name)
+        × Serves call (session old.earlier old.seats.now.items) (session new.earlier new.seats.now.items) said };
+
+    fn subject(&self) -> Option<Subject> {
+        Some(self.seats.get(self.earlier)?.subject())
+    }
+
+    fn hello(&mut self, name: Name) -> Reply {
+        if let Err(refused) = self.seats.make_place() {
+            return Reply::Memory(refused);
+        }
+        match self.hall.seat(self.rt, name) {
+            Ok(seat) => {
+                self.earlier = self.seats.len();
+                self.seats.push_reserved(seat);
+                Reply::Hello(name)
+            }
+            Err(fault) => hall_reply(fault),
+        }
+    }
+
+    fn search(&mut self, window: Shape) -> Said<A> {
+        let Some(seat) = self.seats.get_mut(self.earlier) else {
+            return Said::Line(Reply::Error(Fault::BeforeHello));
+        };
+        match seat.search(self.rt, window, self.gate) {
+            Ok(answer) => Said::Rows(answer),
+            Err(fault) => Said::Line(hall_reply(fault)),
+        }
+    }
+
+    fn commit(&mut self, changes: &[Change]) -> Reply {
+        let Some(seat) = self.seats.get_mut(self.earlier) else {
+            return Reply::Error(Fault::BeforeHello);
+        };
+        match seat.commit(self.rt, changes, self.gate) {
+            Ok(outcome) => outcome_reply(&outcome),
+            Err(fault) => hall_reply(fault),
+        }
+    }
+
+    fn govern(&mut self, document: Document<Global>) -> Reply {
+        let Some(seat) = self.seats.get_mut(self.earlier) else {
+            return Reply::Error(Fault::BeforeHello);
+        };
+        match seat.govern(self.rt, document) {
+            Ok(edition) => Reply::Edition(edition),
+            Err(fault) => hall_reply(fault),
+        }
+    }
+
+    fn explain(&mut self, _question: &Question) -> Reply {
+        Reply::Error(Fault::Command)
+    }
+
+    fn roll(&mut self) -> Said<A> {
+        let Some(seat) = self.seats.get_mut(self.earlier) else {
+            return Said::Line(Reply::Error(Fault::BeforeHello));
+        };
+        match seat.roll(self.rt) {
+            Ok(piece) => Said::Rolled(piece),
+            Err(fault) => Said::Line(hall_reply(fault)),
+        }
+    }
+
+    fn leave(&mut self) -> Reply {
+        self.earlier = self.seats.len();
+        Reply::Bye
+    }
+}

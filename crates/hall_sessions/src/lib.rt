@@ -1,0 +1,10 @@
+//! Sessions over a hall: each line that asks something of the world is one call of the session's seat.
+#![tactic(auto)]
+
+mod attended;
+mod attending;
+mod replies;
+
+pub use attended::Attended;
+pub use attending::attend;
+pub use replies::hall_reply;

@@ -1,0 +1,95 @@
+//! Why nothing is served, or a hall is not closed.
+
+ghost use Rattle.std.specs.Prelude.{◌≡◌};
+
+use byte_streams::WriteFailed;
+use hall::{CloseFault, HallFault};
+use memory::Refused;
+use std::fmt;
+
+/// A channel was refused for want of memory. Only this crate makes one, and only where the channel could not be made.
+#[derive(Debug, Drop, PartialEq, Eq)]
+pub struct ChannelRefused {
+    seal: (),
+}
+
+impl ChannelRefused {
+    /// Is called only where a channel was refused.
+    pub(crate) fn seen() -> Self {
+        ChannelRefused { seal: () }
+    }
+}
+
+/// Why nothing is served, or what was served is not closed.
+#[derive(Debug, Drop, PartialEq, Eq)]
+pub enum ServerFault {
+    /// The path was not bound.
+    Bind,
+    /// The line that tells that the path is bound was not written.
+    Write(WriteFailed),
+    /// H6: there is no memory for the streams that wait for a worker.
+    Channel(ChannelRefused),
+    /// The hall was not opened.
+    Hall(HallFault),
+    /// The hall was not closed.
+    Close(CloseFault),
+}
+
+impl ServerFault {
+    ghost use Rattle.server.specs.FaultCodes.{server_code};
+
+    /// What is told of the fault: the code of one that has a code.
+    pub fn code(&self) -> &'static str
+        ensures { result.now ≡ server_code self.now }
+    {
+        match self {
+            ServerFault::Bind => "cannot bind",
+            ServerFault::Write(_) => "cannot write",
+            ServerFault::Channel(_) => "H6",
+            ServerFault::Hall(fault) => fault.code(),
+            ServerFault::Close(fault) => fault.code(),
+        }
+    }
+}
+
+impl fmt::Display for ServerFault {
+    ghost use Rattle.std.specs.Prelude.{Some};
+    ghost use Rattle.server.specs.FaultCodes.{server_code};
+
+    ghost output = { λ fault. Some (server_code fault) };
+
+    fn fmt<W: fmt::Write>(&self, f: &mut fmt::Formatter<W>) -> fmt::Result {
+        f.write_str(self.code())
+    }
+}
+
+impl From<Refused> for ServerFault {
+    ghost use Rattle.hall.specs.declared.faults.HallFault.TheVariants.{Memory};
+    ghost use Rattle.server.specs.declared.faults.ServerFault.TheVariants as faults;
+
+    ghost from_gives = { λ refused fault. fault ≡ faults.Hall (Memory refused) };
+
+    fn from(refused: Refused) -> Self {
+        ServerFault::Hall(HallFault::Memory(refused))
+    }
+}
+
+impl From<HallFault> for ServerFault {
+    ghost use Rattle.server.specs.declared.faults.ServerFault.TheVariants as faults;
+
+    ghost from_gives = { λ refusal fault. fault ≡ faults.Hall refusal };
+
+    fn from(refusal: HallFault) -> Self {
+        ServerFault::Hall(refusal)
+    }
+}
+
+impl From<WriteFailed> for ServerFault {
+    ghost use Rattle.server.specs.declared.faults.ServerFault.TheVariants as faults;
+
+    ghost from_gives = { λ failed fault. fault ≡ faults.Write failed };
+
+    fn from(failed: WriteFailed) -> Self {
+        ServerFault::Write(failed)
+    }
+}

@@ -1,0 +1,102 @@
+//! How a path comes to be listened on.
+
+ghost use Rattle.std.specs.Prelude.{◌++◌, codes};
+
+use crate::faults::ServerFault;
+use byte_streams::{WriteFailed, flush, let_go, write_shown};
+use memory::buffered;
+use std::alloc::Global;
+use std::fmt;
+use std::fs;
+use std::fs::{Files, Permissions};
+use std::io;
+use std::io::{ErrorKind, Print, Write};
+use std::net::Net;
+use std::os::unix::fs::{FileTypeExt, PermissionsExt};
+use std::os::unix::net::{UnixListener, UnixStream};
+
+/// Who may connect: the owner of the socket's file, and its group.
+const MODE: u32 = 0o660;
+
+/// Whether the path is a socket that nobody listens on. To find out, a connection is tried.
+fn is_stale<R: Files + Net>(rt: &R, path: &str) -> bool {
+    let Ok(metadata) = fs::symlink_metadata(rt, path) else {
+        return false;
+    };
+    if !metadata.file_type().is_socket() {
+        return false;
+    }
+    match UnixStream::connect(rt, path) {
+        Ok(_) => false,
+        Err(error) => error.kind() == ErrorKind::ConnectionRefused,
+    }
+}
+
+/// Binds a path, also where a socket stands there that nobody listens on.
+fn bind_again<R: Files + Net>(rt: &R, path: &str) -> io::Result<UnixListener> {
+    match UnixListener::bind(rt, path) {
+        Err(error) if error.kind() == ErrorKind::AddrInUse && is_stale(rt, path) => {
+            fs::remove_file(rt, path)?;
+            UnixListener::bind(rt, path)
+        }
+        bound => bound,
+    }
+}
+
+/// Listens on a path, which owner and group may connect to. Where `takeover`, a socket that nobody listens on is replaced; all else
+/// that stands there is `Bind`.
+pub(crate) fn listen<R: Files + Net>(
+    rt: &R,
+    path: &str,
+    takeover: bool,
+) -> Result<UnixListener, ServerFault> {
+    let bound = if takeover {
+        bind_again(rt, path)
+    } else {
+        UnixListener::bind(rt, path)
+    };
+    let Ok(listener) = bound else {
+        return Err(ServerFault::Bind);
+    };
+    if fs::set_permissions(rt, path, Permissions::from_mode(MODE)).is_err() {
+        let _ = fs::remove_file(rt, path);
+        return Err(ServerFault::Bind);
+    }
+    Ok(listener)
+}
+
+/// The line that tells that a path is listened on.
+struct Ready<'a> {
+    path: &'a str,
+}
+
+impl fmt::Display for Ready<'_> {
+    ghost use Rattle.std.specs.Prelude.{◌++◌, Some, codes};
+
+    ghost output = { λ ready. Some (codes "listening " ++ ready.path.now ++ codes "\n") };
+
+    fn fmt<W: fmt::Write>(&self, f: &mut fmt::Formatter<W>) -> fmt::Result {
+        f.write_str("listening ")?;
+        f.write_str(self.path)?;
+        f.write_str("\n")
+    }
+}
+
+/// Writes the line, and flushes it.
+fn write_ready<W: Write>(path: &str, writer: &mut W) -> Result<(), WriteFailed> {
+    write_shown(&Ready { path }, writer)?;
+    flush(writer)?;
+    Ok(())
+}
+
+/// Tells on standard output that a path is listened on.
+pub(crate) fn tell_ready<R: Print>(rt: &R, heap: Global, path: &str) -> Result<(), ServerFault> {
+    let mut output = buffered(heap, io::writer(rt))?;
+    match write_ready(path, &mut output) {
+        Ok(()) => Ok(()),
+        Err(failed) => {
+            let _ = let_go(output);
+            Err(ServerFault::Write(failed))
+        }
+    }
+}

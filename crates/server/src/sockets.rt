@@ -1,0 +1,150 @@
+//! A Unix socket, served.
+
+ghost use Rattle.std.specs.Prelude.{IfOk};
+ghost use Rattle.server.specs.Served.{IsServed};
+
+use crate::faults::ServerFault;
+use crate::listening::{listen, tell_ready};
+use crate::streams::{Serving, serve_streams};
+use hall::{Closed, NoGate};
+use log::{Log, warn};
+use std::alloc::Global;
+use std::fs;
+use std::fs::Files;
+use std::io;
+use std::io::Print;
+use std::net::Net;
+use std::os::unix::net::{UnixListener, UnixStream};
+use std::sync::Wait;
+use std::sync::atomic::{AtomicU64, Ordering};
+use std::thread::Threads;
+use std::time::{Clock, Duration};
+
+/// How a socket is served.
+#[derive(Clone, Copy)]
+pub struct SocketOptions<'a> {
+    /// How many connections are accepted, those counted whose accepting failed. Behind the last nobody listens any more.
+    pub connections: u16,
+    /// How many seconds a session may wait for its client, to send or to take something, before it ends by a fault; without
+    /// bound where there is none, or 0.
+    pub idle: Option<u64>,
+    /// Whether a socket that nobody listens on is replaced.
+    pub takeover: bool,
+    /// No connection is accepted any more once this is not 0 and one more comes, as `watch` has it.
+    pub ends: Option<&'a AtomicU64>,
+}
+
+/// Accepts connections, and stops listening at the last.
+#[derive(Drop)]
+struct Arrivals<'a> {
+    listener: Option<UnixListener>,
+    left: u16,
+    ends: Option<&'a AtomicU64>,
+}
+
+/// Whether no connection is to be accepted any more.
+fn has_ended(ends: Option<&AtomicU64>) -> bool {
+    match ends {
+        Some(flag) => flag.load(Ordering::SeqCst) != 0,
+        None => false,
+    }
+}
+
+impl Iterator for Arrivals<'_> {
+    ghost use Rattle.std.specs.Iterator.{at_most};
+
+    type Item = io::Result<UnixStream>;
+
+    ghost remaining = { λ arrivals. at_most arrivals.left };
+
+    fn next(&mut self) -> Option<io::Result<UnixStream>> {
+        if self.left == 0 || has_ended(self.ends) {
+            return None;
+        }
+        self.left -= 1;
+        let accepted = self.listener.as_ref()?.accept();
+        if has_ended(self.ends) {
+            self.left = 0;
+            self.listener = None;
+            return None;
+        }
+        if self.left == 0 {
+            self.listener = None;
+        }
+        match accepted {
+            Ok((stream, _)) => Some(Ok(stream)),
+            Err(error) => Some(Err(error)),
+        }
+    }
+}
+
+/// How long a call of a stream may wait; none is without bound.
+fn patience(idle: Option<u64>) -> Option<Duration> {
+    match idle {
+        None | Some(0) => None,
+        Some(seconds) => Some(Duration::from_secs(seconds)),
+    }
+}
+
+/// A stream as its reader, its writer and an empty gate.
+fn parted(
+    stream: UnixStream,
+    patience: Option<Duration>,
+) -> io::Result<(UnixStream, UnixStream, NoGate)> {
+    stream.set_read_timeout(patience)?;
+    stream.set_write_timeout(patience)?;
+    let reader = stream.try_clone()?;
+    Ok((reader, stream, NoGate))
+}
+
+/// Tells that the path is listened on, and serves what comes.
+fn serve_listener<R>(
+    rt: &R,
+    heap: Global,
+    path: &str,
+    serving: Serving,
+    options: SocketOptions<'_>,
+    listener: UnixListener,
+) -> Result<Closed, ServerFault>
+where
+    R: Threads + Wait + Clock + Log + Print + Sync,
+    ensures { IfOk result IsServed }
+{
+    tell_ready(rt, heap, path)?;
+    let arrivals = Arrivals {
+        listener: Some(listener),
+        left: options.connections,
+        ends: options.ends,
+    };
+    let patience = patience(options.idle);
+    let incoming = arrivals.filter_map(|arrived| {
+        match arrived.and_then(|stream| parted(stream, patience)) {
+            Ok(stream) => Some(stream),
+            Err(error) => {
+                warn!(rt; target: "landmap", "a connection was not accepted: {error}");
+                None
+            }
+        }
+    });
+    serve_streams(rt, heap, serving, incoming)
+}
+
+/// Binds a Unix socket, tells so by the line `listening PATH` on standard output, serves the connections that come, and removes the
+/// path. Faults: `Bind` where the path is not bound, and `Write` where the line is not written, the path being removed again; then
+/// those of `serve_streams`.
+pub fn serve_socket<R>(
+    rt: &R,
+    heap: Global,
+    path: &str,
+    serving: Serving,
+    options: SocketOptions<'_>,
+) -> Result<Closed, ServerFault>
+where
+    R: Threads + Wait + Clock + Log + Files + Net + Print + Sync,
+    ensures { IfOk result IsServed }
+{
+    let listener = listen(rt, path, options.takeover)?;
+    let served = serve_listener(rt, heap, path, serving, options, listener);
+    let _ = fs::remove_file(rt, path);
+    served
+}

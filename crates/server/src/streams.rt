@@ -1,0 +1,183 @@
+//! Streams from any source, served by threads.
+
+ghost use Rattle.std.specs.Prelude.{◌≡◌, IfOk};
+ghost use Rattle.std.specs.Iterator.{IsFinite};
+ghost use Rattle.server.specs.Served.{IsServed};
+
+use crate::faults::{ChannelRefused, ServerFault};
+use crate::workers::{tend, work};
+use crossbeam_channel::{Receiver, Sender, bounded};
+use features::Subjects;
+use hall::{Closed, Gate, Hall, LEDGER_PARTS, Seat};
+use log::{Log, warn};
+use memory::vec_with_places;
+use plain_world::SEAT_LIMIT;
+use policy_documents::Document;
+use std::alloc::Global;
+use std::io::{Read, Write};
+use std::marker::Brand;
+use std::sync::ledger::{Blank, Ledger};
+use std::sync::{Mutex, Wait};
+use std::thread;
+use std::thread::Threads;
+use std::time::Clock;
+
+/// How many workers serve where nothing else is asked.
+pub const WORKER_COUNT: usize = 4;
+
+/// How many workers serve at most.
+pub const WORKER_LIMIT: usize = 64;
+
+/// How many streams wait for a worker at most.
+const QUEUE: usize = 4;
+
+/// What a server serves, and by how many threads.
+#[derive(Debug, Drop)]
+pub struct Serving {
+    /// Who may have a seat.
+    pub subjects: Subjects,
+    /// What decides, as the first edition.
+    pub document: Document<Global>,
+    /// How many sessions are served side by side, from 1 to `WORKER_LIMIT`; another number is taken for the nearest of these.
+    pub workers: usize,
+}
+
+/// A channel down which so many messages fit.
+fn channel<T: Drop>(heap: Global, room: usize) -> Result<(Sender<T>, Receiver<T>), ServerFault> {
+    match bounded(heap, room) {
+        Ok(ends) => Ok(ends),
+        Err(_) => Err(ServerFault::Channel(ChannelRefused::seen())),
+    }
+}
+
+/// Sends what comes in down a channel. What cannot be sent, since nobody receives, is let go, and warned of.
+fn hand_out<R: Wait + Log, T: Drop, S: Iterator<Item = T> + Drop>(
+    rt: &R,
+    incoming: S,
+    streams: Sender<T>,
+)
+    requires can { S.can_next incoming }
+    requires ends { IsFinite (S.remaining incoming) }
+{
+    for stream in incoming {
+        if streams.send(rt, stream).is_err() {
+            warn!(rt; target: "landmap", "a connection was not served: there is no worker");
+        }
+    }
+}
+
+/// Serves what comes in by so many workers, and returns when all of it is served.
+fn serve_all<'h, L: Ledger + Send + Sync, R, I, O, G, S>(
+    rt: &R,
+    heap: Global,
+    hall: &'h Hall<L, Global>,
+    gathered: &Mutex<Vec<Seat<'h, L, Global>>>,
+    workers: usize,
+    ends: (Sender<(I, O, G)>, Receiver<(I, O, G)>),
+    incoming: S,
+)
+where
+    R: Threads + Wait + Log + Sync,
+    I: Read + Drop + Send,
+    O: Write + Drop + Send,
+    G: Gate + Drop + Send,
+    S: Iterator<Item = (I, O, G)> + Drop,
+    requires can { S.can_next incoming }
+    requires ends { IsFinite (S.remaining incoming) }
+{
+    let (to, from) = ends;
+    thread::scope(thread::scope_env(), rt, |scope|
+        requires can { S.can_next incoming }
+        requires ends { IsFinite (S.remaining incoming) }
+    {
+        for _ in 0..workers {
+            let Ok(streams) = from.clone() else {
+                break;
+            };
+            if scope.spawn(move || work(rt, heap, hall, gathered, streams)).is_err() {
+                warn!(rt; target: "landmap", "a worker could not be started");
+                break;
+            }
+        }
+        // Where there is no worker, a send now fails, and does not wait for one.
+        drop(from);
+        hand_out(rt, incoming, to);
+    });
+}
+
+/// Serves what comes in over a hall whose ledger has the name `L`, and closes the hall.
+fn serve_hall<L: Ledger + Send + Sync, R, I, O, G, S>(
+    rt: &R,
+    heap: Global,
+    blank: Blank,
+    serving: Serving,
+    incoming: S,
+) -> Result<Closed, ServerFault>
+where
+    R: Threads + Wait + Clock + Log + Sync,
+    I: Read + Drop + Send,
+    O: Write + Drop + Send,
+    G: Gate + Drop + Send,
+    S: Iterator<Item = (I, O, G)> + Drop,
+    requires name { blank.name ≡ L.name }
+    requires parts { (blank.parts ≡ L.parts) × (L.parts ≡ 1025) }
+    requires can { S.can_next incoming }
+    requires ends { IsFinite (S.remaining incoming) }
+    ensures { IfOk result IsServed }
+{
+    let Serving {
+        subjects,
+        document,
+        workers,
+    } = serving;
+    let workers = workers.clamp(1, WORKER_LIMIT);
+    let ends = channel(heap, QUEUE)?;
+    let (stop, stopped) = channel::<()>(heap, 1)?;
+    // All seats that a hall may give have their places before anything is served, so that none of them is lost at the end.
+    let places = vec_with_places(heap, SEAT_LIMIT)?;
+    let hall: Hall<L, Global> = match Hall::open(heap, heap, blank, subjects, document) {
+        Ok(hall) => hall,
+        Err((_document, fault)) => return Err(ServerFault::Hall(fault)),
+    };
+    let gathered = Mutex::new(places);
+    let (shared, together) = (&hall, &gathered);
+    thread::scope(thread::scope_env(), rt, |scope|
+        requires can { S.can_next incoming }
+        requires ends { IsFinite (S.remaining incoming) }
+    {
+        if scope.spawn(move || tend(rt, shared, stopped)).is_err() {
+            warn!(rt; target: "landmap", "the index is not tended");
+        }
+        serve_all(rt, heap, shared, together, workers, ends, incoming);
+        // The tending ends.
+        drop(stop);
+    });
+    match shared.close(rt, gathered.into_inner()) {
+        Ok(closed) => Ok(closed),
+        Err((fault, _seats)) => Err(ServerFault::Close(fault)),
+    }
+}
+
+/// Serves streams by workers, one after another each, beside one thread that tends the index; of each stream one session is
+/// served to its end. Returns when all streams that came in are served. A session that ends by a fault is warned of and ends
+/// alone; a stream for which there is no worker is let go. Faults: `Channel` and `Hall` before anything is served; `Close` where
+/// a seat and the records do not agree, or a seat is lost.
+pub fn serve_streams<R, I, O, G, S>(
+    rt: &R,
+    heap: Global,
+    serving: Serving,
+    incoming: S,
+) -> Result<Closed, ServerFault>
+where
+    R: Threads + Wait + Clock + Log + Sync,
+    I: Read + Drop + Send,
+    O: Write + Drop + Send,
+    G: Gate + Drop + Send,
+    S: Iterator<Item = (I, O, G)> + Drop,
+    requires can { S.can_next incoming }
+    requires ends { IsFinite (S.remaining incoming) }
+    ensures { IfOk result IsServed }
+{
+    let blank = Blank::new(LEDGER_PARTS);
+    serve_hall::<Brand, R, I, O, G, S>(rt, heap, blank, serving, incoming)
+}

@@ -1,0 +1,93 @@
+//! What each thread of a server does.
+
+use byte_streams::let_go;
+use crossbeam_channel::{Receiver, RecvTimeoutError};
+use hall::{Gate, Hall, Seat};
+use hall_sessions::attend;
+use line_streams::ServeFault;
+use log::{Log, warn};
+use memory::buffered;
+use std::alloc::Global;
+use std::io::{Read, Write};
+use std::sync::ledger::Ledger;
+use std::sync::{Mutex, Wait};
+use std::time::{Clock, Duration};
+
+/// How many milliseconds lie between two rounds of tending.
+const PAUSE: u64 = 20;
+
+/// Serves a session whose replies are gathered in a buffer. Where it ends by a fault, what is left in the buffer is not written.
+fn serve_buffered<'h, L: Ledger, R: Wait, I: Read, O: Write + Drop, G: Gate>(
+    rt: &R,
+    heap: Global,
+    hall: &'h Hall<L, Global>,
+    seats: &mut Vec<Seat<'h, L, Global>>,
+    reader: &mut I,
+    writer: O,
+    gate: &mut G,
+) -> Result<(), ServeFault> {
+    let mut writer = buffered(heap, writer)?;
+    match attend(rt, heap, heap, hall, seats, gate, reader, &mut writer) {
+        Ok(_) => Ok(()),
+        Err(fault) => {
+            let _ = let_go(writer);
+            Err(fault)
+        }
+    }
+}
+
+/// Serves one stream to its end. A fault ends this session alone, and is warned of.
+fn serve_stream<'h, L: Ledger, R: Wait + Log, I: Read + Drop, O: Write + Drop, G: Gate + Drop>(
+    rt: &R,
+    heap: Global,
+    hall: &'h Hall<L, Global>,
+    seats: &mut Vec<Seat<'h, L, Global>>,
+    stream: (I, O, G),
+) {
+    let (mut reader, writer, mut gate) = stream;
+    let ended = serve_buffered(rt, heap, hall, seats, &mut reader, writer, &mut gate);
+    if let Err(fault) = ended {
+        warn!(rt; target: "landmap", "a session ended by {fault}");
+    }
+}
+
+/// Serves streams, one after another, until no more come, and hands in the seats of their sessions.
+pub(crate) fn work<'h, L: Ledger, R: Wait + Log, I: Read + Drop, O: Write + Drop, G: Gate + Drop>(
+    rt: &R,
+    heap: Global,
+    hall: &'h Hall<L, Global>,
+    gathered: &Mutex<Vec<Seat<'h, L, Global>>>,
+    streams: Receiver<(I, O, G)>,
+) {
+    let mut seats = Vec::new(heap);
+    for _ in rt.forever() {
+        let Ok(stream) = streams.recv(rt) else {
+            break;
+        };
+        serve_stream(rt, heap, hall, &mut seats, stream);
+    }
+    if gathered.lock(rt).append(&mut seats).is_err() {
+        warn!(rt; target: "landmap", "seats are lost");
+    }
+}
+
+/// Tends in rounds, until the sender of `ends` is gone. A round that is refused is warned of, and is the last.
+pub(crate) fn tend<L: Ledger, R: Wait + Clock + Log>(
+    rt: &R,
+    hall: &Hall<L, Global>,
+    ends: Receiver<()>,
+) {
+    for _ in rt.forever() {
+        match ends.recv_timeout(rt, Duration::from_millis(PAUSE)) {
+            Ok(()) => {}
+            Err(RecvTimeoutError::Disconnected) => return,
+            Err(RecvTimeoutError::Timeout) => {
+                if let Err(fault) = hall.tend_round(rt) {
+                    warn!(rt; target: "landmap", "the index is no longer tended: {fault}");
+                    return;
+                }
+            }
+        }
+    }
+    unreachable!()
+}

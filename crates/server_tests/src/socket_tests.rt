@@ -1,0 +1,137 @@
+//! A Unix socket, served.
+use crate::servers::serving;
+use hall::Closed;
+use server::{ServerFault, SocketOptions, serve_socket};
+use std::alloc::Global;
+use std::fs;
+use std::fs::Files;
+use std::io;
+use std::io::{Read, Write};
+use std::net::{Net, Shutdown};
+use std::os::unix::net::{UnixListener, UnixStream};
+use std::process::Abort;
+use std::sync::atomic::AtomicU64;
+use std::test::Fail;
+use std::thread;
+
+/// One connection, without bounds.
+const ONE: SocketOptions<'static> = SocketOptions {
+    connections: 1,
+    idle: None,
+    takeover: false,
+    ends: None,
+};
+
+/// Connects, as soon as somebody listens.
+fn connected<R: Net>(rt: &R, path: &str) -> Option<UnixStream> {
+    for _ in 0..1_000_000 {
+        if let Ok(stream) = UnixStream::connect(rt, path) {
+            return Some(stream);
+        }
+        thread::yield_now();
+    }
+    None
+}
+
+/// What a client is told that sends these lines.
+fn told<R: Net>(rt: &R, heap: Global, path: &str, lines: &str) -> Option<String> {
+    let mut stream = connected(rt, path)?;
+    stream.write_all(lines.as_bytes()).ok()?;
+    stream.shutdown(Shutdown::Write).ok()?;
+    io::read_to_string(heap, stream).ok()
+}
+
+/// Checks that the path is free again.
+fn check_removed<R: Files + Abort>(rt: &R, path: &str) {
+    assert!(rt; fs::symlink_metadata(rt, path).is_err(), "{path} is removed");
+}
+
+#[test]
+fn a_first_point(rt: HostRuntime) -> Result<(), Fail> {
+    let heap: Global = rt.alloc();
+    let path = "server_first_point.sock";
+    let _ = fs::remove_file(&rt, path);
+    let serving = serving(&rt, heap);
+    let lines =
+        "HELLO north\nADD 1 mast POINT (3 4)\nCOMMIT\nSEARCH point(3 4)\nSEARCH POINT (3 5)\nBYE\n";
+    let (served, told) = thread::join(
+        &rt,
+        || serve_socket(&rt, heap, path, serving, ONE),
+        || told(&rt, heap, path, lines),
+    );
+    assert_eq!(rt; served, Ok(Closed { records: 3, seats: 1 }));
+    let expected =
+        "hello north\nstaged\napplied 1\nrows 1\n1 1 north mast POINT (3 4)\nrows 0\nbye\n";
+    assert_eq!(rt; told.ok_or("told")?.as_str(), expected);
+    check_removed(&rt, path);
+    Ok(())
+}
+
+#[test]
+fn a_path_that_is_taken(rt: HostRuntime) -> Result<(), Fail> {
+    let heap: Global = rt.alloc();
+    let path = "server_taken.sock";
+    let _ = fs::remove_file(&rt, path);
+    let listener = UnixListener::bind(&rt, path)?;
+    let takes_over = SocketOptions { connections: 1, idle: None, takeover: true, ends: None };
+    assert_eq!(rt; serve_socket(&rt, heap, path, serving(&rt, heap), ONE), Err(ServerFault::Bind));
+    // Somebody listens there.
+    assert_eq!(rt; serve_socket(&rt, heap, path, serving(&rt, heap), takes_over), Err(ServerFault::Bind));
+    drop(listener);
+    // Nobody does any more, but the file is still there.
+    assert_eq!(rt; serve_socket(&rt, heap, path, serving(&rt, heap), ONE), Err(ServerFault::Bind));
+    fs::remove_file(&rt, path)?;
+    Ok(())
+}
+
+#[test]
+fn a_socket_is_taken_over(rt: HostRuntime) -> Result<(), Fail> {
+    let heap: Global = rt.alloc();
+    let path = "server_left_behind.sock";
+    let _ = fs::remove_file(&rt, path);
+    drop(UnixListener::bind(&rt, path)?);
+    // Nobody is served, since the flag is set.
+    let flag = AtomicU64::new(1);
+    let options = SocketOptions { connections: 9, idle: None, takeover: true, ends: Some(&flag) };
+    assert_eq!(rt; serve_socket(&rt, heap, path, serving(&rt, heap), options), Ok(Closed { records: 0, seats: 0 }));
+    check_removed(&rt, path);
+    Ok(())
+}
+
+#[test]
+fn a_file_is_not_taken_over(rt: HostRuntime) -> Result<(), Fail> {
+    let heap: Global = rt.alloc();
+    let path = "server_plain_file";
+    fs::write(&rt, path, b"kept")?;
+    let options = SocketOptions { connections: 1, idle: None, takeover: true, ends: None };
+    assert_eq!(rt; serve_socket(&rt, heap, path, serving(&rt, heap), options), Err(ServerFault::Bind));
+    fs::remove_file(&rt, path)?;
+    Ok(())
+}
+
+/// Waits, silent, until the server ends the connection. Whether it did.
+fn is_left<R: Net>(rt: &R, path: &str) -> bool {
+    let Some(mut stream) = connected(rt, path) else {
+        return false;
+    };
+    let mut chunk = [0; 16];
+    matches!(stream.read(&mut chunk), Ok(0))
+}
+
+#[test]
+fn a_silent_client_is_left(rt: HostRuntime) -> Result<(), Fail> {
+    let heap: Global = rt.alloc();
+    let path = "server_silent.sock";
+    let _ = fs::remove_file(&rt, path);
+    let serving = serving(&rt, heap);
+    let options = SocketOptions { connections: 1, idle: Some(1), takeover: false, ends: None };
+    let (served, left) = thread::join(
+        &rt,
+        || serve_socket(&rt, heap, path, serving, options),
+        || is_left(&rt, path),
+    );
+    assert_eq!(rt; served, Ok(Closed { records: 0, seats: 0 }));
+    assert!(rt; left, "the connection ended");
+    check_removed(&rt, path);
+    Ok(())
+}

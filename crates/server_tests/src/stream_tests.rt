@@ -1,0 +1,121 @@
+//! Streams in memory, served side by side.
+use crate::memory_streams::{Meeting, Replies};
+use crate::servers::closed_by;
+use hall::{Closed, NoGate};
+use server::WORKER_COUNT;
+use std::alloc::Global;
+use std::process::Abort;
+use std::sync::Mutex;
+use std::sync::atomic::{AtomicU64, Ordering};
+use std::test::Fail;
+
+/// Compares what a session was told.
+fn check_told(rt: &impl Abort, told: Mutex<Vec<u8>>, expected: &str) {
+    assert_eq!(rt; told.into_inner().as_slice(), expected.as_bytes());
+}
+
+#[test]
+fn two_wait_for_each_other(rt: HostRuntime) -> Result<(), Fail> {
+    let heap: Global = rt.alloc();
+    let (searches, commits) = (AtomicU64::new(0), AtomicU64::new(0));
+    let (found, changed) = (Mutex::new(Vec::new(heap)), Mutex::new(Vec::new(heap)));
+    let searching = Meeting { mine: &searches, other: &commits };
+    let committing = Meeting { mine: &commits, other: &searches };
+    let streams = vec![in heap;
+        (b"HELLO north\nSEARCH POLYGON ((0 0, 4 0, 4 4, 0 4, 0 0))\n".as_slice(), Replies::kept_in(&rt, &found), searching),
+        (b"HELLO south\nADD 1 mast POINT (100 100)\nCOMMIT\n".as_slice(), Replies::kept_in(&rt, &changed), committing),
+    ]?;
+    let closed = closed_by(&rt, heap, WORKER_COUNT, streams);
+    assert_eq!(rt; closed, Closed { records: 2, seats: 2 });
+    assert_eq!(rt; searches.load(Ordering::SeqCst), Meeting::MET);
+    assert_eq!(rt; commits.load(Ordering::SeqCst), Meeting::MET);
+    check_told(&rt, found, "hello north\nrows 0\n");
+    check_told(&rt, changed, "hello south\nstaged\napplied 1\n");
+    Ok(())
+}
+
+/// A line that is longer than a line may be, and a session behind it.
+fn long_line(heap: Global) -> Result<Vec<u8>, Fail> {
+    let mut input = vec![in heap; b'?'; 70_000]?;
+    input.extend_from_slice(b"\nHELLO south\nBYE\n")?;
+    Ok(input)
+}
+
+#[test]
+fn each_ends_by_itself(rt: HostRuntime) -> Result<(), Fail> {
+    let heap: Global = rt.alloc();
+    let long = long_line(heap)?;
+    let (first, second) = (Mutex::new(Vec::new(heap)), Mutex::new(Vec::new(heap)));
+    let streams = vec![in heap;
+        (b"HELLO north\nADD 1 mast POINT (3 4)\nCOMMIT\n".as_slice(), Replies::kept_in(&rt, &first), NoGate),
+        (b"HELLO chief\nSEARCH POINT (50 50)\n".as_slice(), Replies::refused(&rt), NoGate),
+        (long.as_slice(), Replies::kept_in(&rt, &second), NoGate),
+    ]?;
+    let closed = closed_by(&rt, heap, WORKER_COUNT, streams);
+    assert_eq!(rt; closed, Closed { records: 2, seats: 3 });
+    check_told(&rt, first, "hello north\nstaged\napplied 1\n");
+    check_told(&rt, second, "error E1\nhello south\nbye\n");
+    Ok(())
+}
+
+#[test]
+fn lines_of_a_session(rt: HostRuntime) -> Result<(), Fail> {
+    let heap: Global = rt.alloc();
+    let lines = concat!(
+        "SEARCH POINT (0 0)\nHELLO nobody\nHELLO north\nHELLO north\nEXPLAIN read north mast POINT (0 0)\n",
+        "COMMIT\nPOLICY {}\nROLL\nDELETE 1 1\nCOMMIT\nABORT\nOPEN POINT (0 0)\nBYE\nHELLO south\n"
+    );
+    let replies = concat!(
+        "error E5\nerror H1\nhello north\nerror E6\nerror E2\n",
+        "error E7\nerror D2\nerror X7\nstaged\nabsent change 1\naborted\nerror E2\nbye\n"
+    );
+    let told = Mutex::new(Vec::new(heap));
+    let streams = vec![in heap; (lines.as_bytes(), Replies::kept_in(&rt, &told), NoGate)]?;
+    let closed = closed_by(&rt, heap, WORKER_COUNT, streams);
+    assert_eq!(rt; closed, Closed { records: 1, seats: 1 });
+    check_told(&rt, told, replies);
+    Ok(())
+}
+
+#[test]
+fn a_steward_governs_and_rolls(rt: HostRuntime) -> Result<(), Fail> {
+    let heap: Global = rt.alloc();
+    let lines =
+        "HELLO chief\nPOLICY {\"root\":{\"combine\":\"first-applicable\",\"policy\":\"none\",\"rules\":[]}}\nROLL\nROLL\nBYE\n";
+    let told = Mutex::new(Vec::new(heap));
+    let streams = vec![in heap; (lines.as_bytes(), Replies::kept_in(&rt, &told), NoGate)]?;
+    let closed = closed_by(&rt, heap, 1, streams);
+    assert_eq!(rt; closed, Closed { records: 1, seats: 1 });
+    let told = told.into_inner();
+    assert!(rt; told.as_slice().starts_with(b"hello chief\nedition 2\nrolled 1\n"), "the first roll");
+    assert!(rt; told.as_slice().ends_with(b"\nrolled 0\nbye\n"), "the second roll");
+    Ok(())
+}
+
+#[test]
+fn one_worker_serves_many(rt: HostRuntime) -> Result<(), Fail> {
+    let heap: Global = rt.alloc();
+    let told = Mutex::new(Vec::new(heap));
+    let mut streams = Vec::new(heap);
+    for _ in 0..12 {
+        streams.push((b"HELLO south\nBYE\n".as_slice(), Replies::kept_in(&rt, &told), NoGate))?;
+    }
+    // No worker is asked for, and one is started.
+    let closed = closed_by(&rt, heap, 0, streams);
+    assert_eq!(rt; closed, Closed { records: 0, seats: 12 });
+    check_told(&rt, told, concat!(
+        "hello south\nbye\nhello south\nbye\nhello south\nbye\nhello south\nbye\nhello south\nbye\nhello south\nbye\n",
+        "hello south\nbye\nhello south\nbye\nhello south\nbye\nhello south\nbye\nhello south\nbye\nhello south\nbye\n"
+    ));
+    Ok(())
+}
+
+#[test]
+fn nobody_comes(rt: HostRuntime) -> Result<(), Fail> {
+    let heap: Global = rt.alloc();
+    let mut streams = vec![in heap; (b"".as_slice(), Replies::refused(&rt), NoGate)]?;
+    streams.clear();
+    let closed = closed_by(&rt, heap, WORKER_COUNT, streams);
+    assert_eq!(rt; closed, Closed { records: 0, seats: 0 });
+    Ok(())
+}
