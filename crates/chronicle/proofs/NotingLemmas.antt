@@ -1,14 +1,17 @@
 -- What a call that writes a record makes of a chronicle.
-use Rattle.std.proofs.Common.{◌≡◌, ◌≢◌, ◌<◌, ◌≤◌, ℕ, ◌+◌, ◌==◌, Bool, true, false, List, [], ◌∷◌, ◌++◌, length, map, Some, Result, Ok, Err, refl, sym, ap, subst, ◌∙◌, if◌then◌else◌, arith}
-use Rattle.std.specs.Prelude.{IfOk, OnErr}
+use Rattle.std.proofs.Common.{◌≡◌, ◌≢◌, ◌<◌, ◌≤◌, ℕ, ◌+◌, ◌==◌, Bool, true, false, List, [], ◌∷◌, ◌++◌, length, map, nat_eq, Option, None, Some, Result, Ok, Err, refl, sym, ap, subst, ◌∙◌, if◌then◌else◌, arith}
+use Rattle.std.specs.Prelude.{IfOk, OnErr, nat_le}
+use Rattle.std.specs.Cmp.Lexicographic.{pointwise}
+use Rattle.std.proofs.lemmas.Slice.Eq.{bytes_eq-Decides}
 use Rattle.plane.specs.declared.point.Point.{Point}
 use Rattle.features.specs.declared.actors.Subject.{Subject}
 use Rattle.features.specs.declared.rows.Change.{Change}
+use Rattle.features.specs.Subjects.{subject_named}
 use Rattle.policy_documents.specs.Documents.{DocumentData}
 use Rattle.decision.specs.Deciders.{DeciderData}
 use Rattle.audit_trail.specs.Legal.{IsSeated, after_deed}
 use Rattle.audit_trail.specs.Records.{DeedData, answered, governed, PlainState, RecordData}
-use Rattle.plain_world.specs.Admitting.{given, may_go_on, may_sit, own_search, owned, search_with, subject_at}
+use Rattle.plain_world.specs.Admitting.{given, may_go_on, may_sit, own_search, owned, placed, search_with, subject_at}
 use Rattle.plain_world.specs.Answers.{AnswerData}
 use Rattle.plain_world.specs.Events.{Commit, Ended, Finish, Govern, Happens, Number, Refused, Reply, Roll, Rows, TakenOut, TakeSeat, reply_of}
 use Rattle.plain_world.specs.Laws.{AddsAlone, HasOneMore, deed_of}
@@ -39,11 +42,36 @@ number_same a b e = cc
 
 -- Seats.
 
+-- the subject that is found by a name has it
+named_so : (name : List ℕ) (subjects : List Subject) (subject : Subject) → subject_named name subjects ≡ Some subject → subject.name ≡ name
+named_so name [] subject e = absurd cc
+named_so name (s ∷ ss) subject e = go (named_so name ss subject) (pointwise nat_eq s.name name) refl e
+  where
+    same : (x y : Subject) → Some x ≡ Some y → y ≡ x
+    same x y h = cc
+
+    go : (subject_named name ss ≡ Some subject → subject.name ≡ name) → (b : Bool) → pointwise nat_eq s.name name ≡ b
+        → (if b then Some s else subject_named name ss) ≡ Some subject → subject.name ≡ name
+    go rest true is e = ap (λ (x : Subject). x.name) (same s subject e) ∙ (bytes_eq-Decides s.name name).0 is
+    go rest false is e = rest e
+
+-- who may sit has the name
+sat_by_name : (name : List ℕ) (w : WorldData) (subject : Subject) → may_sit name w ≡ Ok subject → subject.name ≡ name
+sat_by_name name w subject e = go (subject_named name w.subjects) refl e
+  where
+    full : (b : Bool) (x : Subject) → ◌≡◌ {A = Result Subject Fault} (if b then Err faults.NoPlace else Ok x) (Ok subject) → x ≡ subject
+    full true x e = absurd cc
+    full false x e = cc
+
+    go : (o : Option Subject) → subject_named name w.subjects ≡ o → placed (length w.seats) o ≡ Ok subject → subject.name ≡ name
+    go None is e = absurd cc
+    go (Some x) is e = ap (λ (y : Subject). y.name) (sym (full (nat_le SEAT_LIMIT (length w.seats)) x e)) ∙ named_so name w.subjects x is
+
 pub seat_given : (rolled : List RecordData) (name : List ℕ) (old new : WorldData) (result : Result ℕ Fault) → Happens (TakeSeat name) old new (reply_of Number result)
-    → IfOk result (λ number. number ≤ SEAT_LIMIT) → IfOk result (λ number. IsSeatGiven number (seen rolled old) (seen rolled new))
+    → IfOk result (λ number. number ≤ SEAT_LIMIT) → IfOk result (λ number. IsSeatGiven name number (seen rolled old) (seen rolled new))
 seat_given rolled name old new (Ok number) happens few =
     let d = admitted (may_sit name old) old new (Number number) _ refl happens in
-    record { next = number_same number (length old.seats + 1) d.2.1; few = few; subject = d.0; given = ap (seen rolled) d.2.0 }
+    record { next = number_same number (length old.seats + 1) d.2.1; few = few; subject = d.0; named = sat_by_name name old d.0 d.1; given = ap (seen rolled) d.2.0 }
 seat_given rolled name old new (Err fault) happens few = tt
 
 pub seat_refused : (rolled : List RecordData) (name : List ℕ) (old new : WorldData) (result : Result ℕ Fault) → Happens (TakeSeat name) old new (reply_of Number result)

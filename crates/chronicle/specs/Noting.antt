@@ -16,11 +16,12 @@ use Rattle.chronicle.specs.Chronicles.{ChronicleData, noted, governed_by}
 abbrev pub told_answer : AnswerData → DeedData
 told_answer answer = answered answer.subject answer.window (map (λ row. row.id) answer.rows) (map (λ row. row.version) answer.rows)
 
--- a seat was given, with the next number
-pub record IsSeatGiven (number : ℕ) (old new : ChronicleData) : Type 0 where
+-- a seat was given to a subject of this name, with the next number
+pub record IsSeatGiven (name : List ℕ) (number : ℕ) (old new : ChronicleData) : Type 0 where
   pub next : number ≡ length old.seats + 1
   pub few : number ≤ SEAT_LIMIT
   pub subject : Subject
+  pub named : subject.name ≡ name
   pub given : new ≡ record old { seats = old.seats ++ subject ∷ [] }
 
 -- a seat's subject was answered for this window, by the decider in force, and the record tells just that

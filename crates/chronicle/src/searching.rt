@@ -13,7 +13,7 @@ impl<A: Allocator> Chronicle<A> {
     /// Gives a seat to the subject of a name, and answers its number, from 1. X13 where there is no such subject, X14
     /// where all seats are given, X12 where a growth is refused.
     pub fn seat(&mut self, name: Name) -> Result<u32, Fault>
-        ensures ok { IfOk result (λ number. IsSeatGiven number self.old self.new) }
+        ensures ok { IfOk result (λ number. IsSeatGiven name number self.old self.new) }
         ensures err { OnErr result (self.new ≡ self.old) }
     {
         self.world.seat(name)

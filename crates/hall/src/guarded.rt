@@ -139,7 +139,8 @@ impl<L: Ledger, A: Allocator> Guarded<L, A> {
     /// Gives a seat, with the subject of the name and a part of the ledger. H3 where the hall is closed, H1 where there is
     /// no such subject, H2 where all seats are given, H5 where a growth is refused.
     pub(crate) fn seat(&mut self, name: Name) -> Result<(u32, Subject, Share<L>), HallFault>
-        ensures { IfOk result (λ given. (given.2.parts ≡ 1) × (given.2.amount ≡ 0)) }
+        ensures share { IfOk result (λ given. (given.2.parts ≡ 1) × (given.2.amount ≡ 0)) }
+        ensures named { IfOk result (λ given. given.1.name ≡ name) }
     {
         let Guarded {
             chronicle,

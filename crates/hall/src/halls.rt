@@ -57,7 +57,8 @@ impl<L: Ledger, A: Allocator + Copy> Hall<L, A> {
     /// Gives a seat to the subject of a name. H3 where the hall is closed, H1 where there is no such subject, H2 where all seats
     /// are given, H5 where a growth is refused.
     pub fn seat<'h, W: Wait>(&'h self, rt: &W, name: Name) -> Result<Seat<'h, L, A>, HallFault>
-        ensures { IfOk result (λ seat. seat.receipts ≡ []) }
+        ensures named { IfOk result (λ seat. seat.subject.name ≡ name) }
+        ensures receipts { IfOk result (λ seat. seat.receipts ≡ []) }
     {
         let (number, subject, share) = self.lock.lock(rt).seat(name)?;
         Ok(Seat {

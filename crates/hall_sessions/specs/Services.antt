@@ -33,7 +33,7 @@ CallsSeat {T = T} show Changes old new said =
 abbrev pub Begins : List ℕ → SessionData → SessionData → SaidData → Type 0
 Begins name old new said =
     (end : Result SeatData HallFault) × (said ≡ told (λ seat. line (Greets name)) end)
-    × MatchResult end (λ seat. (seat.receipts ≡ []) × (new ≡ session (length old.seats) (old.seats ++ seat ∷ []))) (λ fault. new ≡ old)
+    × MatchResult end (λ seat. (seat.subject.name ≡ name) × (seat.receipts ≡ []) × (new ≡ session (length old.seats) (old.seats ++ seat ∷ []))) (λ fault. new ≡ old)
 
 -- What a call makes of a session and what is said. A search, a commit and a govern that succeed leave one receipt more, and what
 -- is said is what the receipt tells; the trail taken out leaves none.

@@ -66,6 +66,7 @@ pub(crate) fn listen<R: Files + Net>(
 }
 
 /// The line that tells that a path is listened on.
+#[derive(Drop)]
 struct Ready<'a> {
     path: &'a str,
 }

@@ -22,7 +22,7 @@ invariant_of-self g c =
 pub returns-clause-ok : goal.returns-clause-ok
 returns-clause-ok g c =
     let rolled = records_in (map arc_value c.self.inside.pieces.items) in
-    subst (λ (d : ChronicleData). IfOk c.seat.result (λ number. IsSeatGiven number d (seen rolled c.seat.new.self.plain))) c.self.view_is
+    subst (λ (d : ChronicleData). IfOk c.seat.result (λ number. IsSeatGiven c.args.name number d (seen rolled c.seat.new.self.plain))) c.self.view_is
     (seat_given rolled c.args.name c.self.inside.world.plain c.seat.new.self.plain c.seat.result c.seat.ensures.happens c.seat.ensures.few)
 
 pub returns-clause-err : goal.returns-clause-err
