@@ -36,6 +36,11 @@ u64_send = plain_send _ _ _ _ _
 pub u64_sync : IsSync u64
 u64_sync = plain_sync _ _ _ _ _
 
+-- the fields of a struct, or the variants of an enum, one behind another, with `tt` at the end
+infixr 4 ◌&◌
+pub ◌&◌ : {A B : Type 0} → A → B → A × B
+first & others = (first, others)
+
 -- a struct with a model crosses as its fields do
 module _ (T : Declared) {D : Type 0} {code : Coded D} {view : (row T).Denot → D} {holds : (row T).Denot → Type 0} where
   pub model_send : AllSend (shape T).fields → IsSend (View (row T) D code view holds)
@@ -60,15 +65,11 @@ module _ (A : RattleType) (g : Ghosts A.Denot) where
   pub document_send : IsSend A → Frees g g.dealloc_token → IsSend (Document.the_row A g)
   document_send s f =
       let hashes = builder.the_send _ hasher.the_send in
-      model_send (inside.the_type A g) (
-        map.the_send _ _ _ _ FoldHasher.the_row _ _ _ _ g zone_name.the_send area.the_send hashes s f,
-        (node_send s f, tt),
-      )
+      let zones = map.the_send _ _ _ A FoldHasher.the_row _ _ _ _ g zone_name.the_send area.the_send hashes s f in
+      model_send (inside.the_type A g) (zones & node_send s f & tt)
 
   pub document_sync : IsSync A → IsSync (Document.the_row A g)
   document_sync y =
       let hashes = builder.the_sync _ hasher.the_sync in
-      model_sync (inside.the_type A g) (
-        map.the_sync _ _ _ _ FoldHasher.the_row _ _ _ _ g zone_name.the_sync area.the_sync hashes y,
-        (node_sync y, tt),
-      )
+      let zones = map.the_sync _ _ _ A FoldHasher.the_row _ _ _ _ g zone_name.the_sync area.the_sync hashes y in
+      model_sync (inside.the_type A g) (zones & node_sync y & tt)
