@@ -86,23 +86,30 @@ where
     requires ends { IsFinite (S.remaining incoming) }
 {
     let (to, from) = ends;
-    thread::scope(thread::scope_env(), rt, |scope|
-        requires can { S.can_next incoming }
-        requires ends { IsFinite (S.remaining incoming) }
-    {
-        for _ in 0..workers {
-            let Ok(streams) = from.clone() else {
-                break;
-            };
-            if scope.spawn(move || work(rt, heap, hall, gathered, streams)).is_err() {
-                warn!(rt; target: "landmap", "a worker could not be started");
-                break;
+    thread::scope(
+        thread::scope_env(),
+        rt,
+        |scope|
+            requires can { S.can_next incoming }
+            requires ends { IsFinite (S.remaining incoming) }
+        {
+            for _ in 0..workers {
+                let Ok(streams) = from.clone() else {
+                    break;
+                };
+                if scope
+                    .spawn(move || work(rt, heap, hall, gathered, streams))
+                    .is_err()
+                {
+                    warn!(rt; target: "landmap", "a worker could not be started");
+                    break;
+                }
             }
-        }
-        // Where there is no worker, a send now fails, and does not wait for one.
-        drop(from);
-        hand_out(rt, incoming, to);
-    });
+            // Where there is no worker, a send now fails, and does not wait for one.
+            drop(from);
+            hand_out(rt, incoming, to);
+        },
+    );
 }
 
 /// Serves what comes in over a hall whose ledger has the name `L`, and closes the hall.
@@ -141,17 +148,21 @@ where
     };
     let gathered = Mutex::new(places);
     let (shared, together) = (&hall, &gathered);
-    thread::scope(thread::scope_env(), rt, |scope|
-        requires can { S.can_next incoming }
-        requires ends { IsFinite (S.remaining incoming) }
-    {
-        if scope.spawn(move || tend(rt, shared, stopped)).is_err() {
-            warn!(rt; target: "landmap", "the index is not tended");
-        }
-        serve_all(rt, heap, shared, together, workers, ends, incoming);
-        // The tending ends.
-        drop(stop);
-    });
+    thread::scope(
+        thread::scope_env(),
+        rt,
+        |scope|
+            requires can { S.can_next incoming }
+            requires ends { IsFinite (S.remaining incoming) }
+        {
+            if scope.spawn(move || tend(rt, shared, stopped)).is_err() {
+                warn!(rt; target: "landmap", "the index is not tended");
+            }
+            serve_all(rt, heap, shared, together, workers, ends, incoming);
+            // The tending ends.
+            drop(stop);
+        },
+    );
     match shared.close(rt, gathered.into_inner()) {
         Ok(closed) => Ok(closed),
         Err((fault, _seats)) => Err(ServerFault::Close(fault)),
