@@ -4,3 +4,4 @@ pub mod JudgingLemmas
 pub mod AcceptedLemmas
 pub mod LineLemmas
 pub mod EqualLemmas
+pub mod CrossingLemmas

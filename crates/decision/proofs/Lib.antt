@@ -4,3 +4,4 @@ pub mod FinishLemmas
 pub mod RunLemmas
 pub mod CompileLemmas
 pub mod KnownLemmas
+pub mod CrossingLemmas

@@ -16,3 +16,4 @@ pub mod FindingLemmas
 pub mod EventLemmas
 pub mod SettingsLemmas
 pub mod GoingOnLemmas
+pub mod CrossingLemmas

@@ -3,3 +3,4 @@ pub mod RuleLemmas
 pub mod ZoneLemmas
 pub mod EqualLemmas
 pub mod RowLemmas
+pub mod CrossingLemmas

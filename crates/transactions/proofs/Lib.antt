@@ -10,3 +10,4 @@ pub mod WorldLemmas
 pub mod AdvanceLemmas
 pub mod TendLemmas
 pub mod WorkedRunLemmas
+pub mod CrossingLemmas

@@ -1,0 +1,51 @@
+-- Chronicles may cross threads as their allocator may.
+use denote.Param.Send.{IsSend, IsSync, Frees, arg_send, mut_send, param_send, recorded_send, shr_send, struct_send}
+use denote.RattleType.{RattleType}
+use Rattle.std.specs.declared.alloc.Allocator.{Ghosts}
+use Rattle.std.specs.contracts.alloc.Global.{the_row as heap}
+use Rattle.std.specs.contracts.impls.GlobalAllocator.TheImpl.{ghosts}
+use Rattle.std.proofs.Crossing.{send, sync, frees}
+use Rattle.std.proofs.sync.Arc.TheSendSync as arc
+use Rattle.std.proofs.vec.Vec.TheSendSync as vec
+use Rattle.policy_documents.proofs.CrossingLemmas.{◌&◌, u32_send, model_send}
+use Rattle.decision.proofs.CrossingLemmas.{decider_send, decider_sync}
+use Rattle.audit_trail.proofs.CrossingLemmas.{record_send, record_sync}
+use Rattle.audit_trail.specs.contracts.records.Record as Record
+use Rattle.plain_world.proofs.CrossingLemmas.{answer_send, denial_send, outcome_send, rolled_send, rolled_sync}
+use Rattle.plain_world.specs.contracts.answers.Answer as Answer
+use Rattle.plain_world.specs.contracts.rolling.Rolled as Rolled
+use Rattle.transactions.proofs.CrossingLemmas.{world_send}
+use Rattle.chronicle.specs.contracts.chronicles.Chronicle as Chronicle
+use Rattle.chronicle.specs.contracts.chronicles.Chronicle.TheInside as inside
+
+module _ (A : RattleType) (g : Ghosts A.Denot) (s : IsSend A) (y : IsSync A) (f : Frees g g.dealloc_token) where
+  pub chronicle_send : IsSend (Chronicle.the_row A g)
+  chronicle_send =
+      let piece = arc.the_send _ A g (rolled_send A g s y f) s (rolled_sync A g s y f) y f in
+      let pieces = vec.the_send _ A g piece s f in
+      model_send (inside.the_type A g) (world_send A g s y f & pieces & u32_send & tt)
+
+-- those in the heap, without premises
+pub heap_record_send : IsSend (Record.the_row heap ghosts)
+heap_record_send = record_send heap ghosts send frees
+
+pub heap_record_sync : IsSync (Record.the_row heap ghosts)
+heap_record_sync = record_sync heap ghosts sync
+
+pub heap_rolled_send : IsSend (Rolled.the_row heap ghosts)
+heap_rolled_send = rolled_send heap ghosts send sync frees
+
+pub heap_rolled_sync : IsSync (Rolled.the_row heap ghosts)
+heap_rolled_sync = rolled_sync heap ghosts send sync frees
+
+pub heap_answer_send : IsSend (Answer.the_row heap ghosts)
+heap_answer_send = answer_send heap ghosts send frees
+
+pub heap_chronicle_send : IsSend (Chronicle.the_row heap ghosts)
+heap_chronicle_send = chronicle_send heap ghosts send sync frees
+
+-- A function that hands what it has to a thread answers the goal of this by `search` with these two sets: the types that
+-- come from a chronicle, and how a closure crosses as what it has captured does.
+pub ruleset crosses = (heap_chronicle_send, heap_rolled_send, heap_rolled_sync, heap_record_send, heap_record_sync, heap_answer_send, denial_send, outcome_send, decider_send, decider_sync)
+
+pub ruleset captured = (◌&◌, tt, param_send, arg_send, recorded_send, struct_send, shr_send, mut_send)
