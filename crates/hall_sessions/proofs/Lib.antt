@@ -1,2 +1,1 @@
 pub mod SeatLemmas
-pub mod LentLemmas

@@ -2,9 +2,7 @@
 #![tactic(auto)]
 
 mod attended;
-mod attending;
 mod replies;
 
 pub use attended::Attended;
-pub use attending::attend;
 pub use replies::hall_reply;

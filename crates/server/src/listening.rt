@@ -6,14 +6,12 @@ use crate::faults::ServerFault;
 use byte_streams::{WriteFailed, flush, let_go, write_shown};
 use memory::buffered;
 use std::alloc::Global;
-use std::fmt;
-use std::fs;
 use std::fs::{Files, Permissions};
-use std::io;
 use std::io::{ErrorKind, Print, Write};
 use std::net::Net;
 use std::os::unix::fs::{FileTypeExt, PermissionsExt};
 use std::os::unix::net::{UnixListener, UnixStream};
+use std::{fmt, fs, io};
 
 /// Who may connect: the owner of the socket's file, and its group.
 const MODE: u32 = 0o660;

@@ -9,9 +9,7 @@ use crate::streams::{Serving, serve_streams};
 use hall::{Closed, NoGate};
 use log::{Log, warn};
 use std::alloc::Global;
-use std::fs;
 use std::fs::Files;
-use std::io;
 use std::io::Print;
 use std::net::Net;
 use std::os::unix::net::{UnixListener, UnixStream};
@@ -19,6 +17,7 @@ use std::sync::Wait;
 use std::sync::atomic::{AtomicU64, Ordering};
 use std::thread::Threads;
 use std::time::{Clock, Duration};
+use std::{fs, io};
 
 /// How a socket is served.
 #[derive(Clone, Copy)]

@@ -86,23 +86,70 @@ where
     requires ends { IsFinite (S.remaining incoming) }
 {
     let (to, from) = ends;
-    thread::scope(thread::scope_env(), rt, |scope|
-        requires can { S.can_next incoming }
-        requires ends { IsFinite (S.remaining incoming) }
-    {
-        for _ in 0..workers {
-            let Ok(streams) = from.clone() else {
-                break;
-            };
-            if scope.spawn(move || work(rt, heap, hall, gathered, streams)).is_err() {
-                warn!(rt; target: "landmap", "a worker could not be started");
-                break;
+    thread::scope(
+        thread::scope_env(),
+        rt,
+        |scope|
+            requires can { S.can_next incoming }
+            requires ends { IsFinite (S.remaining incoming) }
+        {
+            for _ in 0..workers {
+                let Ok(streams) = from.clone() else {
+                    break;
+                };
+                if scope
+                    .spawn(move || work(rt, heap, hall, gathered, streams))
+                    .is_err()
+                {
+                    warn!(rt; target: "landmap", "a worker could not be started");
+                    break;
+                }
             }
-        }
-        // Where there is no worker, a send now fails, and does not wait for one.
-        drop(from);
-        hand_out(rt, incoming, to);
-    });
+            // Where there is no worker, a send now fails, and does not wait for one.
+            drop(from);
+            hand_out(rt, incoming, to);
+        },
+    );
+}
+
+/// Serves what comes in by so many workers, beside one thread that tends the index. Answers the seats of all sessions.
+fn serve_tended<'h, L: Ledger + Send + Sync, R, I, O, G, S>(
+    rt: &R,
+    heap: Global,
+    hall: &'h Hall<L, Global>,
+    workers: usize,
+    incoming: S,
+) -> Result<Vec<Seat<'h, L, Global>>, ServerFault>
+where
+    R: Threads + Wait + Clock + Log + Sync,
+    I: Read + Drop + Send,
+    O: Write + Drop + Send,
+    G: Gate + Drop + Send,
+    S: Iterator<Item = (I, O, G)> + Drop,
+    requires can { S.can_next incoming }
+    requires ends { IsFinite (S.remaining incoming) }
+{
+    let streams = channel(heap, QUEUE)?;
+    let (stop, stopped) = channel::<()>(heap, 1)?;
+    // All seats that a hall may give have their places before anything is served, so that none of them is lost at the end.
+    let gathered = Mutex::new(vec_with_places(heap, SEAT_LIMIT)?);
+    let seats = &gathered;
+    thread::scope(
+        thread::scope_env(),
+        rt,
+        |scope|
+            requires can { S.can_next incoming }
+            requires ends { IsFinite (S.remaining incoming) }
+        {
+            if scope.spawn(move || tend(rt, hall, stopped)).is_err() {
+                warn!(rt; target: "landmap", "the index is not tended");
+            }
+            serve_all(rt, heap, hall, seats, workers, streams, incoming);
+            // The tending ends.
+            drop(stop);
+        },
+    );
+    Ok(gathered.into_inner())
 }
 
 /// Serves what comes in over a hall whose ledger has the name `L`, and closes the hall.
@@ -131,28 +178,13 @@ where
         workers,
     } = serving;
     let workers = workers.clamp(1, WORKER_LIMIT);
-    let ends = channel(heap, QUEUE)?;
-    let (stop, stopped) = channel::<()>(heap, 1)?;
-    // All seats that a hall may give have their places before anything is served, so that none of them is lost at the end.
-    let places = vec_with_places(heap, SEAT_LIMIT)?;
     let hall: Hall<L, Global> = match Hall::open(heap, heap, blank, subjects, document) {
         Ok(hall) => hall,
         Err((_document, fault)) => return Err(ServerFault::Hall(fault)),
     };
-    let gathered = Mutex::new(places);
-    let (shared, together) = (&hall, &gathered);
-    thread::scope(thread::scope_env(), rt, |scope|
-        requires can { S.can_next incoming }
-        requires ends { IsFinite (S.remaining incoming) }
-    {
-        if scope.spawn(move || tend(rt, shared, stopped)).is_err() {
-            warn!(rt; target: "landmap", "the index is not tended");
-        }
-        serve_all(rt, heap, shared, together, workers, ends, incoming);
-        // The tending ends.
-        drop(stop);
-    });
-    match shared.close(rt, gathered.into_inner()) {
+    let shared = &hall;
+    let seats = serve_tended(rt, heap, shared, workers, incoming)?;
+    match shared.close(rt, seats) {
         Ok(closed) => Ok(closed),
         Err((fault, _seats)) => Err(ServerFault::Close(fault)),
     }

@@ -3,10 +3,11 @@
 use byte_streams::let_go;
 use crossbeam_channel::{Receiver, RecvTimeoutError};
 use hall::{Gate, Hall, Seat};
-use hall_sessions::attend;
+use hall_sessions::Attended;
 use line_streams::ServeFault;
 use log::{Log, warn};
 use memory::buffered;
+use session_lines::serve;
 use std::alloc::Global;
 use std::io::{Read, Write};
 use std::sync::ledger::Ledger;
@@ -27,7 +28,8 @@ fn serve_buffered<'h, L: Ledger, R: Wait, I: Read, O: Write + Drop, G: Gate>(
     gate: &mut G,
 ) -> Result<(), ServeFault> {
     let mut writer = buffered(heap, writer)?;
-    match attend(rt, heap, heap, hall, seats, gate, reader, &mut writer) {
+    let mut attended = Attended::new(rt, hall, seats, gate);
+    match serve(heap, heap, &mut attended, reader, &mut writer) {
         Ok(_) => Ok(()),
         Err(fault) => {
             let _ = let_go(writer);

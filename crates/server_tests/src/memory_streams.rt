@@ -1,10 +1,9 @@
 //! Streams in memory, and gates that wait for each other.
 use hall::Gate;
-use std::io;
 use std::io::{ErrorKind, Write};
 use std::sync::atomic::{AtomicU64, Ordering};
 use std::sync::{Mutex, Wait};
-use std::thread;
+use std::{io, thread};
 
 /// How many turns a gate waits at most.
 const TURNS: u32 = 1_000_000;

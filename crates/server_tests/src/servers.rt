@@ -1,9 +1,9 @@
 //! What the tests serve.
+use features::{Name, Subject, Subjects};
 use hall::{Closed, Gate};
 use log::Log;
 use policy_text::{Document, read_document};
 use server::{Serving, WORKER_COUNT, serve_streams};
-use sessions::built_in_subjects;
 use std::alloc::Global;
 use std::io::{Read, Write};
 use std::process::Abort;
@@ -23,16 +23,40 @@ fn open_document(rt: &impl Abort, heap: Global) -> Document<Global> {
     }
 }
 
-/// The built-in subjects, to whom everything is permitted, and so many workers.
+/// A subject with an office of its own name.
+fn subject(rt: &impl Abort, name: &[u8], steward: bool) -> Subject {
+    let name = Name::new(name).expect(rt, "a name");
+    Subject {
+        name,
+        office: name,
+        role: name,
+        steward,
+    }
+}
+
+/// Two editors, `north` and `south`, and the steward `chief`.
+fn three_subjects(rt: &impl Abort) -> Subjects {
+    let subjects = [
+        subject(rt, b"north", false),
+        subject(rt, b"south", false),
+        subject(rt, b"chief", true),
+    ];
+    match Subjects::new(&subjects) {
+        Ok(subjects) => subjects,
+        Err(_) => panic!(rt; "no subjects"),
+    }
+}
+
+/// Three subjects, to whom everything is permitted, and so many workers.
 pub fn serving_by(rt: &impl Abort, heap: Global, workers: usize) -> Serving {
     Serving {
-        subjects: built_in_subjects(),
+        subjects: three_subjects(rt),
         document: open_document(rt, heap),
         workers,
     }
 }
 
-/// The built-in subjects, to whom everything is permitted.
+/// Three subjects, to whom everything is permitted.
 pub fn serving(rt: &impl Abort, heap: Global) -> Serving {
     serving_by(rt, heap, WORKER_COUNT)
 }

@@ -3,16 +3,14 @@ use crate::servers::serving;
 use hall::Closed;
 use server::{ServerFault, SocketOptions, serve_socket};
 use std::alloc::Global;
-use std::fs;
 use std::fs::Files;
-use std::io;
 use std::io::{Read, Write};
 use std::net::{Net, Shutdown};
 use std::os::unix::net::{UnixListener, UnixStream};
 use std::process::Abort;
 use std::sync::atomic::AtomicU64;
 use std::test::Fail;
-use std::thread;
+use std::{fs, io, thread};
 
 /// One connection, without bounds.
 const ONE: SocketOptions<'static> = SocketOptions {
@@ -43,7 +41,10 @@ fn told<R: Net>(rt: &R, heap: Global, path: &str, lines: &str) -> Option<String>
 
 /// Checks that the path is free again.
 fn check_removed<R: Files + Abort>(rt: &R, path: &str) {
-    assert!(rt; fs::symlink_metadata(rt, path).is_err(), "{path} is removed");
+    assert!(rt;
+        fs::symlink_metadata(rt, path).is_err(),
+        "{path} is removed"
+    );
 }
 
 #[test]
@@ -59,7 +60,13 @@ fn a_first_point(rt: HostRuntime) -> Result<(), Fail> {
         || serve_socket(&rt, heap, path, serving, ONE),
         || told(&rt, heap, path, lines),
     );
-    assert_eq!(rt; served, Ok(Closed { records: 3, seats: 1 }));
+    assert_eq!(rt;
+        served,
+        Ok(Closed {
+            records: 3,
+            seats: 1
+        })
+    );
     let expected =
         "hello north\nstaged\napplied 1\nrows 1\n1 1 north mast POINT (3 4)\nrows 0\nbye\n";
     assert_eq!(rt; told.ok_or("told")?.as_str(), expected);
@@ -73,13 +80,27 @@ fn a_path_that_is_taken(rt: HostRuntime) -> Result<(), Fail> {
     let path = "server_taken.sock";
     let _ = fs::remove_file(&rt, path);
     let listener = UnixListener::bind(&rt, path)?;
-    let takes_over = SocketOptions { connections: 1, idle: None, takeover: true, ends: None };
-    assert_eq!(rt; serve_socket(&rt, heap, path, serving(&rt, heap), ONE), Err(ServerFault::Bind));
+    let takes_over = SocketOptions {
+        connections: 1,
+        idle: None,
+        takeover: true,
+        ends: None,
+    };
+    assert_eq!(rt;
+        serve_socket(&rt, heap, path, serving(&rt, heap), ONE),
+        Err(ServerFault::Bind)
+    );
     // Somebody listens there.
-    assert_eq!(rt; serve_socket(&rt, heap, path, serving(&rt, heap), takes_over), Err(ServerFault::Bind));
+    assert_eq!(rt;
+        serve_socket(&rt, heap, path, serving(&rt, heap), takes_over),
+        Err(ServerFault::Bind)
+    );
     drop(listener);
     // Nobody does any more, but the file is still there.
-    assert_eq!(rt; serve_socket(&rt, heap, path, serving(&rt, heap), ONE), Err(ServerFault::Bind));
+    assert_eq!(rt;
+        serve_socket(&rt, heap, path, serving(&rt, heap), ONE),
+        Err(ServerFault::Bind)
+    );
     fs::remove_file(&rt, path)?;
     Ok(())
 }
@@ -92,8 +113,19 @@ fn a_socket_is_taken_over(rt: HostRuntime) -> Result<(), Fail> {
     drop(UnixListener::bind(&rt, path)?);
     // Nobody is served, since the flag is set.
     let flag = AtomicU64::new(1);
-    let options = SocketOptions { connections: 9, idle: None, takeover: true, ends: Some(&flag) };
-    assert_eq!(rt; serve_socket(&rt, heap, path, serving(&rt, heap), options), Ok(Closed { records: 0, seats: 0 }));
+    let options = SocketOptions {
+        connections: 9,
+        idle: None,
+        takeover: true,
+        ends: Some(&flag),
+    };
+    assert_eq!(rt;
+        serve_socket(&rt, heap, path, serving(&rt, heap), options),
+        Ok(Closed {
+            records: 0,
+            seats: 0
+        })
+    );
     check_removed(&rt, path);
     Ok(())
 }
@@ -103,8 +135,16 @@ fn a_file_is_not_taken_over(rt: HostRuntime) -> Result<(), Fail> {
     let heap: Global = rt.alloc();
     let path = "server_plain_file";
     fs::write(&rt, path, b"kept")?;
-    let options = SocketOptions { connections: 1, idle: None, takeover: true, ends: None };
-    assert_eq!(rt; serve_socket(&rt, heap, path, serving(&rt, heap), options), Err(ServerFault::Bind));
+    let options = SocketOptions {
+        connections: 1,
+        idle: None,
+        takeover: true,
+        ends: None,
+    };
+    assert_eq!(rt;
+        serve_socket(&rt, heap, path, serving(&rt, heap), options),
+        Err(ServerFault::Bind)
+    );
     fs::remove_file(&rt, path)?;
     Ok(())
 }
@@ -124,13 +164,24 @@ fn a_silent_client_is_left(rt: HostRuntime) -> Result<(), Fail> {
     let path = "server_silent.sock";
     let _ = fs::remove_file(&rt, path);
     let serving = serving(&rt, heap);
-    let options = SocketOptions { connections: 1, idle: Some(1), takeover: false, ends: None };
+    let options = SocketOptions {
+        connections: 1,
+        idle: Some(1),
+        takeover: false,
+        ends: None,
+    };
     let (served, left) = thread::join(
         &rt,
         || serve_socket(&rt, heap, path, serving, options),
         || is_left(&rt, path),
     );
-    assert_eq!(rt; served, Ok(Closed { records: 0, seats: 0 }));
+    assert_eq!(rt;
+        served,
+        Ok(Closed {
+            records: 0,
+            seats: 0
+        })
+    );
     assert!(rt; left, "the connection ended");
     check_removed(&rt, path);
     Ok(())

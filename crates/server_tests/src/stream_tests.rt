@@ -19,14 +19,34 @@ fn two_wait_for_each_other(rt: HostRuntime) -> Result<(), Fail> {
     let heap: Global = rt.alloc();
     let (searches, commits) = (AtomicU64::new(0), AtomicU64::new(0));
     let (found, changed) = (Mutex::new(Vec::new(heap)), Mutex::new(Vec::new(heap)));
-    let searching = Meeting { mine: &searches, other: &commits };
-    let committing = Meeting { mine: &commits, other: &searches };
+    let searching = Meeting {
+        mine: &searches,
+        other: &commits,
+    };
+    let committing = Meeting {
+        mine: &commits,
+        other: &searches,
+    };
     let streams = vec![in heap;
-        (b"HELLO north\nSEARCH POLYGON ((0 0, 4 0, 4 4, 0 4, 0 0))\n".as_slice(), Replies::kept_in(&rt, &found), searching),
-        (b"HELLO south\nADD 1 mast POINT (100 100)\nCOMMIT\n".as_slice(), Replies::kept_in(&rt, &changed), committing),
+        (
+            b"HELLO north\nSEARCH POLYGON ((0 0, 4 0, 4 4, 0 4, 0 0))\n".as_slice(),
+            Replies::kept_in(&rt, &found),
+            searching
+        ),
+        (
+            b"HELLO south\nADD 1 mast POINT (100 100)\nCOMMIT\n".as_slice(),
+            Replies::kept_in(&rt, &changed),
+            committing
+        ),
     ]?;
     let closed = closed_by(&rt, heap, WORKER_COUNT, streams);
-    assert_eq!(rt; closed, Closed { records: 2, seats: 2 });
+    assert_eq!(rt;
+        closed,
+        Closed {
+            records: 2,
+            seats: 2
+        }
+    );
     assert_eq!(rt; searches.load(Ordering::SeqCst), Meeting::MET);
     assert_eq!(rt; commits.load(Ordering::SeqCst), Meeting::MET);
     check_told(&rt, found, "hello north\nrows 0\n");
@@ -47,12 +67,26 @@ fn each_ends_by_itself(rt: HostRuntime) -> Result<(), Fail> {
     let long = long_line(heap)?;
     let (first, second) = (Mutex::new(Vec::new(heap)), Mutex::new(Vec::new(heap)));
     let streams = vec![in heap;
-        (b"HELLO north\nADD 1 mast POINT (3 4)\nCOMMIT\n".as_slice(), Replies::kept_in(&rt, &first), NoGate),
-        (b"HELLO chief\nSEARCH POINT (50 50)\n".as_slice(), Replies::refused(&rt), NoGate),
+        (
+            b"HELLO north\nADD 1 mast POINT (3 4)\nCOMMIT\n".as_slice(),
+            Replies::kept_in(&rt, &first),
+            NoGate
+        ),
+        (
+            b"HELLO chief\nSEARCH POINT (50 50)\n".as_slice(),
+            Replies::refused(&rt),
+            NoGate
+        ),
         (long.as_slice(), Replies::kept_in(&rt, &second), NoGate),
     ]?;
     let closed = closed_by(&rt, heap, WORKER_COUNT, streams);
-    assert_eq!(rt; closed, Closed { records: 2, seats: 3 });
+    assert_eq!(rt;
+        closed,
+        Closed {
+            records: 2,
+            seats: 3
+        }
+    );
     check_told(&rt, first, "hello north\nstaged\napplied 1\n");
     check_told(&rt, second, "error E1\nhello south\nbye\n");
     Ok(())
@@ -72,7 +106,13 @@ fn lines_of_a_session(rt: HostRuntime) -> Result<(), Fail> {
     let told = Mutex::new(Vec::new(heap));
     let streams = vec![in heap; (lines.as_bytes(), Replies::kept_in(&rt, &told), NoGate)]?;
     let closed = closed_by(&rt, heap, WORKER_COUNT, streams);
-    assert_eq!(rt; closed, Closed { records: 1, seats: 1 });
+    assert_eq!(rt;
+        closed,
+        Closed {
+            records: 1,
+            seats: 1
+        }
+    );
     check_told(&rt, told, replies);
     Ok(())
 }
@@ -85,10 +125,23 @@ fn a_steward_governs_and_rolls(rt: HostRuntime) -> Result<(), Fail> {
     let told = Mutex::new(Vec::new(heap));
     let streams = vec![in heap; (lines.as_bytes(), Replies::kept_in(&rt, &told), NoGate)]?;
     let closed = closed_by(&rt, heap, 1, streams);
-    assert_eq!(rt; closed, Closed { records: 1, seats: 1 });
+    assert_eq!(rt;
+        closed,
+        Closed {
+            records: 1,
+            seats: 1
+        }
+    );
     let told = told.into_inner();
-    assert!(rt; told.as_slice().starts_with(b"hello chief\nedition 2\nrolled 1\n"), "the first roll");
-    assert!(rt; told.as_slice().ends_with(b"\nrolled 0\nbye\n"), "the second roll");
+    assert!(rt;
+        told.as_slice()
+            .starts_with(b"hello chief\nedition 2\nrolled 1\n"),
+        "the first roll"
+    );
+    assert!(rt;
+        told.as_slice().ends_with(b"\nrolled 0\nbye\n"),
+        "the second roll"
+    );
     Ok(())
 }
 
@@ -98,15 +151,29 @@ fn one_worker_serves_many(rt: HostRuntime) -> Result<(), Fail> {
     let told = Mutex::new(Vec::new(heap));
     let mut streams = Vec::new(heap);
     for _ in 0..12 {
-        streams.push((b"HELLO south\nBYE\n".as_slice(), Replies::kept_in(&rt, &told), NoGate))?;
+        streams.push((
+            b"HELLO south\nBYE\n".as_slice(),
+            Replies::kept_in(&rt, &told),
+            NoGate,
+        ))?;
     }
     // No worker is asked for, and one is started.
     let closed = closed_by(&rt, heap, 0, streams);
-    assert_eq!(rt; closed, Closed { records: 0, seats: 12 });
-    check_told(&rt, told, concat!(
-        "hello south\nbye\nhello south\nbye\nhello south\nbye\nhello south\nbye\nhello south\nbye\nhello south\nbye\n",
-        "hello south\nbye\nhello south\nbye\nhello south\nbye\nhello south\nbye\nhello south\nbye\nhello south\nbye\n"
-    ));
+    assert_eq!(rt;
+        closed,
+        Closed {
+            records: 0,
+            seats: 12
+        }
+    );
+    check_told(
+        &rt,
+        told,
+        concat!(
+            "hello south\nbye\nhello south\nbye\nhello south\nbye\nhello south\nbye\nhello south\nbye\nhello south\nbye\n",
+            "hello south\nbye\nhello south\nbye\nhello south\nbye\nhello south\nbye\nhello south\nbye\nhello south\nbye\n"
+        ),
+    );
     Ok(())
 }
 
@@ -116,6 +183,12 @@ fn nobody_comes(rt: HostRuntime) -> Result<(), Fail> {
     let mut streams = vec![in heap; (b"".as_slice(), Replies::refused(&rt), NoGate)]?;
     streams.clear();
     let closed = closed_by(&rt, heap, WORKER_COUNT, streams);
-    assert_eq!(rt; closed, Closed { records: 0, seats: 0 });
+    assert_eq!(rt;
+        closed,
+        Closed {
+            records: 0,
+            seats: 0
+        }
+    );
     Ok(())
 }
