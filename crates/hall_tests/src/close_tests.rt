@@ -59,7 +59,13 @@ fn close_one<'h, L: Ledger, R: Wait + Abort>(
     let mut seats = Vec::new(heap);
     assert!(rt; seats.push(seat).is_ok());
     match hall.close(rt, seats) {
-        Ok(closed) => assert_eq!(rt; closed, Closed { records: 82, seats: 1 }),
+        Ok(closed) => assert_eq!(rt;
+            closed,
+            Closed {
+                records: 82,
+                seats: 1
+            }
+        ),
         Err((fault, _)) => panic!(rt; "not closed: {fault}"),
     }
     assert!(rt; matches!(hall.seat(rt, name(rt, "north")), Err(HallFault::Closed)));
@@ -91,7 +97,13 @@ fn empty_in<L: Ledger, R: Wait + Abort>(rt: &R, heap: Global, blank: Blank)
     let hall = opened::<L>(rt, heap, blank);
     for _ in 0..2 {
         match hall.close(rt, Vec::new(heap)) {
-            Ok(closed) => assert_eq!(rt; closed, Closed { records: 0, seats: 0 }),
+            Ok(closed) => assert_eq!(rt;
+                closed,
+                Closed {
+                    records: 0,
+                    seats: 0
+                }
+            ),
             Err((fault, _)) => panic!(rt; "not closed: {fault}"),
         }
     }

@@ -1,7 +1,7 @@
 //! Lists that a search holds back.
 ghost use Rattle.std.specs.Prelude.{◌≡◌};
 
-use crate::halls::{Meeting, applied, opened, point, road, rows, seat, square, wait_for};
+use crate::halls::{Meeting, TURNS, applied, opened, point, road, rows, seat, square, wait_for};
 use hall::{CloseFault, Closed, Hall, HallFault, LEDGER_PARTS, NoGate, Seat, TRY_LIMIT};
 use std::alloc::Global;
 use std::marker::Brand;
@@ -20,61 +20,94 @@ const HELD: u64 = 1;
 /// It was answered otherwise.
 const OTHER: u64 = 2;
 
-/// Commits a list once the first search waits, and tells how it was answered.
-fn commit_held<L: Ledger, R: Wait + Abort>(
+/// Searches the square, and waits after the first step until the list is answered.
+fn search_waiting<'h, L: Ledger, R: Wait + Abort>(
     rt: &R,
-    seat: &mut Seat<'_, L, Global>,
+    seat: Seat<'h, L, Global>,
     seen: &AtomicU64,
     answered: &AtomicU64,
-) {
+) -> (Seat<'h, L, Global>, Option<usize>) {
+    let mut seat = seat;
+    let mut gate = Meeting::new(seen, answered);
+    let found = rows(rt, &mut seat, square(rt), &mut gate);
+    (seat, found)
+}
+
+/// Commits a list once the first search waits, and tells how it was answered.
+fn commit_held<'h, L: Ledger, R: Wait + Abort>(
+    rt: &R,
+    seat: Seat<'h, L, Global>,
+    seen: &AtomicU64,
+    answered: &AtomicU64,
+) -> Seat<'h, L, Global> {
+    let mut seat = seat;
     let met = wait_for(seen);
     let held = matches!(
         seat.commit(rt, &[road(rt, 2, 2, 2)], &mut NoGate),
         Err(HallFault::Held)
     );
     answered.store(if met && held { HELD } else { OTHER }, Ordering::SeqCst);
+    seat
 }
 
 /// Searches elsewhere again and again until the list is answered, and how often that was.
-fn search_elsewhere<L: Ledger, R: Wait + Abort>(
+fn search_elsewhere<'h, L: Ledger, R: Wait + Abort>(
     rt: &R,
-    seat: &mut Seat<'_, L, Global>,
+    seat: Seat<'h, L, Global>,
     answered: &AtomicU64,
-) -> u64 {
-    let mut searches = 0;
-    for _ in 0..1_000_000 {
+) -> (Seat<'h, L, Global>, u64) {
+    let mut seat = seat;
+    let mut searches = 0u64;
+    for _ in 0..TURNS {
         if answered.load(Ordering::SeqCst) != OPEN {
             break;
         }
-        if rows(rt, seat, point(rt, 100, 100), &mut NoGate) == Some(0) {
-            searches += 1;
+        if rows(rt, &mut seat, point(rt, 100, 100), &mut NoGate) == Some(0) {
+            searches = searches.saturating_add(1);
         }
     }
-    searches
+    (seat, searches)
+}
+
+/// The second seat's list, and beside it the third's searches.
+fn hold_beside<'h, L: Ledger + Send + Sync, R: Threads + Wait + Abort + Sync>(
+    rt: &R,
+    second: Seat<'h, L, Global>,
+    third: Seat<'h, L, Global>,
+    seen: &AtomicU64,
+    answered: &AtomicU64,
+) -> (Seat<'h, L, Global>, Seat<'h, L, Global>, u64) {
+    let (second, (third, searches)) = join(
+        rt,
+        move || commit_held(rt, second, seen, answered),
+        move || search_elsewhere(rt, third, answered),
+    );
+    (second, third, searches)
 }
 
 /// The first seat's search waits, the second's list is held back by it until it is given up, and the third's searches end again
 /// and again meanwhile.
-fn hold<L: Ledger + Send + Sync, R: Threads + Wait + Abort + Sync>(
+fn hold<'h, L: Ledger + Send + Sync, R: Threads + Wait + Abort + Sync>(
     rt: &R,
-    first: &mut Seat<'_, L, Global>,
-    second: &mut Seat<'_, L, Global>,
-    third: &mut Seat<'_, L, Global>,
-) -> (Option<usize>, u64, u64) {
-    let (seen, answered) = (AtomicU64::new(0), AtomicU64::new(OPEN));
-    let mut gate = Meeting::new(&seen, &answered);
-    let (found, (searches, ())) = join(
+    first: Seat<'h, L, Global>,
+    second: Seat<'h, L, Global>,
+    third: Seat<'h, L, Global>,
+    seen: &AtomicU64,
+    answered: &AtomicU64,
+) -> (
+    Seat<'h, L, Global>,
+    Seat<'h, L, Global>,
+    Seat<'h, L, Global>,
+) {
+    let ((first, found), (second, third, searches)) = join(
         rt,
-        || rows(rt, first, square(rt), &mut gate),
-        || {
-            join(
-                rt,
-                || search_elsewhere(rt, third, &answered),
-                || commit_held(rt, second, &seen, &answered),
-            )
-        },
+        move || search_waiting(rt, first, seen, answered),
+        move || hold_beside(rt, second, third, seen, answered),
     );
-    (found, searches, answered.load(Ordering::SeqCst))
+    assert_eq!(rt; found, Some(1));
+    assert_eq!(rt; answered.load(Ordering::SeqCst), HELD);
+    assert!(rt; searches >= u64::from(TRY_LIMIT));
+    (first, second, third)
 }
 
 fn held_sixty_four_times_in<L: Ledger + Send + Sync, R: Threads + Wait + Abort + Sync>(
@@ -87,14 +120,18 @@ fn held_sixty_four_times_in<L: Ledger + Send + Sync, R: Threads + Wait + Abort +
 {
     let hall = opened::<L>(rt, heap, blank);
     let mut first = seat(rt, &hall, "north");
-    let mut second = seat(rt, &hall, "south");
-    let mut third = seat(rt, &hall, "north");
-    assert_eq!(rt; applied(rt, &mut first, road(rt, 1, 1, 1), &mut NoGate), Some(1));
-    let (found, searches, answered) = hold(rt, &mut first, &mut second, &mut third);
-    assert_eq!(rt; found, Some(1));
-    assert_eq!(rt; answered, HELD);
-    assert!(rt; searches >= u64::from(TRY_LIMIT));
-    assert_eq!(rt; applied(rt, &mut second, road(rt, 2, 2, 2), &mut NoGate), Some(2));
+    let second = seat(rt, &hall, "south");
+    let third = seat(rt, &hall, "north");
+    assert_eq!(rt;
+        applied(rt, &mut first, road(rt, 1, 1, 1), &mut NoGate),
+        Some(1)
+    );
+    let (seen, answered) = (AtomicU64::new(0), AtomicU64::new(OPEN));
+    let (first, mut second, third) = hold(rt, first, second, third, &seen, &answered);
+    assert_eq!(rt;
+        applied(rt, &mut second, road(rt, 2, 2, 2), &mut NoGate),
+        Some(2)
+    );
     close_three(rt, heap, &hall, first, second, third);
 }
 

@@ -15,27 +15,50 @@ use std::test::Fail;
 use std::thread;
 use std::thread::{Threads, join};
 
-/// Two seats side by side: a search that waits after its first step, until the other's list is applied.
-fn meet<L: Ledger + Send + Sync, R: Threads + Wait + Abort + Sync>(
+/// Searches the square, waits after the first step for the other seat's list, and gives the seat back.
+fn search_meeting<'h, L: Ledger, R: Wait + Abort>(
     rt: &R,
-    one: &mut Seat<'_, L, Global>,
-    two: &mut Seat<'_, L, Global>,
-) {
-    let (seen, done) = (AtomicU64::new(0), AtomicU64::new(0));
-    let mut gate = Meeting::new(&seen, &done);
-    let (found, version) = join(
+    seat: Seat<'h, L, Global>,
+    seen: &AtomicU64,
+    done: &AtomicU64,
+) -> (Seat<'h, L, Global>, Option<usize>) {
+    let mut seat = seat;
+    let mut gate = Meeting::new(seen, done);
+    let found = rows(rt, &mut seat, square(rt), &mut gate);
+    (seat, found)
+}
+
+/// Commits once the other seat's search waits, then lets it go on, and gives the seat back.
+fn commit_meeting<'h, L: Ledger, R: Wait + Abort>(
+    rt: &R,
+    seat: Seat<'h, L, Global>,
+    seen: &AtomicU64,
+    done: &AtomicU64,
+) -> (Seat<'h, L, Global>, Option<u64>) {
+    let mut seat = seat;
+    let met = wait_for(seen);
+    let version = applied(rt, &mut seat, road(rt, 2, 100, 100), &mut NoGate);
+    done.store(1, Ordering::SeqCst);
+    (seat, if met { version } else { None })
+}
+
+/// Two seats side by side: a search that waits after its first step, until the other's list is applied.
+fn meet<'h, L: Ledger + Send + Sync, R: Threads + Wait + Abort + Sync>(
+    rt: &R,
+    one: Seat<'h, L, Global>,
+    two: Seat<'h, L, Global>,
+    seen: &AtomicU64,
+    done: &AtomicU64,
+) -> (Seat<'h, L, Global>, Seat<'h, L, Global>) {
+    let ((one, found), (two, version)) = join(
         rt,
-        || rows(rt, one, square(rt), &mut gate),
-        || {
-            let met = wait_for(&seen);
-            let version = applied(rt, two, road(rt, 2, 100, 100), &mut NoGate);
-            done.store(1, Ordering::SeqCst);
-            if met { version } else { None }
-        },
+        move || search_meeting(rt, one, seen, done),
+        move || commit_meeting(rt, two, seen, done),
     );
     assert_eq!(rt; found, Some(1));
     assert_eq!(rt; version, Some(2));
     assert_eq!(rt; seen.load(Ordering::SeqCst), 2);
+    (one, two)
 }
 
 fn two_threads_in<L: Ledger + Send + Sync, R: Threads + Wait + Abort + Sync>(
@@ -47,11 +70,18 @@ fn two_threads_in<L: Ledger + Send + Sync, R: Threads + Wait + Abort + Sync>(
     requires parts { (blank.parts ≡ L.parts) × (L.parts ≡ 1025) }
 {
     let hall = opened::<L>(rt, heap, blank);
-    let mut chief = seat(rt, &hall, "chief");
+    let chief = seat(rt, &hall, "chief");
     let mut north = seat(rt, &hall, "north");
-    assert_eq!(rt; applied(rt, &mut north, road(rt, 1, 1, 1), &mut NoGate), Some(1));
-    meet(rt, &mut chief, &mut north);
-    assert_eq!(rt; rows(rt, &mut chief, point(rt, 100, 100), &mut NoGate), Some(1));
+    assert_eq!(rt;
+        applied(rt, &mut north, road(rt, 1, 1, 1), &mut NoGate),
+        Some(1)
+    );
+    let (seen, done) = (AtomicU64::new(0), AtomicU64::new(0));
+    let (mut chief, north) = meet(rt, chief, north, &seen, &done);
+    assert_eq!(rt;
+        rows(rt, &mut chief, point(rt, 100, 100), &mut NoGate),
+        Some(1)
+    );
     assert!(rt; chief.govern(rt, document(rt, heap, ROADS)) == Ok(2));
     assert!(rt; chief.roll(rt).is_ok());
     close_two(rt, heap, &hall, chief, north);
@@ -71,7 +101,13 @@ fn close_two<'h, L: Ledger, R: Wait + Abort>(
     assert!(rt; seats.push(one).is_ok());
     assert!(rt; seats.push(two).is_ok());
     match hall.close(rt, seats) {
-        Ok(closed) => assert_eq!(rt; closed, Closed { records: 5, seats: 2 }),
+        Ok(closed) => assert_eq!(rt;
+            closed,
+            Closed {
+                records: 5,
+                seats: 2
+            }
+        ),
         Err((fault, _)) => panic!(rt; "not closed: {fault}"),
     }
 }
