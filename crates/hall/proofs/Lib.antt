@@ -1,3 +1,4 @@
+pub mod CrossingLemmas
 pub mod Gathering
 pub mod Governed
 pub mod Lasts
