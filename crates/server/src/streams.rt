@@ -2,6 +2,7 @@
 
 ghost use Rattle.std.specs.Prelude.{◌≡◌, IfOk};
 ghost use Rattle.std.specs.Iterator.{IsFinite};
+ghost use Rattle.std.specs.Thread.{IsSend, IsSync};
 ghost use Rattle.server.specs.Served.{IsServed};
 
 use crate::faults::{ChannelRefused, ServerFault};
@@ -92,6 +93,8 @@ where
         |scope|
             requires can { S.can_next incoming }
             requires ends { IsFinite (S.remaining incoming) }
+            requires shares { IsSync R.row }
+            requires crosses { IsSend I.row × IsSend O.row × IsSend G.row }
         {
             for _ in 0..workers {
                 let Ok(streams) = from.clone() else {
@@ -140,6 +143,8 @@ where
         |scope|
             requires can { S.can_next incoming }
             requires ends { IsFinite (S.remaining incoming) }
+            requires shares { IsSync R.row }
+            requires crosses { IsSend I.row × IsSend O.row × IsSend G.row }
         {
             if scope.spawn(move || tend(rt, hall, stopped)).is_err() {
                 warn!(rt; target: "landmap", "the index is not tended");

@@ -1,0 +1,17 @@
+use denote.Exit.{no}
+use denote.Param.{param}
+use denote.Param.Send.{arg_send, param_send, shr_send, sendable}
+use denote.Struct.Field.{unit-field}
+use Rattle.std.specs.contracts.alloc.Global.{the_row as heap}
+use Rattle.std.specs.contracts.impls.GlobalAllocator.TheImpl.{ghosts}
+use Rattle.std.proofs.Crossing as std
+use Rattle.crossbeam_channel.proofs.channel.Receiver.TheSendSync as receiver
+use Rattle.hall.proofs.CrossingLemmas.{hall_sync}
+use Rattle.server.proofs.ClosureLemmas.{over_three_send}
+use Rattle.server.proofs.streams.fn.serve_tended.scope.Goals as goal
+
+pub spawn-requires-send-F : goal.spawn-requires-send-F
+spawn-requires-send-F g c κs within =
+    let hall = shr_send _ _ _ (hall_sync (param 0 g.row.L) g.L.Ledger) in
+    param_send _ _ (arg_send _ no _ (over_three_send _ _ _ _ (shr_send _ _ _ c.requires.shares) hall
+    (receiver.the_send unit-field.row heap ghosts (search sendable depth 6) std.send std.sync std.frees)))
