@@ -64,50 +64,18 @@ fn tell_closed<W: Write>(closed: Closed, output: &mut W) -> Result<(), WriteFail
     Ok(())
 }
 
-/// Serves a socket until the last of its connections has ended. No connection is accepted any more once `ends` is not 0.
-fn serve<R>(
-    rt: &R,
-    heap: Global,
-    server: WantedServer<'_>,
-    ends: &AtomicU64,
-) -> Result<Closed, ServerFault>
-where
-    R: Threads + Wait + Clock + Log + Files + Net + Print + Sync,
-{
-    let WantedServer { options, config } = server;
-    let serving = Serving {
-        subjects: config.subjects,
-        document: config.document,
-        workers: usize::from(options.workers),
-    };
-    let socket_options = SocketOptions {
-        connections: options.connections,
-        idle: options.idle_seconds.map(u64::from),
-        takeover: options.takeover,
-        ends: Some(ends),
-    };
-    serve_socket(rt, heap, options.socket, serving, socket_options)
-}
-
-/// Tells how a server ended, and answers the exit status.
-fn conclude<W: Write>(
-    socket: &str,
-    served: Result<Closed, ServerFault>,
-    output: &mut W,
-    errors: &mut Stderr,
-) -> ExitCode {
-    let closed = match served {
-        Ok(closed) => closed,
-        Err(ServerFault::Bind) => return fail(&ProgramFault::CannotBind(socket), errors),
-        Err(ServerFault::Write(failed)) => {
-            return fail(&ProgramFault::CannotWrite(failed), errors);
-        }
-        Err(fault) => return fail(&ProgramFault::Server(fault.code()), errors),
-    };
-    match tell_closed(closed, output) {
-        Ok(()) => ExitCode::SUCCESS,
-        Err(failed) => fail(&ProgramFault::CannotWrite(failed), errors),
-    }
+/// A server that is to be run. It has no loan of the words of the command line.
+#[derive(Drop)]
+struct Plan {
+    serving: Serving,
+    path: String,
+    connections: u16,
+    idle: Option<u64>,
+    takeover: bool,
+    /// No connection is accepted any more once this is not 0.
+    ends: Arc<AtomicU64>,
+    /// What waits for the end of standard input, where that is asked.
+    stopping: Option<Stopping>,
 }
 
 /// What the thread that waits for the end of standard input shares with the server: the flag that it sets, and the path to which
@@ -118,14 +86,73 @@ struct Stopping {
     path: String,
 }
 
-/// The flag that a server reads, and what sets it.
-fn stopping(heap: Global, path: &str) -> Result<(Arc<AtomicU64>, Stopping), Refused> {
+/// The server that the command line asks for.
+fn planned(heap: Global, server: WantedServer<'_>) -> Result<Plan, Refused> {
+    let WantedServer { options, config } = server;
     let ends = shared(heap, AtomicU64::new(0))?;
-    let stopping = Stopping {
-        ends: another(&ends)?,
-        path: text(heap, path)?,
+    let stopping = if options.until_stdin_ends {
+        Some(Stopping {
+            ends: another(&ends)?,
+            path: text(heap, options.socket)?,
+        })
+    } else {
+        None
     };
-    Ok((ends, stopping))
+    Ok(Plan {
+        serving: Serving {
+            subjects: config.subjects,
+            document: config.document,
+            workers: usize::from(options.workers),
+        },
+        path: text(heap, options.socket)?,
+        connections: options.connections,
+        idle: options.idle_seconds.map(u64::from),
+        takeover: options.takeover,
+        ends,
+        stopping,
+    })
+}
+
+/// Serves a socket until the last of its connections has ended, and tells how it ended.
+fn serve<R>(rt: &R, heap: Global, plan: Plan, errors: &mut Stderr) -> ExitCode
+where
+    R: Threads + Wait + Clock + Log + Files + Net + Print + Sync,
+{
+    let Plan {
+        serving,
+        path,
+        connections,
+        idle,
+        takeover,
+        ends,
+        stopping: _stopping,
+    } = plan;
+    let socket_options = SocketOptions {
+        connections,
+        idle,
+        takeover,
+        ends: Some(&ends),
+    };
+    match serve_socket(rt, heap, path.as_str(), serving, socket_options) {
+        Ok(closed) => conclude(rt, heap, closed, errors),
+        Err(ServerFault::Bind) => fail(&ProgramFault::CannotBind(path.as_str()), errors),
+        Err(ServerFault::Write(failed)) => fail(&ProgramFault::CannotWrite(failed), errors),
+        Err(fault) => fail(&ProgramFault::Server(fault.code()), errors),
+    }
+}
+
+/// Tells how many records a server has left, and answers the exit status.
+fn conclude<R: Print>(rt: &R, heap: Global, closed: Closed, errors: &mut Stderr) -> ExitCode {
+    let mut output = match buffered(heap, io::writer(rt)) {
+        Ok(output) => output,
+        Err(refused) => return fail(&ProgramFault::Memory(refused), errors),
+    };
+    let told = tell_closed(closed, &mut output);
+    let _ = let_go(output);
+    match told {
+        Ok(()) => ExitCode::SUCCESS,
+        Err(failed) => fail(&ProgramFault::CannotWrite(failed), errors),
+    }
 }
 
 fn main(rt: HostRuntime) -> ExitCode {
@@ -146,25 +173,21 @@ fn main(rt: HostRuntime) -> ExitCode {
         &mut output,
         &mut errors,
     );
-    let server = match next {
-        Next::Serve(server) => server,
-        Next::Exit(ended) => {
-            // All that was written has left by a flush, unless a write failed; then the rest is not written once more.
-            let _ = let_go(output);
-            return ExitCode::from(ended.status());
-        }
-    };
-    let options = server.options;
-    let (ends, stopping) = match stopping(rt.alloc(), options.socket) {
-        Ok(both) => both,
-        Err(refused) => return fail(&ProgramFault::Memory(refused), &mut errors),
-    };
-    if options.until_stdin_ends {
-        let Stopping { ends, path } = stopping;
-        let _ = thread::spawn(&rt, move || watch(&rt, path.as_str(), &ends));
-    }
-    let served = serve(&rt, rt.alloc(), server, &ends);
-    let code = conclude(options.socket, served, &mut output, &mut errors);
+    // All that was written has left by a flush, unless a write failed; then the rest is not written once more.
     let _ = let_go(output);
-    code
+    match next {
+        Next::Exit(ended) => ExitCode::from(ended.status()),
+        Next::Serve(server) => match planned(rt.alloc(), server) {
+            Ok(plan) => {
+                let mut plan = plan;
+                if let Some(stopping) = plan.stopping.take() {
+                    let _ = thread::spawn(&rt, move || {
+                        watch(&rt, stopping.path.as_str(), &stopping.ends)
+                    });
+                }
+                serve(&rt, rt.alloc(), plan, &mut errors)
+            }
+            Err(refused) => fail(&ProgramFault::Memory(refused), &mut errors),
+        },
+    }
 }
