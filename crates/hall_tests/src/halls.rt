@@ -1,6 +1,8 @@
 //! Halls, and what is done in them.
+ghost use Rattle.std.specs.Prelude.{◌≡◌};
+
 use features::{Change, Name, Subject, Subjects};
-use hall::{Gate, Hall, HallFault, NoGate, Seat};
+use hall::{Gate, Hall, Seat};
 use plane::{Point, Shape};
 use policy_text::{Document, read_document};
 use std::alloc::Global;

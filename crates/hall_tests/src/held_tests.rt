@@ -2,7 +2,7 @@
 ghost use Rattle.std.specs.Prelude.{◌≡◌};
 
 use crate::halls::{Meeting, TURNS, applied, opened, point, road, rows, seat, square, wait_for};
-use hall::{CloseFault, Closed, Hall, HallFault, LEDGER_PARTS, NoGate, Seat, TRY_LIMIT};
+use hall::{CloseFault, Hall, HallFault, LEDGER_PARTS, NoGate, Seat, TRY_LIMIT};
 use std::alloc::Global;
 use std::marker::Brand;
 use std::process::Abort;
@@ -69,20 +69,35 @@ fn search_elsewhere<'h, L: Ledger, R: Wait + Abort>(
     (seat, searches)
 }
 
-/// The second seat's list, and beside it the third's searches.
+/// The second seat's list, and beside it the third's searches. Gives both seats back, and how often the third was answered.
 fn hold_beside<'h, L: Ledger + Send + Sync, R: Threads + Wait + Abort + Sync>(
     rt: &R,
-    second: Seat<'h, L, Global>,
-    third: Seat<'h, L, Global>,
+    others: Vec<Seat<'h, L, Global>>,
     seen: &AtomicU64,
     answered: &AtomicU64,
-) -> (Seat<'h, L, Global>, Seat<'h, L, Global>, u64) {
+) -> (Vec<Seat<'h, L, Global>>, u64) {
+    let mut others = others;
+    let third = last_of(rt, &mut others);
+    let second = last_of(rt, &mut others);
     let (second, (third, searches)) = join(
         rt,
         move || commit_held(rt, second, seen, answered),
         move || search_elsewhere(rt, third, answered),
     );
-    (second, third, searches)
+    assert!(rt; others.push(second).is_ok());
+    assert!(rt; others.push(third).is_ok());
+    (others, searches)
+}
+
+/// The seat that stands last.
+fn last_of<'h, L: Ledger>(
+    rt: &impl Abort,
+    seats: &mut Vec<Seat<'h, L, Global>>,
+) -> Seat<'h, L, Global> {
+    match seats.pop() {
+        Some(seat) => seat,
+        None => panic!(rt; "a seat is missing"),
+    }
 }
 
 /// The first seat's search waits, the second's list is held back by it until it is given up, and the third's searches end again
@@ -90,24 +105,19 @@ fn hold_beside<'h, L: Ledger + Send + Sync, R: Threads + Wait + Abort + Sync>(
 fn hold<'h, L: Ledger + Send + Sync, R: Threads + Wait + Abort + Sync>(
     rt: &R,
     first: Seat<'h, L, Global>,
-    second: Seat<'h, L, Global>,
-    third: Seat<'h, L, Global>,
+    others: Vec<Seat<'h, L, Global>>,
     seen: &AtomicU64,
     answered: &AtomicU64,
-) -> (
-    Seat<'h, L, Global>,
-    Seat<'h, L, Global>,
-    Seat<'h, L, Global>,
-) {
-    let ((first, found), (second, third, searches)) = join(
+) -> (Seat<'h, L, Global>, Vec<Seat<'h, L, Global>>) {
+    let ((first, found), (others, searches)) = join(
         rt,
         move || search_waiting(rt, first, seen, answered),
-        move || hold_beside(rt, second, third, seen, answered),
+        move || hold_beside(rt, others, seen, answered),
     );
     assert_eq!(rt; found, Some(1));
     assert_eq!(rt; answered.load(Ordering::SeqCst), HELD);
     assert!(rt; searches >= u64::from(TRY_LIMIT));
-    (first, second, third)
+    (first, others)
 }
 
 fn held_sixty_four_times_in<L: Ledger + Send + Sync, R: Threads + Wait + Abort + Sync>(
@@ -120,14 +130,18 @@ fn held_sixty_four_times_in<L: Ledger + Send + Sync, R: Threads + Wait + Abort +
 {
     let hall = opened::<L>(rt, heap, blank);
     let mut first = seat(rt, &hall, "north");
-    let second = seat(rt, &hall, "south");
-    let third = seat(rt, &hall, "north");
+    let mut others = Vec::new(heap);
+    assert!(rt; others.push(seat(rt, &hall, "south")).is_ok());
+    assert!(rt; others.push(seat(rt, &hall, "north")).is_ok());
     assert_eq!(rt;
         applied(rt, &mut first, road(rt, 1, 1, 1), &mut NoGate),
         Some(1)
     );
     let (seen, answered) = (AtomicU64::new(0), AtomicU64::new(OPEN));
-    let (first, mut second, third) = hold(rt, first, second, third, &seen, &answered);
+    let (first, others) = hold(rt, first, others, &seen, &answered);
+    let mut others = others;
+    let third = last_of(rt, &mut others);
+    let mut second = last_of(rt, &mut others);
     assert_eq!(rt;
         applied(rt, &mut second, road(rt, 2, 2, 2), &mut NoGate),
         Some(2)

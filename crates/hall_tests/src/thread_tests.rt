@@ -2,9 +2,9 @@
 ghost use Rattle.std.specs.Prelude.{◌≡◌};
 
 use crate::halls::{
-    Meeting, ROADS, TURNS, applied, document, opened, point, road, rows, seat, square, wait_for,
+    Meeting, ROADS, applied, document, opened, point, road, rows, seat, square, wait_for,
 };
-use hall::{Closed, Hall, HallFault, LEDGER_PARTS, NoGate, Seat};
+use hall::{Closed, Hall, LEDGER_PARTS, NoGate, Seat};
 use std::alloc::Global;
 use std::marker::Brand;
 use std::process::Abort;
@@ -12,7 +12,6 @@ use std::sync::Wait;
 use std::sync::atomic::{AtomicU64, Ordering};
 use std::sync::ledger::{Blank, Ledger};
 use std::test::Fail;
-use std::thread;
 use std::thread::{Threads, join};
 
 /// Searches the square, waits after the first step for the other seat's list, and gives the seat back.
