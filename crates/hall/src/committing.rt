@@ -149,10 +149,9 @@ impl<'h, L: Ledger, A: Allocator + Copy> Seat<'h, L, A> {
         let seat = self.number;
         let number = placed(rt, hall, seat, changes, gate)?;
         gate.between();
-        let committed = hall
-            .lock
-            .lock(rt)
-            .commit(rt, seat, &self.subject, &mut self.share, number, changes);
+        let mut guarded = hall.lock.lock(rt);
+        let committed = guarded.commit(rt, seat, &self.subject, &mut self.share, number, changes);
+        drop(guarded);
         match committed {
             Ok((outcome, receipt)) => {
                 self.receipts.push_reserved(receipt);

@@ -61,10 +61,9 @@ impl<'h, L: Ledger, A: Allocator + Copy> Seat<'h, L, A> {
             return Err(fault);
         }
         gate.between();
-        let finished = hall
-            .lock
-            .lock(rt)
-            .finish(rt, seat, &self.subject, &mut self.share, number, &window);
+        let mut guarded = hall.lock.lock(rt);
+        let finished = guarded.finish(rt, seat, &self.subject, &mut self.share, number, &window);
+        drop(guarded);
         match finished {
             Ok((answer, receipt)) => {
                 hall.search_ended.notify_all();
