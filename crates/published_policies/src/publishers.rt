@@ -1,6 +1,6 @@
 //! The one who publishes, in a place from which it cannot be moved, such as behind a lock.
 
-ghost use Rattle.std.specs.Prelude.{◌≡◌, ◌<◌, ◌+◌, ◌^◌, ◌++◌, ◌∷◌, [], length, IfOk, IfSome};
+ghost use Rattle.std.specs.Prelude.{◌≡◌, ◌<◌, ◌+◌, ◌^◌, ◌++◌, ◌∷◌, [], length, IfOk, IfSome, IsSome, None, Some};
 ghost use Rattle.std.specs.Arc.{arc_value};
 
 use crate::editions::Edition;
@@ -42,6 +42,26 @@ impl<L: ListName, R: Wait + Drop> Model for Publisher<L, R> {
     ghost invariant = { λ p. IsSome p.writer };
 }
 
+/// Takes the writer out of its place.
+fn taken<L: ListName>(place: &mut Option<ListWriter<L>>) -> ListWriter<L>
+    requires { IsSome place.old }
+    ensures taken { place.old ≡ Some result }
+    ensures empty { place.new ≡ None }
+{
+    place.take().unwrap()
+}
+
+/// Puts the writer back.
+fn put_back<L: ListName>(place: &mut Option<ListWriter<L>>, writer: ListWriter<L>)
+    requires { place.old ≡ None }
+    ensures { place.new ≡ Some writer }
+{
+    match mem::replace(place, Some(writer)) {
+        None => {}
+        Some(_writer) => unreachable!(),
+    }
+}
+
 impl<L: ListName, R: Wait + Drop> Publisher<L, R> {
     /// Publishes a list of one policy, of edition 1. There can be so many views at a time, at most. The only error is want of
     /// memory.
@@ -73,12 +93,9 @@ impl<L: ListName, R: Wait + Drop> Publisher<L, R> {
         ensures list { self.new ≡ self.old ++ arc_value decider ∷ [] }
         ensures edition { result ≡ self.old ++ arc_value decider ∷ [] }
     {
-        let writer = self.writer.take().unwrap();
+        let writer = taken(&mut self.writer);
         let (writer, edition) = writer.publish(&self.rt, decider);
-        match mem::replace(&mut self.writer, Some(writer)) {
-            None => {}
-            Some(_writer) => unreachable!(),
-        }
+        put_back(&mut self.writer, writer);
         edition
     }
 
@@ -87,12 +104,9 @@ impl<L: ListName, R: Wait + Drop> Publisher<L, R> {
         ensures list { IfSome result (λ view. view ≡ self.old) }
         ensures same { self.new ≡ self.old }
     {
-        let mut writer = self.writer.take().unwrap();
+        let mut writer = taken(&mut self.writer);
         let view = writer.view();
-        match mem::replace(&mut self.writer, Some(writer)) {
-            None => {}
-            Some(_writer) => unreachable!(),
-        }
+        put_back(&mut self.writer, writer);
         view
     }
 }
