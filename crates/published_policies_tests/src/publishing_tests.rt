@@ -4,8 +4,8 @@ ghost use Rattle.std.specs.Prelude.{◌≡◌, length};
 
 use crate::policies::{is_right, policy, question};
 use combining::Question;
-use published_policies::{Edition, EmptyList, ListName, Publisher, View};
-use std::alloc::Global;
+use published_policies::{EmptyList, ListName, Publisher, View};
+use std::alloc::{AllocError, Global};
 use std::marker::Brand;
 use std::process::Abort;
 use std::sync::Wait;
@@ -15,6 +15,9 @@ use std::thread::{Threads, join};
 
 /// How many policies are published beside the views.
 const POLICIES: u64 = 1_000;
+
+/// How many views explain, each in a thread of its own.
+const VIEWS: usize = 4;
 
 /// How often a view explains at most, so that the test ends.
 const ROUNDS: u64 = 20_000_000;
@@ -70,30 +73,69 @@ fn publish_all<L: ListName, R: Wait + Drop>(
     publisher
 }
 
-/// One thread publishes while four explain.
+/// Views of the list, as many as are read beside the publisher.
+fn views_of<L: ListName, W: Wait + Drop>(
+    rt: &impl Abort,
+    heap: Global,
+    publisher: &mut Publisher<L, W>,
+) -> Vec<View<L>>
+    ensures { publisher.new ≡ publisher.old }
+{
+    let mut views = Vec::new(heap);
+    for _ in 0..VIEWS {
+        let view = publisher.view().expect(rt, "a place for a view");
+        views.push(view).expect(rt, "memory");
+    }
+    views
+}
+
+/// Explains by each view, in a thread of its own, until the last policy has come.
+fn watch_all<L: ListName + Send, R: Threads + Abort + Sync>(
+    rt: &R,
+    views: Vec<View<L>>,
+) -> Result<Vec<Watched>, AllocError> {
+    let question = question(rt);
+    thread::map_vec(rt, views, &|view| watch(view, &question))
+}
+
+/// One thread publishes while others explain, one for each view.
+fn publish_beside<L: ListName + Send + Sync, R: Threads + Abort + Sync, W: Wait + Drop + Send>(
+    rt: &R,
+    heap: Global,
+    publisher: Publisher<L, W>,
+    views: Vec<View<L>>,
+) -> Result<Vec<Watched>, AllocError>
+    requires { length publisher ≡ 1 }
+{
+    let (watched, publisher) = join(
+        rt,
+        move || watch_all(rt, views),
+        move || -> Publisher<L, W>
+            requires { length publisher ≡ 1 }
+        { publish_all(rt, heap, publisher) },
+    );
+    drop(publisher);
+    watched
+}
+
 fn published_beside_views<
     L: ListName + Send + Sync,
-    R: Threads + Wait + Abort + Sync,
+    R: Threads + Abort + Sync,
     W: Wait + Drop + Send,
 >(rt: &R, own: W, heap: Global, list: EmptyList) -> Result<(), Fail>
     requires { list ≡ L.book }
 {
-    let opened = Publisher::<L, W>::open(own, heap, list, policy(rt, heap, 1), 4);
-    let mut publisher = opened.ok().ok_or("opened")?;
-    let mut views = Vec::new(heap);
-    for _ in 0..4 {
-        views.push(publisher.view().ok_or("a view")?)?;
-    }
-    let question = question(rt);
-    let (publisher, watched) = join(
-        rt,
-        move || publish_all(rt, heap, publisher),
-        || thread::map_vec(rt, views, &|view| watch(view, &question)),
+    let first = policy(rt, heap, 1);
+    let Ok(mut publisher) = Publisher::<L, W>::open(own, heap, list, first, VIEWS) else {
+        panic!(rt; "opened")
+    };
+    let views = views_of(rt, heap, &mut publisher);
+    let watched = publish_beside(rt, heap, publisher, views)?;
+    assert_eq!(rt; watched.len(), VIEWS);
+    assert!(rt;
+        watched.iter().all(|outcome| *outcome == Watched::Well),
+        "{watched:?}"
     );
-    for outcome in watched? {
-        assert_eq!(rt; outcome, Watched::Well);
-    }
-    drop(publisher);
     Ok(())
 }
 
