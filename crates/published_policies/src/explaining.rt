@@ -8,7 +8,7 @@ use decision::{Decider, Ruling};
 use features::Name;
 
 /// How a policy rules.
-#[derive(Clone, Copy, Debug)]
+#[derive(Clone, Copy, Debug, PartialEq, Eq)]
 pub struct Explained {
     /// The edition of the policy.
     pub edition: u64,

@@ -1,6 +1,6 @@
 //! Lists as far as they were seen.
 
-ghost use Rattle.std.specs.Prelude.{◌≡◌, ◌≤◌, ◌+◌, ◌++◌, ◌∷◌, [], length};
+ghost use Rattle.std.specs.Prelude.{◌≡◌, ◌⊎◌, ◌≤◌, ◌+◌, ◌++◌, ◌∷◌, [], length};
 ghost use Rattle.std.specs.Bool.{MatchBool};
 ghost use Rattle.std.specs.Arc.{arc_value};
 ghost use mathlib.Core.List.{IsPrefix};
@@ -80,6 +80,7 @@ impl SeenList {
         ensures book { result.book ≡ self.now.book }
         ensures this { IsPrefix self.now.list result.list }
         ensures that { IsPrefix other.now.list result.list }
+        ensures one { (result ≡ self.now) ⊎ (result ≡ other.now) }
     {
         if self.len <= other.len {
             self.begins(other);

@@ -1,6 +1,6 @@
 //! Those who read what was published.
 
-ghost use Rattle.std.specs.Prelude.{◌≡◌, ◌<◌, length, IfSome, IfNone, Option};
+ghost use Rattle.std.specs.Prelude.{◌≡◌, ◌⊎◌, ◌<◌, length, IfSome, IfNone, Option};
 ghost use mathlib.Core.List.{IsPrefix};
 ghost use Rattle.left_right.specs.Sides.{view as known_by};
 ghost use Rattle.published_policies.specs.Copies.{KnowsOf};
@@ -77,6 +77,7 @@ impl<L: ListName> View<L> {
     pub fn explain(&mut self, question: &Question) -> Option<Explained>
         ensures later { IfSome result (λ _. IsPrefix self.old self.new) }
         ensures ruling { IfSome result (Explains self.new question.now) }
+        ensures edition { IfSome result (λ explained. explained.edition ≡ length self.new) }
         ensures published { IfSome result (λ _. IsPublished self.new) }
         ensures none { IfNone result (self.new ≡ self.old) }
     {
@@ -91,6 +92,7 @@ impl<L: ListName> View<L> {
                 let list = policy.list();
                 let explained = policy.explain(question);
                 self.reader = Some(reading.leave());
+                // What is read is never older than what the view was told of; no contract of the copies says so.
                 if self.list.advance(&list) {
                     Some(explained)
                 } else {
@@ -104,6 +106,7 @@ impl<L: ListName> View<L> {
     pub fn told(&mut self, edition: Edition<L>)
         ensures before { IsPrefix self.old self.new }
         ensures edition { IsPrefix edition self.new }
+        ensures longer { (self.new ≡ self.old) ⊎ (self.new ≡ edition) }
     {
         self.list = self.list.longer(&edition.list);
     }
