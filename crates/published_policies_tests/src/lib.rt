@@ -5,3 +5,5 @@
 mod policies;
 #[cfg(test)]
 mod publishing_tests;
+#[cfg(test)]
+mod view_tests;
