@@ -1,6 +1,6 @@
--- Which types may go from one thread to another. A document's nodes hold nodes, so the checker looks for this anew at each type
--- that holds a document, wherever one is handed to a thread; of a view and of a publisher it does not come to an end of it.
--- Such a call is answered by these lemmas.
+-- Which types may go from one thread to another, and which may be shared. The checker finds that by itself wherever no type holds
+-- itself; a document's nodes hold nodes, so each type that holds a document is searched anew at each call that hands it to a
+-- thread. At a view or a publisher that search gives up, and the call is answered by these lemmas.
 use Rattle.std.proofs.Crossing.{crosses}
 use denote.RattleType.{RattleType}
 use denote.Param.Send.{IsSend, IsSync, sendable}

@@ -1,9 +1,7 @@
 //! Lists that were published.
 
-ghost use Rattle.std.specs.Prelude.{◌≡◌, ◌<◌, length, None, Some};
-ghost use Rattle.std.specs.List.{last_or};
-ghost use Rattle.decision.specs.Deciders.{DeciderData};
-ghost use Rattle.published_policies.specs.Lists.{IsPublished};
+ghost use Rattle.std.specs.Prelude.{◌≡◌, ◌<◌, length};
+ghost use Rattle.published_policies.specs.Lists.{IsLastEdition, IsPublished};
 
 use crate::lists::ListName;
 use crate::seen_lists::SeenList;
@@ -47,7 +45,7 @@ impl<L: ListName> Edition<L> {
     /// The edition of the list's last policy, which is also how many policies the list has.
     pub fn number(&self) -> u64
         ensures length { result ≡ length self.now }
-        ensures last { (decider : DeciderData) → last_or None self.now ≡ Some decider → result ≡ decider.edition }
+        ensures last { IsLastEdition result self.now }
         ensures published { IsPublished self.now }
     {
         self.list.len()

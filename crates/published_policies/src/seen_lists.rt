@@ -63,8 +63,8 @@ impl SeenList {
         }
     }
 
-    /// Two beginnings of one list: the other begins with this one, unless this one is longer. The function does nothing:
-    /// it is its contract.
+    /// Two beginnings of one list: the other begins with this one, unless this one is longer. When it runs the function does
+    /// nothing: it is its contract.
     fn begins(&self, other: &SeenList)
         requires { other.now.book ≡ self.now.book }
         ensures { length self.now.list ≤ length other.now.list → IsPrefix self.now.list other.now.list }
@@ -94,7 +94,9 @@ impl SeenList {
     /// Goes on to another beginning of the list, unless that is shorter, and says whether it did.
     pub(crate) fn advance(&mut self, to: &SeenList) -> bool
         requires { to.now.book ≡ self.old.book }
-        ensures { MatchBool result ((self.new ≡ to.now) × IsPrefix self.old.list self.new.list) (self.new ≡ self.old) }
+        ensures { MatchBool result
+            ((self.new ≡ to.now) × IsPrefix self.old.list self.new.list)
+            (self.new ≡ self.old) }
     {
         if self.len > to.len {
             return false;
