@@ -1,7 +1,6 @@
 -- How a proof tells two lists of deciders apart: each decider is stored as its document's zones and parts, and its edition.
 use Rattle.std.specs.Prelude.{◌≡◌, List, [], ◌∷◌, map, refl, Option}
 use Rattle.std.specs.Coded.{Coded, Coded-set, coded_option, code_by, codes}
-use Rattle.std.proofs.Common.{ap, ◌∙◌}
 use Rattle.logbook.specs.Pages.{Book}
 use Rattle.decision.specs.Deciders as deciders
 use Rattle.decision.specs.Deciders.{DeciderData}

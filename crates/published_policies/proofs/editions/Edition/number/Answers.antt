@@ -1,4 +1,4 @@
-use Rattle.std.proofs.Common.{arith, sym}
+use Rattle.std.proofs.Common.{arith}
 use Rattle.published_policies.proofs.ListLemmas.{last_number}
 use Rattle.published_policies.proofs.editions.Edition.number.Goals as goal
 
