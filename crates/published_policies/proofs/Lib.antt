@@ -1,0 +1,4 @@
+pub mod ListLemmas
+pub mod GrowingLemmas
+pub mod CopyLemmas
+pub mod CrossingLemmas

@@ -1,0 +1,20 @@
+//! The policies that were put in force, as a list that only grows: who puts one in force publishes it, and readers ask how
+//! the last one that they read would rule, without a lock and without waiting.
+#![tactic(auto)]
+
+mod copies;
+mod editions;
+mod explaining;
+mod growing;
+mod lists;
+mod policies;
+mod publishers;
+mod seen_lists;
+mod views;
+mod writers;
+
+pub use editions::Edition;
+pub use explaining::Explained;
+pub use lists::{EmptyList, ListName};
+pub use publishers::{NoMemory, Publisher};
+pub use views::View;

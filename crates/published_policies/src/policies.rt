@@ -1,0 +1,94 @@
+//! What is published.
+
+ghost use Rattle.std.specs.Prelude.{◌≡◌, ◌<◌, length, None, Some, IfOk};
+ghost use Rattle.std.specs.Arc.{arc_value};
+ghost use Rattle.std.specs.List.{last_or};
+ghost use Rattle.published_policies.specs.Explaining.{Explains};
+
+use crate::explaining::{Explained, explain};
+use crate::seen_lists::SeenList;
+use combining::Question;
+use decision::Decider;
+use left_right::Absorb;
+use memory::{Refused, another};
+use std::alloc::AllocError;
+use std::marker::Model;
+use std::sync::Arc;
+
+/// A policy in force: its decider, and the list of policies that ends with it. A contract sees the list.
+#[derive(Drop)]
+pub struct Policy {
+    decider: Arc<Decider>,
+    list: SeenList,
+}
+
+impl Model for Policy {
+    ghost use Rattle.std.specs.Prelude.{◌≡◌, None, Some};
+    ghost use Rattle.std.specs.Arc.{arc_value};
+    ghost use Rattle.std.specs.List.{last_or};
+    ghost use Rattle.std.specs.Coded.{code_by, codes};
+    ghost use Rattle.published_policies.specs.Lists.{SeenData};
+    ghost use Rattle.published_policies.specs.Coding.{StoredSeen, stored_seen, restored_seen, restored_seen-stored_seen};
+
+    ghost Value = { SeenData };
+
+    ghost coded = { code_by StoredSeen (Prim.hlevel codes) stored_seen restored_seen restored_seen-stored_seen };
+
+    ghost view = { λ p. p.list };
+
+    ghost invariant = { λ p. last_or None p.list.list ≡ Some (arc_value p.decider) };
+}
+
+impl Policy {
+    /// The policy of a decider with which the list ends.
+    pub(crate) fn new(decider: Arc<Decider>, list: SeenList) -> Policy
+        requires { last_or None list.list ≡ Some (arc_value decider) }
+        ensures { result ≡ list }
+    {
+        Policy { decider, list }
+    }
+
+    /// The same again, over the same decider. It is refused only where that has as many owners as can be counted.
+    pub(crate) fn again(&self) -> Result<Policy, Refused>
+        ensures { IfOk result (λ policy. policy ≡ self.now) }
+    {
+        Ok(Policy {
+            decider: another(&self.decider)?,
+            list: self.list.again(),
+        })
+    }
+
+    /// The list that ends with this policy.
+    pub(crate) fn list(&self) -> SeenList
+        ensures list { result ≡ self.now }
+        ensures not_empty { 0 < length self.now.list }
+    {
+        self.list.again()
+    }
+
+    /// How the policy rules.
+    pub(crate) fn explain(&self, question: &Question) -> Explained
+        ensures { Explains self.now.list question.now result }
+    {
+        explain(&self.decider, question)
+    }
+}
+
+/// Each copy becomes the policy that is to be shown.
+impl Absorb<Policy> for Policy {
+    type State = SeenList;
+
+    ghost state = { λ policy. policy };
+
+    ghost applied = { λ policy next. next };
+
+    fn absorb_first(&mut self, operation: &Policy, _other: &Policy) -> Result<(), AllocError> {
+        match operation.again() {
+            Ok(policy) => {
+                *self = policy;
+                Ok(())
+            }
+            Err(_) => Err(AllocError),
+        }
+    }
+}

@@ -1,0 +1,122 @@
+//! The one who publishes, in a place from which it cannot be moved, such as behind a lock.
+
+ghost use Rattle.std.specs.Prelude.{◌≡◌, ◌<◌, ◌+◌, ◌^◌, ◌++◌, ◌∷◌, [], length, IfOk, IfSome, IsSome, None, Some};
+ghost use Rattle.std.specs.Arc.{arc_value};
+
+use crate::editions::Edition;
+use crate::lists::{EmptyList, ListName};
+use crate::views::View;
+use crate::writers::ListWriter;
+use decision::Decider;
+use std::alloc::Global;
+use std::marker::Model;
+use std::mem;
+use std::sync::{Arc, Wait};
+
+/// No list was opened, since memory was wanted for it and refused.
+#[derive(Debug, Drop, PartialEq, Eq)]
+pub struct NoMemory;
+
+/// The one who publishes policies, with the handle by which it waits. Whoever puts policies in force has it, behind the lock
+/// under which that happens. When it is dropped it waits for the views that read just then; those have nothing to read from
+/// then on. A contract sees the published list, in which the first policy is the one that the list was opened with, and the
+/// last the one that was published last.
+pub struct Publisher<L: ListName, R: Wait + Drop> {
+    writer: Option<ListWriter<L>>,
+    rt: R,
+}
+
+impl<L: ListName, R: Wait + Drop> Model for Publisher<L, R> {
+    ghost use Rattle.std.specs.Prelude.{List, [], IsSome};
+    ghost use Rattle.std.specs.Option.{unwrap_or};
+    ghost use Rattle.std.specs.Coded.{code_by, codes};
+    ghost use Rattle.decision.specs.Deciders.{DeciderData};
+    ghost use Rattle.published_policies.specs.Coding.{StoredList, stored_list, restored_list, restored_list-stored_list};
+
+    ghost Value = { List DeciderData };
+
+    ghost coded = { code_by StoredList (Prim.hlevel codes) stored_list restored_list restored_list-stored_list };
+
+    ghost view = { λ p. unwrap_or p.writer [] };
+
+    ghost invariant = { λ p. IsSome p.writer };
+}
+
+/// Takes the writer out of its place.
+fn taken<L: ListName>(place: &mut Option<ListWriter<L>>) -> ListWriter<L>
+    requires { IsSome place.old }
+    ensures taken { place.old ≡ Some result }
+    ensures empty { place.new ≡ None }
+{
+    place.take().unwrap()
+}
+
+/// Puts the writer back.
+fn put_back<L: ListName>(place: &mut Option<ListWriter<L>>, writer: ListWriter<L>)
+    requires { place.old ≡ None }
+    ensures { place.new ≡ Some writer }
+{
+    match mem::replace(place, Some(writer)) {
+        None => {}
+        Some(_writer) => unreachable!(),
+    }
+}
+
+impl<L: ListName, R: Wait + Drop> Publisher<L, R> {
+    /// Publishes a list of one policy, of edition 1. There can be so many views at a time, at most. The only error is want of
+    /// memory.
+    pub fn open(
+        rt: R,
+        heap: Global,
+        list: EmptyList,
+        first: Arc<Decider>,
+        views: usize,
+    ) -> Result<Publisher<L, R>, NoMemory>
+        requires list { list ≡ L.book }
+        requires first { (arc_value first).edition ≡ 1 }
+        requires views { (0 < views) × (views < 2 ^ 32) }
+        ensures { IfOk result (λ publisher. publisher ≡ arc_value first ∷ []) }
+    {
+        match ListWriter::open(&rt, heap, list, first, views) {
+            Ok(writer) => Ok(Publisher {
+                writer: Some(writer),
+                rt,
+            }),
+            Err(_) => Err(NoMemory),
+        }
+    }
+
+    /// Publishes a policy of the next edition, and answers the list with it. It waits for views that still read the policy
+    /// before the last. It takes no memory.
+    pub fn publish(&mut self, decider: Arc<Decider>) -> Edition<L>
+        requires { (arc_value decider).edition ≡ length self.old + 1 }
+        ensures list { self.new ≡ self.old ++ arc_value decider ∷ [] }
+        ensures edition { result ≡ self.old ++ arc_value decider ∷ [] }
+    {
+        let writer = taken(&mut self.writer);
+        let (writer, edition) = writer.publish(&self.rt, decider);
+        put_back(&mut self.writer, writer);
+        edition
+    }
+
+    /// A view of the list. None where there are as many views as there can be.
+    pub fn view(&mut self) -> Option<View<L>>
+        ensures list { IfSome result (λ view. view ≡ self.old) }
+        ensures same { self.new ≡ self.old }
+    {
+        let mut writer = taken(&mut self.writer);
+        let view = writer.view();
+        put_back(&mut self.writer, writer);
+        view
+    }
+}
+
+impl<L: ListName, R: Wait + Drop> Drop for Publisher<L, R> {
+    fn drop(self) {
+        let Publisher { writer, rt } = self;
+        match writer {
+            Some(writer) => writer.end(&rt),
+            None => {}
+        }
+    }
+}

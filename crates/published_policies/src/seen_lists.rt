@@ -1,0 +1,139 @@
+//! Lists as far as they were seen.
+
+ghost use Rattle.std.specs.Prelude.{◌≡◌, ◌⊎◌, ◌≤◌, ◌+◌, ◌++◌, ◌∷◌, [], length};
+ghost use Rattle.std.specs.Bool.{MatchBool};
+ghost use Rattle.std.specs.Arc.{arc_value};
+ghost use mathlib.Core.List.{IsPrefix};
+ghost use Rattle.published_policies.specs.Lists.{IsNumbered, seen_in};
+ghost use Rattle.published_policies.specs.Growing.{length_word};
+
+use crate::growing::{Add, ListRule, NoGain};
+use decision::Decider;
+use logbook::{Offer, Seen, Word};
+use std::marker::Model;
+use std::sync::Arc;
+
+/// The beginning of a list that was seen. When the program runs it is a length, and takes no memory. A contract sees the
+/// policies, and the book in which the list stands.
+#[derive(Drop)]
+pub struct SeenList {
+    len: u64,
+    seen: Seen<Decider, u64, ListRule>,
+}
+
+impl Model for SeenList {
+    ghost use Rattle.std.specs.Prelude.{◌≡◌, length};
+    ghost use Rattle.std.specs.Coded.{code_by, codes};
+    ghost use Rattle.published_policies.specs.Lists.{SeenData, seen_in, IsNumbered};
+    ghost use Rattle.published_policies.specs.Coding.{StoredSeen, stored_seen, restored_seen, restored_seen-stored_seen};
+
+    ghost Value = { SeenData };
+
+    ghost coded = { code_by StoredSeen (Prim.hlevel codes) stored_seen restored_seen restored_seen-stored_seen };
+
+    ghost view = { λ s. seen_in s.seen.book s.seen.log };
+
+    ghost invariant = { λ s. (s.len ≡ length s.seen.log) × IsNumbered 1 s.seen.log };
+}
+
+impl SeenList {
+    /// Of a list of which nothing was seen.
+    pub(crate) fn nothing(seen: Seen<Decider, u64, ListRule>) -> SeenList
+        requires { seen.log ≡ [] }
+        ensures { result ≡ seen_in seen.book [] }
+    {
+        SeenList { len: 0, seen }
+    }
+
+    /// How many policies it has.
+    pub(crate) fn len(&self) -> u64
+        ensures length { result ≡ length self.now.list }
+        ensures numbered { IsNumbered 1 self.now.list }
+    {
+        self.len
+    }
+
+    /// The same again.
+    pub(crate) fn again(&self) -> SeenList
+        ensures { result ≡ self.now }
+    {
+        SeenList {
+            len: self.len,
+            seen: self.seen.again(),
+        }
+    }
+
+    /// Two beginnings of one list: the other begins with this one, unless this one is longer. When it runs the function does
+    /// nothing: it is its contract.
+    fn begins(&self, other: &SeenList)
+        requires { other.now.book ≡ self.now.book }
+        ensures { length self.now.list ≤ length other.now.list → IsPrefix self.now.list other.now.list }
+    {
+        let mut both = self.seen.again();
+        both.learn(&other.seen);
+    }
+
+    /// The longer of two beginnings of one list.
+    #[tactic(auto, using(crate::proofs::ListLemmas::prefix_self))]
+    pub(crate) fn longer(&self, other: &SeenList) -> SeenList
+        requires { other.now.book ≡ self.now.book }
+        ensures book { result.book ≡ self.now.book }
+        ensures this { IsPrefix self.now.list result.list }
+        ensures that { IsPrefix other.now.list result.list }
+        ensures one { (result ≡ self.now) ⊎ (result ≡ other.now) }
+    {
+        if self.len <= other.len {
+            self.begins(other);
+            other.again()
+        } else {
+            other.begins(self);
+            self.again()
+        }
+    }
+
+    /// Goes on to another beginning of the list, unless that is shorter, and says whether it did.
+    pub(crate) fn advance(&mut self, to: &SeenList) -> bool
+        requires { to.now.book ≡ self.old.book }
+        ensures { MatchBool result
+            ((self.new ≡ to.now) × IsPrefix self.old.list self.new.list)
+            (self.new ≡ self.old) }
+    {
+        if self.len > to.len {
+            return false;
+        }
+        self.begins(to);
+        *self = to.again();
+        true
+    }
+
+    /// Adds a policy to the list, if that is no longer than what was seen of it, and says whether it did. Where it did not,
+    /// the list has been seen up to its end.
+    pub(crate) fn add(
+        &mut self,
+        word: &Word<Decider, u64, ListRule>,
+        decider: &Arc<Decider>,
+    ) -> bool
+        requires word { word.now ≡ length_word self.old.book }
+        requires next { (arc_value decider.now).edition ≡ length self.old.list + 1 }
+        ensures { MatchBool result
+            (self.new ≡ seen_in self.old.book (self.old.list ++ arc_value decider.now ∷ []))
+            (self.new.book ≡ self.old.book) }
+    {
+        let mut offer: Offer<Decider, u64, ListRule, NoGain> = self
+            .seen
+            .plain::<NoGain, Arc<Decider>, Add>(decider);
+        let mut pen = self.seen.no_pen();
+        let len = self.len;
+        let edition = decider.edition();
+        let found = word.compare_exchange::<Add, NoGain>(
+            len,
+            edition,
+            &mut self.seen,
+            &mut offer,
+            &mut pen,
+        );
+        let added = found == len;
+        self.len = if added { edition } else { found };
+        added
+    }
+}

@@ -1,0 +1,113 @@
+//! Those who read what was published.
+
+ghost use Rattle.std.specs.Prelude.{◌≡◌, ◌⊎◌, ◌<◌, length, IfSome, IfNone, Option};
+ghost use mathlib.Core.List.{IsPrefix};
+ghost use Rattle.left_right.specs.Sides.{view as known_by};
+ghost use Rattle.published_policies.specs.Copies.{KnowsOf};
+ghost use Rattle.published_policies.specs.Explaining.{Explains};
+ghost use Rattle.published_policies.specs.Lists.{IsPublished, SeenData};
+
+use crate::copies::{CopyRule, Learn};
+use crate::editions::Edition;
+use crate::explaining::Explained;
+use crate::lists::ListName;
+use crate::policies::Policy;
+use crate::seen_lists::SeenList;
+use combining::Question;
+use left_right::reader::Reader;
+use std::marker::{Model, PhantomData};
+
+/// A reader of the copy that is shown.
+pub(crate) type CopyReader = Reader<Policy, Option<SeenList>, CopyRule>;
+
+/// A reader of the published policies, for one thread. It asks how the last policy rules, without a lock, without waiting
+/// and without memory. A contract sees the list as far as the view has read it or was told of it.
+#[derive(Drop)]
+pub struct View<L: ListName> {
+    reader: Option<CopyReader>,
+    list: SeenList,
+    name: PhantomData<L>,
+}
+
+impl<L: ListName> Model for View<L> {
+    ghost use Rattle.std.specs.Prelude.{◌≡◌, ◌<◌, List, length, Option, IsSome, IfSome};
+    ghost use Rattle.std.specs.Coded.{code_by, codes};
+    ghost use Rattle.left_right.specs.Sides.{view as known_by};
+    ghost use Rattle.decision.specs.Deciders.{DeciderData};
+    ghost use Rattle.published_policies.specs.Coding.{StoredList, stored_list, restored_list, restored_list-stored_list};
+    ghost use Rattle.published_policies.specs.Copies.{KnowsOf};
+    ghost use Rattle.published_policies.specs.Lists.{SeenData};
+
+    ghost Value = { List DeciderData };
+
+    ghost coded = { code_by StoredList (Prim.hlevel codes) stored_list restored_list restored_list-stored_list };
+
+    ghost view = { λ v. v.list.list };
+
+    ghost invariant = { λ v. IsSome v.reader
+        × IfSome v.reader (λ reader. KnowsOf L.book (known_by {V = Option SeenData} reader.place))
+        × (v.list.book ≡ L.book)
+        × (0 < length v.list.list) };
+}
+
+impl<L: ListName> View<L> {
+    pub(crate) fn over(reader: CopyReader, list: SeenList) -> View<L>
+        requires knows { KnowsOf L.book (known_by {V = Option SeenData} reader.place) }
+        requires book { list.book ≡ L.book }
+        requires not_empty { 0 < length list.list }
+        ensures { result ≡ list.list }
+    {
+        View {
+            reader: Some(reader),
+            list,
+            name: PhantomData,
+        }
+    }
+
+    /// The edition of the last policy that the view has read or was told of.
+    pub fn edition(&self) -> u64
+        ensures length { result ≡ length self.now }
+        ensures published { IsPublished self.now }
+    {
+        self.list.len()
+    }
+
+    /// How the policy rules that was published last, by which edition and by which rule. None where there is nothing to
+    /// read: whoever published is gone.
+    pub fn explain(&mut self, question: &Question) -> Option<Explained>
+        ensures later { IfSome result (λ _. IsPrefix self.old self.new) }
+        ensures ruling { IfSome result (Explains self.new question.now) }
+        ensures edition { IfSome result (λ explained. explained.edition ≡ length self.new) }
+        ensures published { IfSome result (λ _. IsPublished self.new) }
+        ensures none { IfNone result (self.new ≡ self.old) }
+    {
+        let reader = self.reader.take().unwrap();
+        match reader.enter_as::<Learn>() {
+            Err(reader) => {
+                self.reader = Some(reader);
+                None
+            }
+            Ok(reading) => {
+                let policy = reading.get();
+                let list = policy.list();
+                let explained = policy.explain(question);
+                self.reader = Some(reading.leave());
+                // What is read is never older than what the view was told of; no contract of the copies says so.
+                if self.list.advance(&list) {
+                    Some(explained)
+                } else {
+                    None
+                }
+            }
+        }
+    }
+
+    /// Takes in an edition: from now on the view explains by its policy, or by a later one.
+    pub fn told(&mut self, edition: Edition<L>)
+        ensures before { IsPrefix self.old self.new }
+        ensures edition { IsPrefix edition self.new }
+        ensures longer { (self.new ≡ self.old) ⊎ (self.new ≡ edition) }
+    {
+        self.list = self.list.longer(&edition.list);
+    }
+}

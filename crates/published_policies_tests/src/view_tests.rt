@@ -1,0 +1,109 @@
+//! Views of a list, on one thread: what they are told, how many there can be, and when there is nothing to read.
+
+ghost use Rattle.std.specs.Prelude.{◌≡◌, length};
+
+use crate::policies::{is_right, policy, question};
+use combining::Question;
+use published_policies::{EmptyList, ListName, Publisher, View};
+use std::alloc::Global;
+use std::marker::Brand;
+use std::process::Abort;
+use std::sync::Wait;
+use std::test::*;
+
+fn opened<L: ListName, W: Wait + Drop>(
+    rt: &impl Abort,
+    own: W,
+    heap: Global,
+    list: EmptyList,
+) -> Publisher<L, W>
+    requires { list ≡ L.book }
+    ensures { length result ≡ 1 }
+{
+    let Ok(publisher) = Publisher::open(own, heap, list, policy(rt, heap, 1), 2) else {
+        panic!(rt; "not opened")
+    };
+    publisher
+}
+
+/// A view of the list, which knows so many policies.
+fn view_of<L: ListName, W: Wait + Drop>(
+    rt: &impl Abort,
+    publisher: &mut Publisher<L, W>,
+    edition: u64,
+) -> View<L>
+    ensures { publisher.new ≡ publisher.old }
+{
+    let view = publisher.view().expect(rt, "a place for a view");
+    assert_eq!(rt; view.edition(), edition);
+    view
+}
+
+/// The view explains, by the policy of this edition.
+fn assert_explains<L: ListName>(
+    rt: &impl Abort,
+    view: &mut View<L>,
+    question: &Question,
+    edition: u64,
+) {
+    let explained = view.explain(question).expect(rt, "something to read");
+    assert!(rt; is_right(&explained), "{explained:?}");
+    assert_eq!(rt; explained.edition, edition);
+    assert_eq!(rt; view.edition(), edition);
+}
+
+/// A view that is told of an edition knows it at once; one that is not told knows it when it has read it.
+fn told_and_not_told<L: ListName, W: Wait + Drop>(
+    rt: &impl Abort,
+    own: W,
+    heap: Global,
+    list: EmptyList,
+)
+    requires { list ≡ L.book }
+{
+    let mut publisher = opened::<L, W>(rt, own, heap, list);
+    let mut told = view_of(rt, &mut publisher, 1);
+    let mut other = view_of(rt, &mut publisher, 1);
+    let question = question(rt);
+    assert_explains(rt, &mut told, &question, 1);
+    let edition = publisher.publish(policy(rt, heap, 2));
+    assert_eq!(rt; edition.number(), 2);
+    told.told(edition);
+    assert_eq!(rt; told.edition(), 2);
+    assert_eq!(rt; other.edition(), 1);
+    assert_explains(rt, &mut told, &question, 2);
+    assert_explains(rt, &mut other, &question, 2);
+    drop(publisher);
+}
+
+#[test]
+fn told_views_know_the_edition(rt: HostRuntime) -> Result<(), Fail> {
+    told_and_not_told::<Brand, _>(&rt, rt, rt.alloc(), EmptyList::new());
+    Ok(())
+}
+
+/// There are as many views at a time as were asked for, and once the publisher is gone they have nothing to read.
+fn places_and_end<L: ListName, W: Wait + Drop>(
+    rt: &impl Abort,
+    own: W,
+    heap: Global,
+    list: EmptyList,
+)
+    requires { list ≡ L.book }
+{
+    let mut publisher = opened::<L, W>(rt, own, heap, list);
+    let mut one = view_of(rt, &mut publisher, 1);
+    let two = view_of(rt, &mut publisher, 1);
+    assert!(rt; publisher.view().is_none());
+    drop(two);
+    let _again = view_of(rt, &mut publisher, 1);
+    drop(publisher);
+    assert!(rt; one.explain(&question(rt)).is_none());
+    assert_eq!(rt; one.edition(), 1);
+}
+
+#[test]
+fn views_have_places_and_an_end(rt: HostRuntime) -> Result<(), Fail> {
+    places_and_end::<Brand, _>(&rt, rt, rt.alloc(), EmptyList::new());
+    Ok(())
+}
