@@ -1,5 +1,5 @@
 -- Seats that are gathered.
-use Rattle.std.proofs.Common.{◌≡◌, ◌+◌, ℕ, zero, suc, List, [], ◌∷◌, ◌++◌, length, arith, refl}
+use Rattle.std.proofs.Common.{◌≡◌, ◌+◌, List, [], ◌∷◌, ◌++◌, length, arith, refl}
 use Rattle.hall.specs.Seats.{SeatData, receipts_of}
 
 -- one seat more has its receipts more

@@ -1,11 +1,33 @@
--- What a receipt tells of a document that was put in force.
-use Rattle.std.proofs.Common.{◌≡◌, ℕ, sym}
+-- The published list and the receipt behind a document that was put in force.
+use Rattle.std.proofs.Common.{◌≡◌, ◌+◌, ◌∷◌, ◌++◌, [], ℕ, List, length, None, Some, ap, sym, ◌∙◌, length-append}
+use Rattle.std.specs.List.{last_or}
 use Rattle.policy_documents.specs.Documents.{DocumentData}
 use Rattle.decision.specs.Deciders.{DeciderData}
 use Rattle.audit_trail.specs.Records.{RecordData, governed}
+use Rattle.published_policies.proofs.ListLemmas.{last_push}
+use Rattle.hall.specs.Calls.{put_in_force}
 
--- a decider is told by its document and its edition
-pub governed_so : (seat : ℕ) (decider : DeciderData) (document : DocumentData) (edition : ℕ) → edition ≡ decider.edition → decider.document ≡ document
-    → (let e : RecordData = record { seat = seat; deed = governed decider.edition decider } in e) ≡ (let e : RecordData = record { seat = seat; deed = governed edition (record { document = document; edition = edition }) } in e)
-governed_so seat decider document edition e h =
-    λ i. record { seat = seat; deed = governed (sym e i) (record { document = h i; edition = sym e i }) }
+-- a published list goes on by the decider of a document that was put in force
+pub record GoesOn (asked : DocumentData) (before : List DeciderData) (decider : DeciderData) (grown : List DeciderData) : Type 0 where
+  pub document : decider.document ≡ asked
+  pub edition : decider.edition ≡ length before + 1
+  pub list : grown ≡ before ++ decider ∷ []
+
+module _ (asked : DocumentData) (before : List DeciderData) (decider : DeciderData) (grown : List DeciderData) (on : GoesOn asked before decider grown) where
+  pub counted : length grown ≡ decider.edition
+  counted = ap length on.list ∙ length-append before (decider ∷ []) ∙ sym on.edition
+
+  -- the decider is told by its document and by how many the list has
+  so : decider ≡ put_in_force asked grown
+  so = λ i. record { document = on.document i; edition = sym counted i }
+
+  pub ends : last_or None grown ≡ Some decider
+  ends = ap (last_or None) on.list ∙ last_push None before decider
+
+  pub ends_so : last_or None grown ≡ Some (put_in_force asked grown)
+  ends_so = ends ∙ ap (λ (d : DeciderData). Some d) so
+
+  pub told_so : (seat : ℕ)
+      → (let e : RecordData = record { seat = seat; deed = governed decider.edition decider } in e)
+      ≡ (let e : RecordData = record { seat = seat; deed = governed (length grown) (put_in_force asked grown) } in e)
+  told_so seat = ap (λ (d : DeciderData). let e : RecordData = record { seat = seat; deed = governed d.edition d } in e) so

@@ -1,10 +1,10 @@
 -- Whose a seat is.
-use Rattle.std.proofs.Common.{◌≡◌, ◌<◌, ◌+◌, ◌-◌, ◌==◌, ℕ, Bool, true, false, List, [], ◌∷◌, ◌++◌, length, slice_get, Result, None, Some, Ok, refl, sym, ap, subst, ◌∙◌, if◌then◌else◌, arith, length-append}
+use Rattle.std.proofs.Common.{◌≡◌, ◌<◌, ◌+◌, ◌-◌, ◌==◌, ℕ, Bool, true, false, List, [], ◌∷◌, ◌++◌, length, slice_get, Result, None, Some, Ok, refl, sym, ap, subst, if◌then◌else◌, arith, length-append}
 use Rattle.std.proofs.Math.Seq.{get_or-append_seam}
 use Rattle.std.proofs.lemmas.Bool.Decides.{nat_tests}
 use Rattle.std.proofs.lemmas.Option.{slice_get_read}
 use Rattle.features.specs.declared.actors.Subject.{Subject}
-use Rattle.audit_trail.specs.Legal.{IsSeated, subject_of}
+use Rattle.audit_trail.specs.Legal.{IsSeated}
 use Rattle.plain_world.specs.Admitting.{given}
 use Rattle.plain_world.specs.declared.faults.Fault.{Fault}
 use Rattle.chronicle.specs.Chronicles.{subject_given}

@@ -1,11 +1,11 @@
 -- What a call of a seat answers, and the receipt that it adds.
-use Rattle.std.specs.Prelude.{◌≡◌, ◌+◌, ℕ, List}
+use Rattle.std.specs.Prelude.{◌≡◌, ◌+◌, List, length, None, Some}
+use Rattle.std.specs.List.{last_or}
 use Rattle.plane.specs.declared.point.Point.{Point}
-use Rattle.features.specs.declared.actors.Subject.{Subject}
 use Rattle.features.specs.declared.rows.Change.{Change}
 use Rattle.policy_documents.specs.Documents.{DocumentData}
 use Rattle.decision.specs.Deciders.{DeciderData}
-use Rattle.audit_trail.specs.Records.{RecordData, governed}
+use Rattle.audit_trail.specs.Records.{governed}
 use Rattle.plain_world.specs.Answers.{AnswerData}
 use Rattle.plain_world.specs.Laws.{deed_of}
 use Rattle.plain_world.specs.declared.outcomes.Outcome.{Outcome}
@@ -23,11 +23,14 @@ pub record IsSearched (asked : List Point) (answer : AnswerData) (old new : Seat
 pub record IsCommitted (changes : List Change) (outcome : Outcome) (old new : SeatData) : Type 0 where
   pub receipt : new ≡ receipted (deed_of old.subject changes outcome) old
 
--- the seat's subject put this document in force as this edition, and the receipt tells just that
-abbrev pub IsGoverned : DocumentData → ℕ → SeatData → SeatData → Type 0
-IsGoverned document edition old new =
-    let decider : DeciderData = record { document = document; edition = edition } in
-    new ≡ receipted (governed edition decider) old
+-- the decider of a document with which a list of policies ends; its edition is how many the list has
+abbrev pub put_in_force : DocumentData → List DeciderData → DeciderData
+put_in_force document list = record { document = document; edition = length list }
+
+-- the seat's subject put this document in force: the published list ends with it, and the receipt tells just that
+pub record IsGoverned (document : DocumentData) (list : List DeciderData) (old new : SeatData) : Type 0 where
+  pub last : last_or None list ≡ Some (put_in_force document list)
+  pub receipt : new ≡ receipted (governed (length list) (put_in_force document list)) old
 
 -- the decider of a document that is to be in force next
 pub record IsNext (asked : DocumentData) (c : ChronicleData) (decider : DeciderData) : Type 0 where

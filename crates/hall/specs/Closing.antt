@@ -1,5 +1,5 @@
 -- What a hall that is closed leaves, and why one is not closed.
-use Rattle.std.specs.Prelude.{◌≡◌, ◌≢◌, ◌⊎◌, ℕ, Bool, true, List, map, length, All, Contains}
+use Rattle.std.specs.Prelude.{◌≡◌, ◌≢◌, ◌⊎◌, ℕ, Bool, true, List, length, All, Contains}
 use Rattle.audit_trail.specs.Calls.{calls_of}
 use Rattle.chronicle.specs.Chronicles.{ChronicleData, IsSoundChronicle}
 use Rattle.chronicle.specs.Comparing.{DifferFirst}

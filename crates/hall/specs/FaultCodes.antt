@@ -5,6 +5,8 @@ use Rattle.plain_world.specs.declared.faults.Fault.{Fault}
 use Rattle.plain_world.specs.declared.faults.Fault.TheVariants as world
 use Rattle.hall.specs.declared.faults.HallFault.{HallFault}
 use Rattle.hall.specs.declared.faults.HallFault.TheVariants as faults
+use Rattle.hall.specs.declared.faults.OpenFault.{OpenFault}
+use Rattle.hall.specs.declared.faults.OpenFault.TheVariants as opening
 use Rattle.hall.specs.declared.faults.CloseFault.{CloseFault}
 use Rattle.hall.specs.declared.faults.CloseFault.TheVariants as closing
 
@@ -16,6 +18,14 @@ hall_code faults.Closed = codes "H3"
 hall_code faults.Held = codes "H4"
 hall_code (faults.Core fault) = fault_code fault
 hall_code (faults.Memory refused) = codes "H6"
+hall_code faults.NotRead = codes "H7"
+
+-- of a refusal of the world the world's own code
+abbrev pub open_code : OpenFault → List ℕ
+open_code opening.NoPlace = codes "H2"
+open_code (opening.Core fault) = fault_code fault
+open_code (opening.Memory refused) = codes "H6"
+open_code (opening.Policies refused) = codes "H6"
 
 -- as what fault a hall tells that its world refuses an event
 abbrev pub hall_fault : Fault → HallFault

@@ -8,7 +8,9 @@ use crate::faults::CloseFault;
 use crate::guarded::Guarded;
 use crate::seats::Seat;
 use chronicle::Chronicle;
+use published_policies::ListName;
 use std::alloc::Allocator;
+use std::sync::Wait;
 use std::sync::ledger::{Ledger, Share};
 
 /// What a hall was, once it is closed.
@@ -21,9 +23,9 @@ pub struct Closed {
 }
 
 /// The first of the seats whose receipts are not what the records tell of it.
-fn mismatch<'h, L: Ledger, A: Allocator>(
+fn mismatch<'h, L: Ledger + ListName, R: Wait + Drop, A: Allocator>(
     chronicle: &Chronicle<A>,
-    seats: &Vec<Seat<'h, L, A>, A>,
+    seats: &Vec<Seat<'h, L, R, A>, A>,
 ) -> Option<CloseFault>
     ensures same { IfNone result (All (IsKeptBy chronicle.now.records) seats.now.items) }
     ensures differ { IfSome result (IsCause chronicle.now false seats.now.items) }
@@ -38,7 +40,10 @@ fn mismatch<'h, L: Ledger, A: Allocator>(
 }
 
 /// Takes in the share of a seat.
-fn take_in<'h, L: Ledger, A: Allocator>(spare: &mut Share<L>, seat: Seat<'h, L, A>)
+fn take_in<'h, L: Ledger + ListName, R: Wait + Drop, A: Allocator>(
+    spare: &mut Share<L>,
+    seat: Seat<'h, L, R, A>,
+)
     ensures parts { spare.new.parts ≡ spare.old.parts + 1 }
     ensures amount { spare.new.amount ≡ spare.old.amount + length seat.entry.receipts }
 {
@@ -53,7 +58,10 @@ fn take_in<'h, L: Ledger, A: Allocator>(spare: &mut Share<L>, seat: Seat<'h, L, 
 }
 
 /// Takes in the shares of these seats.
-fn gather<'h, L: Ledger, A: Allocator>(spare: &mut Share<L>, seats: Vec<Seat<'h, L, A>, A>)
+fn gather<'h, L: Ledger + ListName, R: Wait + Drop, A: Allocator>(
+    spare: &mut Share<L>,
+    seats: Vec<Seat<'h, L, R, A>, A>,
+)
     ensures parts { spare.new.parts ≡ spare.old.parts + length seats.entry.items }
     ensures amount { spare.new.amount ≡ spare.old.amount + receipts_of seats.entry.items }
 {
@@ -65,10 +73,10 @@ fn gather<'h, L: Ledger, A: Allocator>(spare: &mut Share<L>, seats: Vec<Seat<'h,
 
 /// Closes what the lock guards: takes the seats in, where all that were given are here, and each has as its receipts what the
 /// records tell of it.
-pub(crate) fn settle<'h, L: Ledger, A: Allocator>(
-    guarded: &mut Guarded<L, A>,
-    seats: Vec<Seat<'h, L, A>, A>,
-) -> Result<Closed, (CloseFault, Vec<Seat<'h, L, A>, A>)>
+pub(crate) fn settle<'h, L: Ledger + ListName, R: Wait + Drop, A: Allocator>(
+    guarded: &mut Guarded<L, R, A>,
+    seats: Vec<Seat<'h, L, R, A>, A>,
+) -> Result<Closed, (CloseFault, Vec<Seat<'h, L, R, A>, A>)>
     requires { L.parts ≡ 1025 }
     ensures same { guarded.new.chronicle ≡ guarded.old.chronicle }
     ensures kept { IfOk result (λ _. All (IsKeptBy guarded.old.chronicle.records) seats.entry.items) }

@@ -8,6 +8,7 @@ use crate::halls::Hall;
 use crate::seats::{Gate, Seat};
 use features::Change;
 use memory::GrowVec;
+use published_policies::ListName;
 use std::alloc::Allocator;
 use std::sync::Wait;
 use std::sync::ledger::Ledger;
@@ -27,14 +28,19 @@ enum Placing {
 }
 
 /// Gives a transaction up, where it is still open.
-fn give_up<L: Ledger, A: Allocator, W: Wait>(rt: &W, hall: &Hall<L, A>, seat: u32, number: u64) {
+fn give_up<L: Ledger + ListName, R: Wait + Drop, A: Allocator, W: Wait>(
+    rt: &W,
+    hall: &Hall<L, R, A>,
+    seat: u32,
+    number: u64,
+) {
     hall.lock.lock(rt).abort(seat, number);
 }
 
 /// Stages each of the changes. The gate is called before each of them, without the lock.
-fn stage_all<L: Ledger, A: Allocator, W: Wait, G: Gate>(
+fn stage_all<L: Ledger + ListName, R: Wait + Drop, A: Allocator, W: Wait, G: Gate>(
     rt: &W,
-    hall: &Hall<L, A>,
+    hall: &Hall<L, R, A>,
     seat: u32,
     number: u64,
     changes: &[Change],
@@ -50,9 +56,9 @@ fn stage_all<L: Ledger, A: Allocator, W: Wait, G: Gate>(
 
 /// Makes a step of a walk. Where a search holds the list back, waits in the same critical section, so that no search's end is
 /// missed, until a search ends, and gives the transaction up.
-fn place_one<L: Ledger, A: Allocator + Copy, W: Wait>(
+fn place_one<L: Ledger + ListName, R: Wait + Drop, A: Allocator + Copy, W: Wait>(
     rt: &W,
-    hall: &Hall<L, A>,
+    hall: &Hall<L, R, A>,
     seat: u32,
     number: u64,
 ) -> Result<Placing, HallFault> {
@@ -71,9 +77,9 @@ fn place_one<L: Ledger, A: Allocator + Copy, W: Wait>(
 
 /// Places what the list brings, step by step, and answers whether all is placed: where a search held it back, the transaction
 /// is given up. The gate is called before each step, without the lock.
-fn place_all<L: Ledger, A: Allocator + Copy, W: Wait, G: Gate>(
+fn place_all<L: Ledger + ListName, R: Wait + Drop, A: Allocator + Copy, W: Wait, G: Gate>(
     rt: &W,
-    hall: &Hall<L, A>,
+    hall: &Hall<L, R, A>,
     seat: u32,
     number: u64,
     gate: &mut G,
@@ -90,9 +96,9 @@ fn place_all<L: Ledger, A: Allocator + Copy, W: Wait, G: Gate>(
 }
 
 /// Begins a transaction, and stages and places the list in it. None where a search held it back.
-fn try_once<L: Ledger, A: Allocator + Copy, W: Wait, G: Gate>(
+fn try_once<L: Ledger + ListName, R: Wait + Drop, A: Allocator + Copy, W: Wait, G: Gate>(
     rt: &W,
-    hall: &Hall<L, A>,
+    hall: &Hall<L, R, A>,
     seat: u32,
     changes: &[Change],
     gate: &mut G,
@@ -114,9 +120,9 @@ fn try_once<L: Ledger, A: Allocator + Copy, W: Wait, G: Gate>(
 }
 
 /// The transaction in which the list is placed, after `TRY_LIMIT` tries at most. H4 where searches held each of them back.
-fn placed<L: Ledger, A: Allocator + Copy, W: Wait, G: Gate>(
+fn placed<L: Ledger + ListName, R: Wait + Drop, A: Allocator + Copy, W: Wait, G: Gate>(
     rt: &W,
-    hall: &Hall<L, A>,
+    hall: &Hall<L, R, A>,
     seat: u32,
     changes: &[Change],
     gate: &mut G,
@@ -130,7 +136,7 @@ fn placed<L: Ledger, A: Allocator + Copy, W: Wait, G: Gate>(
     Err(HallFault::Held)
 }
 
-impl<'h, L: Ledger, A: Allocator + Copy> Seat<'h, L, A> {
+impl<'h, L: Ledger + ListName, R: Wait + Drop, A: Allocator + Copy> Seat<'h, L, R, A> {
     /// Commits a list of changes, all or none of it. A list that a search holds back waits until a search ends and is tried anew,
     /// `TRY_LIMIT` times at most: then H4. H6 where there is no room for the receipt; H5 with X15 where 64 transactions are open,
     /// X5 and X6 as the list cannot be staged, S4 to S7 where the index does not place a shape, X10 where the trail is full, X8

@@ -3,6 +3,7 @@
 ghost use Rattle.std.specs.Prelude.{◌≡◌};
 
 use memory::Refused;
+use published_policies::NoMemory;
 use std::fmt;
 use transactions::Fault;
 
@@ -11,7 +12,7 @@ use transactions::Fault;
 pub enum HallFault {
     /// H1: no subject has that name.
     NoSubject,
-    /// H2: all seats are given.
+    /// H2: all seats are given, or all views.
     NoPlace,
     /// H3: the hall is closed.
     Closed,
@@ -21,6 +22,8 @@ pub enum HallFault {
     Core(Fault),
     /// H6: a growth was refused before any event of the call.
     Memory(Refused),
+    /// H7: a view has no policy to read.
+    NotRead,
 }
 
 impl HallFault {
@@ -37,6 +40,7 @@ impl HallFault {
             HallFault::Held => "H4",
             HallFault::Core(fault) => fault.code(),
             HallFault::Memory(_) => "H6",
+            HallFault::NotRead => "H7",
         }
     }
 }
@@ -75,6 +79,67 @@ impl From<Fault> for HallFault {
             Fault::NoPlace => HallFault::NoPlace,
             other => HallFault::Core(other),
         }
+    }
+}
+
+/// Why a hall is not opened.
+#[derive(Debug, Drop, PartialEq, Eq)]
+pub enum OpenFault {
+    /// H2: more views are asked for than there may be.
+    NoPlace,
+    /// H5: the world is not opened. It is shown as the world's code.
+    Core(Fault),
+    /// H6: a growth was refused.
+    Memory(Refused),
+    /// H6: there is no memory for the policies that views read.
+    Policies(NoMemory),
+}
+
+impl OpenFault {
+    ghost use Rattle.hall.specs.FaultCodes.{open_code};
+
+    /// The code by which users know the fault; of a refusal of the world, the world's own.
+    pub fn code(&self) -> &'static str
+        ensures { result.now ≡ open_code self.now }
+    {
+        match self {
+            OpenFault::NoPlace => "H2",
+            OpenFault::Core(fault) => fault.code(),
+            OpenFault::Memory(_) | OpenFault::Policies(_) => "H6",
+        }
+    }
+}
+
+impl fmt::Display for OpenFault {
+    ghost use Rattle.std.specs.Prelude.{Some};
+    ghost use Rattle.hall.specs.FaultCodes.{open_code};
+
+    ghost output = { λ fault. Some (open_code fault) };
+
+    fn fmt<W: fmt::Write>(&self, f: &mut fmt::Formatter<W>) -> fmt::Result {
+        f.write_str(self.code())
+    }
+}
+
+impl From<Refused> for OpenFault {
+    ghost use Rattle.std.specs.Prelude.{◌≡◌};
+    ghost use Rattle.hall.specs.declared.faults.OpenFault.TheVariants.{Memory};
+
+    ghost from_gives = { λ refused fault. fault ≡ Memory refused };
+
+    fn from(refused: Refused) -> Self {
+        OpenFault::Memory(refused)
+    }
+}
+
+impl From<NoMemory> for OpenFault {
+    ghost use Rattle.std.specs.Prelude.{◌≡◌};
+    ghost use Rattle.hall.specs.declared.faults.OpenFault.TheVariants.{Policies};
+
+    ghost from_gives = { λ refused fault. fault ≡ Policies refused };
+
+    fn from(refused: NoMemory) -> Self {
+        OpenFault::Policies(refused)
     }
 }
 

@@ -7,16 +7,21 @@ use crate::faults::HallFault;
 use crate::seats::Seat;
 use memory::GrowVec;
 use policy_documents::Document;
+use published_policies::{Edition, ListName};
 use std::alloc::{Allocator, Global};
 use std::sync::ledger::Ledger;
 use std::sync::{Arc, Wait};
 use transactions::Rolled;
 
-impl<'h, L: Ledger, A: Allocator + Copy> Seat<'h, L, A> {
-    /// Puts a document in force, and answers its edition. H6 where there is no room for the receipt; H5 with X7 where the seat's
+impl<'h, L: Ledger + ListName, R: Wait + Drop, A: Allocator + Copy> Seat<'h, L, R, A> {
+    /// Puts a document in force, and answers its edition, of which a view may be told. H6 where there is no room for the receipt; H5 with X7 where the seat's
     /// subject is no steward, X8 where the edition is at its end, X10 where the trail is full; then H6 where there is no memory
     /// for what decides by the document, and H5 with X12 where there is none for the event.
-    pub fn govern<W: Wait>(&mut self, rt: &W, document: Document<Global>) -> Result<u64, HallFault>
+    pub fn govern<W: Wait>(
+        &mut self,
+        rt: &W,
+        document: Document<Global>,
+    ) -> Result<Edition<L>, HallFault>
         ensures ok { IfOk result (λ edition. IsGoverned document edition self.old self.new) }
         ensures err { OnErr result (self.new ≡ self.old) }
     {

@@ -1,13 +1,14 @@
 //! What the lock guards.
 
-ghost use Rattle.std.specs.Prelude.{◌≡◌, ◌<◌, ◌+◌, [], false, length, None, Some, Ok, IfOk, OnOk, OnErr};
+ghost use Rattle.std.specs.Prelude.{◌≡◌, ◌<◌, ◌+◌, [], ◌∷◌, false, length, slice_get, None, Some, Ok, IfOk, OnOk, OnErr};
 ghost use Rattle.std.specs.Arc.{arc_value};
 ghost use Rattle.std.specs.List.{last_or};
 ghost use Rattle.audit_trail.specs.Records.{governed};
 ghost use Rattle.chronicle.specs.Chronicles.{subject_given};
 ghost use Rattle.chronicle.specs.Noting.{told_answer};
 ghost use Rattle.plain_world.specs.Laws.{deed_of};
-ghost use Rattle.hall.specs.Calls.{IsNext};
+ghost use Rattle.published_policies.specs.Coding.{decider_set};
+ghost use Rattle.hall.specs.Calls.{IsNext, put_in_force};
 
 use crate::faults::HallFault;
 use crate::upkeep::Upkeep;
@@ -18,6 +19,7 @@ use features::{Change, Name, Subject};
 use memory::{Refused, another, shared};
 use plane::Shape;
 use policy_documents::Document;
+use published_policies::{Edition, ListName, Publisher, View};
 use std::alloc::{Allocator, Global};
 use std::sync::ledger::{Blank, Book, Ledger, Share};
 use std::sync::{Arc, Wait};
@@ -26,11 +28,14 @@ use transactions::{Advance, Answer, Fault, Outcome, Rolled};
 /// Into how many parts the ledger of a hall is cut: one for each seat that may be given, and one that stays.
 pub const LEDGER_PARTS: u64 = 1_025;
 
-/// What the lock guards: the world with all its records, and how many records there are, of which each seat has its share.
-/// Whenever the lock is got, the facts below hold, and those of a chronicle.
+/// What the lock guards: the world with all its records, the policies that were put in force, as views read them, and how many
+/// records there are, of which each seat has its share. Whenever the lock is got, the facts below hold, and those of a chronicle.
 #[derive(Drop)]
-pub(crate) struct Guarded<L: Ledger, A: Allocator> {
+pub(crate) struct Guarded<L: Ledger + ListName, R: Wait + Drop, A: Allocator> {
     pub(crate) chronicle: Chronicle<A>,
+    pub(crate) publisher: Publisher<L, R>,
+    /// How many views may still be given.
+    pub(crate) views_left: usize,
     /// How many records there are.
     pub(crate) book: Book<L>,
     /// The parts of the seats that are not given yet.
@@ -44,6 +49,9 @@ pub(crate) struct Guarded<L: Ledger, A: Allocator> {
     pub ghost counted: { book.total ≡ length chronicle.records },
     pub ghost idle: { gathered ≡ false → spare.amount ≡ 0 },
     pub ghost cut: { gathered ≡ false → spare.parts + length chronicle.seats ≡ 1025 },
+    pub ghost edition: { length publisher ≡ chronicle.decider.edition },
+    pub ghost begins: { slice_get publisher 0 ≡ Some chronicle.opening } by { decider_set (slice_get publisher 0) (Some chronicle.opening) },
+    pub ghost in_force: { last_or None publisher ≡ Some chronicle.decider } by { decider_set (last_or None publisher) (Some chronicle.decider) },
 }
 
 /// Counts the record that was just written in a seat's share, and answers another owner of it. Only its number of owners can
@@ -117,17 +125,27 @@ fn next_decider<A: Allocator>(
     }
 }
 
-impl<L: Ledger, A: Allocator> Guarded<L, A> {
-    /// A chronicle with no records and no seats, under a new ledger.
-    pub(crate) fn new(chronicle: Chronicle<A>, blank: Blank) -> Self
+impl<L: Ledger + ListName, R: Wait + Drop, A: Allocator> Guarded<L, R, A> {
+    /// A chronicle that was opened just now, whose first policy is published, under a new ledger. So many views may be given.
+    pub(crate) fn new(
+        chronicle: Chronicle<A>,
+        publisher: Publisher<L, R>,
+        views: usize,
+        blank: Blank,
+    ) -> Self
         requires name { blank.name ≡ L.name }
         requires parts { (blank.parts ≡ L.parts) × (L.parts ≡ 1025) }
-        requires opening { (chronicle.records ≡ []) × (chronicle.seats ≡ []) }
+        requires empty { (chronicle.records ≡ []) × (chronicle.seats ≡ []) }
+        requires in_force { chronicle.decider ≡ chronicle.opening }
+        requires first { chronicle.opening.edition ≡ 1 }
+        requires published { publisher ≡ chronicle.opening ∷ [] }
         ensures { result.chronicle ≡ chronicle }
     {
         let (book, spare) = blank.open::<L>();
         Guarded {
             chronicle,
+            publisher,
+            views_left: views,
             book,
             spare,
             closed: false,
@@ -156,6 +174,31 @@ impl<L: Ledger, A: Allocator> Guarded<L, A> {
             unreachable!()
         };
         Ok((number, subject, spare.split_off(1, 0)))
+    }
+
+    /// Gives a view of the policies. H3 where the hall is closed, H2 where all views are given.
+    pub(crate) fn view(&mut self) -> Result<View<L>, HallFault>
+        ensures list { IfOk result (λ view. view ≡ self.old.publisher) }
+        ensures fewer { OnOk result (self.old.views_left ≡ self.new.views_left + 1) }
+        ensures err { OnErr result (self.new.views_left ≡ self.old.views_left) }
+    {
+        let Guarded {
+            publisher,
+            views_left,
+            closed,
+            ..
+        } = self;
+        if *closed {
+            return Err(HallFault::Closed);
+        }
+        if *views_left == 0 {
+            return Err(HallFault::NoPlace);
+        }
+        let Some(view) = publisher.view() else {
+            return Err(HallFault::NoPlace);
+        };
+        *views_left -= 1;
+        Ok(view)
     }
 
     /// Gives a search up, where it still runs.
@@ -192,7 +235,7 @@ impl<L: Ledger, A: Allocator> Guarded<L, A> {
     }
 }
 
-impl<L: Ledger, A: Allocator + Copy> Guarded<L, A> {
+impl<L: Ledger + ListName, R: Wait + Drop, A: Allocator + Copy> Guarded<L, R, A> {
     /// Makes a step of a walk of a transaction.
     pub(crate) fn advance(&mut self, seat: u32, number: u64) -> Result<Advance, Fault> {
         self.upkeep.changed();
@@ -257,9 +300,9 @@ impl<L: Ledger, A: Allocator + Copy> Guarded<L, A> {
         Ok((outcome, receipt(rt, chronicle, book, share)))
     }
 
-    /// Puts a document in force for a seat, and answers its edition. The record is counted in the seat's share. X1, X7, X8, X10
-    /// as the world refuses the event; then H6 where there is no memory for the decider, and X12 where there is none for the
-    /// event.
+    /// Puts a document in force for a seat, publishes it, and answers the list that ends with it. The record is counted in the
+    /// seat's share. X1, X7, X8, X10 as the world refuses the event; then H6 where there is no memory for the decider, and X12
+    /// where there is none for the event. Nothing is published where it is refused.
     pub(crate) fn govern<W: Wait>(
         &mut self,
         rt: &W,
@@ -267,20 +310,24 @@ impl<L: Ledger, A: Allocator + Copy> Guarded<L, A> {
         seat: u32,
         share: &mut Share<L>,
         document: Document<Global>,
-    ) -> Result<(u64, Arc<Record<A>, A>), HallFault>
+    ) -> Result<(Edition<L>, Arc<Record<A>, A>), HallFault>
         requires { 0 < share.old.parts }
-        ensures receipt { IfOk result (λ done. arc_value done.1 ≡ record { seat = seat; deed = governed done.0 (record { document = document; edition = done.0 }) }) }
+        ensures last { IfOk result (λ done. last_or None done.0 ≡ Some (put_in_force document done.0)) }
+        ensures receipt { IfOk result (λ done. arc_value done.1 ≡ record { seat = seat; deed = governed (length done.0) (put_in_force document done.0) }) }
         ensures amount { OnOk result (share.new.amount ≡ share.old.amount + 1) }
         ensures err { OnErr result (share.new.amount ≡ share.old.amount) }
         ensures parts { share.new.parts ≡ share.old.parts }
     {
         let Guarded {
             chronicle,
+            publisher,
             book,
             ..
         } = self;
         let decider = next_decider(chronicle, heap, seat, document)?;
-        let edition = chronicle.govern_by(seat, decider)?;
+        let published = another(&decider)?;
+        chronicle.govern_by(seat, decider)?;
+        let edition = publisher.publish(published);
         Ok((edition, receipt(rt, chronicle, book, share)))
     }
 

@@ -1,5 +1,5 @@
-//! The hall: one world that many threads share under one lock, with a seat for each session and a receipt for each call that
-//! the trail tells of.
+//! The hall: one world that many threads share under one lock, with a seat for each session, a receipt for each call that the
+//! trail tells of, and views of the policies, which need no lock.
 #![tactic(auto)]
 
 mod closing;
@@ -14,7 +14,8 @@ mod upkeep;
 
 pub use closing::Closed;
 pub use committing::TRY_LIMIT;
-pub use faults::{CloseFault, HallFault};
+pub use faults::{CloseFault, HallFault, OpenFault};
 pub use guarded::LEDGER_PARTS;
-pub use halls::Hall;
+pub use halls::{Hall, Unnamed, VIEW_LIMIT};
+pub use published_policies::{Edition, Explained, ListName, View};
 pub use seats::{Gate, NoGate, Seat};

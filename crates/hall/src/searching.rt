@@ -8,15 +8,16 @@ use crate::halls::Hall;
 use crate::seats::{Gate, Seat};
 use memory::GrowVec;
 use plane::Shape;
+use published_policies::ListName;
 use std::alloc::Allocator;
 use std::sync::Wait;
 use std::sync::ledger::Ledger;
 use transactions::{Answer, Visit};
 
 /// Lets a search go on until it is ready, step by step. The gate is called before each step, without the lock.
-fn visit_all<L: Ledger, A: Allocator + Copy, W: Wait, G: Gate>(
+fn visit_all<L: Ledger + ListName, R: Wait + Drop, A: Allocator + Copy, W: Wait, G: Gate>(
     rt: &W,
-    hall: &Hall<L, A>,
+    hall: &Hall<L, R, A>,
     seat: u32,
     number: u64,
     gate: &mut G,
@@ -33,12 +34,17 @@ fn visit_all<L: Ledger, A: Allocator + Copy, W: Wait, G: Gate>(
 }
 
 /// Gives a search up, where it still runs, and wakes those whose lists it held back.
-fn give_up<L: Ledger, A: Allocator, W: Wait>(rt: &W, hall: &Hall<L, A>, seat: u32, number: u64) {
+fn give_up<L: Ledger + ListName, R: Wait + Drop, A: Allocator, W: Wait>(
+    rt: &W,
+    hall: &Hall<L, R, A>,
+    seat: u32,
+    number: u64,
+) {
     hall.lock.lock(rt).drop_search(seat, number);
     hall.search_ended.notify_all();
 }
 
-impl<'h, L: Ledger, A: Allocator + Copy> Seat<'h, L, A> {
+impl<'h, L: Ledger + ListName, R: Wait + Drop, A: Allocator + Copy> Seat<'h, L, R, A> {
     /// Searches a window: what meets it and the seat's subject may read, at the moment at which the search finishes. H6 where
     /// there is no room for the receipt; H5 with S2 where 16 searches run, S6 where the numbers of searches are at their end, S7
     /// where the index gives the search up, X10 where the trail is full, X12 where a growth is refused.

@@ -6,10 +6,11 @@ ghost use Rattle.std.specs.Arc.{arc_value};
 use crate::halls::Hall;
 use audit_trail::Record;
 use features::Subject;
+use published_policies::ListName;
 use std::alloc::Allocator;
 use std::marker::Model;
-use std::sync::Arc;
 use std::sync::ledger::{Ledger, Share};
+use std::sync::{Arc, Wait};
 
 /// What is done between two events of a call, while the lock is free.
 pub trait Gate {
@@ -28,15 +29,15 @@ impl Gate for NoGate {
 /// A seat of a hall, for one session. It keeps a receipt for each of its calls that the trail tells of: the record itself, of
 /// which it is another owner. A contract sees its number, its subject and its receipts.
 #[derive(Drop)]
-pub struct Seat<'h, L: Ledger, A: Allocator> {
-    pub(crate) hall: &'h Hall<L, A>,
+pub struct Seat<'h, L: Ledger + ListName, R: Wait + Drop, A: Allocator> {
+    pub(crate) hall: &'h Hall<L, R, A>,
     pub(crate) number: u32,
     pub(crate) subject: Subject,
     pub(crate) share: Share<L>,
     pub(crate) receipts: Vec<Arc<Record<A>, A>, A>,
 }
 
-impl<'h, L: Ledger, A: Allocator> Model for Seat<'h, L, A> {
+impl<'h, L: Ledger + ListName, R: Wait + Drop, A: Allocator> Model for Seat<'h, L, R, A> {
     ghost use Rattle.std.specs.Prelude.{◌≡◌, map, length};
     ghost use Rattle.std.specs.Arc.{arc_value};
     ghost use Rattle.std.specs.Coded.{code_by, codes};
@@ -52,7 +53,7 @@ impl<'h, L: Ledger, A: Allocator> Model for Seat<'h, L, A> {
     ghost invariant = { λ s. (s.share.parts ≡ 1) × (s.share.amount ≡ length s.receipts.items) };
 }
 
-impl<'h, L: Ledger, A: Allocator> Seat<'h, L, A> {
+impl<'h, L: Ledger + ListName, R: Wait + Drop, A: Allocator> Seat<'h, L, R, A> {
     /// The seat's number, from 1.
     pub fn number(&self) -> u32
         ensures { result ≡ self.now.number }

@@ -1,10 +1,13 @@
--- What a call is answered that the hall refuses.
-use Rattle.std.specs.Prelude.{Result, Ok, Err}
+-- What calls of a hall and of a view are answered.
+use Rattle.std.specs.Prelude.{ℕ, List, Option, Result, Ok, Err}
+use Rattle.decision.specs.declared.rulings.Ruling.{Ruling}
+use Rattle.decision.specs.declared.rulings.Ruling.TheVariants.{Permit, DeniedBy, NoneApplied}
+use Rattle.published_policies.specs.declared.explaining.Explained.{Explained}
 use Rattle.hall.specs.declared.faults.HallFault.{HallFault}
 use Rattle.hall.specs.declared.faults.HallFault.TheVariants as halls
 use Rattle.session_lines.specs.declared.faults.Fault.TheVariants as faults
 use Rattle.session_lines.specs.declared.replies.Reply.{Reply}
-use Rattle.session_lines.specs.declared.replies.Reply.TheVariants.{Held, Memory, Error}
+use Rattle.session_lines.specs.declared.replies.Reply.TheVariants.{Held, Memory, Error, Permitted, Forbidden}
 use Rattle.session_lines.specs.Replies.{SaidData, line, fault_reply}
 
 -- what a call is answered that the hall refuses
@@ -15,6 +18,17 @@ hall_reply halls.Closed = Error faults.Closed
 hall_reply halls.Held = Held
 hall_reply (halls.Core refusal) = fault_reply refusal
 hall_reply (halls.Memory refusal) = Memory refusal
+hall_reply halls.NotRead = Error faults.NotRead
+
+-- what a question is answered that is ruled so, by the rule of this name, at this edition
+abbrev pub ruled : Ruling → Option (List ℕ) → ℕ → Reply
+ruled (Permit number) rule edition = Permitted rule edition
+ruled (DeniedBy number) rule edition = Forbidden rule edition
+ruled NoneApplied rule edition = Forbidden rule edition
+
+-- what a question is answered that a view has explained so
+abbrev pub explained_reply : Explained → Reply
+explained_reply explained = ruled explained.ruling explained.rule explained.edition
 
 -- what a call is answered: its value shown so, or its refusal
 abbrev pub told : {T : Type 0} → (T → SaidData) → Result T HallFault → SaidData

@@ -1,19 +1,22 @@
 -- A session over a hall, as plain data.
 use Rattle.std.specs.Prelude.{ℕ, List, length, slice_get, slice_set, Option, None, Some}
 use Rattle.features.specs.declared.actors.Subject.{Subject}
+use Rattle.decision.specs.Deciders.{DeciderData}
 use Rattle.hall.specs.Seats.{SeatData}
 
--- the seats of the worker that serves the session, and how many of them stand before the session's own
+-- the seats of the worker that serves the session, how many of them stand before the session's own, and the published list of
+-- policies as far as the worker's view knows it
 pub record SessionData : Type 0 where
   pub earlier : ℕ
   pub seats : List SeatData
+  pub view : List DeciderData
 
-abbrev pub session : ℕ → List SeatData → SessionData
-session earlier seats = record { earlier = earlier; seats = seats }
+abbrev pub session : ℕ → List SeatData → List DeciderData → SessionData
+session earlier seats view = record { earlier = earlier; seats = seats; view = view }
 
 -- a session that has not begun, or has ended: none of these seats is its own
-abbrev pub unbegun : List SeatData → SessionData
-unbegun seats = session (length seats) seats
+abbrev pub unbegun : List SeatData → List DeciderData → SessionData
+unbegun seats view = session (length seats) seats view
 
 -- the session's seat, from HELLO on
 abbrev pub seat_of : SessionData → Option SeatData

@@ -2,10 +2,10 @@
 
 ghost use Rattle.std.specs.Prelude.{◌≡◌, length};
 
-use crate::replies::hall_reply;
+use crate::replies::{explained_reply, hall_reply};
 use combining::Question;
 use features::{Change, Name, Subject};
-use hall::{Gate, Hall, Seat};
+use hall::{Gate, Hall, HallFault, ListName, Seat, View};
 use memory::GrowVec;
 use plane::Shape;
 use policy_documents::Document;
@@ -15,27 +15,40 @@ use std::sync::Wait;
 use std::sync::ledger::Ledger;
 
 /// A session over a hall. HELLO takes a seat for it, and puts it behind those of the worker's earlier sessions; there it stays when
-/// the session ends, since a hall is closed with all its seats. Between two events of a call the gate is called.
+/// the session ends, since a hall is closed with all its seats. Between two events of a call the gate is called. EXPLAIN asks the
+/// worker's view, which needs no seat and no lock; a document that the session puts in force is told to it.
 #[derive(Drop)]
-pub struct Attended<'a, 'h, L: Ledger, A: Allocator, W: Wait, G: Gate> {
+pub struct Attended<'a, 'h, L: Ledger + ListName, R: Wait + Drop, A: Allocator, W: Wait, G: Gate> {
     rt: &'a W,
-    hall: &'h Hall<L, A>,
-    seats: &'a mut Vec<Seat<'h, L, A>, A>,
+    hall: &'h Hall<L, R, A>,
+    seats: &'a mut Vec<Seat<'h, L, R, A>, A>,
+    view: &'a mut View<L>,
     gate: &'a mut G,
     /// How many seats stand before the session's.
     earlier: usize,
 }
 
-impl<'a, 'h, L: Ledger, A: Allocator + Copy, W: Wait, G: Gate> Attended<'a, 'h, L, A, W, G> {
-    /// A session that has not begun. `seats` are those of the worker's earlier sessions.
+impl<'a, 'h, L: Ledger + ListName, R: Wait + Drop, A: Allocator + Copy, W: Wait, G: Gate> Attended<
+    'a,
+    'h,
+    L,
+    R,
+    A,
+    W,
+    G,
+> {
+    /// A session that has not begun. `seats` are those of the worker's earlier sessions, `view` is the worker's.
     pub fn new(
         rt: &'a W,
-        hall: &'h Hall<L, A>,
-        seats: &'a mut Vec<Seat<'h, L, A>, A>,
+        hall: &'h Hall<L, R, A>,
+        seats: &'a mut Vec<Seat<'h, L, R, A>, A>,
+        view: &'a mut View<L>,
         gate: &'a mut G,
     ) -> Self
-        ensures same_reference { result.seats.ghost_name ≡ seats.entry.ghost_name }
+        ensures same_seats { result.seats.ghost_name ≡ seats.entry.ghost_name }
         ensures seats { result.seats.now ≡ seats.old }
+        ensures same_view { result.view.ghost_name ≡ view.entry.ghost_name }
+        ensures view { result.view.now ≡ view.old }
         ensures earlier { result.earlier ≡ length seats.old.items }
     {
         let earlier = seats.len();
@@ -43,24 +56,27 @@ impl<'a, 'h, L: Ledger, A: Allocator + Copy, W: Wait, G: Gate> Attended<'a, 'h, 
             rt,
             hall,
             seats,
+            view,
             gate,
             earlier,
         }
     }
 }
 
-impl<'a, 'h, L: Ledger, A: Allocator + Copy, W: Wait, G: Gate> Service
-    for Attended<'a, 'h, L, A, W, G> {
+impl<'a, 'h, L: Ledger + ListName, R: Wait + Drop, A: Allocator + Copy, W: Wait, G: Gate> Service
+    for Attended<'a, 'h, L, R, A, W, G> {
     ghost use Rattle.std.specs.Prelude.{◌≡◌};
     ghost use Rattle.hall_sessions.specs.Services.{Serves};
     ghost use Rattle.hall_sessions.specs.Sessions.{session, session_subject};
 
     type Memory = A;
 
-    ghost subject_of = { λ s. session_subject (session s.earlier s.seats.now.items) };
+    ghost subject_of = { λ s. session_subject (session s.earlier s.seats.now.items s.view.now) };
 
     ghost serves = { λ call old new said. (new.seats.ghost_name ≡ old.seats.ghost_name)
-        × Serves call (session old.earlier old.seats.now.items) (session new.earlier new.seats.now.items) said };
+        × (new.view.ghost_name ≡ old.view.ghost_name)
+        × Serves call (session old.earlier old.seats.now.items old.view.now)
+        (session new.earlier new.seats.now.items new.view.now) said };
 
     fn subject(&self) -> Option<Subject> {
         Some(self.seats.get(self.earlier)?.subject())
@@ -105,13 +121,20 @@ impl<'a, 'h, L: Ledger, A: Allocator + Copy, W: Wait, G: Gate> Service
             return Reply::Error(Fault::BeforeHello);
         };
         match seat.govern(self.rt, document) {
-            Ok(edition) => Reply::Edition(edition),
+            Ok(edition) => {
+                let number = edition.number();
+                self.view.told(edition);
+                Reply::Edition(number)
+            }
             Err(fault) => hall_reply(fault),
         }
     }
 
-    fn explain(&mut self, _question: &Question) -> Reply {
-        Reply::Error(Fault::Command)
+    fn explain(&mut self, question: &Question) -> Reply {
+        match self.view.explain(question) {
+            Some(explained) => explained_reply(explained),
+            None => hall_reply(HallFault::NotRead),
+        }
     }
 
     fn roll(&mut self) -> Said<A> {

@@ -1,9 +1,10 @@
-//! What a call is answered that the hall refuses.
+//! What calls of a hall and of a view are answered.
 
 ghost use Rattle.std.specs.Prelude.{◌≡◌};
-ghost use Rattle.hall_sessions.specs.Replies.{hall_reply};
+ghost use Rattle.hall_sessions.specs.Replies.{explained_reply, hall_reply};
 
-use hall::HallFault;
+use decision::Ruling;
+use hall::{Explained, HallFault};
 use session_lines::{Fault, Reply, fault_reply};
 
 /// What a call is answered that the hall refuses.
@@ -17,5 +18,18 @@ pub fn hall_reply(fault: HallFault) -> Reply
         HallFault::Held => Reply::Held,
         HallFault::Core(refusal) => fault_reply(refusal),
         HallFault::Memory(refusal) => Reply::Memory(refusal),
+        HallFault::NotRead => Reply::Error(Fault::NotRead),
+    }
+}
+
+/// What a question is answered that a view has explained so.
+pub fn explained_reply(explained: Explained) -> Reply
+    ensures { result ≡ explained_reply explained }
+{
+    match explained.ruling {
+        Ruling::Permit(_) => Reply::Permitted(explained.rule, explained.edition),
+        Ruling::DeniedBy(_) | Ruling::NoneApplied => {
+            Reply::Forbidden(explained.rule, explained.edition)
+        }
     }
 }

@@ -3,24 +3,24 @@ ghost use Rattle.std.specs.Prelude.{◌≡◌};
 
 use crate::halls::{ROADS, applied, document, name, opened, road, rows, seat, square};
 use features::Change;
-use hall::{Closed, Hall, HallFault, LEDGER_PARTS, NoGate, Seat};
+use hall::{Closed, Hall, HallFault, ListName, NoGate, Seat, Unnamed};
 use std::alloc::Global;
 use std::marker::Brand;
 use std::process::Abort;
 use std::sync::Wait;
-use std::sync::ledger::{Blank, Ledger};
+use std::sync::ledger::Ledger;
 use transactions::Fault;
 
 /// What is refused leaves no receipt.
-fn refuse_one<L: Ledger, R: Wait + Abort>(
+fn refuse_one<L: Ledger + ListName, H: Wait + Drop, R: Wait + Abort>(
     rt: &R,
     heap: Global,
-    hall: &Hall<L, Global>,
-    north: &mut Seat<'_, L, Global>,
+    hall: &Hall<L, H, Global>,
+    north: &mut Seat<'_, L, H, Global>,
 ) {
     assert!(rt; matches!(hall.seat(rt, name(rt, "nobody")), Err(HallFault::NoSubject)));
     let refused = north.govern(rt, document(rt, heap, ROADS));
-    assert!(rt; refused == Err(HallFault::Core(Fault::NotSteward)));
+    assert!(rt; matches!(refused, Err(HallFault::Core(Fault::NotSteward))));
     assert!(rt; matches!(north.roll(rt), Err(HallFault::Core(Fault::NotSteward))));
     let twice = [road(rt, 1, 1, 1), road(rt, 1, 2, 2)];
     let refused = north.commit(rt, &twice, &mut NoGate);
@@ -29,10 +29,10 @@ fn refuse_one<L: Ledger, R: Wait + Abort>(
 }
 
 /// Features come and go, and the index is tended in between.
-fn tend_all<L: Ledger, R: Wait + Abort>(
+fn tend_all<L: Ledger + ListName, H: Wait + Drop, R: Wait + Abort>(
     rt: &R,
-    hall: &Hall<L, Global>,
-    north: &mut Seat<'_, L, Global>,
+    hall: &Hall<L, H, Global>,
+    north: &mut Seat<'_, L, H, Global>,
 ) {
     for id in 1..41 {
         assert!(rt; applied(rt, north, road(rt, id, 1, 1), &mut NoGate).is_some());
@@ -48,11 +48,11 @@ fn tend_all<L: Ledger, R: Wait + Abort>(
 }
 
 /// A hall closes with its one seat, and then gives none and is not tended.
-fn close_one<'h, L: Ledger, R: Wait + Abort>(
+fn close_one<'h, L: Ledger + ListName, H: Wait + Drop, R: Wait + Abort>(
     rt: &R,
     heap: Global,
-    hall: &'h Hall<L, Global>,
-    seat: Seat<'h, L, Global>,
+    hall: &'h Hall<L, H, Global>,
+    seat: Seat<'h, L, H, Global>,
 )
     requires { L.parts ≡ 1025 }
 {
@@ -72,11 +72,17 @@ fn close_one<'h, L: Ledger, R: Wait + Abort>(
     assert!(rt; hall.tend_round(rt) == Err(HallFault::Closed));
 }
 
-fn opens_and_closes_in<L: Ledger, R: Wait + Abort>(rt: &R, heap: Global, blank: Blank)
-    requires name { blank.name ≡ L.name }
-    requires parts { (blank.parts ≡ L.parts) × (L.parts ≡ 1025) }
+fn opens_and_closes_in<L: Ledger + ListName, H: Wait + Drop, R: Wait + Abort>(
+    rt: &R,
+    own: H,
+    heap: Global,
+    unnamed: Unnamed,
+)
+    requires name { unnamed.ledger.name ≡ L.name }
+    requires parts { (unnamed.ledger.parts ≡ L.parts) × (L.parts ≡ 1025) }
+    requires list { unnamed.list ≡ L.book }
 {
-    let hall = opened::<L>(rt, heap, blank);
+    let hall = opened::<L, H>(rt, own, heap, unnamed, 0);
     let mut north = seat(rt, &hall, "north");
     assert_eq!(rt; north.number(), 1);
     refuse_one(rt, heap, &hall, &mut north);
@@ -86,15 +92,21 @@ fn opens_and_closes_in<L: Ledger, R: Wait + Abort>(rt: &R, heap: Global, blank: 
 
 #[test]
 fn opens_and_closes(rt: HostRuntime) {
-    opens_and_closes_in::<Brand, _>(&rt, rt.alloc(), Blank::new(LEDGER_PARTS));
+    opens_and_closes_in::<Brand, _, _>(&rt, rt, rt.alloc(), Unnamed::new());
 }
 
 /// A hall that gave no seat closes, and closes once more.
-fn empty_in<L: Ledger, R: Wait + Abort>(rt: &R, heap: Global, blank: Blank)
-    requires name { blank.name ≡ L.name }
-    requires parts { (blank.parts ≡ L.parts) × (L.parts ≡ 1025) }
+fn empty_in<L: Ledger + ListName, H: Wait + Drop, R: Wait + Abort>(
+    rt: &R,
+    own: H,
+    heap: Global,
+    unnamed: Unnamed,
+)
+    requires name { unnamed.ledger.name ≡ L.name }
+    requires parts { (unnamed.ledger.parts ≡ L.parts) × (L.parts ≡ 1025) }
+    requires list { unnamed.list ≡ L.book }
 {
-    let hall = opened::<L>(rt, heap, blank);
+    let hall = opened::<L, H>(rt, own, heap, unnamed, 0);
     for _ in 0..2 {
         match hall.close(rt, Vec::new(heap)) {
             Ok(closed) => assert_eq!(rt;
@@ -111,5 +123,5 @@ fn empty_in<L: Ledger, R: Wait + Abort>(rt: &R, heap: Global, blank: Blank)
 
 #[test]
 fn closes_empty(rt: HostRuntime) {
-    empty_in::<Brand, _>(&rt, rt.alloc(), Blank::new(LEDGER_PARTS));
+    empty_in::<Brand, _, _>(&rt, rt, rt.alloc(), Unnamed::new());
 }

@@ -1,15 +1,16 @@
 //! Halls, and what is done in them.
 ghost use Rattle.std.specs.Prelude.{◌≡◌};
 
-use features::{Change, Name, Subject, Subjects};
-use hall::{Gate, Hall, Seat};
+use combining::Question;
+use features::{Action, Change, Name, Subject, Subjects};
+use hall::{Gate, Hall, ListName, Seat, Unnamed, View};
 use plane::{Point, Shape};
 use policy_text::{Document, read_document};
-use std::alloc::Global;
+use std::alloc::{Allocator, Global};
 use std::process::Abort;
 use std::sync::Wait;
 use std::sync::atomic::{AtomicU64, Ordering};
-use std::sync::ledger::{Blank, Ledger};
+use std::sync::ledger::Ledger;
 use std::thread;
 use transactions::Outcome;
 
@@ -77,7 +78,7 @@ fn subject(rt: &impl Abort, office: &str, steward: bool) -> Subject {
 }
 
 /// Two editors, and a steward.
-fn subjects(rt: &impl Abort) -> Subjects {
+pub fn subjects(rt: &impl Abort) -> Subjects {
     let made = Subjects::new(&[
         subject(rt, "north", false),
         subject(rt, "south", false),
@@ -87,23 +88,69 @@ fn subjects(rt: &impl Abort) -> Subjects {
     made.unwrap()
 }
 
-/// A hall in which everything is permitted.
-pub fn opened<L: Ledger>(rt: &impl Abort, heap: Global, blank: Blank) -> Hall<L, Global>
-    requires name { blank.name ≡ L.name }
-    requires parts { (blank.parts ≡ L.parts) × (L.parts ≡ 1025) }
+/// A hall in which everything is permitted, for so many views.
+pub fn opened<L: Ledger + ListName, H: Wait + Drop>(
+    rt: &impl Abort,
+    own: H,
+    heap: Global,
+    unnamed: Unnamed,
+    views: usize,
+) -> Hall<L, H, Global>
+    requires name { unnamed.ledger.name ≡ L.name }
+    requires parts { (unnamed.ledger.parts ≡ L.parts) × (L.parts ≡ 1025) }
+    requires list { unnamed.list ≡ L.book }
 {
-    match Hall::open(heap, heap, blank, subjects(rt), document(rt, heap, OPEN)) {
+    opened_in(rt, own, heap, heap, unnamed, views)
+}
+
+/// The same, over an allocator of the test's own.
+pub fn opened_in<L: Ledger + ListName, H: Wait + Drop, A: Allocator + Copy>(
+    rt: &impl Abort,
+    own: H,
+    alloc: A,
+    heap: Global,
+    unnamed: Unnamed,
+    views: usize,
+) -> Hall<L, H, A>
+    requires name { unnamed.ledger.name ≡ L.name }
+    requires parts { (unnamed.ledger.parts ≡ L.parts) × (L.parts ≡ 1025) }
+    requires list { unnamed.list ≡ L.book }
+{
+    let document = document(rt, heap, OPEN);
+    match Hall::open(own, alloc, heap, unnamed, subjects(rt), document, views) {
         Ok(hall) => hall,
         Err(_) => panic!(rt; "no hall"),
     }
 }
 
-/// A seat of the subject of this name.
-pub fn seat<'h, L: Ledger>(
+/// A view of the policies.
+pub fn view<L: Ledger + ListName, H: Wait + Drop>(
     rt: &(impl Abort + Wait),
-    hall: &'h Hall<L, Global>,
+    hall: &Hall<L, H, Global>,
+) -> View<L> {
+    match hall.view(rt) {
+        Ok(view) => view,
+        Err(fault) => panic!(rt; "no view: {fault}"),
+    }
+}
+
+/// Whether an editor of `north` may add a parcel at a point.
+pub fn question(rt: &impl Abort) -> Question {
+    Question {
+        subject: subject(rt, "north", false),
+        action: Action::Add,
+        owner: name(rt, "north"),
+        class: name(rt, "parcel"),
+        shape: point(rt, 2, 2),
+    }
+}
+
+/// A seat of the subject of this name.
+pub fn seat<'h, L: Ledger + ListName, H: Wait + Drop, A: Allocator + Copy>(
+    rt: &(impl Abort + Wait),
+    hall: &'h Hall<L, H, A>,
     office: &str,
-) -> Seat<'h, L, Global> {
+) -> Seat<'h, L, H, A> {
     match hall.seat(rt, name(rt, office)) {
         Ok(seat) => seat,
         Err(fault) => panic!(rt; "{office} has no seat: {fault}"),
@@ -111,9 +158,9 @@ pub fn seat<'h, L: Ledger>(
 }
 
 /// The version under which a list of one change is applied, or none where it is not.
-pub fn applied<L: Ledger, G: Gate>(
+pub fn applied<L: Ledger + ListName, H: Wait + Drop, A: Allocator + Copy, G: Gate>(
     rt: &impl Wait,
-    seat: &mut Seat<'_, L, Global>,
+    seat: &mut Seat<'_, L, H, A>,
     change: Change,
     gate: &mut G,
 ) -> Option<u64> {
@@ -124,9 +171,9 @@ pub fn applied<L: Ledger, G: Gate>(
 }
 
 /// How many rows a search is answered with.
-pub fn rows<L: Ledger, G: Gate>(
+pub fn rows<L: Ledger + ListName, H: Wait + Drop, A: Allocator + Copy, G: Gate>(
     rt: &impl Wait,
-    seat: &mut Seat<'_, L, Global>,
+    seat: &mut Seat<'_, L, H, A>,
     window: Shape,
     gate: &mut G,
 ) -> Option<usize> {

@@ -2,13 +2,13 @@
 ghost use Rattle.std.specs.Prelude.{◌≡◌};
 
 use crate::halls::{Meeting, TURNS, applied, opened, point, road, rows, seat, square, wait_for};
-use hall::{CloseFault, Hall, HallFault, LEDGER_PARTS, NoGate, Seat, TRY_LIMIT};
+use hall::{CloseFault, Hall, HallFault, ListName, NoGate, Seat, TRY_LIMIT, Unnamed};
 use std::alloc::Global;
 use std::marker::Brand;
 use std::process::Abort;
 use std::sync::Wait;
 use std::sync::atomic::{AtomicU64, Ordering};
-use std::sync::ledger::{Blank, Ledger};
+use std::sync::ledger::Ledger;
 use std::thread::{Threads, join};
 
 /// How a list was answered, as a number that threads share: it is not yet.
@@ -21,12 +21,12 @@ const HELD: u64 = 1;
 const OTHER: u64 = 2;
 
 /// Searches the square, and waits after the first step until the list is answered.
-fn search_waiting<'h, L: Ledger, R: Wait + Abort>(
+fn search_waiting<'h, L: Ledger + ListName, H: Wait + Drop, R: Wait + Abort>(
     rt: &R,
-    seat: Seat<'h, L, Global>,
+    seat: Seat<'h, L, H, Global>,
     seen: &AtomicU64,
     answered: &AtomicU64,
-) -> (Seat<'h, L, Global>, Option<usize>) {
+) -> (Seat<'h, L, H, Global>, Option<usize>) {
     let mut seat = seat;
     let mut gate = Meeting::new(seen, answered);
     let found = rows(rt, &mut seat, square(rt), &mut gate);
@@ -34,12 +34,12 @@ fn search_waiting<'h, L: Ledger, R: Wait + Abort>(
 }
 
 /// Commits a list once the first search waits, and tells how it was answered.
-fn commit_held<'h, L: Ledger, R: Wait + Abort>(
+fn commit_held<'h, L: Ledger + ListName, H: Wait + Drop, R: Wait + Abort>(
     rt: &R,
-    seat: Seat<'h, L, Global>,
+    seat: Seat<'h, L, H, Global>,
     seen: &AtomicU64,
     answered: &AtomicU64,
-) -> Seat<'h, L, Global> {
+) -> Seat<'h, L, H, Global> {
     let mut seat = seat;
     let met = wait_for(seen);
     let held = matches!(
@@ -51,11 +51,11 @@ fn commit_held<'h, L: Ledger, R: Wait + Abort>(
 }
 
 /// Searches elsewhere again and again until the list is answered, and how often that was.
-fn search_elsewhere<'h, L: Ledger, R: Wait + Abort>(
+fn search_elsewhere<'h, L: Ledger + ListName, H: Wait + Drop, R: Wait + Abort>(
     rt: &R,
-    seat: Seat<'h, L, Global>,
+    seat: Seat<'h, L, H, Global>,
     answered: &AtomicU64,
-) -> (Seat<'h, L, Global>, u64) {
+) -> (Seat<'h, L, H, Global>, u64) {
     let mut seat = seat;
     let mut searches = 0u64;
     for _ in 0..TURNS {
@@ -70,12 +70,17 @@ fn search_elsewhere<'h, L: Ledger, R: Wait + Abort>(
 }
 
 /// The second seat's list, and beside it the third's searches. Gives both seats back, and how often the third was answered.
-fn hold_beside<'h, L: Ledger + Send + Sync, R: Threads + Wait + Abort + Sync>(
+fn hold_beside<
+    'h,
+    L: Ledger + ListName + Send + Sync,
+    H: Wait + Drop + Send,
+    R: Threads + Wait + Abort + Sync,
+>(
     rt: &R,
-    others: Vec<Seat<'h, L, Global>>,
+    others: Vec<Seat<'h, L, H, Global>>,
     seen: &AtomicU64,
     answered: &AtomicU64,
-) -> (Vec<Seat<'h, L, Global>>, u64) {
+) -> (Vec<Seat<'h, L, H, Global>>, u64) {
     let mut others = others;
     let third = last_of(rt, &mut others);
     let second = last_of(rt, &mut others);
@@ -90,10 +95,10 @@ fn hold_beside<'h, L: Ledger + Send + Sync, R: Threads + Wait + Abort + Sync>(
 }
 
 /// The seat that stands last.
-fn last_of<'h, L: Ledger>(
+fn last_of<'h, L: Ledger + ListName, H: Wait + Drop>(
     rt: &impl Abort,
-    seats: &mut Vec<Seat<'h, L, Global>>,
-) -> Seat<'h, L, Global> {
+    seats: &mut Vec<Seat<'h, L, H, Global>>,
+) -> Seat<'h, L, H, Global> {
     match seats.pop() {
         Some(seat) => seat,
         None => panic!(rt; "a seat is missing"),
@@ -102,13 +107,18 @@ fn last_of<'h, L: Ledger>(
 
 /// The first seat's search waits, the second's list is held back by it until it is given up, and the third's searches end again
 /// and again meanwhile.
-fn hold<'h, L: Ledger + Send + Sync, R: Threads + Wait + Abort + Sync>(
+fn hold<
+    'h,
+    L: Ledger + ListName + Send + Sync,
+    H: Wait + Drop + Send,
+    R: Threads + Wait + Abort + Sync,
+>(
     rt: &R,
-    first: Seat<'h, L, Global>,
-    others: Vec<Seat<'h, L, Global>>,
+    first: Seat<'h, L, H, Global>,
+    others: Vec<Seat<'h, L, H, Global>>,
     seen: &AtomicU64,
     answered: &AtomicU64,
-) -> (Seat<'h, L, Global>, Vec<Seat<'h, L, Global>>) {
+) -> (Seat<'h, L, H, Global>, Vec<Seat<'h, L, H, Global>>) {
     let ((first, found), (others, searches)) = join(
         rt,
         move || search_waiting(rt, first, seen, answered),
@@ -120,15 +130,16 @@ fn hold<'h, L: Ledger + Send + Sync, R: Threads + Wait + Abort + Sync>(
     (first, others)
 }
 
-fn held_sixty_four_times_in<L: Ledger + Send + Sync, R: Threads + Wait + Abort + Sync>(
-    rt: &R,
-    heap: Global,
-    blank: Blank,
-)
-    requires name { blank.name ≡ L.name }
-    requires parts { (blank.parts ≡ L.parts) × (L.parts ≡ 1025) }
+fn held_sixty_four_times_in<
+    L: Ledger + ListName + Send + Sync,
+    H: Wait + Drop + Send,
+    R: Threads + Wait + Abort + Sync,
+>(rt: &R, own: H, heap: Global, unnamed: Unnamed)
+    requires name { unnamed.ledger.name ≡ L.name }
+    requires parts { (unnamed.ledger.parts ≡ L.parts) × (L.parts ≡ 1025) }
+    requires list { unnamed.list ≡ L.book }
 {
-    let hall = opened::<L>(rt, heap, blank);
+    let hall = opened::<L, H>(rt, own, heap, unnamed, 0);
     let mut first = seat(rt, &hall, "north");
     let mut others = Vec::new(heap);
     assert!(rt; others.push(seat(rt, &hall, "south")).is_ok());
@@ -150,13 +161,13 @@ fn held_sixty_four_times_in<L: Ledger + Send + Sync, R: Threads + Wait + Abort +
 }
 
 /// The hall does not close without the third seat, and closes with all.
-fn close_three<'h, L: Ledger, R: Wait + Abort>(
+fn close_three<'h, L: Ledger + ListName, H: Wait + Drop, R: Wait + Abort>(
     rt: &R,
     heap: Global,
-    hall: &'h Hall<L, Global>,
-    first: Seat<'h, L, Global>,
-    second: Seat<'h, L, Global>,
-    third: Seat<'h, L, Global>,
+    hall: &'h Hall<L, H, Global>,
+    first: Seat<'h, L, H, Global>,
+    second: Seat<'h, L, H, Global>,
+    third: Seat<'h, L, H, Global>,
 )
     requires { L.parts ≡ 1025 }
 {
@@ -176,10 +187,10 @@ fn close_three<'h, L: Ledger, R: Wait + Abort>(
 }
 
 /// The hall closes, and then it gives no seat.
-fn close_all<'h, L: Ledger, R: Wait + Abort>(
+fn close_all<'h, L: Ledger + ListName, H: Wait + Drop, R: Wait + Abort>(
     rt: &R,
-    hall: &'h Hall<L, Global>,
-    seats: Vec<Seat<'h, L, Global>>,
+    hall: &'h Hall<L, H, Global>,
+    seats: Vec<Seat<'h, L, H, Global>>,
 )
     requires { L.parts ≡ 1025 }
 {
@@ -191,5 +202,5 @@ fn close_all<'h, L: Ledger, R: Wait + Abort>(
 
 #[test]
 fn held_sixty_four_times(rt: HostRuntime) {
-    held_sixty_four_times_in::<Brand, _>(&rt, rt.alloc(), Blank::new(LEDGER_PARTS));
+    held_sixty_four_times_in::<Brand, _, _>(&rt, rt, rt.alloc(), Unnamed::new());
 }

@@ -8,4 +8,8 @@ mod halls;
 #[cfg(test)]
 mod held_tests;
 #[cfg(test)]
+mod memory_tests;
+#[cfg(test)]
 mod thread_tests;
+#[cfg(test)]
+mod view_tests;

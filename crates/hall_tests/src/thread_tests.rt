@@ -2,25 +2,27 @@
 ghost use Rattle.std.specs.Prelude.{◌≡◌};
 
 use crate::halls::{
-    Meeting, ROADS, applied, document, opened, point, road, rows, seat, square, wait_for,
+    Meeting, ROADS, applied, document, opened, point, question, road, rows, seat, square, view,
+    wait_for,
 };
-use hall::{Closed, Hall, LEDGER_PARTS, NoGate, Seat};
+use decision::Ruling;
+use hall::{Closed, Hall, ListName, NoGate, Seat, Unnamed};
 use std::alloc::Global;
 use std::marker::Brand;
 use std::process::Abort;
 use std::sync::Wait;
 use std::sync::atomic::{AtomicU64, Ordering};
-use std::sync::ledger::{Blank, Ledger};
+use std::sync::ledger::Ledger;
 use std::test::Fail;
 use std::thread::{Threads, join};
 
 /// Searches the square, waits after the first step for the other seat's list, and gives the seat back.
-fn search_meeting<'h, L: Ledger, R: Wait + Abort>(
+fn search_meeting<'h, L: Ledger + ListName, H: Wait + Drop, R: Wait + Abort>(
     rt: &R,
-    seat: Seat<'h, L, Global>,
+    seat: Seat<'h, L, H, Global>,
     seen: &AtomicU64,
     done: &AtomicU64,
-) -> (Seat<'h, L, Global>, Option<usize>) {
+) -> (Seat<'h, L, H, Global>, Option<usize>) {
     let mut seat = seat;
     let mut gate = Meeting::new(seen, done);
     let found = rows(rt, &mut seat, square(rt), &mut gate);
@@ -28,12 +30,12 @@ fn search_meeting<'h, L: Ledger, R: Wait + Abort>(
 }
 
 /// Commits once the other seat's search waits, then lets it go on, and gives the seat back.
-fn commit_meeting<'h, L: Ledger, R: Wait + Abort>(
+fn commit_meeting<'h, L: Ledger + ListName, H: Wait + Drop, R: Wait + Abort>(
     rt: &R,
-    seat: Seat<'h, L, Global>,
+    seat: Seat<'h, L, H, Global>,
     seen: &AtomicU64,
     done: &AtomicU64,
-) -> (Seat<'h, L, Global>, Option<u64>) {
+) -> (Seat<'h, L, H, Global>, Option<u64>) {
     let mut seat = seat;
     let met = wait_for(seen);
     let version = applied(rt, &mut seat, road(rt, 2, 100, 100), &mut NoGate);
@@ -42,13 +44,18 @@ fn commit_meeting<'h, L: Ledger, R: Wait + Abort>(
 }
 
 /// Two seats side by side: a search that waits after its first step, until the other's list is applied.
-fn meet<'h, L: Ledger + Send + Sync, R: Threads + Wait + Abort + Sync>(
+fn meet<
+    'h,
+    L: Ledger + ListName + Send + Sync,
+    H: Wait + Drop + Send,
+    R: Threads + Wait + Abort + Sync,
+>(
     rt: &R,
-    one: Seat<'h, L, Global>,
-    two: Seat<'h, L, Global>,
+    one: Seat<'h, L, H, Global>,
+    two: Seat<'h, L, H, Global>,
     seen: &AtomicU64,
     done: &AtomicU64,
-) -> (Seat<'h, L, Global>, Seat<'h, L, Global>) {
+) -> (Seat<'h, L, H, Global>, Seat<'h, L, H, Global>) {
     let ((one, found), (two, version)) = join(
         rt,
         move || search_meeting(rt, one, seen, done),
@@ -60,15 +67,16 @@ fn meet<'h, L: Ledger + Send + Sync, R: Threads + Wait + Abort + Sync>(
     (one, two)
 }
 
-fn two_threads_in<L: Ledger + Send + Sync, R: Threads + Wait + Abort + Sync>(
-    rt: &R,
-    heap: Global,
-    blank: Blank,
-)
-    requires name { blank.name ≡ L.name }
-    requires parts { (blank.parts ≡ L.parts) × (L.parts ≡ 1025) }
+fn two_threads_in<
+    L: Ledger + ListName + Send + Sync,
+    H: Wait + Drop + Send,
+    R: Threads + Wait + Abort + Sync,
+>(rt: &R, own: H, heap: Global, unnamed: Unnamed)
+    requires name { unnamed.ledger.name ≡ L.name }
+    requires parts { (unnamed.ledger.parts ≡ L.parts) × (L.parts ≡ 1025) }
+    requires list { unnamed.list ≡ L.book }
 {
-    let hall = opened::<L>(rt, heap, blank);
+    let hall = opened::<L, H>(rt, own, heap, unnamed, 1);
     let chief = seat(rt, &hall, "chief");
     let mut north = seat(rt, &hall, "north");
     assert_eq!(rt;
@@ -81,18 +89,40 @@ fn two_threads_in<L: Ledger + Send + Sync, R: Threads + Wait + Abort + Sync>(
         rows(rt, &mut chief, point(rt, 100, 100), &mut NoGate),
         Some(1)
     );
-    assert!(rt; chief.govern(rt, document(rt, heap, ROADS)) == Ok(2));
+    assert_told(rt, heap, &hall, &mut chief);
     assert!(rt; chief.roll(rt).is_ok());
     close_two(rt, heap, &hall, chief, north);
 }
 
-/// Closes a hall with its two seats.
-fn close_two<'h, L: Ledger, R: Wait + Abort>(
+/// The steward puts a document in force, and a view that is told of it explains by it.
+fn assert_told<L: Ledger + ListName, H: Wait + Drop, R: Wait + Abort>(
     rt: &R,
     heap: Global,
-    hall: &'h Hall<L, Global>,
-    one: Seat<'h, L, Global>,
-    two: Seat<'h, L, Global>,
+    hall: &Hall<L, H, Global>,
+    chief: &mut Seat<'_, L, H, Global>,
+) {
+    let mut view = view(rt, hall);
+    assert_eq!(rt; view.edition(), 1);
+    match chief.govern(rt, document(rt, heap, ROADS)) {
+        Ok(edition) => {
+            assert_eq!(rt; edition.number(), 2);
+            view.told(edition);
+        }
+        Err(fault) => panic!(rt; "not in force: {fault}"),
+    }
+    let explained = view.explain(&question(rt)).expect(rt, "a policy to read");
+    assert_eq!(rt; explained.edition, 2);
+    assert!(rt; matches!(explained.ruling, Ruling::NoneApplied));
+    assert!(rt; explained.rule.is_none());
+}
+
+/// Closes a hall with its two seats.
+fn close_two<'h, L: Ledger + ListName, H: Wait + Drop, R: Wait + Abort>(
+    rt: &R,
+    heap: Global,
+    hall: &'h Hall<L, H, Global>,
+    one: Seat<'h, L, H, Global>,
+    two: Seat<'h, L, H, Global>,
 )
     requires { L.parts ≡ 1025 }
 {
@@ -113,5 +143,5 @@ fn close_two<'h, L: Ledger, R: Wait + Abort>(
 
 #[test]
 fn two_threads(rt: HostRuntime) {
-    two_threads_in::<Brand, _>(&rt, rt.alloc(), Blank::new(LEDGER_PARTS));
+    two_threads_in::<Brand, _, _>(&rt, rt, rt.alloc(), Unnamed::new());
 }

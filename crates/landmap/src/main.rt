@@ -113,9 +113,10 @@ fn planned(heap: Global, server: WantedServer<'_>) -> Result<Plan, Refused> {
     })
 }
 
-/// Serves a socket until the last of its connections has ended, and tells how it ended.
-fn serve<R>(rt: &R, heap: Global, plan: Plan, errors: &mut Stderr) -> ExitCode
+/// Serves a socket until the last of its connections has ended, and tells how it ended. `own` is the hall's own handle.
+fn serve<H, R>(rt: &R, own: H, heap: Global, plan: Plan, errors: &mut Stderr) -> ExitCode
 where
+    H: Wait + Drop + Send,
     R: Threads + Wait + Clock + Log + Files + Net + Print + Sync,
 {
     let Plan {
@@ -133,7 +134,7 @@ where
         takeover,
         ends: Some(&ends),
     };
-    match serve_socket(rt, heap, path.as_str(), serving, socket_options) {
+    match serve_socket(rt, own, heap, path.as_str(), serving, socket_options) {
         Ok(closed) => conclude(rt, heap, closed, errors),
         Err(ServerFault::Bind) => fail(&ProgramFault::CannotBind(path.as_str()), errors),
         Err(ServerFault::Write(failed)) => fail(&ProgramFault::CannotWrite(failed), errors),
@@ -185,7 +186,7 @@ fn main(rt: HostRuntime) -> ExitCode {
                         watch(&rt, stopping.path.as_str(), &stopping.ends)
                     });
                 }
-                serve(&rt, rt.alloc(), plan, &mut errors)
+                serve(&rt, rt, rt.alloc(), plan, &mut errors)
             }
             Err(refused) => fail(&ProgramFault::Memory(refused), &mut errors),
         },

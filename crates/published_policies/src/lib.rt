@@ -6,6 +6,7 @@ mod copies;
 mod editions;
 mod explaining;
 mod growing;
+mod laws;
 mod lists;
 mod policies;
 mod publishers;
@@ -15,6 +16,7 @@ mod writers;
 
 pub use editions::Edition;
 pub use explaining::Explained;
+pub use laws::told_then_explained;
 pub use lists::{EmptyList, ListName};
 pub use publishers::{NoMemory, Publisher};
 pub use views::View;

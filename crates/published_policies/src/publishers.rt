@@ -13,9 +13,18 @@ use std::marker::Model;
 use std::mem;
 use std::sync::{Arc, Wait};
 
-/// No list was opened, since memory was wanted for it and refused.
+/// No list was opened, since memory was wanted for it and refused. Only this crate makes one, and only where a growth was refused.
 #[derive(Debug, Drop, PartialEq, Eq)]
-pub struct NoMemory;
+pub struct NoMemory {
+    seal: (),
+}
+
+impl NoMemory {
+    /// Is called only where a growth was refused.
+    fn seen() -> Self {
+        NoMemory { seal: () }
+    }
+}
 
 /// The one who publishes policies, with the handle by which it waits. Whoever puts policies in force has it, behind the lock
 /// under which that happens. When it is dropped it waits for the views that read just then; those have nothing to read from
@@ -82,7 +91,7 @@ impl<L: ListName, R: Wait + Drop> Publisher<L, R> {
                 writer: Some(writer),
                 rt,
             }),
-            Err(_) => Err(NoMemory),
+            Err(_) => Err(NoMemory::seen()),
         }
     }
 

@@ -8,6 +8,6 @@ use denote.Struct.Tuple.{TupleAt}
 pub over_three_send : (name : Sym) (A B C : RattleType) → IsSend A → IsSend B → IsSend C → IsSend (TupleAt name (A ∷ B ∷ C ∷ []))
 over_three_send name A B C a b c = search sendable depth 12
 
-pub over_five_send : (name : Sym) (A B C D E : RattleType) → IsSend A → IsSend B → IsSend C → IsSend D → IsSend E
-    → IsSend (TupleAt name (A ∷ B ∷ C ∷ D ∷ E ∷ []))
-over_five_send name A B C D E a b c d e = search sendable depth 12
+pub over_six_send : (name : Sym) (A B C D E F : RattleType) → IsSend A → IsSend B → IsSend C → IsSend D → IsSend E → IsSend F
+    → IsSend (TupleAt name (A ∷ B ∷ C ∷ D ∷ E ∷ F ∷ []))
+over_six_send name A B C D E F a b c d e f = search sendable depth 14

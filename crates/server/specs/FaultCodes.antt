@@ -1,6 +1,6 @@
 -- What is told of a fault.
 use Rattle.std.specs.Prelude.{ℕ, List, codes}
-use Rattle.hall.specs.FaultCodes.{hall_code, close_code}
+use Rattle.hall.specs.FaultCodes.{hall_code, open_code, close_code}
 use Rattle.server.specs.declared.faults.ServerFault.{ServerFault}
 use Rattle.server.specs.declared.faults.ServerFault.TheVariants as faults
 
@@ -8,5 +8,6 @@ abbrev pub server_code : ServerFault → List ℕ
 server_code faults.Bind = codes "cannot bind"
 server_code (faults.Write failed) = codes "cannot write"
 server_code (faults.Channel refused) = codes "H6"
+server_code (faults.Open fault) = open_code fault
 server_code (faults.Hall fault) = hall_code fault
 server_code (faults.Close fault) = close_code fault

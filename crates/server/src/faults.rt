@@ -3,7 +3,7 @@
 ghost use Rattle.std.specs.Prelude.{◌≡◌};
 
 use byte_streams::WriteFailed;
-use hall::{CloseFault, HallFault};
+use hall::{CloseFault, HallFault, OpenFault};
 use memory::Refused;
 use std::fmt;
 
@@ -30,6 +30,8 @@ pub enum ServerFault {
     /// H6: there is no memory for the streams that wait for a worker.
     Channel(ChannelRefused),
     /// The hall was not opened.
+    Open(OpenFault),
+    /// The hall gave no view, or there is no memory for what it gives.
     Hall(HallFault),
     /// The hall was not closed.
     Close(CloseFault),
@@ -46,6 +48,7 @@ impl ServerFault {
             ServerFault::Bind => "cannot bind",
             ServerFault::Write(_) => "cannot write",
             ServerFault::Channel(_) => "H6",
+            ServerFault::Open(fault) => fault.code(),
             ServerFault::Hall(fault) => fault.code(),
             ServerFault::Close(fault) => fault.code(),
         }

@@ -97,8 +97,9 @@ fn parted(
 }
 
 /// Tells that the path is listened on, and serves what comes.
-fn serve_listener<R>(
+fn serve_listener<H, R>(
     rt: &R,
+    own: H,
     heap: Global,
     path: &str,
     serving: Serving,
@@ -106,6 +107,7 @@ fn serve_listener<R>(
     listener: UnixListener,
 ) -> Result<Closed, ServerFault>
 where
+    H: Wait + Drop + Send,
     R: Threads + Wait + Clock + Log + Print + Sync,
     ensures { IfOk result IsServed }
 {
@@ -125,25 +127,27 @@ where
             }
         }
     });
-    serve_streams(rt, heap, serving, incoming)
+    serve_streams(rt, own, heap, serving, incoming)
 }
 
 /// Binds a Unix socket, tells so by the line `listening PATH` on standard output, serves the connections that come, and removes the
 /// path. Faults: `Bind` where the path is not bound, and `Write` where the line is not written, the path being removed again; then
 /// those of `serve_streams`.
-pub fn serve_socket<R>(
+pub fn serve_socket<H, R>(
     rt: &R,
+    own: H,
     heap: Global,
     path: &str,
     serving: Serving,
     options: SocketOptions<'_>,
 ) -> Result<Closed, ServerFault>
 where
+    H: Wait + Drop + Send,
     R: Threads + Wait + Clock + Log + Files + Net + Print + Sync,
     ensures { IfOk result IsServed }
 {
     let listener = listen(rt, path, options.takeover)?;
-    let served = serve_listener(rt, heap, path, serving, options, listener);
+    let served = serve_listener(rt, own, heap, path, serving, options, listener);
     let _ = fs::remove_file(rt, path);
     served
 }

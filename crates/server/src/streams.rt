@@ -9,15 +9,15 @@ use crate::faults::{ChannelRefused, ServerFault};
 use crate::workers::{tend, work};
 use crossbeam_channel::{Receiver, Sender, bounded};
 use features::Subjects;
-use hall::{Closed, Gate, Hall, LEDGER_PARTS, Seat};
+use hall::{Closed, Gate, Hall, ListName, Seat, Unnamed, VIEW_LIMIT, View};
 use log::{Log, warn};
-use memory::vec_with_places;
+use memory::{GrowVec, vec_with_places};
 use plain_world::SEAT_LIMIT;
 use policy_documents::Document;
 use std::alloc::Global;
 use std::io::{Read, Write};
 use std::marker::Brand;
-use std::sync::ledger::{Blank, Ledger};
+use std::sync::ledger::Ledger;
 use std::sync::{Mutex, Wait};
 use std::thread;
 use std::thread::Threads;
@@ -26,8 +26,8 @@ use std::time::Clock;
 /// How many workers serve where nothing else is asked.
 pub const WORKER_COUNT: usize = 4;
 
-/// How many workers serve at most.
-pub const WORKER_LIMIT: usize = 64;
+/// How many workers serve at most: each has a view of the policies.
+pub const WORKER_LIMIT: usize = VIEW_LIMIT;
 
 /// How many streams wait for a worker at most.
 const QUEUE: usize = 4;
@@ -67,17 +67,33 @@ fn hand_out<R: Wait + Log, T: Drop, S: Iterator<Item = T> + Drop>(
     }
 }
 
-/// Serves what comes in by so many workers, and returns when all of it is served.
-fn serve_all<'h, L: Ledger + Send + Sync, R, I, O, G, S>(
+/// Views of the policies, one for each worker.
+fn views_of<L: Ledger + ListName, H: Wait + Drop, R: Wait>(
     rt: &R,
     heap: Global,
-    hall: &'h Hall<L, Global>,
-    gathered: &Mutex<Vec<Seat<'h, L, Global>>>,
+    hall: &Hall<L, H, Global>,
     workers: usize,
+) -> Result<Vec<View<L>>, ServerFault> {
+    let mut views = Vec::new(heap);
+    for _ in 0..workers {
+        views.make_place()?;
+        views.push_reserved(hall.view(rt)?);
+    }
+    Ok(views)
+}
+
+/// Serves what comes in by workers, one for each view, and returns when all of it is served.
+fn serve_all<'h, L: Ledger + ListName + Send + Sync, H, R, I, O, G, S>(
+    rt: &R,
+    heap: Global,
+    hall: &'h Hall<L, H, Global>,
+    gathered: &Mutex<Vec<Seat<'h, L, H, Global>>>,
+    views: Vec<View<L>>,
     ends: (Sender<(I, O, G)>, Receiver<(I, O, G)>),
     incoming: S,
 )
 where
+    H: Wait + Drop + Send,
     R: Threads + Wait + Log + Sync,
     I: Read + Drop + Send,
     O: Write + Drop + Send,
@@ -95,13 +111,14 @@ where
             requires ends { IsFinite (S.remaining incoming) }
             requires shares { IsSync R.row }
             requires crosses { IsSend I.row × IsSend O.row × IsSend G.row }
+            requires hall { IsSend L.row × IsSend H.row }
         {
-            for _ in 0..workers {
+            for view in views {
                 let Ok(streams) = from.clone() else {
                     break;
                 };
                 if scope
-                    .spawn(move || work(rt, heap, hall, gathered, streams))
+                    .spawn(move || work(rt, heap, hall, gathered, streams, view))
                     .is_err()
                 {
                     warn!(rt; target: "landmap", "a worker could not be started");
@@ -115,15 +132,16 @@ where
     );
 }
 
-/// Serves what comes in by so many workers, beside one thread that tends the index. Answers the seats of all sessions.
-fn serve_tended<'h, L: Ledger + Send + Sync, R, I, O, G, S>(
+/// Serves what comes in by workers, one for each view, beside one thread that tends the index. Answers the seats of all sessions.
+fn serve_tended<'h, L: Ledger + ListName + Send + Sync, H, R, I, O, G, S>(
     rt: &R,
     heap: Global,
-    hall: &'h Hall<L, Global>,
-    workers: usize,
+    hall: &'h Hall<L, H, Global>,
+    views: Vec<View<L>>,
     incoming: S,
-) -> Result<Vec<Seat<'h, L, Global>>, ServerFault>
+) -> Result<Vec<Seat<'h, L, H, Global>>, ServerFault>
 where
+    H: Wait + Drop + Send,
     R: Threads + Wait + Clock + Log + Sync,
     I: Read + Drop + Send,
     O: Write + Drop + Send,
@@ -145,11 +163,12 @@ where
             requires ends { IsFinite (S.remaining incoming) }
             requires shares { IsSync R.row }
             requires crosses { IsSend I.row × IsSend O.row × IsSend G.row }
+            requires hall { IsSend L.row × IsSend H.row }
         {
             if scope.spawn(move || tend(rt, hall, stopped)).is_err() {
                 warn!(rt; target: "landmap", "the index is not tended");
             }
-            serve_all(rt, heap, hall, seats, workers, streams, incoming);
+            serve_all(rt, heap, hall, seats, views, streams, incoming);
             // The tending ends.
             drop(stop);
         },
@@ -157,22 +176,25 @@ where
     Ok(gathered.into_inner())
 }
 
-/// Serves what comes in over a hall whose ledger has the name `L`, and closes the hall.
-fn serve_hall<L: Ledger + Send + Sync, R, I, O, G, S>(
+/// Serves what comes in over a hall of the name `L`, and closes the hall.
+fn serve_hall<L: Ledger + ListName + Send + Sync, H, R, I, O, G, S>(
     rt: &R,
+    own: H,
     heap: Global,
-    blank: Blank,
+    unnamed: Unnamed,
     serving: Serving,
     incoming: S,
 ) -> Result<Closed, ServerFault>
 where
+    H: Wait + Drop + Send,
     R: Threads + Wait + Clock + Log + Sync,
     I: Read + Drop + Send,
     O: Write + Drop + Send,
     G: Gate + Drop + Send,
     S: Iterator<Item = (I, O, G)> + Drop,
-    requires name { blank.name ≡ L.name }
-    requires parts { (blank.parts ≡ L.parts) × (L.parts ≡ 1025) }
+    requires name { unnamed.ledger.name ≡ L.name }
+    requires parts { (unnamed.ledger.parts ≡ L.parts) × (L.parts ≡ 1025) }
+    requires list { unnamed.list ≡ L.book }
     requires can { S.can_next incoming }
     requires ends { IsFinite (S.remaining incoming) }
     ensures { IfOk result IsServed }
@@ -183,12 +205,14 @@ where
         workers,
     } = serving;
     let workers = workers.clamp(1, WORKER_LIMIT);
-    let hall: Hall<L, Global> = match Hall::open(heap, heap, blank, subjects, document) {
+    let opened = Hall::open(own, heap, heap, unnamed, subjects, document, workers);
+    let hall: Hall<L, H, Global> = match opened {
         Ok(hall) => hall,
-        Err((_document, fault)) => return Err(ServerFault::Hall(fault)),
+        Err((_document, fault)) => return Err(ServerFault::Open(fault)),
     };
     let shared = &hall;
-    let seats = serve_tended(rt, heap, shared, workers, incoming)?;
+    let views = views_of(rt, heap, shared, workers)?;
+    let seats = serve_tended(rt, heap, shared, views, incoming)?;
     match shared.close(rt, seats) {
         Ok(closed) => Ok(closed),
         Err((fault, _seats)) => Err(ServerFault::Close(fault)),
@@ -197,15 +221,17 @@ where
 
 /// Serves streams by workers, one after another each, beside one thread that tends the index; of each stream one session is
 /// served to its end. Returns when all streams that came in are served. A session that ends by a fault is warned of and ends
-/// alone; a stream for which there is no worker is let go. Faults: `Channel` and `Hall` before anything is served; `Close` where
-/// a seat and the records do not agree, or a seat is lost.
-pub fn serve_streams<R, I, O, G, S>(
+/// alone; a stream for which there is no worker is let go. `own` is the hall's own handle, by which it publishes policies. Faults:
+/// `Channel`, `Open` and `Hall` before anything is served; `Close` where a seat and the records do not agree, or a seat is lost.
+pub fn serve_streams<H, R, I, O, G, S>(
     rt: &R,
+    own: H,
     heap: Global,
     serving: Serving,
     incoming: S,
 ) -> Result<Closed, ServerFault>
 where
+    H: Wait + Drop + Send,
     R: Threads + Wait + Clock + Log + Sync,
     I: Read + Drop + Send,
     O: Write + Drop + Send,
@@ -215,6 +241,6 @@ where
     requires ends { IsFinite (S.remaining incoming) }
     ensures { IfOk result IsServed }
 {
-    let blank = Blank::new(LEDGER_PARTS);
-    serve_hall::<Brand, R, I, O, G, S>(rt, heap, blank, serving, incoming)
+    let unnamed = Unnamed::new();
+    serve_hall::<Brand, H, R, I, O, G, S>(rt, own, heap, unnamed, serving, incoming)
 }

@@ -2,7 +2,7 @@
 
 use byte_streams::let_go;
 use crossbeam_channel::{Receiver, RecvTimeoutError};
-use hall::{Gate, Hall, Seat};
+use hall::{Gate, Hall, ListName, Seat, View};
 use hall_sessions::Attended;
 use line_streams::ServeFault;
 use log::{Log, warn};
@@ -18,17 +18,26 @@ use std::time::{Clock, Duration};
 const PAUSE: u64 = 20;
 
 /// Serves a session whose replies are gathered in a buffer. Where it ends by a fault, what is left in the buffer is not written.
-fn serve_buffered<'h, L: Ledger, R: Wait, I: Read, O: Write + Drop, G: Gate>(
+fn serve_buffered<
+    'h,
+    L: Ledger + ListName,
+    H: Wait + Drop,
+    R: Wait,
+    I: Read,
+    O: Write + Drop,
+    G: Gate,
+>(
     rt: &R,
     heap: Global,
-    hall: &'h Hall<L, Global>,
-    seats: &mut Vec<Seat<'h, L, Global>>,
+    hall: &'h Hall<L, H, Global>,
+    seats: &mut Vec<Seat<'h, L, H, Global>>,
+    view: &mut View<L>,
     reader: &mut I,
     writer: O,
     gate: &mut G,
 ) -> Result<(), ServeFault> {
     let mut writer = buffered(heap, writer)?;
-    let mut attended = Attended::new(rt, hall, seats, gate);
+    let mut attended = Attended::new(rt, hall, seats, view, gate);
     match serve(heap, heap, &mut attended, reader, &mut writer) {
         Ok(_) => Ok(()),
         Err(fault) => {
@@ -39,34 +48,53 @@ fn serve_buffered<'h, L: Ledger, R: Wait, I: Read, O: Write + Drop, G: Gate>(
 }
 
 /// Serves one stream to its end. A fault ends this session alone, and is warned of.
-fn serve_stream<'h, L: Ledger, R: Wait + Log, I: Read + Drop, O: Write + Drop, G: Gate + Drop>(
+fn serve_stream<
+    'h,
+    L: Ledger + ListName,
+    H: Wait + Drop,
+    R: Wait + Log,
+    I: Read + Drop,
+    O: Write + Drop,
+    G: Gate + Drop,
+>(
     rt: &R,
     heap: Global,
-    hall: &'h Hall<L, Global>,
-    seats: &mut Vec<Seat<'h, L, Global>>,
+    hall: &'h Hall<L, H, Global>,
+    seats: &mut Vec<Seat<'h, L, H, Global>>,
+    view: &mut View<L>,
     stream: (I, O, G),
 ) {
     let (mut reader, writer, mut gate) = stream;
-    let ended = serve_buffered(rt, heap, hall, seats, &mut reader, writer, &mut gate);
+    let ended = serve_buffered(rt, heap, hall, seats, view, &mut reader, writer, &mut gate);
     if let Err(fault) = ended {
         warn!(rt; target: "landmap", "a session ended by {fault}");
     }
 }
 
-/// Serves streams, one after another, until no more come, and hands in the seats of their sessions.
-pub(crate) fn work<'h, L: Ledger, R: Wait + Log, I: Read + Drop, O: Write + Drop, G: Gate + Drop>(
+/// Serves streams, one after another, until no more come, and hands in the seats of their sessions. They use the view in turn.
+pub(crate) fn work<
+    'h,
+    L: Ledger + ListName,
+    H: Wait + Drop,
+    R: Wait + Log,
+    I: Read + Drop,
+    O: Write + Drop,
+    G: Gate + Drop,
+>(
     rt: &R,
     heap: Global,
-    hall: &'h Hall<L, Global>,
-    gathered: &Mutex<Vec<Seat<'h, L, Global>>>,
+    hall: &'h Hall<L, H, Global>,
+    gathered: &Mutex<Vec<Seat<'h, L, H, Global>>>,
     streams: Receiver<(I, O, G)>,
+    view: View<L>,
 ) {
+    let mut view = view;
     let mut seats = Vec::new(heap);
     for _ in rt.forever() {
         let Ok(stream) = streams.recv(rt) else {
             break;
         };
-        serve_stream(rt, heap, hall, &mut seats, stream);
+        serve_stream(rt, heap, hall, &mut seats, &mut view, stream);
     }
     if gathered.lock(rt).append(&mut seats).is_err() {
         warn!(rt; target: "landmap", "seats are lost");
@@ -74,9 +102,9 @@ pub(crate) fn work<'h, L: Ledger, R: Wait + Log, I: Read + Drop, O: Write + Drop
 }
 
 /// Tends in rounds, until the sender of `ends` is gone. A round that is refused is warned of, and is the last.
-pub(crate) fn tend<L: Ledger, R: Wait + Clock + Log>(
+pub(crate) fn tend<L: Ledger + ListName, H: Wait + Drop, R: Wait + Clock + Log>(
     rt: &R,
-    hall: &Hall<L, Global>,
+    hall: &Hall<L, H, Global>,
     ends: Receiver<()>,
 ) {
     for _ in rt.forever() {

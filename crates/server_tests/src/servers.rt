@@ -62,19 +62,27 @@ pub fn serving(rt: &impl Abort, heap: Global) -> Serving {
 }
 
 /// What is closed when these streams are served by so many workers.
-pub fn closed_by<R, I, O, G>(
+pub fn closed_by<H, R, I, O, G>(
     rt: &R,
+    own: H,
     heap: Global,
     workers: usize,
     streams: Vec<(I, O, G)>,
 ) -> Closed
 where
+    H: Wait + Drop + Send,
     R: Threads + Wait + Clock + Log + Abort + Sync,
     I: Read + Drop + Send,
     O: Write + Drop + Send,
     G: Gate + Drop + Send,
 {
-    match serve_streams(rt, heap, serving_by(rt, heap, workers), streams.into_iter()) {
+    match serve_streams(
+        rt,
+        own,
+        heap,
+        serving_by(rt, heap, workers),
+        streams.into_iter(),
+    ) {
         Ok(closed) => closed,
         Err(fault) => panic!(rt; "{fault}"),
     }

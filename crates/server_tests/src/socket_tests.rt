@@ -57,7 +57,7 @@ fn a_first_point(rt: HostRuntime) -> Result<(), Fail> {
         "HELLO north\nADD 1 mast POINT (3 4)\nCOMMIT\nSEARCH point(3 4)\nSEARCH POINT (3 5)\nBYE\n";
     let (served, told) = thread::join(
         &rt,
-        || serve_socket(&rt, heap, path, serving, ONE),
+        || serve_socket(&rt, rt, heap, path, serving, ONE),
         || told(&rt, heap, path, lines),
     );
     assert_eq!(rt;
@@ -70,6 +70,39 @@ fn a_first_point(rt: HostRuntime) -> Result<(), Fail> {
     let expected =
         "hello north\nstaged\napplied 1\nrows 1\n1 1 north mast POINT (3 4)\nrows 0\nbye\n";
     assert_eq!(rt; told.ok_or("told")?.as_str(), expected);
+    check_removed(&rt, path);
+    Ok(())
+}
+
+/// What is done with roads is permitted, and nothing is said of anything else.
+const ROADS: &str =
+    r#"{"root":{"combine":"first-applicable","policy":"p","rules":[{"effect":"permit","rule":"roads","target":[[[{"class":"road"}]]]}]}}"#;
+
+#[test]
+fn policy_then_explain(rt: HostRuntime) -> Result<(), Fail> {
+    let heap: Global = rt.alloc();
+    let path = "server_explain.sock";
+    let _ = fs::remove_file(&rt, path);
+    let serving = serving(&rt, heap);
+    let lines = format!(in heap;
+        "HELLO chief\nPOLICY {ROADS}\nEXPLAIN add north parcel POINT (2 2)\nBYE\n"
+    )?;
+    let (served, told) = thread::join(
+        &rt,
+        || serve_socket(&rt, rt, heap, path, serving, ONE),
+        || told(&rt, heap, path, lines.as_str()),
+    );
+    assert_eq!(rt;
+        served,
+        Ok(Closed {
+            records: 1,
+            seats: 1
+        })
+    );
+    assert_eq!(rt;
+        told.ok_or("told")?.as_str(),
+        "hello chief\nedition 2\ndenied none edition 2\nbye\n"
+    );
     check_removed(&rt, path);
     Ok(())
 }
@@ -87,18 +120,18 @@ fn a_path_that_is_taken(rt: HostRuntime) -> Result<(), Fail> {
         ends: None,
     };
     assert_eq!(rt;
-        serve_socket(&rt, heap, path, serving(&rt, heap), ONE),
+        serve_socket(&rt, rt, heap, path, serving(&rt, heap), ONE),
         Err(ServerFault::Bind)
     );
     // Somebody listens there.
     assert_eq!(rt;
-        serve_socket(&rt, heap, path, serving(&rt, heap), takes_over),
+        serve_socket(&rt, rt, heap, path, serving(&rt, heap), takes_over),
         Err(ServerFault::Bind)
     );
     drop(listener);
     // Nobody does any more, but the file is still there.
     assert_eq!(rt;
-        serve_socket(&rt, heap, path, serving(&rt, heap), ONE),
+        serve_socket(&rt, rt, heap, path, serving(&rt, heap), ONE),
         Err(ServerFault::Bind)
     );
     fs::remove_file(&rt, path)?;
@@ -120,7 +153,7 @@ fn a_socket_is_taken_over(rt: HostRuntime) -> Result<(), Fail> {
         ends: Some(&flag),
     };
     assert_eq!(rt;
-        serve_socket(&rt, heap, path, serving(&rt, heap), options),
+        serve_socket(&rt, rt, heap, path, serving(&rt, heap), options),
         Ok(Closed {
             records: 0,
             seats: 0
@@ -142,7 +175,7 @@ fn a_file_is_not_taken_over(rt: HostRuntime) -> Result<(), Fail> {
         ends: None,
     };
     assert_eq!(rt;
-        serve_socket(&rt, heap, path, serving(&rt, heap), options),
+        serve_socket(&rt, rt, heap, path, serving(&rt, heap), options),
         Err(ServerFault::Bind)
     );
     fs::remove_file(&rt, path)?;
@@ -172,7 +205,7 @@ fn a_silent_client_is_left(rt: HostRuntime) -> Result<(), Fail> {
     };
     let (served, left) = thread::join(
         &rt,
-        || serve_socket(&rt, heap, path, serving, options),
+        || serve_socket(&rt, rt, heap, path, serving, options),
         || is_left(&rt, path),
     );
     assert_eq!(rt;

@@ -39,7 +39,7 @@ fn two_wait_for_each_other(rt: HostRuntime) -> Result<(), Fail> {
             committing
         ),
     ]?;
-    let closed = closed_by(&rt, heap, WORKER_COUNT, streams);
+    let closed = closed_by(&rt, rt, heap, WORKER_COUNT, streams);
     assert_eq!(rt;
         closed,
         Closed {
@@ -79,7 +79,7 @@ fn each_ends_by_itself(rt: HostRuntime) -> Result<(), Fail> {
         ),
         (long.as_slice(), Replies::kept_in(&rt, &second), NoGate),
     ]?;
-    let closed = closed_by(&rt, heap, WORKER_COUNT, streams);
+    let closed = closed_by(&rt, rt, heap, WORKER_COUNT, streams);
     assert_eq!(rt;
         closed,
         Closed {
@@ -100,12 +100,12 @@ fn lines_of_a_session(rt: HostRuntime) -> Result<(), Fail> {
         "COMMIT\nPOLICY {}\nROLL\nDELETE 1 1\nCOMMIT\nABORT\nOPEN POINT (0 0)\nBYE\nHELLO south\n"
     );
     let replies = concat!(
-        "error E5\nerror H1\nhello north\nerror E6\nerror E2\n",
+        "error E5\nerror H1\nhello north\nerror E6\npermit rule open edition 1\n",
         "error E7\nerror D2\nerror X7\nstaged\nabsent change 1\naborted\nerror E2\nbye\n"
     );
     let told = Mutex::new(Vec::new(heap));
     let streams = vec![in heap; (lines.as_bytes(), Replies::kept_in(&rt, &told), NoGate)]?;
-    let closed = closed_by(&rt, heap, WORKER_COUNT, streams);
+    let closed = closed_by(&rt, rt, heap, WORKER_COUNT, streams);
     assert_eq!(rt;
         closed,
         Closed {
@@ -124,7 +124,7 @@ fn a_steward_governs_and_rolls(rt: HostRuntime) -> Result<(), Fail> {
         "HELLO chief\nPOLICY {\"root\":{\"combine\":\"first-applicable\",\"policy\":\"none\",\"rules\":[]}}\nROLL\nROLL\nBYE\n";
     let told = Mutex::new(Vec::new(heap));
     let streams = vec![in heap; (lines.as_bytes(), Replies::kept_in(&rt, &told), NoGate)]?;
-    let closed = closed_by(&rt, heap, 1, streams);
+    let closed = closed_by(&rt, rt, heap, 1, streams);
     assert_eq!(rt;
         closed,
         Closed {
@@ -158,7 +158,7 @@ fn one_worker_serves_many(rt: HostRuntime) -> Result<(), Fail> {
         ))?;
     }
     // No worker is asked for, and one is started.
-    let closed = closed_by(&rt, heap, 0, streams);
+    let closed = closed_by(&rt, rt, heap, 0, streams);
     assert_eq!(rt;
         closed,
         Closed {
@@ -182,7 +182,7 @@ fn nobody_comes(rt: HostRuntime) -> Result<(), Fail> {
     let heap: Global = rt.alloc();
     let mut streams = vec![in heap; (b"".as_slice(), Replies::refused(&rt), NoGate)]?;
     streams.clear();
-    let closed = closed_by(&rt, heap, WORKER_COUNT, streams);
+    let closed = closed_by(&rt, rt, heap, WORKER_COUNT, streams);
     assert_eq!(rt;
         closed,
         Closed {

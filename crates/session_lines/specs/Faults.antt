@@ -2,7 +2,7 @@
 use Rattle.std.specs.Prelude.{ℕ, List, codes}
 use Rattle.wkt.specs.FaultCodes.{code_of as wkt_code_of}
 use Rattle.session_lines.specs.declared.faults.Fault.{Fault}
-use Rattle.session_lines.specs.declared.faults.Fault.TheVariants.{LineTooLong, Command, Number, Name, BeforeHello, HelloAgain, NothingStaged, OutOfTurn, NoLabel, NoSubject, NoPlace, Closed, Shape}
+use Rattle.session_lines.specs.declared.faults.Fault.TheVariants.{LineTooLong, Command, Number, Name, BeforeHello, HelloAgain, NothingStaged, OutOfTurn, NoLabel, NoSubject, NoPlace, Closed, NotRead, Shape}
 
 abbrev pub code_of : Fault → List ℕ
 code_of LineTooLong = codes "E1"
@@ -17,4 +17,5 @@ code_of NoLabel = codes "E9"
 code_of NoSubject = codes "H1"
 code_of NoPlace = codes "H2"
 code_of Closed = codes "H3"
+code_of NotRead = codes "H7"
 code_of (Shape fault) = wkt_code_of fault

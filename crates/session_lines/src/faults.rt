@@ -32,6 +32,8 @@ pub enum Fault {
     NoPlace,
     /// H3: the hall is closed.
     Closed,
+    /// H7: the session has no policy to read.
+    NotRead,
     /// K1 to K5, or the code of what its points lack: the text spells no shape.
     Shape(WktFault),
 }
@@ -56,6 +58,7 @@ impl Fault {
             Fault::NoSubject => "H1",
             Fault::NoPlace => "H2",
             Fault::Closed => "H3",
+            Fault::NotRead => "H7",
             Fault::Shape(fault) => fault.code(),
         }
     }

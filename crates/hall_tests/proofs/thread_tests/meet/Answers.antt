@@ -11,11 +11,11 @@ use Rattle.hall_tests.proofs.thread_tests.meet.Goals as goal
 
 pub join-one-requires-send-F : goal.join-one-requires-send-F
 join-one-requires-send-F g c κs within =
-    let seat = seat_send (param 0 g.row.L) g.L.Ledger _ in
+    let seat = seat_send (param 0 g.row.L) (param 1 g.row.H) g.L.Ledger g.L.ListName c.type_bounds.send-L c.type_bounds.send-H _ in
     let flag = shr_send _ _ _ atomic.the_sync in
     param_send _ _ (arg_send _ no _ (over_four_send _ _ _ _ _ (shr_send _ _ _ c.type_bounds.sync-R) seat flag (shr_send _ _ _ atomic.the_sync)))
 
 pub join-one-requires-send-A : goal.join-one-requires-send-A
 join-one-requires-send-A g c κs within =
-    let seat = seat_send (param 0 g.row.L) g.L.Ledger in
+    let seat = seat_send (param 0 g.row.L) (param 1 g.row.H) g.L.Ledger g.L.ListName c.type_bounds.send-L c.type_bounds.send-H in
     search (seat, u64_send, option.the_send, option.the_field_send, param_send, arg_send, over_two_send) depth 12

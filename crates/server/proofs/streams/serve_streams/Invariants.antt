@@ -1,4 +1,7 @@
 use Rattle.server.proofs.streams.serve_streams.Given as goal
 
-abbrev pub ghosts-serve_hall : goal.ghosts-serve_hall
-ghosts-serve_hall g a = record { name = a.blank.name; parts = a.blank.parts }
+abbrev pub ghosts-serve_hall-L-Ledger : goal.ghosts-serve_hall-L-Ledger
+ghosts-serve_hall-L-Ledger g a = record { name = a.unnamed.ledger.name; parts = a.unnamed.ledger.parts }
+
+abbrev pub ghosts-serve_hall-L-ListName : goal.ghosts-serve_hall-L-ListName
+ghosts-serve_hall-L-ListName g a = record { book = a.unnamed.list }

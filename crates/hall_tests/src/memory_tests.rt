@@ -1,0 +1,199 @@
+//! Calls of a seat with each of their allocations refused in turn.
+ghost use Rattle.std.specs.Prelude.{◌≡◌};
+
+use crate::halls::{ROADS, applied, document, name, opened_in, road, rows, seat, square};
+use features::Change;
+use hall::{Hall, HallFault, ListName, NoGate, Seat, Unnamed};
+use refusing::Refusing;
+use std::alloc::Global;
+use std::marker::Brand;
+use std::process::Abort;
+use std::sync::Wait;
+use std::sync::ledger::Ledger;
+use transactions::{Fault, TreeFault};
+
+/// More allocations than any of the calls makes.
+const MOST: u64 = 100;
+
+/// A call that takes memory.
+#[derive(Clone, Copy, Debug, PartialEq, Eq)]
+enum Taking {
+    Search,
+    Apply,
+    TurnAway,
+    Govern,
+    Roll,
+}
+
+/// Makes the call, and answers why it was refused, or nothing.
+fn call<L: Ledger + ListName, H: Wait + Drop, R: Wait + Abort>(
+    rt: &R,
+    heap: Global,
+    chief: &mut Seat<'_, L, H, &Refusing<Global>>,
+    taking: Taking,
+) -> Option<HallFault> {
+    match taking {
+        Taking::Search => chief.search(rt, square(rt), &mut NoGate).err(),
+        Taking::Apply => chief.commit(rt, &[road(rt, 2, 2, 2)], &mut NoGate).err(),
+        Taking::TurnAway => chief
+            .commit(rt, &[Change::Delete { id: 9, version: 1 }], &mut NoGate)
+            .err(),
+        Taking::Govern => chief.govern(rt, document(rt, heap, ROADS)).err(),
+        Taking::Roll => chief.roll(rt).err(),
+    }
+}
+
+/// Whether memory was wanted and refused.
+fn is_memory(fault: &HallFault) -> bool {
+    matches!(
+        fault,
+        HallFault::Memory(_)
+            | HallFault::Core(Fault::Memory(_))
+            | HallFault::Core(Fault::Tree(TreeFault::Memory(_)))
+    )
+}
+
+/// The call with its allocation of this number refused: then it tells so, leaves no receipt and changes no feature, and the same
+/// call succeeds. Whether that allocation was reached.
+fn is_refused<L: Ledger + ListName, H: Wait + Drop, R: Wait + Abort>(
+    rt: &R,
+    heap: Global,
+    memory: &Refusing<Global>,
+    chief: &mut Seat<'_, L, H, &Refusing<Global>>,
+    north: &mut Seat<'_, L, H, &Refusing<Global>>,
+    taking: Taking,
+    at: u64,
+) -> bool {
+    memory.refuse(at);
+    let fault = call(rt, heap, chief, taking);
+    let reached = memory.has_refused();
+    memory.refuse(0);
+    match fault {
+        None => assert!(rt; !reached, "{taking:?} {at}: answered"),
+        Some(fault) => {
+            assert!(rt; reached && is_memory(&fault), "{taking:?} {at}: {fault}");
+            assert_eq!(rt; chief.receipts().len(), 0);
+            assert_eq!(rt; rows(rt, north, square(rt), &mut NoGate), Some(1));
+            assert!(rt;
+                call(rt, heap, chief, taking).is_none(),
+                "{taking:?} {at}: again"
+            );
+        }
+    }
+    reached
+}
+
+/// Closes a hall with its two seats.
+fn close_two<'h, 'm, L: Ledger + ListName, H: Wait + Drop, R: Wait + Abort>(
+    rt: &R,
+    memory: &'m Refusing<Global>,
+    hall: &'h Hall<L, H, &'m Refusing<Global>>,
+    one: Seat<'h, L, H, &'m Refusing<Global>>,
+    two: Seat<'h, L, H, &'m Refusing<Global>>,
+)
+    requires { L.parts ≡ 1025 }
+{
+    let mut seats = Vec::new(memory);
+    assert!(rt; seats.push(one).is_ok());
+    assert!(rt; seats.push(two).is_ok());
+    match hall.close(rt, seats) {
+        Ok(closed) => assert_eq!(rt; closed.seats, 2),
+        Err((fault, _)) => panic!(rt; "not closed: {fault}"),
+    }
+}
+
+/// A hall with one road and two seats, in which the chief makes the call.
+fn refused_in<L: Ledger + ListName, H: Wait + Drop, R: Wait + Abort>(
+    rt: &R,
+    own: H,
+    heap: Global,
+    unnamed: Unnamed,
+    taking: Taking,
+    at: u64,
+) -> bool
+    requires name { unnamed.ledger.name ≡ L.name }
+    requires parts { (unnamed.ledger.parts ≡ L.parts) × (L.parts ≡ 1025) }
+    requires list { unnamed.list ≡ L.book }
+{
+    let memory = Refusing::new(heap, 0);
+    let hall: Hall<L, H, &Refusing<Global>> = opened_in(rt, own, &memory, heap, unnamed, 0);
+    let mut chief = seat(rt, &hall, "chief");
+    let mut north = seat(rt, &hall, "north");
+    assert!(rt; applied(rt, &mut north, road(rt, 1, 1, 1), &mut NoGate).is_some());
+    let reached = is_refused(rt, heap, &memory, &mut chief, &mut north, taking, at);
+    close_two(rt, &memory, &hall, chief, north);
+    reached
+}
+
+/// How many allocations of the call are refused, one after another, until there is none of that number.
+fn refusals<H: Wait + Drop + Copy, R: Wait + Abort>(
+    rt: &R,
+    own: H,
+    heap: Global,
+    taking: Taking,
+) -> u64 {
+    for at in 1..MOST {
+        if !refused_in::<Brand, _, _>(rt, own, heap, Unnamed::new(), taking, at) {
+            return at - 1;
+        }
+    }
+    MOST
+}
+
+#[test]
+fn each_allocation_of_a_call_refused(rt: HostRuntime) {
+    for taking in [
+        Taking::Search,
+        Taking::Apply,
+        Taking::TurnAway,
+        Taking::Govern,
+        Taking::Roll,
+    ] {
+        let count = refusals(&rt, rt, rt.alloc(), taking);
+        assert!(rt; 0 < count && count < MOST, "{taking:?}: {count}");
+    }
+}
+
+/// A seat with the allocation of this number refused: then none is given, and the next one is. Whether that allocation was reached.
+fn seat_refused_in<L: Ledger + ListName, H: Wait + Drop, R: Wait + Abort>(
+    rt: &R,
+    own: H,
+    heap: Global,
+    unnamed: Unnamed,
+    at: u64,
+) -> bool
+    requires name { unnamed.ledger.name ≡ L.name }
+    requires parts { (unnamed.ledger.parts ≡ L.parts) × (L.parts ≡ 1025) }
+    requires list { unnamed.list ≡ L.book }
+{
+    let memory = Refusing::new(heap, 0);
+    let hall: Hall<L, H, &Refusing<Global>> = opened_in(rt, own, &memory, heap, unnamed, 0);
+    memory.refuse(at);
+    let given = hall.seat(rt, name(rt, "north"));
+    let reached = memory.has_refused();
+    memory.refuse(0);
+    match given {
+        Ok(seat) => assert!(rt; !reached && seat.number() == 1),
+        Err(fault) => {
+            assert!(rt; reached && is_memory(&fault), "{at}: {fault}");
+            assert_eq!(rt; seat(rt, &hall, "north").number(), 1);
+        }
+    }
+    reached
+}
+
+/// How many allocations of giving a seat are refused, one after another, until there is none of that number.
+fn seat_refusals<H: Wait + Drop + Copy, R: Wait + Abort>(rt: &R, own: H, heap: Global) -> u64 {
+    for at in 1..MOST {
+        if !seat_refused_in::<Brand, _, _>(rt, own, heap, Unnamed::new(), at) {
+            return at - 1;
+        }
+    }
+    MOST
+}
+
+#[test]
+fn each_allocation_of_a_seat_refused(rt: HostRuntime) {
+    let count = seat_refusals(&rt, rt, rt.alloc());
+    assert!(rt; 0 < count && count < MOST, "{count}");
+}

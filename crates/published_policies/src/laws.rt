@@ -1,0 +1,26 @@
+//! What holds of calls one after another.
+
+ghost use Rattle.std.specs.Prelude.{◌≡◌, ◌≤◌, length, IfSome};
+ghost use mathlib.Core.List.{IsPrefix};
+ghost use Rattle.published_policies.specs.Explaining.{Explains};
+
+use crate::editions::Edition;
+use crate::explaining::Explained;
+use crate::lists::ListName;
+use crate::views::View;
+use combining::Question;
+
+/// Tells a view of an edition and asks it. Where it answers, it rules by the last policy of a list that goes on from the
+/// edition's, so by the edition's policy or a later one. No handle is needed, so neither call waits for anybody.
+pub fn told_then_explained<L: ListName>(
+    view: &mut View<L>,
+    edition: Edition<L>,
+    question: &Question,
+) -> Option<Explained>
+    ensures told { IfSome result (λ _. IsPrefix edition view.new) }
+    ensures ruling { IfSome result (Explains view.new question.now) }
+    ensures later { IfSome result (λ explained. length edition ≤ explained.edition) }
+{
+    view.told(edition);
+    view.explain(question)
+}
