@@ -3,7 +3,9 @@
 
 Each client is a subject of its own and sends lines over its own connection: searches, lists of changes, policies. At the end
 the trail is rolled out. Its order is taken as the order in which the calls came: a slow plain model is led along it, and each
-reply that a client read has to be the one that this model gives at that record. Exits with 1 where one is not.
+reply that a client read has to be the one that this model gives at that record. An EXPLAIN, which leaves no record, has to be
+ruled as the document of the edition that it names rules, and no client may be told of an edition below one that it was told of
+before. Exits with 1 where one is not.
 
     bench/histories/histories.py [--clients 16] [--requests 2000] [--seed 1] [--workers 16] PROGRAM
 """
@@ -20,6 +22,7 @@ import time
 
 NAMES = ["north", "south", "east", "west"]
 CLASSES = ["road", "mast", "parcel"]
+ACTIONS = ["read", "add", "reshape", "delete"]
 POLICIES = [
     {"root": {"combine": "first-applicable", "policy": "start", "rules": [{"effect": "permit", "rule": "open"}]}},
     {"root": {"combine": "first-applicable", "policy": "p", "rules": [
@@ -88,11 +91,27 @@ class Model:
         self.version = 0
         self.document = document
         self.edition = 1
+        self.documents = {1: document}
 
-    def ruled(self, subject, action, owner, kind):
+    def ruled(self, subject, action, owner, kind, edition=None):
         who = self.subjects[subject]
         question = {"role": who["role"], "office": who["office"], "owner": owner, "class": kind, "action": action}
-        return decided(self.document["root"], question)
+        document = self.document if edition is None else self.documents[edition]
+        return decided(document["root"], question)
+
+    def govern(self, document):
+        """The reply to a document that is put in force."""
+        self.edition += 1
+        self.document = self.documents[self.edition] = document
+        return f"edition {self.edition}"
+
+    def explained(self, subject, asked, edition):
+        """The reply to a question, by the document of an edition."""
+        action, owner, kind = asked
+        effect, rule = self.ruled(subject, action, owner, kind, edition)
+        if effect == "permit":
+            return f"permit rule {rule} edition {edition}"
+        return f"denied rule {rule} edition {edition}" if effect == "deny" else f"denied none edition {edition}"
 
     def rows(self, subject, window):
         """The reply to a search."""
@@ -143,6 +162,8 @@ class Client:
     def __init__(self, path, name):
         self.name = name
         self.told = []
+        self.explained = []
+        self.known = 1
         self.other = {}
         self.staged = []
         self.socket = socket.socket(socket.AF_UNIX, socket.SOCK_STREAM)
@@ -192,8 +213,15 @@ class Client:
         reply = self.ask("POLICY " + json.dumps(document))
         if reply[0].startswith("edition "):
             self.told.append(("governed", document, reply))
+            self.known = max(self.known, int(reply[0].split()[1]))
         else:
             self.count(reply)
+
+    def explain(self, action, owner, kind, where):
+        reply = self.ask(f"EXPLAIN {action} {owner} {kind} {where}")
+        self.explained.append(((action, owner, kind), reply[0], self.known))
+        if reply[0].rpartition(" ")[2].isdigit():
+            self.known = max(self.known, int(reply[0].rpartition(" ")[2]))
 
     def close(self):
         self.ask("BYE")
@@ -225,7 +253,9 @@ def live(client, requests, seed, steward):
             for row in client.told[-1][2][1:] if client.told and client.told[-1][0] == "answered" else []:
                 words = row.split(" ", 2)
                 versions[int(words[0])] = int(words[1])
-        elif draw < 0.47 and steward:
+        elif draw < 0.55:
+            client.explain(rng.choice(ACTIONS), rng.choice(NAMES), rng.choice(CLASSES), shape(rng))
+        elif draw < 0.57 and steward:
             client.govern(rng.choice(POLICIES))
         else:
             for _ in range(rng.choice([1, 1, 1, 2, 4])):
@@ -265,8 +295,7 @@ def judged(records, clients, model, seats):
         if kind == "answered":
             due = model.rows(name, what)
         elif kind == "governed":
-            model.document, model.edition = what, model.edition + 1
-            due = [f"edition {model.edition}"]
+            due = [model.govern(what)]
         else:
             due = [model.commit(name, what)]
         if due != reply:
@@ -275,6 +304,19 @@ def judged(records, clients, model, seats):
         left = next(rest, None)
         if left:
             return f"{name} was told {left}, and the trail does not tell of it"
+    return explained_wrongly(clients, model)
+
+
+def explained_wrongly(clients, model):
+    """The first explanation that is not the one of its edition, or is of an edition that is too old, or none."""
+    for name, client in clients.items():
+        for asked, reply, known in client.explained:
+            edition = reply.rpartition(" ")[2]
+            if not edition.isdigit() or not known <= int(edition) <= model.edition:
+                return f"{name}: {reply} was answered to {asked}, where edition {known} was known"
+            due = model.explained(name, asked, int(edition))
+            if due != reply:
+                return f"{name}: {reply} was answered to {asked}, and {due} is due"
     return None
 
 
@@ -341,7 +383,8 @@ def report(arguments, clients, records, took):
         for reply, count in client.other.items():
             others[reply] = others.get(reply, 0) + count
     print(f"{arguments.clients} clients, {arguments.requests} requests each, seed {arguments.seed}: {took:.1f} s")
-    print(f"{len(records)} records {kinds}; answered without a record: {others}")
+    explained = sum(len(client.explained) for client in clients.values())
+    print(f"{len(records)} records {kinds}; {explained} explained; answered without a record: {others}")
 
 
 def main():
