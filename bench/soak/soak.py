@@ -1,9 +1,9 @@
 #!/usr/bin/env python3
 """A server that strangers speak to: lines that are nearly right, and clients that behave badly.
 
-    bench/soak/soak.py [--lines 1000000] [--seed 1] [PROGRAM]
+    bench/soak/soak.py [--lines 1000000] [--seed 1] [--minutes 0] [PROGRAM]
 
-Each part runs against one `landmap serve` of its own, beside or before a watcher: a client whose office changes and searches a
+With --minutes all parts are run again with the next seed until so much time has gone by. Each part runs against one `landmap serve` of its own, beside or before a watcher: a client whose office changes and searches a
 corner that nobody else may touch, and who knows each reply beforehand. A part fails where the watcher is answered otherwise, where the
 server ends by itself, or where it does not end with status 0 and `closed R records` behind its connections. Exits with 1 where a
 part fails.
@@ -12,6 +12,7 @@ import argparse
 import json
 import os
 import random
+import re
 import signal
 import socket
 import subprocess
@@ -38,6 +39,11 @@ POLICY = {"root": {"combine": "first-applicable", "policy": "own", "rules": [
     {"effect": "deny", "rule": "tower", "target": [[[{"class": "tower"}]]], "when": [{"not": {"own": True}}]},
     {"effect": "deny", "rule": "towers", "target": [[[{"class": "tower"}]]], "when": [{"not": {"office": "tower"}}]},
     {"effect": "permit", "rule": "all"}]}}
+
+# What the first line of a reply may be.
+REPLY = re.compile(
+    r"hello [a-z0-9-]+|rows \d+|staged|aborted|held|memory|applied \d+|(absent|exists|stale \d+) change \d+|edition \d+|rolled \d+"
+    r"|(denied|permit) (rule [a-z0-9-]+|none) (change|edition) \d+|error [A-Z]\d+")
 
 
 class Server:
@@ -134,9 +140,10 @@ def nearly_right(rng):
 
 
 def pour(server, rng, lines):
-    """Sends so many lines over one connection, none of them BYE, while another thread reads what comes."""
+    """Sends so many lines over one connection, none of them BYE, while another thread reads what comes: one reply a line."""
     stream = server.connect()
-    reader = threading.Thread(target=drain, args=(stream,))
+    told = []
+    reader = threading.Thread(target=read_replies, args=(stream, told))
     reader.start()
     stream.sendall(b"HELLO stranger\n")
     for _ in range(0, lines, 50):
@@ -145,15 +152,24 @@ def pour(server, rng, lines):
     stream.shutdown(socket.SHUT_WR)
     reader.join()
     stream.close()
+    assert told == [-(-lines // 50) * 50 + 1], f"{lines} lines and a HELLO, and replies: {told}"
 
 
-def drain(stream):
-    """Reads until there is nothing more to read."""
+def read_replies(stream, told):
+    """Reads replies to the end, and tells how many came; or one that is none."""
+    count = 0
     try:
-        while stream.recv(65_536):
-            pass
-    except OSError:
-        pass
+        with stream.makefile("r", encoding="ascii", newline="\n") as lines:
+            for line in lines:
+                if not line.endswith("\n") or not REPLY.fullmatch(line[:-1]):
+                    told.append(line)
+                count += 1
+                word, _, rows = line.partition(" ")
+                for _ in range(int(rows) if word in ("rows", "rolled") else 0):
+                    lines.readline()
+    except (OSError, ValueError) as fault:
+        told.append(fault)
+    told.append(count)
 
 
 def beside(watcher, calls):
@@ -348,6 +364,7 @@ def main():
     parser = argparse.ArgumentParser(description=__doc__, formatter_class=argparse.RawDescriptionHelpFormatter)
     parser.add_argument("--lines", type=int, default=1_000_000)
     parser.add_argument("--seed", type=int, default=1)
+    parser.add_argument("--minutes", type=float, default=0)
     parser.add_argument("program", nargs="?", default=os.path.join(TOP, "crates", "landmap", "out", "landmap"))
     arguments = parser.parse_args()
     parts = [
@@ -359,8 +376,14 @@ def main():
         ("many connections", many_connections),
         ("killed clients", killed_clients),
     ]
-    done = [part(name, call, arguments) for name, call in parts]
-    sys.exit(0 if all(done) else 1)
+    begun, rounds, failed = time.time(), 0, 0
+    while rounds == 0 or time.time() - begun < arguments.minutes * 60:
+        failed += sum(not part(name, call, arguments) for name, call in parts)
+        rounds += 1
+        arguments.seed += 1
+        if arguments.minutes:
+            print(f"{rounds} rounds, {failed} parts failed, {(time.time() - begun) / 60:.1f} minutes", flush=True)
+    sys.exit(1 if failed else 0)
 
 
 main()
