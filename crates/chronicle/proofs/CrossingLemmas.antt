@@ -1,4 +1,4 @@
--- Chronicles may cross threads as their allocator may.
+-- A chronicle may be sent to another thread if its allocator may be sent and shared.
 use denote.Param.Send.{IsSend, IsSync, Frees, arg_send, mut_send, param_send, recorded_send, shr_send, struct_send}
 use denote.RattleType.{RattleType}
 use Rattle.std.specs.declared.alloc.Allocator.{Ghosts}
@@ -25,7 +25,7 @@ module _ (A : RattleType) (g : Ghosts A.Denot) (s : IsSend A) (y : IsSync A) (f 
       let pieces = vec.the_send _ A g piece s f in
       model_send (inside.the_type A g) (world_send A g s y f & pieces & u32_send & tt)
 
--- those in the heap, without premises
+-- the same in the heap, without premises
 pub heap_record_send : IsSend (Record.the_row heap ghosts)
 heap_record_send = record_send heap ghosts send frees
 
@@ -44,8 +44,8 @@ heap_answer_send = answer_send heap ghosts send frees
 pub heap_chronicle_send : IsSend (Chronicle.the_row heap ghosts)
 heap_chronicle_send = chronicle_send heap ghosts send sync frees
 
--- A function that hands what it has to a thread answers the goal of this by `search` with these two sets: the types that
--- come from a chronicle, and how a closure crosses as what it has captured does.
+-- A function that sends what it has to a thread proves that goal by `search` with these two sets:
+-- the types that come from a chronicle, and how a closure is sent if what it has captured is.
 pub ruleset crosses = (heap_chronicle_send, heap_rolled_send, heap_rolled_sync, heap_record_send, heap_record_sync, heap_answer_send, denial_send, outcome_send, decider_send, decider_sync)
 
 pub ruleset captured = (◌&◌, tt, param_send, arg_send, recorded_send, struct_send, shr_send, mut_send)

@@ -1,4 +1,4 @@
--- What an event makes of what a hall sees of a world.
+-- What an event changes of what a hall sees of a world.
 use Rattle.std.proofs.Common.{◌≡◌, ◌⊎◌, ◌≤◌, ℕ, ◌+◌, List, [], ◌∷◌, ◌++◌, length, Result, Ok, Err, refl, sym, ap, ◌∙◌, subst, ⊎_elim, append_assoc, append-nil, length-append, arith}
 use Rattle.features.specs.declared.actors.Subject.{Subject}
 use Rattle.decision.specs.Deciders.{DeciderData}
@@ -16,7 +16,7 @@ use Rattle.plain_world.proofs.RecordLemmas.{adds_alone}
 use Rattle.plain_world.proofs.SettingsLemmas.{settled}
 use Rattle.chronicle.specs.Chronicles.{IsSoundChronicle, LeadsTo, governed_by, noted, seen}
 
--- with what a world was opened
+-- the opening decider and the first numbers are unchanged
 abbrev pub Opens : WorldData → WorldData → Type 0
 Opens old new = (new.opening ≡ old.opening) × (new.starts ≡ old.starts)
 
@@ -35,7 +35,7 @@ grown old new _ h = h.0
 grows : (event : Event) (old new : WorldData) (reply : Reply) → Happens event old new reply → Grows old new
 grows event old new reply happens = grown old new reply (moves event old new reply happens)
 
--- records that are legal from the opening on stay so
+-- records that are legal from the opening on stay legal
 still_legal : (event : Event) (old new : WorldData) (reply : Reply) (records : List RecordData) → Happens event old new reply
     → IsLegal old.seats (opening_state 0 old.opening) records → IsLegal new.seats (opening_state 0 new.opening) records
 still_legal event old new reply records happens legal =
@@ -45,7 +45,7 @@ still_legal event old new reply records happens legal =
     subst (λ (seats : List Subject). IsLegal seats (opening_state 0 new.opening) records) (sym g.1)
     (subst (λ (d : DeciderData). IsLegal (old.seats ++ g.0) (opening_state 0 d) records) (sym o.0) seated)
 
--- the pieces still lead to the present trail, where that begins as before
+-- the pieces still lead to the present trail, if it begins as before
 pub leads_on : (event : Event) (old new : WorldData) (reply : Reply) (first : ℕ) (rolled : List RecordData) → Happens event old new reply
     → new.base ≡ old.base → new.first ≡ old.first → LeadsTo first rolled old → LeadsTo first rolled new
 leads_on event old new reply first rolled happens base number h =
@@ -69,7 +69,7 @@ seats_stay event old new reply unseating asked =
 pub no_seat_given : (event : Event) (old new : WorldData) (reply : Reply) → GivesNoSeat event → Happens event old new reply → new.seats ≡ old.seats
 no_seat_given event old new reply unseating happens = seats_stay event old new reply unseating (is_asked event old new reply happens).seats
 
--- what an event that writes nothing leaves
+-- an event that records nothing and gives no seat: the chronicle is unchanged
 pub stands : (event : Event) (old new : WorldData) (reply : Reply) (first : ℕ) (rolled : List RecordData) → GivesNoSeat event → Happens event old new reply
     → StandsAs old new → LeadsTo first rolled old → (seen rolled new ≡ seen rolled old) × LeadsTo first rolled new
 stands event old new reply first rolled unseating happens h leads =
@@ -79,7 +79,7 @@ stands event old new reply first rolled unseating happens h leads =
       leads_on event old new reply first rolled happens h.2 h.3 leads,
     )
 
--- what an event leaves that writes one record, and leaves the policy
+-- an event that adds one record, and leaves the policy unchanged
 pub adds : (event : Event) (old new : WorldData) (reply : Reply) (first : ℕ) (rolled : List RecordData) (seat : ℕ) (deed : DeedData)
     → GivesNoSeat event → Happens event old new reply → (after_deed deed old.state).decider ≡ old.state.decider → HasOneMore seat deed old new
     → LeadsTo first rolled old → (seen rolled new ≡ noted seat deed (seen rolled old)) × LeadsTo first rolled new
@@ -94,7 +94,7 @@ adds event old new reply first rolled seat deed unseating happens same h leads =
       leads_on event old new reply first rolled happens h.2 h.3 leads,
     )
 
--- what an event leaves that puts a decider in force
+-- an event that puts a decider in force
 pub governs : (event : Event) (old new : WorldData) (reply : Reply) (first : ℕ) (rolled : List RecordData) (seat : ℕ) (deed : DeedData) (decider : DeciderData)
     → GivesNoSeat event → Happens event old new reply → (after_deed deed old.state).decider ≡ decider → HasOneMore seat deed old new
     → seen rolled new ≡ record (noted seat deed (seen rolled old)) { decider = decider }
@@ -107,7 +107,7 @@ governs event old new reply first rolled seat deed decider unseating happens the
     let in_force : new.state.decider ≡ decider = ap (λ (state : PlainState). state.decider) h.1 ∙ there in
     λ i. record { opening = o.0 i; seats = s i; records = records i; decider = in_force i }
 
--- all records are sound where the present trail is
+-- all records are sound if the present trail is
 pub sound_seen : (first : ℕ) (rolled : List RecordData) (w : WorldData) → LeadsTo first rolled w → IsSoundWorld w → IsSoundChronicle (seen rolled w)
 sound_seen first rolled w h sound =
     record {
@@ -118,7 +118,7 @@ sound_seen first rolled w h sound =
       few = sound.few_seats;
     }
 
--- what a roll that succeeds leaves: the piece holds what the trail held
+-- a roll that succeeds: the piece has what the trail had
 pub rolls : (seat : ℕ) (old new : WorldData) (piece : RolledData) (first : ℕ) (rolled : List RecordData) → Happens (Roll seat) old new (TakenOut piece)
     → IsSoundWorld old → LeadsOn old new piece → new.state ≡ old.state → LeadsTo first rolled old
     → (seen (rolled ++ piece.records) new ≡ seen rolled old) × LeadsTo first (rolled ++ piece.records) new

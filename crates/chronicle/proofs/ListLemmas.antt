@@ -1,4 +1,4 @@
--- Lists followed item by item.
+-- Lists compared item by item.
 use Rattle.std.proofs.Common.{◌≡◌, ◌≢◌, ◌<◌, ◌≤◌, ℕ, zero, suc, ◌+◌, Bool, true, false, List, [], ◌∷◌, ◌++◌, length, map, take, drop, filter, slice_get, Option, None, Some, refl, sym, ap, ◌∙◌, subst, append-nil, length-append, add-one, arith, if◌then◌else◌}
 use Rattle.std.specs.List.{last_or}
 use Rattle.std.proofs.lemmas.List.{length-take-le, take-append-le}
@@ -15,7 +15,7 @@ around (y ∷ ys) zero x e = ap (λ (z : _). z ∷ ys) (some_same y x e)
     some_same a b e = cc
 around (y ∷ ys) (suc i) x e = ap (λ (zs : List _). y ∷ zs) (around ys i x e)
 
--- one more can be taken where there is an item
+-- one more item can be taken
 take_next : {X : Type 0} (xs : List X) (i : ℕ) (x : X) → slice_get xs i ≡ Some x → take (suc i) xs ≡ take i xs ++ x ∷ []
 take_next [] i x e = cc
 take_next (y ∷ ys) zero x e = cc
@@ -28,7 +28,7 @@ take_all : {X : Type 0} (xs : List X) → take (length xs) xs ≡ xs
 take_all [] = refl
 take_all (y ∷ ys) = ap (λ (zs : List _). y ∷ zs) (take_all ys)
 
--- the item behind a first part is the next
+-- the item after a first part is the next one
 pub item_behind : {X : Type 0} (xs ys : List X) (y : X) → slice_get (xs ++ y ∷ ys) (length xs) ≡ Some y
 item_behind [] ys y = refl
 item_behind (x ∷ xs) ys y = item_behind xs ys y
@@ -38,7 +38,7 @@ item_before [] ys i h = absurd (omega arith)
 item_before (x ∷ xs) ys zero h = refl
 item_before (x ∷ xs) ys (suc i) h = item_before xs ys i (omega arith)
 
--- nothing is told at first
+-- at first nothing is told
 pub none_told : {X : Type 0} (xs : List X) → AreTold 0 [] xs
 none_told xs = record { within = omega arith; same = refl }
 
@@ -48,7 +48,7 @@ one_more_told xs told n x h e =
     let in_it = slice_get_within xs n x e in
     record { within = omega arith; same = take_one_more xs n x e ∙ ap (λ (zs : List _). zs ++ x ∷ []) h.same }
 
--- what is told goes on with an item that does not come there
+-- what is told goes on with an item that the list does not have there
 pub parts_here : {X : Type 0} (xs told later : List X) (n : ℕ) (x : X) → AreTold n told xs → slice_get xs n ≢ Some x → PartsAt n (told ++ x ∷ later) xs
 parts_here xs told later n x h other =
     let count : length told ≡ n = ap length (sym h.same) ∙ length-take-le n xs h.within in
@@ -61,7 +61,7 @@ parts_here xs told later n x h other =
       };
     }
 
--- more that is told changes no parting
+-- if more is told, the lists still differ first at the same place
 pub parts_still : {X : Type 0} (xs told more : List X) (n : ℕ) → PartsAt n told xs → PartsAt n (told ++ more) xs
 parts_still xs told more n h =
     let w = h.within in
@@ -118,12 +118,12 @@ pub last_behind : {X : Type 0} (o : Option X) (xs ys : List X) → last_or o (xs
 last_behind o [] ys = refl
 last_behind o (x ∷ xs) ys = last_behind (Some x) xs ys
 
--- where there is a last item, no other is taken for it
+-- if there is a last item, the default is not taken
 pub last_alone : {X : Type 0} (o : Option X) (xs : List X) (x : X) → last_or None xs ≡ Some x → last_or o xs ≡ Some x
 last_alone o [] x e = cc
 last_alone o (y ∷ ys) x e = e
 
--- where there is none, there is no item
+-- if there is no last item, the list is empty
 pub last_none : {X : Type 0} (xs : List X) → last_or None xs ≡ None → xs ≡ []
 last_none [] e = refl
 last_none (x ∷ xs) e = absurd (some_last x xs e)

@@ -33,7 +33,7 @@ use Rattle.chronicle.specs.Chronicles.{ChronicleData, LeadsTo, governed_by, note
 use Rattle.chronicle.specs.Noting.{IsAnswered, IsEndedBy, IsGovernedBy, IsSeatGiven, told_answer}
 use Rattle.chronicle.proofs.EventLemmas.{adds, governs, leads_on, rolls, stands}
 
--- a world that is as it was is seen as it was
+-- an unchanged world is seen as an unchanged chronicle
 seen_same : (rolled : List RecordData) (old new : WorldData) → new ≡ old → seen rolled new ≡ seen rolled old
 seen_same rolled old new e = ap (seen rolled) e
 
@@ -42,7 +42,7 @@ number_same a b e = cc
 
 -- Seats.
 
--- the subject that is found by a name has it
+-- the subject that is found by a name has that name
 named_so : (name : List ℕ) (subjects : List Subject) (subject : Subject) → subject_named name subjects ≡ Some subject → subject.name ≡ name
 named_so name [] subject e = absurd cc
 named_so name (s ∷ ss) subject e = go (named_so name ss subject) (pointwise nat_eq s.name name) refl e
@@ -55,7 +55,7 @@ named_so name (s ∷ ss) subject e = go (named_so name ss subject) (pointwise na
     go rest true is e = ap (λ (x : Subject). x.name) (same s subject e) ∙ (bytes_eq-Decides s.name name).0 is
     go rest false is e = rest e
 
--- who may sit has the name
+-- the subject that may sit has the name
 sat_by_name : (name : List ℕ) (w : WorldData) (subject : Subject) → may_sit name w ≡ Ok subject → subject.name ≡ name
 sat_by_name name w subject e = go (subject_named name w.subjects) refl e
   where
@@ -81,7 +81,7 @@ seat_refused rolled name old new (Err fault) happens = seen_same rolled old new 
 
 -- Searches.
 
--- who goes on with a search goes on with the one that runs under its number
+-- a search that may go on is the open one of its number
 runs : (seat number : ℕ) (w : WorldData) (s : Search) → may_go_on seat number w ≡ Ok s → search_with number w.searches ≡ Some s
 runs seat number w s e =
     let a = and_then_ok (subject_at seat w) (λ _. own_search seat number w) s e in
@@ -178,14 +178,14 @@ govern_refused rolled seat document old new (Err fault) happens = seen_same roll
 
 -- Rolling.
 
--- a roll that is refused leaves all
+-- a roll that is refused leaves the chronicle unchanged
 pub roll_refused : (seat : ℕ) (old new : WorldData) (fault : Fault) (first : ℕ) (rolled : List RecordData) → Happens (Roll seat) old new (Refused fault) → LeadsTo first rolled old
     → (seen rolled new ≡ seen rolled old) × LeadsTo first rolled new
 roll_refused seat old new fault first rolled happens leads =
     let same = leaves (Roll seat) old new fault happens in
     (seen_same rolled old new same, subst (λ (w : WorldData). LeadsTo first rolled w) (sym same) leads)
 
--- one that takes the trail out leaves all records
+-- a roll that takes the trail out keeps all records
 pub roll_kept : (seat : ℕ) (old new : WorldData) (piece : RolledData) (first : ℕ) (rolled : List RecordData) → IsSoundWorld old → Happens (Roll seat) old new (TakenOut piece) → LeadsTo first rolled old
     → (seen (rolled ++ piece.records) new ≡ seen rolled old) × LeadsTo first (rolled ++ piece.records) new
 roll_kept seat old new piece first rolled sound happens leads =

@@ -48,7 +48,7 @@ of_another a b h = go (a == b) (Decides-eqb a b).0
     go true f = absurd (h (f refl))
     go false f = refl
 
--- a record of another seat tells nothing
+-- a record of another seat changes nothing
 pub record_passed : (records : List RecordData) (index told seat : ℕ) (before receipts : List RecordData) (r : RecordData) → slice_get records index ≡ Some r → r.seat ≢ seat
     → AreTold told (before ++ calls_of seat (take index records)) receipts → AreTold told (before ++ calls_of seat (take (index + 1) records)) receipts
 record_passed records index told seat before receipts r e other h =
@@ -82,11 +82,11 @@ pub in_parts : (first rest : List RolledData) → records_in (first ++ rest) ≡
 in_parts [] rest = refl
 in_parts (p ∷ ps) rest = ap (λ (rs : List RecordData). p.records ++ rs) (in_parts ps rest) ∙ sym (append_assoc p.records (records_in ps) (records_in rest))
 
--- those of one piece more
+-- the records of one more piece
 pub one_more_in : (ps : List RolledData) (p : RolledData) → records_in (ps ++ p ∷ []) ≡ records_in ps ++ p.records
 one_more_in ps p = in_parts ps (p ∷ []) ∙ ap (λ (rs : List RecordData). records_in ps ++ rs) (append-nil p.records)
 
--- a piece is put behind others, where room was made before
+-- a piece is appended, where room was made before
 pub piece_pushed : {P : Type 0} (f : P → RolledData) (before made after : List P) (piece : P) → made ≡ before → after ≡ made ++ piece ∷ []
     → records_in (map f after) ≡ records_in (map f before) ++ (f piece).records
 piece_pushed f before made after piece m a =
@@ -95,7 +95,7 @@ piece_pushed f before made after piece m a =
 up_to : (ps : List RolledData) (i : ℕ) (p : RolledData) → slice_get ps i ≡ Some p → records_in (take (i + 1) ps) ≡ records_in (take i ps) ++ p.records
 up_to ps i p e = ap records_in (take_one_more ps i p e) ∙ one_more_in (take i ps) p
 
--- a piece follows what was told
+-- the seat's records in a piece are its next receipts
 pub piece_told : (ps : List RolledData) (i told more seat : ℕ) (p : RolledData) (receipts : List RecordData) → slice_get ps i ≡ Some p
     → AreTold told (calls_of seat (records_in (take i ps))) receipts → AreTold more (take told receipts ++ calls_of seat p.records) receipts
     → AreTold more (calls_of seat (records_in (take (i + 1) ps))) receipts
@@ -105,7 +105,7 @@ piece_told ps i told more seat p receipts e h k =
     ∙ sym (filter-append (λ (r : RecordData). r.seat == seat) (records_in (take i ps)) p.records) ∙ sym (ap (calls_of seat) (up_to ps i p e)) in
     subst (λ (seen : List RecordData). AreTold more seen receipts) longer k
 
--- a piece parts from what was told
+-- the seat's records in a piece differ from its receipts
 pub piece_parts : (ps : List RolledData) (i told place seat : ℕ) (p : RolledData) (rest receipts : List RecordData) → slice_get ps i ≡ Some p
     → AreTold told (calls_of seat (records_in (take i ps))) receipts → PartsAt place (take told receipts ++ calls_of seat p.records) receipts
     → DifferFirst place (calls_of seat (records_in ps ++ rest)) receipts
@@ -133,21 +133,21 @@ behind_all ps i told seat rest receipts e h =
     ap (λ (calls : List RecordData). calls ++ calls_of seat rest) (h.same ∙ ap (λ (all : List RolledData). calls_of seat (records_in all)) (all_of ps i e))
     ∙ sym (filter-append (λ (r : RecordData). r.seat == seat) (records_in ps) rest)
 
--- the present trail follows what was told of all pieces
+-- the seat's records in the present trail are its next receipts
 pub trail_told : (ps : List RolledData) (i told all seat : ℕ) (rest receipts : List RecordData) → i ≡ length ps
     → AreTold told (calls_of seat (records_in (take i ps))) receipts → AreTold all (take told receipts ++ calls_of seat rest) receipts
     → AreTold all (calls_of seat (records_in ps ++ rest)) receipts
 trail_told ps i told all seat rest receipts e h k =
     subst (λ (seen : List RecordData). AreTold all seen receipts) (behind_all ps i told seat rest receipts e h) k
 
--- the present trail parts from what was told of all pieces
+-- the seat's records in the present trail differ from its receipts
 pub trail_parts : (ps : List RolledData) (i told place seat : ℕ) (rest receipts : List RecordData) → i ≡ length ps
     → AreTold told (calls_of seat (records_in (take i ps))) receipts → PartsAt place (take told receipts ++ calls_of seat rest) receipts
     → DifferFirst place (calls_of seat (records_in ps ++ rest)) receipts
 trail_parts ps i told place seat rest receipts e h k =
     subst (λ (seen : List RecordData). DifferFirst place seen receipts) (behind_all ps i told seat rest receipts e h) k.first
 
--- the last record of pieces is the last of the first that has one, from behind
+-- the last record of pieces is that of the last piece that has one
 pub last_found : (ps : List RolledData) (i : ℕ) (p : RolledData) (r : RecordData) → slice_get ps i ≡ Some p
     → last_or None (records_in ps) ≡ last_or None (records_in (take (i + 1) ps)) → Some r ≡ last_or None p.records → Some r ≡ last_or None (records_in ps)
 last_found ps i p r e same found =
@@ -159,7 +159,7 @@ pub last_before : (ps : List RolledData) (i : ℕ) (p : RolledData) → slice_ge
 last_before ps i p e same found =
     same ∙ ap (last_or None) (up_to ps i p e ∙ ap (λ (rs : List RecordData). records_in (take i ps) ++ rs) (last_none p.records (sym found)) ∙ append-nil (records_in (take i ps)))
 
--- the last record of all
+-- the last record of the trail is the last of all
 pub last_of_trail : (rolled trail : List RecordData) (r : RecordData) → Some r ≡ last_or None trail → Some r ≡ last_or None (rolled ++ trail)
 last_of_trail rolled trail r e = sym (last_behind None rolled trail ∙ last_alone (last_or None rolled) trail r (sym e))
 

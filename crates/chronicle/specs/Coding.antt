@@ -1,4 +1,4 @@
--- How a proof tells two chronicles apart.
+-- The coding of chronicles, by which proofs tell two of them apart.
 use Rattle.std.specs.Prelude.{◌≡◌, List, map}
 use Rattle.features.specs.declared.actors.Subject.{Subject}
 use Rattle.decision.specs.Deciders as deciders

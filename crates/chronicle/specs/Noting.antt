@@ -12,7 +12,7 @@ use Rattle.plain_world.specs.declared.outcomes.Outcome.{Outcome}
 use Rattle.plain_world.specs.declared.settings.TheConstants.{SEAT_LIMIT}
 use Rattle.chronicle.specs.Chronicles.{ChronicleData, noted, governed_by}
 
--- what the trail tells of an answer
+-- the record of an answer
 abbrev pub told_answer : AnswerData → DeedData
 told_answer answer = answered answer.subject answer.window (map (λ row. row.id) answer.rows) (map (λ row. row.version) answer.rows)
 
@@ -24,20 +24,22 @@ pub record IsSeatGiven (name : List ℕ) (number : ℕ) (old new : ChronicleData
   pub named : subject.name ≡ name
   pub given : new ≡ record old { seats = old.seats ++ subject ∷ [] }
 
--- a seat's subject was answered for this window, by the decider in force, and the record tells just that
+-- the answer is for the seat's subject and this window, by the decider in force; its record is
+-- added
 pub record IsAnswered (seat : ℕ) (asked : List Point) (answer : AnswerData) (old new : ChronicleData) : Type 0 where
   pub seated : IsSeated seat old.seats answer.subject
   pub window : answer.window ≡ asked
   pub decider : answer.decider ≡ old.decider
   pub told : new ≡ noted seat (told_answer answer) old
 
--- a seat's subject committed these changes with this outcome, and the record tells just that
+-- the seat's subject committed these changes with this outcome; the record of that is added
 pub record IsEndedBy (seat : ℕ) (changes : List Change) (outcome : Outcome) (old new : ChronicleData) : Type 0 where
   pub subject : Subject
   pub seated : IsSeated seat old.seats subject
   pub told : new ≡ noted seat (deed_of subject changes outcome) old
 
--- a seat's subject, who is a steward, put a decider in force, as the next edition, and the record tells just that
+-- the seat's subject, a steward, put a decider in force as the next edition; the record of that is
+-- added
 pub record IsGovernedBy (seat : ℕ) (decider : DeciderData) (edition : ℕ) (old new : ChronicleData) : Type 0 where
   pub subject : Subject
   pub seated : IsSeated seat old.seats subject

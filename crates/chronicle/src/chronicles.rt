@@ -12,8 +12,8 @@ use std::marker::Model;
 use std::sync::Arc;
 use transactions::{Fault, Limits, ROLLED_LIMIT, Rolled, STEP_LIMIT, Starts, World};
 
-/// A world and the pieces that were rolled out of it. A contract sees the opening decider, who has a seat, all records and
-/// the decider in force.
+/// A world and the pieces that were rolled out of it. Contracts see the opening decider, the
+/// subjects of the seats, all records and the decider in force.
 #[derive(Drop)]
 pub struct Chronicle<A: Allocator> {
     pub(crate) world: World<A>,
@@ -38,8 +38,8 @@ impl<A: Allocator> Model for Chronicle<A> {
 }
 
 impl<A: Allocator> Chronicle<A> {
-    /// All records are one legal trail from the opening on, its replay has the decider in force, and no more than
-    /// `SEAT_LIMIT` seats were given. The function does nothing: it is its contract.
+    /// A fact for callers, without effect: all records are one legal trail from the opening on, its
+    /// replay has the decider in force, and at most `SEAT_LIMIT` seats were given.
     pub fn sound(&self)
         ensures { IsSoundChronicle self.now }
     {
@@ -48,8 +48,8 @@ impl<A: Allocator> Chronicle<A> {
 }
 
 impl<A: Allocator + Copy> Chronicle<A> {
-    /// A world with no features, no seats and no records, by a document of the first edition. X12 where a growth is
-    /// refused: then the document is handed back.
+    /// A world with no features, no seats and no records, with this document as its first edition.
+    /// X12 where an allocation is refused: then the document is returned.
     pub fn open(
         alloc: A,
         heap: Global,
@@ -69,9 +69,9 @@ impl<A: Allocator + Copy> Chronicle<A> {
         )
     }
 
-    /// The same, where the numbers start elsewhere and the limits are other ones, for tests of what comes at their ends. No
-    /// list was applied before, no limit is above that of `Limits::GREATEST`, and no more than `ROLLED_LIMIT` records were
-    /// rolled out before.
+    /// The same with other first numbers and other limits, for tests of what happens at their ends.
+    /// No list was applied before, no limit is above that of `Limits::GREATEST`, and at most
+    /// `ROLLED_LIMIT` records were rolled out before.
     pub fn open_at(
         alloc: A,
         heap: Global,

@@ -1,4 +1,4 @@
-//! The calls of a seat, and what it was given of them.
+//! Compares the records of a seat with its receipts.
 
 ghost use Rattle.std.specs.Prelude.{◌≡◌, ◌≤◌, ◌++◌, length, map, take, IfNone, IfSome, IfOk, IfErr};
 ghost use Rattle.std.specs.Arc.{arc_value};
@@ -13,8 +13,8 @@ use std::sync::Arc;
 use transactions::Rolled;
 
 impl<A: Allocator> Chronicle<A> {
-    /// The first place, counted from 0, at which the records of a seat and its receipts differ; none where they are one
-    /// list.
+    /// The first place, counted from 0, at which the records of a seat and its receipts differ;
+    /// `None` if they are the same list.
     pub fn differs(&self, seat: u32, receipts: &[Arc<Record<A>, A>]) -> Option<usize>
         ensures same { IfNone result (calls_of seat self.now.records ≡ map arc_value receipts.now) }
         ensures place { IfSome result (λ n. DifferFirst n (calls_of seat self.now.records) (map arc_value receipts.now)) }
@@ -23,7 +23,8 @@ impl<A: Allocator> Chronicle<A> {
     }
 }
 
-/// The first place at which the records of a seat, in the pieces and then in the trail, and its receipts differ.
+/// The first place at which the records of a seat, in the pieces and then in the trail, and its
+/// receipts differ; `None` if they are the same.
 fn difference<A: Allocator>(
     pieces: &[Arc<Rolled<A>, A>],
     trail: &Trail<A>,
@@ -52,8 +53,8 @@ fn difference<A: Allocator>(
     }
 }
 
-/// Follows the records of a seat along a trail, where so many of its receipts are told already: how many are told behind
-/// it, or the first place at which the two differ.
+/// Compares the records of a seat in a trail with its receipts from the place `before` on. Ok is
+/// the place after the receipts that agree, Err the first place at which the two differ.
 fn follow<A: Allocator>(
     trail: &Trail<A>,
     seat: u32,

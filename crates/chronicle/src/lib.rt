@@ -1,4 +1,5 @@
-//! A world with all its records: those that were rolled out of it, piece after piece, and those of the present trail.
+//! A world with all its records: those that were rolled out of it, piece after piece, and those of
+//! the present trail.
 #![tactic(auto)]
 
 mod changing;

@@ -1,4 +1,4 @@
-//! What stands in a chronicle.
+//! Reading a chronicle.
 
 ghost use Rattle.std.specs.Prelude.{◌≡◌, ◌≤◌, length, map, option_map, None};
 ghost use Rattle.std.specs.Arc.{arc_value};
@@ -14,7 +14,7 @@ use std::sync::Arc;
 use transactions::{Fault, Rolled, SEAT_LIMIT};
 
 impl<A: Allocator> Chronicle<A> {
-    /// How many records there are, those that were rolled out too.
+    /// How many records there are, with those that were rolled out.
     pub fn len(&self) -> u64
         ensures { result ≡ length self.now.records }
     {
@@ -37,7 +37,7 @@ impl<A: Allocator> Chronicle<A> {
         self.world.edition()
     }
 
-    /// The decider in force, of which another owner may be made.
+    /// The decider in force, shared: a caller may make itself another owner.
     pub fn decider(&self) -> &Arc<Decider>
         ensures { arc_value result.now ≡ self.now.decider }
     {
@@ -56,7 +56,7 @@ impl<A: Allocator> Chronicle<A> {
         self.world.subject_at(seat)
     }
 
-    /// The record that was written last, of which another owner may be made.
+    /// The last record, shared: a caller may make itself another owner.
     pub fn last(&self) -> Option<&Arc<Record<A>, A>>
         ensures { option_map (λ r. arc_value r.now) result ≡ last_or None self.now.records }
     {
@@ -78,7 +78,7 @@ fn last_of<A: Allocator>(trail: &Trail<A>) -> Option<&Arc<Record<A>, A>>
     trail.get(trail.first() + (count - 1))
 }
 
-/// The last record of pieces.
+/// The last record of these pieces.
 fn last_in<A: Allocator>(pieces: &[Arc<Rolled<A>, A>]) -> Option<&Arc<Record<A>, A>>
     ensures { option_map (λ r. arc_value r.now) result ≡ last_or None (records_in (map arc_value pieces.now)) }
 {

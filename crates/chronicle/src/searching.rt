@@ -10,8 +10,8 @@ use std::alloc::Allocator;
 use transactions::{Answer, Fault, Visit};
 
 impl<A: Allocator> Chronicle<A> {
-    /// Gives a seat to the subject of a name, and answers its number, from 1. X13 where there is no such subject, X14
-    /// where all seats are given, X12 where a growth is refused.
+    /// Gives a seat to the subject of a name, and returns its number, from 1. X13 where there is no
+    /// such subject, X14 where all seats are given, X12 where an allocation is refused.
     pub fn seat(&mut self, name: Name) -> Result<u32, Fault>
         ensures ok { IfOk result (λ number. IsSeatGiven name number self.old self.new) }
         ensures err { OnErr result (self.new ≡ self.old) }
@@ -19,8 +19,8 @@ impl<A: Allocator> Chronicle<A> {
         self.world.seat(name)
     }
 
-    /// Gives a search up. X1 where the seat was not given or no such search runs, X2 where it is another seat's. It takes
-    /// no memory.
+    /// Drops a search. X1 where the seat was not given or no such search is open, X2 where it is
+    /// another seat's. Takes no memory.
     pub fn drop_search(&mut self, seat: u32, number: u64) -> Result<(), Fault>
         ensures { self.new ≡ self.old }
     {
@@ -29,25 +29,28 @@ impl<A: Allocator> Chronicle<A> {
 }
 
 impl<A: Allocator + Copy> Chronicle<A> {
-    /// Opens a search of a seat, and answers its number. X1 where the seat was not given, X9 where 16 searches run (S2)
-    /// or the number is at its end (S6), X12 where a growth is refused.
+    /// Opens a search of a seat, and returns its number. X1 where the seat was not given, X9 where
+    /// 16 searches are open (S2) or the number is at its end (S6), X12 where an allocation is
+    /// refused.
     pub fn open_search(&mut self, seat: u32, window: Shape) -> Result<u64, Fault>
         ensures { self.new ≡ self.old }
     {
         self.world.open_search(seat, window)
     }
 
-    /// Makes a step of a search: it sees one place of the index. X1 where the seat was not given or no such search runs, X2
-    /// where it is another seat's, X9 where it has made all its steps (S7): then it is ended; X12 where a growth is refused.
+    /// Makes a step of a search: it sees one more node of the index. X1 where the seat was not
+    /// given or no such search is open, X2 where it is another seat's, X9 where it has made all its
+    /// steps (S7), X12 where an allocation is refused. S7 ends the search.
     pub fn visit(&mut self, seat: u32, number: u64) -> Result<Visit, Fault>
         ensures { self.new ≡ self.old }
     {
         self.world.visit(seat, number)
     }
 
-    /// Finishes the search of a window: its answer is written to the trail. X1 where the seat was not given, no such search
-    /// runs or it looks elsewhere, X2 where it is another seat's, X3 where it has not answered Ready, X10 where the trail is
-    /// full, X12 where a growth is refused.
+    /// Finishes the search of a window, and records its answer in the trail. X1 where the seat was
+    /// not given, no such search is open or it has another window, X2 where it is another seat's,
+    /// X3 where it has not answered Ready, X10 where the trail is full, X12 where an allocation is
+    /// refused.
     pub fn finish(&mut self, seat: u32, number: u64, window: &Shape) -> Result<Answer<A>, Fault>
         ensures ok { IfOk result (λ answer. IsAnswered seat window.now answer self.old self.new) }
         ensures err { OnErr result (self.new ≡ self.old) }

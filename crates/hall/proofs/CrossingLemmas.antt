@@ -1,4 +1,4 @@
--- A hall in the heap may be shared among threads, and its seats may go from one to another.
+-- A hall in the heap may be shared among threads, and its seats may be sent from one to another.
 use denote.Param.Send.{IsSend, IsSync, plain_send, recorded_send, recorded_sync, struct_send, struct_sync, shr_send}
 use denote.Ref.{NamedLft}
 use denote.RattleType.{RattleType}

@@ -2,7 +2,7 @@
 use Rattle.std.proofs.Common.{◌≡◌, ◌+◌, List, [], ◌∷◌, ◌++◌, length, arith, refl}
 use Rattle.hall.specs.Seats.{SeatData, receipts_of}
 
--- one seat more has its receipts more
+-- one more seat adds its receipts
 pub receipts_push : (seats : List SeatData) (s : SeatData) → receipts_of (seats ++ s ∷ []) ≡ receipts_of seats + length s.receipts
 receipts_push [] s = omega arith
 receipts_push (t ∷ seats) s = omega (arith, receipts_push seats s)

@@ -1,4 +1,4 @@
--- The published list and the receipt behind a document that was put in force.
+-- The published list and the receipt after a document was put in force.
 use Rattle.std.proofs.Common.{◌≡◌, ◌+◌, ◌∷◌, ◌++◌, [], ℕ, List, length, None, Some, ap, sym, ◌∙◌, length-append}
 use Rattle.std.specs.List.{last_or}
 use Rattle.policy_documents.specs.Documents.{DocumentData}
@@ -7,7 +7,7 @@ use Rattle.audit_trail.specs.Records.{RecordData, governed}
 use Rattle.published_policies.proofs.ListLemmas.{last_push}
 use Rattle.hall.specs.Calls.{put_in_force}
 
--- a published list goes on by the decider of a document that was put in force
+-- a published list grows by the decider of a document that was put in force
 pub record GoesOn (asked : DocumentData) (before : List DeciderData) (decider : DeciderData) (grown : List DeciderData) : Type 0 where
   pub document : decider.document ≡ asked
   pub edition : decider.edition ≡ length before + 1
@@ -17,7 +17,7 @@ module _ (asked : DocumentData) (before : List DeciderData) (decider : DeciderDa
   pub counted : length grown ≡ decider.edition
   counted = ap length on.list ∙ length-append before (decider ∷ []) ∙ sym on.edition
 
-  -- the decider is told by its document and by how many the list has
+  -- the decider is known by its document and the length of the list
   so : decider ≡ put_in_force asked grown
   so = λ i. record { document = on.document i; edition = sym counted i }
 

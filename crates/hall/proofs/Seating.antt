@@ -1,4 +1,4 @@
--- Whose a seat is.
+-- The subjects of seats.
 use Rattle.std.proofs.Common.{◌≡◌, ◌<◌, ◌+◌, ◌-◌, ◌==◌, ℕ, Bool, true, false, List, [], ◌∷◌, ◌++◌, length, slice_get, Result, None, Some, Ok, refl, sym, ap, subst, if◌then◌else◌, arith, length-append}
 use Rattle.std.proofs.Math.Seq.{get_or-append_seam}
 use Rattle.std.proofs.lemmas.Bool.Decides.{nat_tests}
@@ -17,7 +17,7 @@ pub one_subject : (seat : ℕ) (seats : List Subject) (one other : Subject) → 
 one_subject seat seats one other seated given_so =
     ok_of (given (Some one)) (subject_given seat seats) one other refl given_so (sym (ap given seated))
 
--- the seat that was given last is its subject's
+-- the last seat that was given is its subject's
 seated_last : (seats : List Subject) (s : Subject) (number : ℕ) → number ≡ length seats + 1 → IsSeated number (seats ++ s ∷ []) s
 seated_last seats s number e = subst (λ (n : ℕ). IsSeated n (seats ++ s ∷ []) s) (sym e) (go ((length seats + 1) == 0) refl)
   where
@@ -33,7 +33,7 @@ seated_last seats s number e = subst (λ (n : ℕ). IsSeated n (seats ++ s ∷ [
     go true is = absurd (grind (arith, nat_tests, is))
     go false is = rw back there
 
--- the subject of the seat that was given last
+-- the subject of the last seat that was given
 pub last_subject : (seats : List Subject) (s other : Subject) (number : ℕ) → number ≡ length seats + 1
     → subject_given number (seats ++ s ∷ []) ≡ Ok other → s ≡ other
 last_subject seats s other number e found = one_subject number (seats ++ s ∷ []) s other (seated_last seats s number e) found

@@ -10,7 +10,7 @@ use Rattle.hall.specs.declared.faults.OpenFault.TheVariants as opening
 use Rattle.hall.specs.declared.faults.CloseFault.{CloseFault}
 use Rattle.hall.specs.declared.faults.CloseFault.TheVariants as closing
 
--- of a refusal of the world the world's own code
+-- for a refusal of the world, the world's own code
 abbrev pub hall_code : HallFault → List ℕ
 hall_code faults.NoSubject = codes "H1"
 hall_code faults.NoPlace = codes "H2"
@@ -20,14 +20,14 @@ hall_code (faults.Core fault) = fault_code fault
 hall_code (faults.Memory refused) = codes "H6"
 hall_code faults.NotRead = codes "H7"
 
--- of a refusal of the world the world's own code
+-- for a refusal of the world, the world's own code
 abbrev pub open_code : OpenFault → List ℕ
 open_code opening.NoPlace = codes "H2"
 open_code (opening.Core fault) = fault_code fault
 open_code (opening.Memory refused) = codes "H6"
 open_code (opening.Policies refused) = codes "H6"
 
--- as what fault a hall tells that its world refuses an event
+-- the hall's fault for a refusal of its world
 abbrev pub hall_fault : Fault → HallFault
 hall_fault world.NoSubject = faults.NoSubject
 hall_fault world.NoPlace = faults.NoPlace

@@ -6,17 +6,17 @@ use Rattle.audit_trail.specs.Calls.{calls_of}
 use Rattle.audit_trail.specs.Coding as trails
 use Rattle.audit_trail.specs.Records.{DeedData, RecordData}
 
--- a seat: its number, whose it is, and its receipts, which are records
+-- a seat: its number, its subject, and its receipts, which are records
 pub record SeatData : Type 0 where
   pub number : ℕ
   pub subject : Subject
   pub receipts : List RecordData
 
--- a seat with one receipt more, of this deed
+-- a seat with one more receipt, of this deed
 abbrev pub receipted : DeedData → SeatData → SeatData
 receipted deed seat = record seat { receipts = seat.receipts ++ record { seat = seat.number; deed = deed } ∷ [] }
 
--- what these records tell of the seat is its receipts, in order
+-- the records of the seat are its receipts, in order
 abbrev pub IsKeptBy : List RecordData → SeatData → Type 0
 IsKeptBy records seat = calls_of seat.number records ≡ seat.receipts
 
@@ -25,7 +25,7 @@ abbrev pub receipts_of : List SeatData → ℕ
 receipts_of [] = 0
 receipts_of (seat ∷ seats) = length seat.receipts + receipts_of seats
 
--- how a proof tells two seats apart
+-- the coding of a seat, by which proofs tell two seats apart
 abbrev pub StoredSeat : Type 0
 StoredSeat = ℕ × (Subject × List trails.StoredRecord)
 

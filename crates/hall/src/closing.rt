@@ -1,4 +1,4 @@
-//! The end of a hall.
+//! Closing a hall.
 
 ghost use Rattle.std.specs.Prelude.{◌≡◌, ◌+◌, false, IfOk, IfErr, IfNone, IfSome, length, All};
 ghost use Rattle.hall.specs.Closing.{IsCause};
@@ -13,16 +13,16 @@ use std::alloc::Allocator;
 use std::sync::Wait;
 use std::sync::ledger::{Ledger, Share};
 
-/// What a hall was, once it is closed.
+/// The account of a closed hall.
 #[derive(Clone, Copy, Debug, PartialEq, Eq)]
 pub struct Closed {
-    /// How many records there are, those that were rolled out too.
+    /// How many records there are, with those that were rolled out.
     pub records: u64,
     /// How many seats were given.
     pub seats: usize,
 }
 
-/// The first of the seats whose receipts are not what the records tell of it.
+/// The first seat whose receipts are not its records, as C1; `None` if there is no such seat.
 fn mismatch<'h, L: Ledger + ListName, R: Wait + Drop, A: Allocator>(
     chronicle: &Chronicle<A>,
     seats: &Vec<Seat<'h, L, R, A>, A>,
@@ -39,7 +39,7 @@ fn mismatch<'h, L: Ledger + ListName, R: Wait + Drop, A: Allocator>(
     None
 }
 
-/// Takes in the share of a seat.
+/// Merges a seat's share into the spare one.
 fn take_in<'h, L: Ledger + ListName, R: Wait + Drop, A: Allocator>(
     spare: &mut Share<L>,
     seat: Seat<'h, L, R, A>,
@@ -57,7 +57,7 @@ fn take_in<'h, L: Ledger + ListName, R: Wait + Drop, A: Allocator>(
     spare.merge(share);
 }
 
-/// Takes in the shares of these seats.
+/// Merges the shares of these seats into the spare one.
 fn gather<'h, L: Ledger + ListName, R: Wait + Drop, A: Allocator>(
     spare: &mut Share<L>,
     seats: Vec<Seat<'h, L, R, A>, A>,
@@ -71,8 +71,9 @@ fn gather<'h, L: Ledger + ListName, R: Wait + Drop, A: Allocator>(
     }
 }
 
-/// Closes what the lock guards: takes the seats in, where all that were given are here, and each has as its receipts what the
-/// records tell of it.
+/// Closes what the lock guards, and takes the seats' shares back. C1 where the receipts of a seat
+/// are not its records; C2 where fewer or more seats are handed in than were given, or they were
+/// handed in before. A fault returns the seats.
 pub(crate) fn settle<'h, L: Ledger + ListName, R: Wait + Drop, A: Allocator>(
     guarded: &mut Guarded<L, R, A>,
     seats: Vec<Seat<'h, L, R, A>, A>,

@@ -1,4 +1,4 @@
-//! Change lists of a seat.
+//! Committing a list of a seat.
 
 ghost use Rattle.std.specs.Prelude.{◌≡◌, IfOk, OnErr};
 ghost use Rattle.hall.specs.Calls.{IsCommitted};
@@ -14,20 +14,20 @@ use std::sync::Wait;
 use std::sync::ledger::Ledger;
 use transactions::{Advance, Fault, Outcome, TreeFault};
 
-/// How often a list is tried that a search holds back.
+/// The most tries of a list that searches hold back.
 pub const TRY_LIMIT: u32 = 64;
 
-/// How far the placing of a list is.
+/// The result of one step of placing a list.
 enum Placing {
     /// A walk has made a step.
     Walking,
     /// All shapes are placed.
     AllPlaced,
-    /// A search held the list back; the transaction is given up.
+    /// A search held the list back; the transaction is aborted.
     Held,
 }
 
-/// Gives a transaction up, where it is still open.
+/// Aborts a transaction, if it is still open.
 fn give_up<L: Ledger + ListName, R: Wait + Drop, A: Allocator, W: Wait>(
     rt: &W,
     hall: &Hall<L, R, A>,
@@ -37,7 +37,7 @@ fn give_up<L: Ledger + ListName, R: Wait + Drop, A: Allocator, W: Wait>(
     hall.lock.lock(rt).abort(seat, number);
 }
 
-/// Stages each of the changes. The gate is called before each of them, without the lock.
+/// Stages each of the changes. Calls the gate before each of them, without the lock.
 fn stage_all<L: Ledger + ListName, R: Wait + Drop, A: Allocator, W: Wait, G: Gate>(
     rt: &W,
     hall: &Hall<L, R, A>,
@@ -54,8 +54,9 @@ fn stage_all<L: Ledger + ListName, R: Wait + Drop, A: Allocator, W: Wait, G: Gat
     Ok(())
 }
 
-/// Makes a step of a walk. Where a search holds the list back, waits in the same critical section, so that no search's end is
-/// missed, until a search ends, and gives the transaction up.
+/// Makes a step of a walk. If a search holds the list back, waits until a search ends, and then
+/// aborts the transaction. The wait begins in the same critical section, so it misses no search's
+/// end.
 fn place_one<L: Ledger + ListName, R: Wait + Drop, A: Allocator + Copy, W: Wait>(
     rt: &W,
     hall: &Hall<L, R, A>,
@@ -75,8 +76,8 @@ fn place_one<L: Ledger + ListName, R: Wait + Drop, A: Allocator + Copy, W: Wait>
     }
 }
 
-/// Places what the list brings, step by step, and answers whether all is placed: where a search held it back, the transaction
-/// is given up. The gate is called before each step, without the lock.
+/// Places what the list brings, step by step. Returns whether all is placed; if not, a search held
+/// it back, and the transaction is aborted. Calls the gate before each step, without the lock.
 fn place_all<L: Ledger + ListName, R: Wait + Drop, A: Allocator + Copy, W: Wait, G: Gate>(
     rt: &W,
     hall: &Hall<L, R, A>,
@@ -95,7 +96,8 @@ fn place_all<L: Ledger + ListName, R: Wait + Drop, A: Allocator + Copy, W: Wait,
     unreachable!()
 }
 
-/// Begins a transaction, and stages and places the list in it. None where a search held it back.
+/// Begins a transaction, and stages and places the list in it. `None` where a search held the list
+/// back. The transaction is aborted then, and after a fault.
 fn try_once<L: Ledger + ListName, R: Wait + Drop, A: Allocator + Copy, W: Wait, G: Gate>(
     rt: &W,
     hall: &Hall<L, R, A>,
@@ -119,7 +121,8 @@ fn try_once<L: Ledger + ListName, R: Wait + Drop, A: Allocator + Copy, W: Wait, 
     }
 }
 
-/// The transaction in which the list is placed, after `TRY_LIMIT` tries at most. H4 where searches held each of them back.
+/// The transaction in which the list is placed, after at most `TRY_LIMIT` tries. H4 where searches
+/// held back each of them.
 fn placed<L: Ledger + ListName, R: Wait + Drop, A: Allocator + Copy, W: Wait, G: Gate>(
     rt: &W,
     hall: &Hall<L, R, A>,
@@ -137,10 +140,12 @@ fn placed<L: Ledger + ListName, R: Wait + Drop, A: Allocator + Copy, W: Wait, G:
 }
 
 impl<'h, L: Ledger + ListName, R: Wait + Drop, A: Allocator + Copy> Seat<'h, L, R, A> {
-    /// Commits a list of changes, all or none of it. A list that a search holds back waits until a search ends and is tried anew,
-    /// `TRY_LIMIT` times at most: then H4. H6 where there is no room for the receipt; H5 with X15 where 64 transactions are open,
-    /// X5 and X6 as the list cannot be staged, S4 to S7 where the index does not place a shape, X10 where the trail is full, X8
-    /// where a number is at its end, X11 where more features would stand than may, X12 where a growth is refused.
+    /// Commits a list of changes, all or none. A list that a search holds back waits until a search
+    /// ends, and is then tried again; H4 after `TRY_LIMIT` tries. H6 where there is no memory for
+    /// the receipt's place. H5 with X15 where 64 transactions are open, X5 or X6 where the list
+    /// cannot be staged, S4 to S7 where the index does not place a shape, X10 where the trail is
+    /// full, X8 where a number is at its end, X11 where there would be more features than the
+    /// limit, X12 where an allocation is refused. A fault leaves the seat unchanged.
     pub fn commit<W: Wait, G: Gate>(
         &mut self,
         rt: &W,

@@ -7,7 +7,8 @@ use published_policies::NoMemory;
 use std::fmt;
 use transactions::Fault;
 
-/// Why a hall refuses a call. What it refuses leaves no record, and nothing of the call is under way afterwards.
+/// Why a hall refuses a call. A refused call leaves no record, no open search and no open
+/// transaction.
 #[derive(Debug, Drop, PartialEq, Eq)]
 pub enum HallFault {
     /// H1: no subject has that name.
@@ -16,11 +17,11 @@ pub enum HallFault {
     NoPlace,
     /// H3: the hall is closed.
     Closed,
-    /// H4: searches held the list back, as often as it is tried.
+    /// H4: searches held the list back at each of its tries.
     Held,
-    /// H5: the world refuses an event of the call. It is shown as the world's code.
+    /// H5: the world refuses an event of the call. The code shown is the world's.
     Core(Fault),
-    /// H6: a growth was refused before any event of the call.
+    /// H6: an allocation was refused before any event of the call.
     Memory(Refused),
     /// H7: a view has no policy to read.
     NotRead,
@@ -29,7 +30,7 @@ pub enum HallFault {
 impl HallFault {
     ghost use Rattle.hall.specs.FaultCodes.{hall_code};
 
-    /// The code by which users know the fault; of a refusal of the world, the world's own.
+    /// The code by which users know the fault; for a refusal of the world, the world's own.
     pub fn code(&self) -> &'static str
         ensures { result.now ≡ hall_code self.now }
     {
@@ -85,11 +86,11 @@ impl From<Fault> for HallFault {
 /// Why a hall is not opened.
 #[derive(Debug, Drop, PartialEq, Eq)]
 pub enum OpenFault {
-    /// H2: more views are asked for than there may be.
+    /// H2: more than `VIEW_LIMIT` views are asked for.
     NoPlace,
-    /// H5: the world is not opened. It is shown as the world's code.
+    /// H5: the world is not opened. The code shown is the world's.
     Core(Fault),
-    /// H6: a growth was refused.
+    /// H6: an allocation was refused.
     Memory(Refused),
     /// H6: there is no memory for the policies that views read.
     Policies(NoMemory),
@@ -98,7 +99,7 @@ pub enum OpenFault {
 impl OpenFault {
     ghost use Rattle.hall.specs.FaultCodes.{open_code};
 
-    /// The code by which users know the fault; of a refusal of the world, the world's own.
+    /// The code by which users know the fault; for a refusal of the world, the world's own.
     pub fn code(&self) -> &'static str
         ensures { result.now ≡ open_code self.now }
     {
@@ -146,9 +147,10 @@ impl From<NoMemory> for OpenFault {
 /// Why a hall does not close.
 #[derive(Clone, Copy, Debug, PartialEq, Eq)]
 pub enum CloseFault {
-    /// C1: the receipts of the seat of this number and its records differ first at this place, counted from 0.
+    /// C1: the receipts and the records of the seat of this number first differ at this place,
+    /// counted from 0.
     Mismatch(u32, usize),
-    /// C2: a seat that was given is not among those that are handed in.
+    /// C2: fewer or more seats are handed in than were given, or they were handed in before.
     SeatOut,
 }
 

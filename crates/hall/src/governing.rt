@@ -1,4 +1,4 @@
-//! Policies put in force by a seat, and the trail taken out.
+//! Policies that a seat puts in force, and rolls of the trail.
 
 ghost use Rattle.std.specs.Prelude.{◌≡◌, IfOk, OnErr};
 ghost use Rattle.hall.specs.Calls.{IsGoverned};
@@ -14,9 +14,11 @@ use std::sync::{Arc, Wait};
 use transactions::Rolled;
 
 impl<'h, L: Ledger + ListName, R: Wait + Drop, A: Allocator + Copy> Seat<'h, L, R, A> {
-    /// Puts a document in force, and answers its edition, of which a view may be told. H6 where there is no room for the receipt; H5 with X7 where the seat's
-    /// subject is no steward, X8 where the edition is at its end, X10 where the trail is full; then H6 where there is no memory
-    /// for what decides by the document, and H5 with X12 where there is none for the event.
+    /// Puts a document in force, and returns its edition, which a view may be told. H6 where there
+    /// is no memory for the receipt's place; H5 with X7 where the seat's subject is no steward, X8
+    /// where the edition is at its end, X10 where the trail is full; then H6 where there is no
+    /// memory for the decider, and H5 with X12 where there is none for the event. A fault leaves
+    /// the seat unchanged.
     pub fn govern<W: Wait>(
         &mut self,
         rt: &W,
@@ -36,8 +38,9 @@ impl<'h, L: Ledger + ListName, R: Wait + Drop, A: Allocator + Copy> Seat<'h, L, 
         Ok(edition)
     }
 
-    /// Takes the trail out: the records since the last roll, with their lines. The hall keeps them too. H5 with X7 where the seat's
-    /// subject is no steward, X8 where the numbers of the records are at their end, X12 where a growth is refused.
+    /// Takes the trail out: the records since the last roll, with their lines. The hall keeps the
+    /// records too. H5 with X7 where the seat's subject is no steward, X8 where the numbers of the
+    /// records are at their end, X12 where an allocation is refused.
     pub fn roll<W: Wait>(&mut self, rt: &W) -> Result<Arc<Rolled<A>, A>, HallFault>
         ensures { self.new ≡ self.old }
     {

@@ -25,11 +25,12 @@ use std::sync::ledger::{Blank, Book, Ledger, Share};
 use std::sync::{Arc, Wait};
 use transactions::{Advance, Answer, Fault, Outcome, Rolled};
 
-/// Into how many parts the ledger of a hall is cut: one for each seat that may be given, and one that stays.
+/// The parts of a hall's ledger: one for each seat that may be given, and one that stays.
 pub const LEDGER_PARTS: u64 = 1_025;
 
-/// What the lock guards: the world with all its records, the policies that were put in force, as views read them, and how many
-/// records there are, of which each seat has its share. Whenever the lock is got, the facts below hold, and those of a chronicle.
+/// What the lock guards: the world with all its records, the published policies that views read,
+/// and the number of records in a ledger, in which each seat has its share. Whoever gets the lock
+/// knows the facts below, and those of a chronicle.
 #[derive(Drop)]
 pub(crate) struct Guarded<L: Ledger + ListName, R: Wait + Drop, A: Allocator> {
     pub(crate) chronicle: Chronicle<A>,
@@ -38,11 +39,11 @@ pub(crate) struct Guarded<L: Ledger + ListName, R: Wait + Drop, A: Allocator> {
     pub(crate) views_left: usize,
     /// How many records there are.
     pub(crate) book: Book<L>,
-    /// The parts of the seats that are not given yet.
+    /// The parts for the seats that are not given yet.
     pub(crate) spare: Share<L>,
-    /// No seat is given any more, and nothing is tended.
+    /// No seat and no view is given any more, and nothing is tended.
     pub(crate) closed: bool,
-    /// Seats were given, and all of them are handed in.
+    /// Seats were given, and all of them were handed in.
     pub(crate) gathered: bool,
     pub(crate) upkeep: Upkeep,
     pub ghost ends: { closed ≡ false → gathered ≡ false },
@@ -54,8 +55,8 @@ pub(crate) struct Guarded<L: Ledger + ListName, R: Wait + Drop, A: Allocator> {
     pub ghost in_force: { last_or None publisher ≡ Some chronicle.decider } by { decider_set (last_or None publisher) (Some chronicle.decider) },
 }
 
-/// Counts the record that was just written in a seat's share, and answers another owner of it. Only its number of owners can
-/// refuse one more, and then it is tried again.
+/// Counts the last record, which was just written, in a seat's share, and returns another owner of
+/// it.
 fn receipt<L: Ledger, W: Wait, A: Allocator>(
     rt: &W,
     chronicle: &Chronicle<A>,
@@ -72,7 +73,8 @@ fn receipt<L: Ledger, W: Wait, A: Allocator>(
     last_record(rt, chronicle)
 }
 
-/// Another owner of the last record.
+/// Another owner of the last record. Only the number of its owners can refuse one more, and then it
+/// is tried again.
 fn last_record<W: Wait, A: Allocator>(rt: &W, chronicle: &Chronicle<A>) -> Arc<Record<A>, A>
     ensures { last_or None chronicle.now.records ≡ Some (arc_value result) }
 {
@@ -88,7 +90,7 @@ fn last_record<W: Wait, A: Allocator>(rt: &W, chronicle: &Chronicle<A>) -> Arc<R
     unreachable!()
 }
 
-/// That a seat is this subject's. X1 where it is not.
+/// X1 unless the seat is this subject's.
 fn is_seat_of<A: Allocator>(
     chronicle: &Chronicle<A>,
     seat: u32,
@@ -104,8 +106,8 @@ fn is_seat_of<A: Allocator>(
     }
 }
 
-/// The decider of a document, for the edition under which the seat may put it in force next. X1, X7, X8, X10 as the world
-/// refuses that; H6 where a growth is refused.
+/// The decider of a document, for the next edition, if the seat may put it in force. X1, X7, X8 or
+/// X10 as the world refuses that; H6 where an allocation is refused.
 fn next_decider<A: Allocator>(
     chronicle: &Chronicle<A>,
     heap: Global,
@@ -126,7 +128,8 @@ fn next_decider<A: Allocator>(
 }
 
 impl<L: Ledger + ListName, R: Wait + Drop, A: Allocator> Guarded<L, R, A> {
-    /// A chronicle that was opened just now, whose first policy is published, under a new ledger. So many views may be given.
+    /// A new chronicle whose first policy is published, with a new ledger, and this many views to
+    /// give.
     pub(crate) fn new(
         chronicle: Chronicle<A>,
         publisher: Publisher<L, R>,
@@ -154,8 +157,9 @@ impl<L: Ledger + ListName, R: Wait + Drop, A: Allocator> Guarded<L, R, A> {
         }
     }
 
-    /// Gives a seat, with the subject of the name and a part of the ledger. H3 where the hall is closed, H1 where there is
-    /// no such subject, H2 where all seats are given, H5 where a growth is refused.
+    /// Gives a seat: its number, the subject of this name, and a part of the ledger. H3 where the
+    /// hall is closed, H1 where there is no such subject, H2 where all seats are given, H5 where an
+    /// allocation is refused.
     pub(crate) fn seat(&mut self, name: Name) -> Result<(u32, Subject, Share<L>), HallFault>
         ensures share { IfOk result (λ given. (given.2.parts ≡ 1) × (given.2.amount ≡ 0)) }
         ensures named { IfOk result (λ given. given.1.name ≡ name) }
@@ -201,19 +205,20 @@ impl<L: Ledger + ListName, R: Wait + Drop, A: Allocator> Guarded<L, R, A> {
         Ok(view)
     }
 
-    /// Gives a search up, where it still runs.
+    /// Drops a search, if it is still open.
     pub(crate) fn drop_search(&mut self, seat: u32, number: u64) {
         let _ = self.chronicle.drop_search(seat, number);
         self.upkeep.search_ended();
     }
 
-    /// Gives a transaction up, where it is still open.
+    /// Aborts a transaction, if it is still open.
     pub(crate) fn abort(&mut self, seat: u32, number: u64) {
         let _ = self.chronicle.abort(seat, number);
         self.upkeep.changed();
     }
 
-    /// How many slots a round of tending has, if one is due: none where nothing has changed. H3 where the hall is closed.
+    /// How many slots a round of tending has, if one is due; 0 if none is. H3 where the hall is
+    /// closed.
     pub(crate) fn begin_round(&mut self) -> Result<u32, HallFault> {
         if self.closed {
             Err(HallFault::Closed)
@@ -236,13 +241,14 @@ impl<L: Ledger + ListName, R: Wait + Drop, A: Allocator> Guarded<L, R, A> {
 }
 
 impl<L: Ledger + ListName, R: Wait + Drop, A: Allocator + Copy> Guarded<L, R, A> {
-    /// Makes a step of a walk of a transaction.
+    /// Makes a step of a transaction's walk.
     pub(crate) fn advance(&mut self, seat: u32, number: u64) -> Result<Advance, Fault> {
         self.upkeep.changed();
         self.chronicle.advance(seat, number)
     }
 
-    /// Finishes a search of a seat of this subject for a window. The record is counted in the seat's share.
+    /// Finishes a search of a seat of this subject for a window. The record is counted in the
+    /// seat's share.
     pub(crate) fn finish<W: Wait>(
         &mut self,
         rt: &W,
@@ -300,9 +306,10 @@ impl<L: Ledger + ListName, R: Wait + Drop, A: Allocator + Copy> Guarded<L, R, A>
         Ok((outcome, receipt(rt, chronicle, book, share)))
     }
 
-    /// Puts a document in force for a seat, publishes it, and answers the list that ends with it. The record is counted in the
-    /// seat's share. X1, X7, X8, X10 as the world refuses the event; then H6 where there is no memory for the decider, and X12
-    /// where there is none for the event. Nothing is published where it is refused.
+    /// Puts a document in force for a seat, publishes it, and returns the list that ends with it.
+    /// The record is counted in the seat's share. X1, X7, X8 or X10 as the world refuses the event;
+    /// then H6 where there is no memory for the decider, and X12 where there is none for the event.
+    /// After a fault nothing is published.
     pub(crate) fn govern<W: Wait>(
         &mut self,
         rt: &W,
@@ -331,7 +338,7 @@ impl<L: Ledger + ListName, R: Wait + Drop, A: Allocator + Copy> Guarded<L, R, A>
         Ok((edition, receipt(rt, chronicle, book, share)))
     }
 
-    /// Takes the present trail out, and answers it. All its records stay in the chronicle.
+    /// Takes the present trail out, and returns it. All its records stay in the chronicle.
     pub(crate) fn roll<W: Wait>(
         &mut self,
         rt: &W,

@@ -1,4 +1,4 @@
-//! The hall.
+//! The hall, and how it is opened, used and closed.
 
 ghost use Rattle.std.specs.Prelude.{◌≡◌, [], ◌∷◌, ◌≤◌, IfOk, IfErr, OnOk, length};
 ghost use Rattle.hall.specs.Closing.{IsClosed};
@@ -17,11 +17,12 @@ use std::alloc::{Allocator, Global};
 use std::sync::ledger::{Blank, Ledger};
 use std::sync::{Condvar, Mutex, Wait};
 
-/// How many views a hall gives at most.
+/// The most views that a hall gives.
 pub const VIEW_LIMIT: usize = 64;
 
-/// What a hall's proofs name it by: a new ledger and a list of policies without a policy. It is made before the function that
-/// opens, uses and closes the hall is called, so that the type parameter `L` of that function can stand for it.
+/// What proofs name a hall by: a new ledger, and a list of policies that has no policy yet. It is
+/// made before the function that opens, uses and closes the hall is called, so that this function's
+/// type parameter `L` can stand for it.
 #[derive(Drop)]
 pub struct Unnamed {
     pub ledger: Blank,
@@ -29,7 +30,7 @@ pub struct Unnamed {
 }
 
 impl Unnamed {
-    /// A new ledger, of as many parts as a hall needs, and a new list.
+    /// A new ledger, with the parts that a hall needs, and a new list.
     pub fn new() -> Self
         ensures { result.ledger.parts ≡ 1025 }
     {
@@ -40,7 +41,7 @@ impl Unnamed {
     }
 }
 
-/// Publishes the policy with which a chronicle was opened, for views.
+/// Publishes the policy with which a chronicle was opened, for this many views.
 fn publish_first<L: ListName, R: Wait + Drop, A: Allocator>(
     rt: R,
     heap: Global,
@@ -54,27 +55,28 @@ fn publish_first<L: ListName, R: Wait + Drop, A: Allocator>(
     ensures { IfOk result (λ publisher. publisher ≡ chronicle.now.decider ∷ []) }
 {
     let first = another(chronicle.decider())?;
-    // A pair of copies has a reader at least; that of a hall for no views is never given out.
+    // A pair of copies needs a reader; a hall for no views has one that it never gives out.
     let readers = if views == 0 { 1 } else { views };
     Ok(Publisher::open(rt, heap, list, first, readers)?)
 }
 
-/// One world that many threads share. Each event of it is one critical section of one lock; whoever has a seat calls the world
-/// through it.
+/// One world that many threads share. Each event is one critical section of its one lock. Calls of
+/// the world are made through a seat.
 #[derive(Drop)]
 pub struct Hall<L: Ledger + ListName, R: Wait + Drop, A: Allocator> {
     pub(crate) lock: Mutex<Guarded<L, R, A>>,
-    /// A search has ended, so a list that it held back may be tried anew.
+    /// Notified when a search has ended: a list that it held back may be tried again.
     pub(crate) search_ended: Condvar,
     pub(crate) alloc: A,
     pub(crate) heap: Global,
 }
 
 impl<L: Ledger + ListName, R: Wait + Drop, A: Allocator + Copy> Hall<L, R, A> {
-    /// A hall with no features and no seats, by a document of the first edition, for so many views. `rt` is the hall's own handle,
-    /// by which it publishes policies; `alloc` keeps features, records and receipts, `heap` documents, the lines of a trail and
-    /// what views read. H2 where more than `VIEW_LIMIT` views are asked for; H6, or the world's X12, where a growth is refused.
-    /// Then the document is handed back.
+    /// A hall with no features and no seats, with this document as its first edition, for this many
+    /// views. `rt` is the hall's own handle, with which it publishes policies. `alloc` keeps
+    /// features, records and receipts; `heap` keeps documents, the lines of a trail and what views
+    /// read. H2 where more than `VIEW_LIMIT` views are asked for; H6, or the world's X12, where an
+    /// allocation is refused. A fault returns the document.
     pub fn open(
         rt: R,
         alloc: A,
@@ -93,7 +95,7 @@ impl<L: Ledger + ListName, R: Wait + Drop, A: Allocator + Copy> Hall<L, R, A> {
             return Err((document, OpenFault::NoPlace));
         }
         let Unnamed { ledger, list } = unnamed;
-        // The copy is handed back where the world has the document already.
+        // A fault returns this copy where the world has the document already.
         let copy = match document.copy(heap) {
             Ok(copy) => copy,
             Err(refused) => return Err((document, OpenFault::Memory(refused))),
@@ -114,8 +116,8 @@ impl<L: Ledger + ListName, R: Wait + Drop, A: Allocator + Copy> Hall<L, R, A> {
         })
     }
 
-    /// Gives a seat to the subject of a name. H3 where the hall is closed, H1 where there is no such subject, H2 where all seats
-    /// are given, H5 where a growth is refused.
+    /// Gives a seat to the subject of a name. H3 where the hall is closed, H1 where there is no
+    /// such subject, H2 where all seats are given, H5 where an allocation is refused.
     pub fn seat<'h, W: Wait>(&'h self, rt: &W, name: Name) -> Result<Seat<'h, L, R, A>, HallFault>
         ensures named { IfOk result (λ seat. seat.subject.name ≡ name) }
         ensures receipts { IfOk result (λ seat. seat.receipts ≡ []) }
@@ -130,15 +132,17 @@ impl<L: Ledger + ListName, R: Wait + Drop, A: Allocator + Copy> Hall<L, R, A> {
         })
     }
 
-    /// A view of the policies, which asks how they rule without the lock and without waiting. H3 where the hall is closed, H2 where
-    /// all views are given: a view is given once, also where it is let go.
+    /// A view of the policies, which asks how they rule without the lock and without waiting. H3
+    /// where the hall is closed, H2 where all views are given; a view that was dropped is not given
+    /// again.
     pub fn view<W: Wait>(&self, rt: &W) -> Result<View<L>, HallFault> {
         self.lock.lock(rt).view()
     }
 
-    /// Tends each slot of the index once, each in a critical section of its own: lets go of what stands there and is no longer
-    /// needed. Where nothing has changed since the last round found nothing to do, there is no round. H3 where the hall is closed,
-    /// H5 where the index's counter is at its end (S6). It takes no memory.
+    /// Tends each slot of the index once, each in a critical section of its own: removes what is
+    /// there and no longer needed. There is no round if nothing has changed since one that found
+    /// nothing to do. H3 where the hall is closed, H5 where the index's counter is at its end (S6).
+    /// Takes no memory.
     pub fn tend_round<W: Wait>(&self, rt: &W) -> Result<(), HallFault> {
         let slots = self.lock.lock(rt).begin_round()?;
         for slot in 0..slots {
@@ -147,8 +151,9 @@ impl<L: Ledger + ListName, R: Wait + Drop, A: Allocator + Copy> Hall<L, R, A> {
         Ok(())
     }
 
-    /// Closes the hall, where all seats that were given are handed in, and each has as its receipts just what the records tell of
-    /// it. C1 where they differ, C2 where a seat is missing; then the seats come back. It takes no memory.
+    /// Closes the hall, if all seats that were given are handed in and the receipts of each are
+    /// just its records. C1 where these differ; C2 where fewer or more seats are handed in than
+    /// were given, or they were handed in before. A fault returns the seats. Takes no memory.
     pub fn close<'h, W: Wait>(
         &'h self,
         rt: &W,

@@ -1,5 +1,5 @@
-//! The hall: one world that many threads share under one lock, with a seat for each session, a receipt for each call that the
-//! trail tells of, and views of the policies, which need no lock.
+//! The hall: one world that many threads share under one lock, with a seat for each session, a
+//! receipt for each call that is recorded, and views of the policies, which need no lock.
 #![tactic(auto)]
 
 mod closing;

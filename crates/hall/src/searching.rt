@@ -14,7 +14,7 @@ use std::sync::Wait;
 use std::sync::ledger::Ledger;
 use transactions::{Answer, Visit};
 
-/// Lets a search go on until it is ready, step by step. The gate is called before each step, without the lock.
+/// Visits a search until it is ready. Calls the gate before each visit, without the lock.
 fn visit_all<L: Ledger + ListName, R: Wait + Drop, A: Allocator + Copy, W: Wait, G: Gate>(
     rt: &W,
     hall: &Hall<L, R, A>,
@@ -33,7 +33,7 @@ fn visit_all<L: Ledger + ListName, R: Wait + Drop, A: Allocator + Copy, W: Wait,
     unreachable!()
 }
 
-/// Gives a search up, where it still runs, and wakes those whose lists it held back.
+/// Drops a search, if it is still open, and wakes the callers whose lists it held back.
 fn give_up<L: Ledger + ListName, R: Wait + Drop, A: Allocator, W: Wait>(
     rt: &W,
     hall: &Hall<L, R, A>,
@@ -45,9 +45,11 @@ fn give_up<L: Ledger + ListName, R: Wait + Drop, A: Allocator, W: Wait>(
 }
 
 impl<'h, L: Ledger + ListName, R: Wait + Drop, A: Allocator + Copy> Seat<'h, L, R, A> {
-    /// Searches a window: what meets it and the seat's subject may read, at the moment at which the search finishes. H6 where
-    /// there is no room for the receipt; H5 with S2 where 16 searches run, S6 where the numbers of searches are at their end, S7
-    /// where the index gives the search up, X10 where the trail is full, X12 where a growth is refused.
+    /// Searches a window: lists what meets it and the seat's subject may read, when the search
+    /// finishes. H6 where there is no memory for the receipt's place; H5 with S2 where 16 searches
+    /// are open, S6 where the numbers of searches are at their end, S7 where the search takes too
+    /// many steps, X10 where the trail is full, X12 where an allocation is refused. A fault leaves
+    /// the seat unchanged.
     pub fn search<W: Wait, G: Gate>(
         &mut self,
         rt: &W,

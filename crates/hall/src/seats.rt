@@ -1,4 +1,4 @@
-//! Seats, and what happens between two events of a call.
+//! Seats, and gates between two events of a call.
 
 ghost use Rattle.std.specs.Prelude.{◌≡◌, map};
 ghost use Rattle.std.specs.Arc.{arc_value};
@@ -12,9 +12,9 @@ use std::marker::Model;
 use std::sync::ledger::{Ledger, Share};
 use std::sync::{Arc, Wait};
 
-/// What is done between two events of a call, while the lock is free.
+/// What a caller does between two events of a call, while the lock is free.
 pub trait Gate {
-    /// Is called between two events of a call, without the lock.
+    /// Called between two events of a call, without the lock.
     fn between(&mut self);
 }
 
@@ -26,8 +26,8 @@ impl Gate for NoGate {
     fn between(&mut self) {}
 }
 
-/// A seat of a hall, for one session. It keeps a receipt for each of its calls that the trail tells of: the record itself, of
-/// which it is another owner. A contract sees its number, its subject and its receipts.
+/// A seat of a hall, for one session. It keeps a receipt for each of its calls that is recorded:
+/// another owner of the record itself. Contracts see its number, its subject and its receipts.
 #[derive(Drop)]
 pub struct Seat<'h, L: Ledger + ListName, R: Wait + Drop, A: Allocator> {
     pub(crate) hall: &'h Hall<L, R, A>,
@@ -49,7 +49,7 @@ impl<'h, L: Ledger + ListName, R: Wait + Drop, A: Allocator> Model for Seat<'h, 
 
     ghost view = { λ s. record { number = s.number; subject = s.subject; receipts = map arc_value s.receipts.items } };
 
-    // one part of the ledger stands behind a seat, with as much in its share as it has receipts
+    // a seat has one part of the ledger, with as much in its share as it has receipts
     ghost invariant = { λ s. (s.share.parts ≡ 1) × (s.share.amount ≡ length s.receipts.items) };
 }
 
@@ -61,7 +61,7 @@ impl<'h, L: Ledger + ListName, R: Wait + Drop, A: Allocator> Seat<'h, L, R, A> {
         self.number
     }
 
-    /// Whose the seat is.
+    /// The subject for whom the seat was given.
     pub fn subject(&self) -> Subject
         ensures { result ≡ self.now.subject }
     {

@@ -2,18 +2,18 @@
 
 use transactions::Tending;
 
-/// Whether a round of tending may find something to do. Only work is saved by it: tending too seldom or too often serves
-/// nobody wrongly.
+/// Whether a round of tending may find something to do. This only saves work: tending too seldom or
+/// too often makes no answer wrong.
 #[derive(Clone, Copy, Debug)]
 pub(crate) struct Upkeep {
     /// The index has changed since the last round began, or that round found something to do.
     due: bool,
-    /// How many nodes are retired and wait for the end of a search to be let go.
+    /// How many retired nodes wait to be freed at the end of a search.
     waiting: u32,
 }
 
 impl Upkeep {
-    /// Nothing is to be done.
+    /// Nothing is due.
     pub(crate) fn new() -> Self {
         Upkeep {
             due: false,
@@ -21,26 +21,26 @@ impl Upkeep {
         }
     }
 
-    /// The index has changed.
+    /// Notes that the index has changed.
     pub(crate) fn changed(&mut self) {
         self.due = true;
     }
 
-    /// A search has ended, and what waits for that may be let go.
+    /// Notes that a search has ended: what waits for that may be freed.
     pub(crate) fn search_ended(&mut self) {
         if self.waiting > 0 {
             self.due = true;
         }
     }
 
-    /// Whether a round is due. It then begins.
+    /// Begins a round if one is due, and returns whether it is.
     pub(crate) fn begin_round(&mut self) -> bool {
         let due = self.due;
         self.due = false;
         due
     }
 
-    /// A slot was tended.
+    /// Notes what tending a slot has done.
     pub(crate) fn tended(&mut self, tending: Tending) {
         match tending {
             Tending::Idle => {}

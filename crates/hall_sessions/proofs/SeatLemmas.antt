@@ -1,4 +1,4 @@
--- Calls of a session's seat, which stands at its place among the worker's seats.
+-- Calls of a session's seat, at its place among the worker's seats.
 use Rattle.std.proofs.Common.{◌≡◌, ℕ, ◌<◌, List, length, slice_get, slice_set, slice_index_or, Option, None, Some, MatchOption, MatchResult, Result, Ok, Err, refl, sym, ap, subst, ◌∙◌}
 use Rattle.std.proofs.lemmas.Option.{slice_get_read}
 use Rattle.std.proofs.lemmas.List.{set-get_or}
@@ -15,11 +15,11 @@ use Rattle.hall_sessions.specs.Replies.{told}
 use Rattle.hall_sessions.specs.Services.{Calls, CallsSeat, OnlySays, PutsInForce, SeatChanges}
 use Rattle.hall_sessions.specs.Sessions.{SessionData, session, seat_of}
 
--- a seat that is written back as it was changes nothing
+-- a seat that is written back unchanged changes nothing
 pub written_back : (seats : List SeatData) (place : ℕ) (seat next : SeatData) → seat ≡ slice_index_or seats place seat → next ≡ seat → slice_set seats place next ≡ seats
 written_back seats place seat next is same = ap (λ (s : SeatData). slice_set seats place s) (same ∙ is) ∙ set-get_or seats place seat
 
--- the session's seat stands at its place
+-- the session's seat is at its place
 pub stands : (seats : List SeatData) (len place : ℕ) (seat : SeatData) (view : List DeciderData) → len ≡ length seats → place < len
     → seat ≡ slice_index_or seats place seat → seat_of (session place seats view) ≡ Some seat
 stands seats len place seat view counted within is = slice_get_read seats len place seat counted within is
@@ -42,7 +42,7 @@ module _ {T : Type 0} (show : T → SaidData) (Changes : T → SeatData → Seat
   leaves (Ok value) seats place seat next view is changes = (next, changes, refl)
   leaves (Err fault) seats place seat next view is same = ap (λ (s : List SeatData). session place s view) (written_back seats place seat next is same)
 
-  -- the same, where nothing but the seat changes
+  -- the same, where only the seat changes
   pub seat_called : (end : Result T HallFault) (said : SaidData) (seats : List SeatData) (len place : ℕ) (seat next : SeatData) (view : List DeciderData)
       → len ≡ length seats → place < len → seat ≡ slice_index_or seats place seat → said ≡ told show end
       → MatchResult end (λ value. Changes value seat next) (λ fault. next ≡ seat)

@@ -22,26 +22,28 @@ use Rattle.session_lines.specs.Services.{Call, Hello, Search, Commit, Govern, Ex
 use Rattle.hall_sessions.specs.Replies.{told}
 use Rattle.hall_sessions.specs.Sessions.{SessionData, session, unbegun, seat_of, with_seat}
 
--- nothing changes, and this is said
+-- nothing changes, and this is the reply
 abbrev pub OnlySays : Reply → SessionData → SessionData → SaidData → Type 0
 OnlySays reply old new said = (new ≡ old) × (said ≡ line reply)
 
--- the session's seat changes so, and no other seat does
+-- the session's seat changes by `Changes`, and no other seat does
 abbrev pub SeatChanges : (SeatData → SeatData → Type 0) → SeatData → SessionData → SessionData → Type 0
 SeatChanges Changes seat old new = (next : SeatData) × Changes seat next × (new ≡ with_seat next old)
 
--- A call of the session's seat: what it answers is said, and the session changes as this answer has it. A call that the hall refuses
--- changes nothing. Before HELLO no line of a session leads here, since it is refused before.
+-- A call of the session's seat: the reply says its result, and the session changes by `Changes` for
+-- this result. A call that the hall refuses changes nothing. No line leads here before HELLO, since
+-- E5 comes before the call.
 abbrev pub Calls : {T : Type 0} → (T → SaidData) → (T → SeatData → SessionData → SessionData → Type 0) → SessionData → SessionData → SaidData → Type 0
 Calls {T = T} show Changes old new said =
     MatchOption (seat_of old) (OnlySays (Error BeforeHello) old new said)
     (λ seat. (end : Result T HallFault) × (said ≡ told show end) × MatchResult end (λ value. Changes value seat old new) (λ fault. new ≡ old))
 
--- the same, where nothing but the seat changes
+-- the same, where only the seat changes
 abbrev pub CallsSeat : {T : Type 0} → (T → SaidData) → (T → SeatData → SeatData → Type 0) → SessionData → SessionData → SaidData → Type 0
 CallsSeat show Changes = Calls show (λ value. SeatChanges (Changes value))
 
--- the seat has put a document in force, with which this list ends, and the view was told of the list
+-- the seat has put a document in force, with which this list ends, and the view was told of the
+-- list
 pub record PutsInForce (document : DocumentData) (list : List DeciderData) (seat : SeatData) (old new : SessionData) : Type 0 where
   pub next : SeatData
   pub governed : IsGoverned document list seat next
@@ -49,7 +51,8 @@ pub record PutsInForce (document : DocumentData) (list : List DeciderData) (seat
   pub told : IsPrefix list new.view
   pub only : new ≡ record (with_seat next old) { view = new.view }
 
--- The view has read the published list at least as far as it knew it, and the last decider that it has read has ruled so.
+-- The view has read the published list at least as far as it knew it before, and the reply is the
+-- ruling of the last decider that it has read.
 pub record Explains (question : Question) (old new : SessionData) (said : SaidData) : Type 0 where
   pub before : IsPrefix old.view new.view
   pub published : IsPublished new.view
@@ -60,7 +63,8 @@ pub record Explains (question : Question) (old new : SessionData) (said : SaidDa
   pub reply : said ≡ line (ruling_reply decider ruling)
   pub only : new ≡ record old { view = new.view }
 
--- a session begins where the subject of its name is given a seat, which has no receipts yet, behind those of the worker's earlier sessions
+-- a session begins where the subject of its name is given a seat: it has no receipts yet, and is
+-- appended to the seats of the worker's earlier sessions
 abbrev pub Begins : List ℕ → SessionData → SessionData → SaidData → Type 0
 Begins name old new said =
     (end : Result SeatData HallFault) × (said ≡ told (λ seat. line (Greets name)) end)
@@ -68,9 +72,9 @@ Begins name old new said =
     (λ seat. (seat.subject.name ≡ name) × (seat.receipts ≡ []) × (new ≡ session (length old.seats) (old.seats ++ seat ∷ []) old.view))
     (λ fault. new ≡ old)
 
--- What a call makes of a session and what is said. A search, a commit and a govern that succeed leave one receipt more, and what
--- is said is what the receipt tells; the trail taken out leaves none. A question is ruled by the last policy that the view reads,
--- or there is none to read; it changes no seat.
+-- What a call makes of a session, and what is said. A search, a commit or a document that succeeds
+-- adds one receipt, and the reply says what the receipt records; a roll adds none. A question is
+-- ruled by the last policy that the view reads, or there is none to read; it changes no seat.
 abbrev pub Serves : Call → SessionData → SessionData → SaidData → Type 0
 Serves (Hello name) old new said = Begins name old new said
 Serves (Search window) old new said = CallsSeat rows (λ answer. IsSearched window answer) old new said

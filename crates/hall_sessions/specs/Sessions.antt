@@ -4,8 +4,8 @@ use Rattle.features.specs.declared.actors.Subject.{Subject}
 use Rattle.decision.specs.Deciders.{DeciderData}
 use Rattle.hall.specs.Seats.{SeatData}
 
--- the seats of the worker that serves the session, how many of them stand before the session's own, and the published list of
--- policies as far as the worker's view knows it
+-- the seats of the worker that serves the session, how many of them are before the session's own,
+-- and the published list of policies as far as the worker's view knows it
 pub record SessionData : Type 0 where
   pub earlier : ℕ
   pub seats : List SeatData
@@ -22,7 +22,7 @@ unbegun seats view = session (length seats) seats view
 abbrev pub seat_of : SessionData → Option SeatData
 seat_of s = slice_get s.seats s.earlier
 
--- the session's seat is this one now, and no other seat is another
+-- this seat replaces the session's, and no other seat changes
 abbrev pub with_seat : SeatData → SessionData → SessionData
 with_seat seat s = record s { seats = slice_set s.seats s.earlier seat }
 
@@ -30,6 +30,6 @@ abbrev pub subject_at : Option SeatData → Option Subject
 subject_at None = None
 subject_at (Some seat) = Some seat.subject
 
--- for whom the session asks, from HELLO on
+-- the subject for whom the session asks, from HELLO on
 abbrev pub session_subject : SessionData → Option Subject
 session_subject s = subject_at (seat_of s)

@@ -14,9 +14,10 @@ use std::alloc::{Allocator, Global};
 use std::sync::Wait;
 use std::sync::ledger::Ledger;
 
-/// A session over a hall. HELLO takes a seat for it, and puts it behind those of the worker's earlier sessions; there it stays when
-/// the session ends, since a hall is closed with all its seats. Between two events of a call the gate is called. EXPLAIN asks the
-/// worker's view, which needs no seat and no lock; a document that the session puts in force is told to it.
+/// A session over a hall. HELLO takes a seat, and appends it to those of the worker's earlier
+/// sessions. It stays there when the session ends, since a hall is closed with all its seats. The
+/// gate is called between two events of a call. EXPLAIN asks the worker's view, which needs no seat
+/// and no lock; the view is told of each document that the session puts in force.
 #[derive(Drop)]
 pub struct Attended<'a, 'h, L: Ledger + ListName, R: Wait + Drop, A: Allocator, W: Wait, G: Gate> {
     rt: &'a W,
@@ -24,7 +25,7 @@ pub struct Attended<'a, 'h, L: Ledger + ListName, R: Wait + Drop, A: Allocator, 
     seats: &'a mut Vec<Seat<'h, L, R, A>, A>,
     view: &'a mut View<L>,
     gate: &'a mut G,
-    /// How many seats stand before the session's.
+    /// How many seats are before the session's own.
     earlier: usize,
 }
 
@@ -37,7 +38,8 @@ impl<'a, 'h, L: Ledger + ListName, R: Wait + Drop, A: Allocator + Copy, W: Wait,
     W,
     G,
 > {
-    /// A session that has not begun. `seats` are those of the worker's earlier sessions, `view` is the worker's.
+    /// A session before HELLO. `seats` are those of the worker's earlier sessions, `view` is the
+    /// worker's.
     pub fn new(
         rt: &'a W,
         hall: &'h Hall<L, R, A>,

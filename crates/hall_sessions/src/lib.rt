@@ -1,4 +1,5 @@
-//! Sessions over a hall: each line that asks something of the world is one call of the session's seat, and EXPLAIN one of its view.
+//! Sessions over a hall: each line that needs the world is one call of the session's seat, and
+//! EXPLAIN asks the worker's view.
 #![tactic(auto)]
 
 mod attended;

@@ -1,4 +1,4 @@
-//! What calls of a hall and of a view are answered.
+//! Replies to calls of a hall and of a view.
 
 ghost use Rattle.std.specs.Prelude.{◌≡◌};
 ghost use Rattle.hall_sessions.specs.Replies.{explained_reply, hall_reply};
@@ -7,7 +7,7 @@ use decision::Ruling;
 use hall::{Explained, HallFault};
 use session_lines::{Fault, Reply, fault_reply};
 
-/// What a call is answered that the hall refuses.
+/// The reply to a call that the hall refuses.
 pub fn hall_reply(fault: HallFault) -> Reply
     ensures { result ≡ hall_reply fault }
 {
@@ -22,7 +22,7 @@ pub fn hall_reply(fault: HallFault) -> Reply
     }
 }
 
-/// What a question is answered that a view has explained so.
+/// The reply to a question that a view has explained.
 pub fn explained_reply(explained: Explained) -> Reply
     ensures { result ≡ explained_reply explained }
 {

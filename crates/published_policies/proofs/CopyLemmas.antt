@@ -9,18 +9,18 @@ use Rattle.published_policies.specs.Lists.{SeenData}
 use Rattle.published_policies.specs.Copies.{Fits, AllFit, Learns}
 use Rattle.published_policies.proofs.ListLemmas.{prefix_self, prefix_trans}
 
--- what fits a list fits each that goes on from it
+-- what fits a list fits each list that continues it
 fits_later : (shown later : SeenData) → later.book ≡ shown.book → IsPrefix shown.list later.list → (known : Option SeenData) → Fits shown known → Fits later known
 fits_later shown later book longer None fits = tt
 fits_later shown later book longer (Some known) fits = (fits.0 ∙ sym book, prefix_trans known.list shown.list later.list fits.1 longer)
 
--- all fit still where one of them knows another list, that fits
+-- all still fit if one of them knows another list, which fits
 set_fits : (shown : SeenData) (views : List (Option SeenData)) (seat : ℕ) (known : Option SeenData) → AllFit shown views → Fits shown known → AllFit shown (set views seat known)
 set_fits shown views seat known all fits other told at =
     ⊎_elim (λ (here : (other ≡ seat) × (known ≡ told)). subst (Fits shown) here.1 fits) (λ (there : (other ≢ seat) × (get_elem? views other ≡ some told)). all other told there.1)
     (at_set views seat other known told at)
 
--- all fit still where one more comes, that fits
+-- all still fit if one more comes, which fits
 more_fit : (shown : SeenData) (views : List (Option SeenData)) (known : Option SeenData) → AllFit shown views → Fits shown known → AllFit shown (views ++ known ∷ [])
 more_fit shown views known all fits seat told at =
     ⊎_elim (all seat told) (λ (same : known ≡ told). subst (Fits shown) same fits) (at_snoc views known told seat at)
@@ -42,7 +42,7 @@ admits shown views all = more_fit shown views None all tt
 pub starts : (shown : SeenData) → AllFit shown (None ∷ [])
 starts shown = more_fit shown [] None (λ seat known at. absurd (some-ne-none known (sym at))) tt
 
--- the writer hands on what it knows
+-- the writer passes on what it knows
 pub forks : (seat : ℕ) (known : Option SeenData) → Forks AllFit seat known known known
 forks seat known shown views all at =
     let fits : Fits shown known = all seat known at in more_fit shown (set views seat known) known (set_fits shown views seat known all fits) fits

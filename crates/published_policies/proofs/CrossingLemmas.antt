@@ -1,6 +1,7 @@
--- Which types may go from one thread to another, and which may be shared. The checker finds that by itself wherever no type holds
--- itself; a document's nodes hold nodes, so each type that holds a document is searched anew at each call that hands it to a
--- thread. At a view or a publisher that search gives up, and the call is answered by these lemmas.
+-- Which types may be sent to another thread, and which may be shared. The checker finds that by
+-- itself where no type holds itself. A document's nodes hold nodes, so the checker searches anew
+-- for each type that holds a document, at each call that sends one to a thread. For a view or a
+-- publisher that search gives up; these lemmas prove the goal of such a call.
 use Rattle.std.proofs.Crossing.{crosses}
 use denote.RattleType.{RattleType}
 use denote.Param.Send.{IsSend, IsSync, sendable}

@@ -9,14 +9,14 @@ use Rattle.published_policies.specs.Lists.{IsNumbered}
 use Rattle.published_policies.specs.Growing.{IsKept, Adds, cells_of}
 use Rattle.published_policies.proofs.ListLemmas.{prefix_whole, numbered_push}
 
--- what clients of the book see, and how their updates move it: nothing
+-- what clients of the book see, and what their updates change: nothing
 abbrev pub nothing_shown : List DeciderData → List DeciderData
 nothing_shown list = []
 
 abbrev pub AnyMove : List DeciderData → List DeciderData → ℕ → Type 0
 AnyMove before after answer = Unit {0}
 
--- what had been seen of the list, by somebody with no pen and whose update has not run
+-- what was seen of the list, by a client without a pen whose update has not run
 abbrev before : List DeciderData → List DeciderData × (Nib × Option ℕ)
 before seen = (seen, (no_nib, None))
 
@@ -28,7 +28,7 @@ module _ (seen : List DeciderData) (decider : DeciderData) (old new : ℕ) where
   abbrev GoesOn : List Cell → List DeciderData → Type 0
   GoesOn = Goes IsKept nothing_shown AnyMove 0 (before seen) next (Adds (step 0 old new decider) (before seen))
 
-  -- the list ends where it was seen to end: the policy is put behind it
+  -- the list ends where it was seen to end: the policy is added
   goes_added : (list : List DeciderData) → seen ≡ list → (length list == old) ≡ true → new ≡ length list + 1 → IsNumbered 1 (list ++ decider ∷ []) → GoesOn (cells_of list) list
   goes_added list all test next_length numbered =
       let count : either (length list == old) new (length list) ≡ length (list ++ decider ∷ []) = rw test (omega (arith, length-append list (decider ∷ []))) in
@@ -36,7 +36,7 @@ module _ (seen : List DeciderData) (decider : DeciderData) (old new : ℕ) where
       record { words = ap (λ (n : ℕ). (n, true) ∷ (0, true) ∷ []) count; numbered = numbered } in
       (keeps, decider ∷ [], None, tt, kept, inl (refl, refl), rw test (ap (λ front. front ++ decider ∷ []) (sym all), numbered))
 
-  -- it is longer: nothing is put behind it
+  -- the list is longer: nothing is added
   goes_seen : (list : List DeciderData) → (length list == old) ≡ false → IsNumbered 1 list → GoesOn (cells_of list) list
   goes_seen list test numbered =
       let same : list ++ [] ≡ list = append-nil list in
@@ -53,7 +53,8 @@ module _ (seen : List DeciderData) (decider : DeciderData) (old new : ℕ) where
       goes_added list (prefix_whole seen list begins (omega arith)) test (omega arith) (numbered_push 1 list decider numbered (omega arith))
   goes_on count next_count edition list numbered begins false test = goes_seen list test numbered
 
-  -- whatever the list is by then, the policy is put behind what was seen of it, or the list is found to be longer
+  -- whatever the list is by then, the policy is added to what was seen of it, or the list is found
+  -- to be longer
   pub adds : length seen ≡ old → new ≡ old + 1 → decider.edition ≡ new → Moves IsKept nothing_shown AnyMove 0 (before seen) next (Adds (step 0 old new decider) (before seen))
   adds count next_count edition cells list kept begins away =
       subst (λ (cs : List Cell). (0 < length cs) × ((cell cs 0).1 ≡ true) × GoesOn cs list) (sym kept.words)

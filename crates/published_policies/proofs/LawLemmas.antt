@@ -1,4 +1,4 @@
--- What a view that was told of an edition answers.
+-- The answer of a view that was told of an edition.
 use Rattle.std.proofs.Common.{◌≡◌, ◌≤◌, ◌∙◌, List, length, Option, Some, None, arith}
 use Rattle.std.specs.Prelude.{IfSome}
 use mathlib.Core.List.{IsPrefix}

@@ -1,4 +1,5 @@
--- How a proof tells two lists of deciders apart: each decider is stored as its document's zones and parts, and its edition.
+-- The coding of lists of deciders, by which proofs tell two of them apart: each decider is stored
+-- as its document's zones and parts, and its edition.
 use Rattle.std.specs.Prelude.{◌≡◌, List, [], ◌∷◌, map, refl, Option}
 use Rattle.std.specs.Coded.{Coded, Coded-set, coded_option, code_by, codes}
 use Rattle.logbook.specs.Pages.{Book}
@@ -34,7 +35,8 @@ restored_seen stored = seen_in stored.0 (restored_list stored.1)
 abbrev pub restored_seen-stored_seen : (seen : SeenData) → restored_seen (stored_seen seen) ≡ seen
 restored_seen-stored_seen seen = let list = restored_list-stored_list seen.list in λ i. seen_in seen.book (list i)
 
--- Two deciders, each there or not, are equal in one way at most. A struct that keeps such an equation as a fact cites this.
+-- Two optional deciders are equal in at most one way. A struct that keeps such an equation as a
+-- fact cites this.
 pub decider_set : (x y : Option DeciderData) → IsProp (x ≡ y)
 decider_set x y =
     let decider_coded : Coded DeciderData = code_by deciders.Stored (Prim.hlevel codes) deciders.stored deciders.restored deciders.restored-stored in

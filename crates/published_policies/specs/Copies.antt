@@ -1,4 +1,5 @@
--- The two copies of the policy that was published last: their rule, and what a step tells that shows or reads a copy.
+-- The two copies of the last published policy: their rule, and what is learned in a step that shows
+-- or reads a copy.
 use Rattle.std.specs.Prelude.{◌≡◌, ℕ, List, Option, None, Some}
 use mathlib.Core.Option.{some}
 use mathlib.Core.List.{IsPrefix}
@@ -6,7 +7,7 @@ use lib.ListN.{get_elem?}
 use Rattle.logbook.specs.Pages.{Book}
 use Rattle.published_policies.specs.Lists.{SeenData}
 
--- a reader or the writer knows no list yet, or a beginning of the list that is shown
+-- a reader or the writer knows no list yet, or a prefix of the list that is shown
 abbrev pub Fits : SeenData → Option SeenData → Type 0
 Fits shown None = Unit {0}
 Fits shown (Some known) = (known.book ≡ shown.book) × IsPrefix known.list shown.list

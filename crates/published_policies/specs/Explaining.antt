@@ -1,4 +1,4 @@
--- How the policy that was published last rules, and by which rule.
+-- The ruling of the last published policy, and its rule.
 use Rattle.std.specs.Prelude.{◌≡◌, ℕ, List, Option, None, Some}
 use Rattle.std.specs.List.{last_or}
 use Rattle.policy_documents.specs.Documents.{rule_named}
@@ -9,24 +9,24 @@ use Rattle.decision.specs.declared.rulings.Ruling.{Ruling}
 use Rattle.decision.specs.declared.rulings.Ruling.TheVariants.{Permit, DeniedBy, NoneApplied}
 use Rattle.published_policies.specs.declared.explaining.Explained.{Explained}
 
--- the number of the rule by which is ruled, where there is one
+-- the number of the rule that decided, if one did
 abbrev pub rule_in : Ruling → Option ℕ
 rule_in (Permit rule) = rule
 rule_in (DeniedBy rule) = Some rule
 rule_in NoneApplied = None
 
--- the name that a decider's document has for a rule, where there is one
+-- the name of a rule in a decider's document, if there is such a rule
 abbrev pub name_of_rule : DeciderData → Option ℕ → Option (List ℕ)
 name_of_rule decider None = None
 name_of_rule decider (Some number) = rule_named number decider.document.root
 
--- a decider's edition, how its document rules, and that document's name of the rule by which it does
+-- a decider's edition, its document's ruling, and the document's name of the rule that decided
 pub record ExplainsBy (decider : DeciderData) (question : Question) (explained : Explained) : Type 0 where
   pub edition : explained.edition ≡ decider.edition
   pub ruling : Rules decider.document question explained.ruling
   pub rule : explained.rule ≡ name_of_rule decider (rule_in explained.ruling)
 
--- the same of the last decider of a list
+-- the same for the last decider of a list
 pub record Explains (list : List DeciderData) (question : Question) (explained : Explained) : Type 0 where
   pub decider : DeciderData
   pub last : last_or None list ≡ Some decider

@@ -1,4 +1,4 @@
--- How a list grows: the rule of the book in which it stands, and what the step tells that adds a policy.
+-- How a list grows: the rule of its book, and what is learned in the step that adds a policy.
 use Rattle.std.specs.Prelude.{◌≡◌, ℕ, ◌==◌, true, List, [], ◌∷◌, ◌++◌, length}
 use Rattle.std.specs.Bool.{MatchBool}
 use Rattle.logbook.specs.Pages as pages
@@ -10,7 +10,8 @@ use Rattle.published_policies.specs.Lists.{IsNumbered}
 abbrev pub cells_of : List DeciderData → List Cell
 cells_of list = (length list, true) ∷ (0, true) ∷ []
 
--- what holds of a book at any time: its first word is the list's length, and the list is numbered from 1
+-- what holds of a book at any time: its first word is the list's length, and the list is numbered
+-- from 1
 pub record IsKept (cells : List Cell) (list : List DeciderData) : Type 0 where
   pub words : cells ≡ cells_of list
   pub numbered : IsNumbered 1 list
@@ -19,7 +20,7 @@ pub record IsKept (cells : List Cell) (list : List DeciderData) : Type 0 where
 abbrev pub length_word : Book → Named
 length_word book = record { tracked = true; key = 0; book = book }
 
--- where the length was the one that was looked for, the policy was added to all that had been seen; and else the list, of
--- the length that was found, was seen
+-- if the length was the expected one, the policy was added to all that had been seen; otherwise the
+-- list, of the length that was found, was seen
 abbrev pub Adds : Step DeciderData → pages.View DeciderData ℕ → ℕ → pages.View DeciderData ℕ → Type 0
 Adds step old found new = MatchBool (found == step.old) ((new.0 ≡ old.0 ++ step.ask ∷ []) × IsNumbered 1 new.0) ((length new.0 ≡ found) × IsNumbered 1 new.0)

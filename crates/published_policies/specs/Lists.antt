@@ -9,7 +9,7 @@ abbrev pub IsNumbered : ℕ → List DeciderData → Type 0
 IsNumbered n [] = Unit {0}
 IsNumbered n (decider ∷ later) = (decider.edition ≡ n) × IsNumbered (n + 1) later
 
--- a list that was published has a policy, and its editions are 1, 2, and so on
+-- a published list has a policy, and its editions are 1, 2, and so on
 pub record IsPublished (list : List DeciderData) : Type 0 where
   pub numbered : IsNumbered 1 list
   pub not_empty : 0 < length list
@@ -18,7 +18,7 @@ pub record IsPublished (list : List DeciderData) : Type 0 where
 abbrev pub IsLastEdition : ℕ → List DeciderData → Type 0
 IsLastEdition edition list = (decider : DeciderData) → last_or None list ≡ Some decider → edition ≡ decider.edition
 
--- a list as far as it was seen, and the book in which it stands
+-- a prefix of a list that was seen, and the book of the list
 pub record SeenData : Type 0 where
   pub book : Book
   pub list : List DeciderData

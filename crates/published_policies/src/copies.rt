@@ -1,12 +1,14 @@
-//! The policy that was published last stands in two copies (the crate `left_right`): readers read one, while the writer
-//! prepares the other, and then shows that. What each of them knows of the list stands in proofs alone.
+//! The last published policy is kept in two copies (crate `left_right`): readers read one, while
+//! the writer prepares the other, and then shows that. What readers and writer know of the list is
+//! in the proofs alone.
 
 use crate::policies::Policy;
 use crate::seen_lists::SeenList;
 use atomic_table::{Join, Split};
 use crossbeam_utils::rule::{Outcome, Protocol};
 
-/// What holds at any time: each list that a reader or the writer knows is a beginning of the list that is shown.
+/// What holds at any time: each list that a reader or the writer knows is a prefix of the shown
+/// one.
 pub struct CopyRule;
 
 impl Protocol<Policy, Option<SeenList>> for CopyRule {
@@ -18,8 +20,8 @@ impl Protocol<Policy, Option<SeenList>> for CopyRule {
     ghost first = { None };
 }
 
-/// The step by which a reader reads the copy that is shown, and the one by which the writer shows the other: the list that
-/// is shown then is known afterwards.
+/// The step in which a reader reads the shown copy, and the one in which the writer shows the
+/// other: the list that is shown is known afterwards.
 pub struct Learn;
 
 impl Outcome<Policy, Option<SeenList>> for Learn {
@@ -28,7 +30,7 @@ impl Outcome<Policy, Option<SeenList>> for Learn {
     ghost then = { λ old before shown new. Learns old shown new };
 }
 
-/// The steps by which the writer tells a new reader the list that it knows.
+/// The steps in which the writer tells a new reader the list that it knows.
 pub struct HandOn;
 
 impl Split<Option<SeenList>> for HandOn {

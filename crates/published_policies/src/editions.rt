@@ -1,4 +1,4 @@
-//! Lists that were published.
+//! Editions: lists that were published.
 
 ghost use Rattle.std.specs.Prelude.{◌≡◌, ◌<◌, length};
 ghost use Rattle.published_policies.specs.Lists.{IsLastEdition, IsPublished};
@@ -7,8 +7,9 @@ use crate::lists::ListName;
 use crate::seen_lists::SeenList;
 use std::marker::{Model, PhantomData};
 
-/// A list that was published, told to whoever put its last policy in force: a view that is told of it (`View::told`)
-/// explains by that policy or a later one. When the program runs it is a number. A contract sees the list.
+/// A published list, returned to whoever put its last policy in force. A view that is told of it
+/// (`View::told`) explains by that policy or a later one. At run time it is a number. Contracts see
+/// the list.
 #[derive(Drop)]
 pub struct Edition<L: ListName> {
     pub(crate) list: SeenList,

@@ -1,4 +1,4 @@
-//! How a question is ruled, by which edition and by which rule.
+//! The ruling on a question, with its edition and its rule.
 
 ghost use Rattle.std.specs.Prelude.{◌≡◌};
 ghost use Rattle.published_policies.specs.Explaining.{ExplainsBy, name_of_rule, rule_in};
@@ -7,18 +7,18 @@ use combining::Question;
 use decision::{Decider, Ruling};
 use features::Name;
 
-/// How a policy rules.
+/// A policy's ruling on a question.
 #[derive(Clone, Copy, Debug, PartialEq, Eq)]
 pub struct Explained {
     /// The edition of the policy.
     pub edition: u64,
-    /// How its document rules.
+    /// The ruling of its document.
     pub ruling: Ruling,
-    /// The document's name of the rule by which it does; None where it rules by none.
+    /// The document's name of the rule that decided; `None` where no rule did.
     pub rule: Option<Name>,
 }
 
-/// How a decider rules.
+/// The ruling of a decider on a question.
 pub(crate) fn explain(decider: &Decider, question: &Question) -> Explained
     ensures { ExplainsBy decider.now question.now result }
 {
@@ -31,7 +31,7 @@ pub(crate) fn explain(decider: &Decider, question: &Question) -> Explained
     }
 }
 
-/// The number of the rule by which is ruled, where there is one.
+/// The number of the rule that decided, if one did.
 fn rule_in(ruling: &Ruling) -> Option<u32>
     ensures { result ≡ rule_in ruling.now }
 {
@@ -42,7 +42,7 @@ fn rule_in(ruling: &Ruling) -> Option<u32>
     }
 }
 
-/// The name of a rule, where there is one.
+/// The name of a rule by its number, if there is one.
 fn name_of_rule(decider: &Decider, rule: Option<u32>) -> Option<Name>
     ensures { result ≡ name_of_rule decider.now rule }
 {

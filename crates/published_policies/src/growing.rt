@@ -1,10 +1,12 @@
-//! How a list grows. It stands in proofs alone, in a book of the crate `logbook`; what runs is one word, its length.
+//! How a list grows. The list is in the proofs alone, in a book of the crate `logbook`; at run time
+//! there is one word, its length.
 
 use decision::Decider;
 use logbook::{Gain, Plain, Play, Rule};
 use std::sync::Arc;
 
-/// What holds of the book at any time: its word is the length of the list, whose editions are 1, 2, and so on.
+/// What holds of the book at any time: its word is the length of the list, whose editions are 1, 2,
+/// and so on.
 pub struct ListRule;
 
 impl Rule<Decider, u64> for ListRule {
@@ -25,7 +27,7 @@ impl Rule<Decider, u64> for ListRule {
     ghost moves = { λ ask before after answer. Unit {0} };
 }
 
-/// Who adds a policy gets nothing in return.
+/// What a caller gains by adding a policy: nothing.
 pub struct NoGain;
 
 impl Gain<Decider, u64> for NoGain {

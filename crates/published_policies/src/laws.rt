@@ -1,4 +1,4 @@
-//! What holds of calls one after another.
+//! Laws of calls one after another.
 
 ghost use Rattle.std.specs.Prelude.{◌≡◌, ◌≤◌, length, IfSome};
 ghost use mathlib.Core.List.{IsPrefix};
@@ -10,8 +10,9 @@ use crate::lists::ListName;
 use crate::views::View;
 use combining::Question;
 
-/// Tells a view of an edition and asks it. Where it answers, it rules by the last policy of a list that goes on from the
-/// edition's, so by the edition's policy or a later one. No handle is needed, so neither call waits for anybody.
+/// Tells a view of an edition, and asks it. If it answers, it rules by the last policy of a list
+/// that continues the edition's, so by the edition's policy or a later one. No handle is needed, so
+/// neither call waits.
 pub fn told_then_explained<L: ListName>(
     view: &mut View<L>,
     edition: Edition<L>,

@@ -1,5 +1,6 @@
-//! The policies that were put in force, as a list that only grows: who puts one in force publishes it, and readers ask how
-//! the last one that they read would rule, without a lock and without waiting.
+//! The policies that were put in force, as a list that only grows. Whoever puts one in force
+//! publishes it; readers ask how the last one that they read rules, without a lock and without
+//! waiting.
 #![tactic(auto)]
 
 mod copies;

@@ -1,4 +1,4 @@
-//! Which list it is, and a list before its first policy.
+//! The name of a list, and a list before its first policy.
 
 ghost use Rattle.std.specs.Prelude.{◌≡◌};
 
@@ -7,9 +7,10 @@ use decision::Decider;
 use logbook::{Seen, Start, Word};
 use std::marker::{Brand, Model};
 
-/// Which list it is. Whoever publishes a list, its views and its editions name it by a type parameter, so that a view is
-/// never told of another list. It is a name for proofs, of no code: a program makes an `EmptyList`, and passes it to a
-/// function that is generic in the name, which it calls at `Brand`.
+/// The name of a list. A list's publisher, its views and its editions have it as a type parameter,
+/// so a view is never told of another list. It is a name for proofs, without code: a program makes
+/// an `EmptyList`, and passes it to a function that is generic in the name, which it calls at
+/// `Brand`.
 pub trait ListName {
     ghost use Rattle.logbook.specs.Pages.{Book};
 
@@ -20,8 +21,8 @@ impl ListName for Brand {
     ghost book = { record { number = 0; log_name = 0; cells_name = 0 } };
 }
 
-/// A list with no policy, which no name is given yet. A contract sees the book in which the list will stand: the name that
-/// a list is given (`ListName`) has that book.
+/// A list with no policy, which has no name yet. Contracts see the book of the list: the name that
+/// it is given (`ListName`) has that book.
 #[derive(Drop)]
 pub struct EmptyList {
     pub(crate) word: Word<Decider, u64, ListRule>,

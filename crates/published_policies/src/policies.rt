@@ -1,4 +1,4 @@
-//! What is published.
+//! A published policy.
 
 ghost use Rattle.std.specs.Prelude.{◌≡◌, ◌<◌, length, None, Some, IfOk};
 ghost use Rattle.std.specs.Arc.{arc_value};
@@ -15,7 +15,8 @@ use std::alloc::AllocError;
 use std::marker::Model;
 use std::sync::Arc;
 
-/// A policy in force: its decider, and the list of policies that ends with it. A contract sees the list.
+/// A policy in force: its decider, and the list of policies that ends with it. Contracts see the
+/// list.
 #[derive(Drop)]
 pub struct Policy {
     decider: Arc<Decider>,
@@ -40,7 +41,7 @@ impl Model for Policy {
 }
 
 impl Policy {
-    /// The policy of a decider with which the list ends.
+    /// The policy of this decider, with which the list ends.
     pub(crate) fn new(decider: Arc<Decider>, list: SeenList) -> Policy
         requires { last_or None list.list ≡ Some (arc_value decider) }
         ensures { result ≡ list }
@@ -48,7 +49,8 @@ impl Policy {
         Policy { decider, list }
     }
 
-    /// The same again, over the same decider. It is refused only where that has as many owners as can be counted.
+    /// The same policy again, over the same decider. Refused only where the decider has as many
+    /// owners as can be counted.
     pub(crate) fn again(&self) -> Result<Policy, Refused>
         ensures { IfOk result (λ policy. policy ≡ self.now) }
     {
@@ -66,7 +68,7 @@ impl Policy {
         self.list.again()
     }
 
-    /// How the policy rules.
+    /// The policy's ruling on a question.
     pub(crate) fn explain(&self, question: &Question) -> Explained
         ensures { Explains self.now.list question.now result }
     {

@@ -1,4 +1,4 @@
-//! The one who publishes, in a place from which it cannot be moved, such as behind a lock.
+//! The publisher, for a place from which it cannot be moved, such as behind a lock.
 
 ghost use Rattle.std.specs.Prelude.{◌≡◌, ◌<◌, ◌+◌, ◌^◌, ◌++◌, ◌∷◌, [], length, IfOk, IfSome, IsSome, None, Some};
 ghost use Rattle.std.specs.Arc.{arc_value};
@@ -13,23 +13,23 @@ use std::marker::Model;
 use std::mem;
 use std::sync::{Arc, Wait};
 
-/// No list was opened, since memory was wanted for it and refused. Only this crate makes one, and only where a growth was refused.
+/// No list was opened, since an allocation was refused. Only this crate makes one, and only then.
 #[derive(Debug, Drop, PartialEq, Eq)]
 pub struct NoMemory {
     seal: (),
 }
 
 impl NoMemory {
-    /// Is called only where a growth was refused.
+    /// Called only after a refused allocation.
     fn seen() -> Self {
         NoMemory { seal: () }
     }
 }
 
-/// The one who publishes policies, with the handle by which it waits. Whoever puts policies in force has it, behind the lock
-/// under which that happens. When it is dropped it waits for the views that read just then; those have nothing to read from
-/// then on. A contract sees the published list, in which the first policy is the one that the list was opened with, and the
-/// last the one that was published last.
+/// The publisher of a list, with the handle by which it waits. Whoever puts policies in force keeps
+/// it, behind the same lock. Dropping it waits for the views that are reading just then; afterwards
+/// views have nothing to read. Contracts see the published list, from the policy that it was opened
+/// with to the one that was published last.
 pub struct Publisher<L: ListName, R: Wait + Drop> {
     writer: Option<ListWriter<L>>,
     rt: R,
@@ -72,8 +72,8 @@ fn put_back<L: ListName>(place: &mut Option<ListWriter<L>>, writer: ListWriter<L
 }
 
 impl<L: ListName, R: Wait + Drop> Publisher<L, R> {
-    /// Publishes a list of one policy, of edition 1. There can be so many views at a time, at most. The only error is want of
-    /// memory.
+    /// Publishes a list of one policy, of edition 1, for at most `views` views at a time. The only
+    /// error is out of memory.
     pub fn open(
         rt: R,
         heap: Global,
@@ -95,8 +95,8 @@ impl<L: ListName, R: Wait + Drop> Publisher<L, R> {
         }
     }
 
-    /// Publishes a policy of the next edition, and answers the list with it. It waits for views that still read the policy
-    /// before the last. It takes no memory.
+    /// Publishes a policy of the next edition, and returns the list that ends with it. Waits for
+    /// views that still read the policy before the last. Takes no memory.
     pub fn publish(&mut self, decider: Arc<Decider>) -> Edition<L>
         requires { (arc_value decider).edition ≡ length self.old + 1 }
         ensures list { self.new ≡ self.old ++ arc_value decider ∷ [] }
@@ -108,7 +108,7 @@ impl<L: ListName, R: Wait + Drop> Publisher<L, R> {
         edition
     }
 
-    /// A view of the list. None where there are as many views as there can be.
+    /// A view of the list; `None` where there are as many views as there can be.
     pub fn view(&mut self) -> Option<View<L>>
         ensures list { IfSome result (λ view. view ≡ self.old) }
         ensures same { self.new ≡ self.old }

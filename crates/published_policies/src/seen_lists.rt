@@ -1,4 +1,4 @@
-//! Lists as far as they were seen.
+//! Prefixes of a list, as far as it was seen.
 
 ghost use Rattle.std.specs.Prelude.{◌≡◌, ◌⊎◌, ◌≤◌, ◌+◌, ◌++◌, ◌∷◌, [], length};
 ghost use Rattle.std.specs.Bool.{MatchBool};
@@ -13,8 +13,8 @@ use logbook::{Offer, Seen, Word};
 use std::marker::Model;
 use std::sync::Arc;
 
-/// The beginning of a list that was seen. When the program runs it is a length, and takes no memory. A contract sees the
-/// policies, and the book in which the list stands.
+/// A prefix of a list that was seen. At run time it is a length, and takes no memory. Contracts see
+/// the policies, and the book of the list.
 #[derive(Drop)]
 pub struct SeenList {
     len: u64,
@@ -37,7 +37,7 @@ impl Model for SeenList {
 }
 
 impl SeenList {
-    /// Of a list of which nothing was seen.
+    /// The empty prefix: nothing was seen.
     pub(crate) fn nothing(seen: Seen<Decider, u64, ListRule>) -> SeenList
         requires { seen.log ≡ [] }
         ensures { result ≡ seen_in seen.book [] }
@@ -53,7 +53,7 @@ impl SeenList {
         self.len
     }
 
-    /// The same again.
+    /// The same prefix again.
     pub(crate) fn again(&self) -> SeenList
         ensures { result ≡ self.now }
     {
@@ -63,8 +63,8 @@ impl SeenList {
         }
     }
 
-    /// Two beginnings of one list: the other begins with this one, unless this one is longer. When it runs the function does
-    /// nothing: it is its contract.
+    /// A fact about two prefixes of one list, without effect: the other begins with this one,
+    /// unless this one is longer.
     fn begins(&self, other: &SeenList)
         requires { other.now.book ≡ self.now.book }
         ensures { length self.now.list ≤ length other.now.list → IsPrefix self.now.list other.now.list }
@@ -73,7 +73,7 @@ impl SeenList {
         both.learn(&other.seen);
     }
 
-    /// The longer of two beginnings of one list.
+    /// The longer of two prefixes of one list.
     #[tactic(auto, using(crate::proofs::ListLemmas::prefix_self))]
     pub(crate) fn longer(&self, other: &SeenList) -> SeenList
         requires { other.now.book ≡ self.now.book }
@@ -91,7 +91,8 @@ impl SeenList {
         }
     }
 
-    /// Goes on to another beginning of the list, unless that is shorter, and says whether it did.
+    /// Takes another prefix of the list in place of this one, unless it is shorter; returns whether
+    /// it did.
     pub(crate) fn advance(&mut self, to: &SeenList) -> bool
         requires { to.now.book ≡ self.old.book }
         ensures { MatchBool result
@@ -106,8 +107,8 @@ impl SeenList {
         true
     }
 
-    /// Adds a policy to the list, if that is no longer than what was seen of it, and says whether it did. Where it did not,
-    /// the list has been seen up to its end.
+    /// Adds a policy to the list, if that is no longer than what was seen of it; returns whether it
+    /// did. If it did not, the list has been seen up to its end.
     pub(crate) fn add(
         &mut self,
         word: &Word<Decider, u64, ListRule>,

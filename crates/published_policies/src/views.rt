@@ -1,4 +1,4 @@
-//! Those who read what was published.
+//! Views, the readers of published policies.
 
 ghost use Rattle.std.specs.Prelude.{◌≡◌, ◌⊎◌, ◌<◌, length, IfSome, IfNone, Option};
 ghost use mathlib.Core.List.{IsPrefix};
@@ -20,8 +20,9 @@ use std::marker::{Model, PhantomData};
 /// A reader of the copy that is shown.
 pub(crate) type CopyReader = Reader<Policy, Option<SeenList>, CopyRule>;
 
-/// A reader of the published policies, for one thread. It asks how the last policy rules, without a lock, without waiting
-/// and without memory. A contract sees the list as far as the view has read it or was told of it.
+/// A reader of the published policies, for one thread. It asks how the last policy rules, without a
+/// lock, without waiting and without memory. Contracts see the list as far as the view has read it
+/// or was told of it.
 #[derive(Drop)]
 pub struct View<L: ListName> {
     reader: Option<CopyReader>,
@@ -72,8 +73,8 @@ impl<L: ListName> View<L> {
         self.list.len()
     }
 
-    /// How the policy rules that was published last, by which edition and by which rule. None where there is nothing to
-    /// read: whoever published is gone.
+    /// The ruling of the policy that was published last, with its edition and its rule. `None`
+    /// where there is nothing to read: the publisher is gone.
     pub fn explain(&mut self, question: &Question) -> Option<Explained>
         ensures later { IfSome result (λ _. IsPrefix self.old self.new) }
         ensures ruling { IfSome result (Explains self.new question.now) }
@@ -92,7 +93,8 @@ impl<L: ListName> View<L> {
                 let list = policy.list();
                 let explained = policy.explain(question);
                 self.reader = Some(reading.leave());
-                // What is read is never older than what the view was told of; no contract of the copies says so.
+                // What is read is never older than what the view was told of, but no contract of
+                // the copies says so.
                 if self.list.advance(&list) {
                     Some(explained)
                 } else {

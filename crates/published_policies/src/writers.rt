@@ -1,4 +1,4 @@
-//! The one who publishes.
+//! The writer of a published list.
 
 ghost use Rattle.std.specs.Prelude.{◌≡◌, ◌<◌, ◌+◌, ◌^◌, ◌++◌, ◌∷◌, [], length, drop, IfOk, IfSome, Option, Some};
 ghost use Rattle.std.specs.Arc.{arc_value};
@@ -21,10 +21,11 @@ use std::alloc::{AllocError, Global};
 use std::marker::{Model, PhantomData};
 use std::sync::{Arc, Wait};
 
-/// The writer of both copies. What it has been told to show and has not shown yet is pending.
+/// The writer of both copies. A policy that it has taken and not shown yet is pending.
 type CopyWriter = Writer<Policy, Policy, Option<SeenList>, CopyRule>;
 
-/// The one who publishes. A contract sees the published list. It is not `Drop`, since its end waits: it is ended by `end`.
+/// The writer of a published list. Contracts see the list. It is not `Drop`, since its end waits:
+/// `end` ends it.
 pub(crate) struct ListWriter<L: ListName> {
     copies: CopyWriter,
     /// How many policies the list has.
@@ -53,7 +54,8 @@ impl<L: ListName> Model for ListWriter<L> {
         × (known_by {V = Option SeenData} w.copies.desk.place ≡ Some w.copies.desk.shown.value) };
 }
 
-/// The list with a policy more. Nobody else adds to it, so the first try succeeds; were it otherwise, this would not return.
+/// The list with one more policy. Nobody else adds to it, so the first try succeeds; otherwise this
+/// would not return.
 fn grown<R: Wait>(
     rt: &R,
     list: &SeenList,
@@ -73,7 +75,8 @@ fn grown<R: Wait>(
     unreachable!()
 }
 
-/// The writer once a policy is pending. Where memory is wanted for that, it tries again; `ListWriter::open` has taken it.
+/// The writer once a policy is pending. It tries again where memory for that is refused;
+/// `ListWriter::open` has taken that memory.
 fn appended<R: Wait>(rt: &R, copies: CopyWriter, policy: Policy) -> CopyWriter
     requires { drop copies.behind copies.log.items ≡ [] }
     ensures desk { result.desk ≡ copies.desk }
@@ -111,8 +114,9 @@ fn shown<R: Wait>(rt: &R, copies: CopyWriter, list: &SeenList) -> CopyWriter
 }
 
 impl<L: ListName> ListWriter<L> {
-    /// Publishes a list of one policy, for so many views at a time at most. The only error is want of memory. It publishes the
-    /// policy twice, so that the memory for what is pending is there from then on.
+    /// Publishes a list of one policy, for at most `views` views at a time. The only error is out
+    /// of memory. The policy is published twice, so that the memory for what is pending is there
+    /// from then on.
     pub fn open<R: Wait>(
         rt: &R,
         heap: Global,
@@ -159,7 +163,7 @@ impl<L: ListName> ListWriter<L> {
         (ListWriter { copies, word, name }, Edition::of(list))
     }
 
-    /// A view that knows the list. None where each place for a view is in use.
+    /// A view that knows the list; `None` where each place for a view is in use.
     pub fn view(&mut self) -> Option<View<L>>
         ensures list { IfSome result (λ view. view ≡ self.old) }
         ensures same { self.new ≡ self.old }
@@ -170,7 +174,7 @@ impl<L: ListName> ListWriter<L> {
         Some(View::over(reader, list))
     }
 
-    /// Waits for the views that read just then, and ends.
+    /// Waits for the views that are reading just then, and ends.
     pub fn end<R: Wait>(self, rt: &R) {
         let ListWriter {
             copies,

@@ -1,4 +1,4 @@
--- A closure may go to another thread where what it has captured may.
+-- A closure may be sent to another thread if what it has captured may.
 use mathlib.Core.List.{[], ◌∷◌}
 use mir.Syntax.{Sym}
 use denote.RattleType.{RattleType}

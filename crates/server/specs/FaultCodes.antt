@@ -1,4 +1,4 @@
--- What is told of a fault.
+-- The codes and texts of faults.
 use Rattle.std.specs.Prelude.{ℕ, List, codes}
 use Rattle.hall.specs.FaultCodes.{hall_code, open_code, close_code}
 use Rattle.server.specs.declared.faults.ServerFault.{ServerFault}

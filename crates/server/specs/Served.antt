@@ -1,11 +1,11 @@
--- What is left where all that was served is closed.
+-- What holds where all that was served is closed.
 use Rattle.std.specs.Prelude.{◌≡◌, List, length}
 use Rattle.hall.specs.Closing.{IsClosed}
 use Rattle.hall.specs.Seats.{SeatData, receipts_of}
 use Rattle.hall.specs.declared.closing.Closed.{Closed}
 
--- The seats that sessions had: what one legal trail tells of each of them is its receipts, and all records of the trail are receipts
--- of these seats.
+-- The sessions had these seats. There is one legal trail: its records of each of these seats are
+-- the seat's receipts, and all its records are receipts of these seats.
 pub record IsServed (closed : Closed) : Type 0 where
   pub seats : List SeatData
   pub trail : IsClosed closed.records closed.seats seats

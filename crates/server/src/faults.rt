@@ -1,4 +1,4 @@
-//! Why nothing is served, or a hall is not closed.
+//! Why nothing is served, or a hall does not close.
 
 ghost use Rattle.std.specs.Prelude.{◌≡◌};
 
@@ -7,40 +7,42 @@ use hall::{CloseFault, HallFault, OpenFault};
 use memory::Refused;
 use std::fmt;
 
-/// A channel was refused for want of memory. Only this crate makes one, and only where the channel could not be made.
+/// A channel was refused for lack of memory. Only this crate makes one, and only then.
 #[derive(Debug, Drop, PartialEq, Eq)]
 pub struct ChannelRefused {
     seal: (),
 }
 
 impl ChannelRefused {
-    /// Is called only where a channel was refused.
+    /// Called only where a channel was refused.
     pub(crate) fn seen() -> Self {
         ChannelRefused { seal: () }
     }
 }
 
-/// Why nothing is served, or what was served is not closed.
+/// Why nothing is served, or the hall does not close.
 #[derive(Debug, Drop, PartialEq, Eq)]
 pub enum ServerFault {
     /// The path was not bound.
     Bind,
-    /// The line that tells that the path is bound was not written.
+    /// The line `listening PATH` was not written.
     Write(WriteFailed),
-    /// H6: there is no memory for the streams that wait for a worker.
+    /// H6: there is no memory for a channel: the one for streams that wait for a worker, or the one
+    /// that stops the tending.
     Channel(ChannelRefused),
     /// The hall was not opened.
     Open(OpenFault),
-    /// The hall gave no view, or there is no memory for what it gives.
+    /// The hall gave no view; or, as H6, there is no memory for the lists of views and of seats, or
+    /// for the buffer of standard output.
     Hall(HallFault),
-    /// The hall was not closed.
+    /// The hall did not close.
     Close(CloseFault),
 }
 
 impl ServerFault {
     ghost use Rattle.server.specs.FaultCodes.{server_code};
 
-    /// What is told of the fault: the code of one that has a code.
+    /// The code of the fault, or its text if it has no code.
     pub fn code(&self) -> &'static str
         ensures { result.now ≡ server_code self.now }
     {

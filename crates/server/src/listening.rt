@@ -1,4 +1,4 @@
-//! How a path comes to be listened on.
+//! Listening on a path.
 
 ghost use Rattle.std.specs.Prelude.{◌++◌, codes};
 
@@ -16,7 +16,7 @@ use std::{fmt, fs, io};
 /// Who may connect: the owner of the socket's file, and its group.
 const MODE: u32 = 0o660;
 
-/// Whether the path is a socket that nobody listens on. To find out, a connection is tried.
+/// Whether the path is a socket that nobody listens on. Tries a connection to find out.
 fn is_stale<R: Files + Net>(rt: &R, path: &str) -> bool {
     let Ok(metadata) = fs::symlink_metadata(rt, path) else {
         return false;
@@ -30,7 +30,7 @@ fn is_stale<R: Files + Net>(rt: &R, path: &str) -> bool {
     }
 }
 
-/// Binds a path, also where a socket stands there that nobody listens on.
+/// Binds a path, and replaces a socket there that nobody listens on.
 fn bind_again<R: Files + Net>(rt: &R, path: &str) -> io::Result<UnixListener> {
     match UnixListener::bind(rt, path) {
         Err(error) if error.kind() == ErrorKind::AddrInUse && is_stale(rt, path) => {
@@ -41,8 +41,9 @@ fn bind_again<R: Files + Net>(rt: &R, path: &str) -> io::Result<UnixListener> {
     }
 }
 
-/// Listens on a path, which owner and group may connect to. Where `takeover`, a socket that nobody listens on is replaced; all else
-/// that stands there is `Bind`.
+/// Listens on a path, to which its owner and group may connect. With `takeover`, a socket that
+/// nobody listens on is replaced. `Bind` where anything else is at the path, or its permissions
+/// cannot be set.
 pub(crate) fn listen<R: Files + Net>(
     rt: &R,
     path: &str,
@@ -63,7 +64,7 @@ pub(crate) fn listen<R: Files + Net>(
     Ok(listener)
 }
 
-/// The line that tells that a path is listened on.
+/// The line `listening PATH`.
 #[derive(Drop)]
 struct Ready<'a> {
     path: &'a str,
@@ -81,14 +82,15 @@ impl fmt::Display for Ready<'_> {
     }
 }
 
-/// Writes the line, and flushes it.
+/// Writes the line `listening PATH`, and flushes it.
 fn write_ready<W: Write>(path: &str, writer: &mut W) -> Result<(), WriteFailed> {
     write_shown(&Ready { path }, writer)?;
     flush(writer)?;
     Ok(())
 }
 
-/// Tells on standard output that a path is listened on.
+/// Writes the line `listening PATH` to standard output. `Write` where that fails, H6 where there is
+/// no memory for the buffer.
 pub(crate) fn tell_ready<R: Print>(rt: &R, heap: Global, path: &str) -> Result<(), ServerFault> {
     let mut output = buffered(heap, io::writer(rt))?;
     match write_ready(path, &mut output) {

@@ -1,4 +1,4 @@
-//! A Unix socket, served.
+//! Serving a Unix socket.
 
 ghost use Rattle.std.specs.Prelude.{IfOk};
 ghost use Rattle.server.specs.Served.{IsServed};
@@ -22,18 +22,20 @@ use std::{fs, io};
 /// How a socket is served.
 #[derive(Clone, Copy)]
 pub struct SocketOptions<'a> {
-    /// How many connections are accepted, those counted whose accepting failed. Behind the last nobody listens any more.
+    /// How many connections are accepted; one whose accepting fails counts too. After the last one
+    /// nobody listens any more.
     pub connections: u16,
-    /// How many seconds a session may wait for its client, to send or to take something, before it ends by a fault; without
-    /// bound where there is none, or 0.
+    /// How many seconds a session may wait for its client to send or to take something, before it
+    /// ends with a fault. `None` and 0 set no bound.
     pub idle: Option<u64>,
     /// Whether a socket that nobody listens on is replaced.
     pub takeover: bool,
-    /// No connection is accepted any more once this is not 0 and one more comes, as `watch` has it.
+    /// A flag that `watch` sets. Once it is not 0 and one more connection comes, no connection is
+    /// accepted any more.
     pub ends: Option<&'a AtomicU64>,
 }
 
-/// Accepts connections, and stops listening at the last.
+/// Accepts connections, and stops listening after the last one.
 #[derive(Drop)]
 struct Arrivals<'a> {
     listener: Option<UnixListener>,
@@ -77,7 +79,7 @@ impl Iterator for Arrivals<'_> {
     }
 }
 
-/// How long a call of a stream may wait; none is without bound.
+/// How long a call of a stream may wait; `None` sets no bound.
 fn patience(idle: Option<u64>) -> Option<Duration> {
     match idle {
         None | Some(0) => None,
@@ -85,7 +87,8 @@ fn patience(idle: Option<u64>) -> Option<Duration> {
     }
 }
 
-/// A stream as its reader, its writer and an empty gate.
+/// A stream as its reader, its writer and a gate that does nothing. Its calls wait at most
+/// `patience`.
 fn parted(
     stream: UnixStream,
     patience: Option<Duration>,
@@ -96,7 +99,7 @@ fn parted(
     Ok((reader, stream, NoGate))
 }
 
-/// Tells that the path is listened on, and serves what comes.
+/// Writes the line `listening PATH`, and serves the connections that come.
 fn serve_listener<H, R>(
     rt: &R,
     own: H,
@@ -130,9 +133,10 @@ where
     serve_streams(rt, own, heap, serving, incoming)
 }
 
-/// Binds a Unix socket, tells so by the line `listening PATH` on standard output, serves the connections that come, and removes the
-/// path. Faults: `Bind` where the path is not bound, and `Write` where the line is not written, the path being removed again; then
-/// those of `serve_streams`.
+/// Binds a Unix socket, writes the line `listening PATH` to standard output, serves the connections
+/// that come, and removes the path. Faults: `Bind` where the path is not bound; `Write` where the
+/// line is not written, and H6 where there is no memory for its buffer; then those of
+/// `serve_streams`. The path is removed after each fault but `Bind`.
 pub fn serve_socket<H, R>(
     rt: &R,
     own: H,

@@ -1,12 +1,13 @@
-//! How a server is told to end.
+//! Stopping a server.
 
 use std::io::{Input, Read};
 use std::net::Net;
 use std::os::unix::net::UnixStream;
 use std::sync::atomic::{AtomicU64, Ordering};
 
-/// Waits until standard input ends, then sets the flag, and connects to the path once, so that a server that waits there for a
-/// connection sees the flag. What is being served goes on to its end.
+/// Waits until standard input ends or cannot be read, then sets the flag, and connects to the path
+/// once, so that a server that waits there for a connection sees the flag. Sessions that are being
+/// served go on to their end.
 pub fn watch<R: Input + Net>(rt: &R, path: &str, ends: &AtomicU64) {
     let mut chunk = [0; 64];
     let mut input = rt.reader();

@@ -23,13 +23,13 @@ use std::thread;
 use std::thread::Threads;
 use std::time::Clock;
 
-/// How many workers serve where nothing else is asked.
+/// The number of workers, if no other is asked for.
 pub const WORKER_COUNT: usize = 4;
 
-/// How many workers serve at most: each has a view of the policies.
+/// The most workers: each has a view of the policies.
 pub const WORKER_LIMIT: usize = VIEW_LIMIT;
 
-/// How many streams wait for a worker at most.
+/// The most streams that wait for a worker.
 const QUEUE: usize = 4;
 
 /// What a server serves, and by how many threads.
@@ -37,13 +37,14 @@ const QUEUE: usize = 4;
 pub struct Serving {
     /// Who may have a seat.
     pub subjects: Subjects,
-    /// What decides, as the first edition.
+    /// The policy document, as the first edition.
     pub document: Document<Global>,
-    /// How many sessions are served side by side, from 1 to `WORKER_LIMIT`; another number is taken for the nearest of these.
+    /// How many sessions are served side by side, from 1 to `WORKER_LIMIT`; any other number is
+    /// taken as the nearest of these.
     pub workers: usize,
 }
 
-/// A channel down which so many messages fit.
+/// A channel with room for this many messages.
 fn channel<T: Drop>(heap: Global, room: usize) -> Result<(Sender<T>, Receiver<T>), ServerFault> {
     match bounded(heap, room) {
         Ok(ends) => Ok(ends),
@@ -51,7 +52,8 @@ fn channel<T: Drop>(heap: Global, room: usize) -> Result<(Sender<T>, Receiver<T>
     }
 }
 
-/// Sends what comes in down a channel. What cannot be sent, since nobody receives, is let go, and warned of.
+/// Sends what comes in down a channel. What cannot be sent, since nobody receives, is dropped with
+/// a warning.
 fn hand_out<R: Wait + Log, T: Drop, S: Iterator<Item = T> + Drop>(
     rt: &R,
     incoming: S,
@@ -125,14 +127,15 @@ where
                     break;
                 }
             }
-            // Where there is no worker, a send now fails, and does not wait for one.
+            // If there is no worker, a send now fails instead of waiting for one.
             drop(from);
             hand_out(rt, incoming, to);
         },
     );
 }
 
-/// Serves what comes in by workers, one for each view, beside one thread that tends the index. Answers the seats of all sessions.
+/// Serves what comes in by workers, one for each view, beside one thread that tends the index.
+/// Returns the seats of all sessions.
 fn serve_tended<'h, L: Ledger + ListName + Send + Sync, H, R, I, O, G, S>(
     rt: &R,
     heap: Global,
@@ -152,7 +155,8 @@ where
 {
     let streams = channel(heap, QUEUE)?;
     let (stop, stopped) = channel::<()>(heap, 1)?;
-    // All seats that a hall may give have their places before anything is served, so that none of them is lost at the end.
+    // All seats that a hall may give have their places before anything is served, so none of them
+    // is lost at the end.
     let gathered = Mutex::new(vec_with_places(heap, SEAT_LIMIT)?);
     let seats = &gathered;
     thread::scope(
@@ -169,7 +173,7 @@ where
                 warn!(rt; target: "landmap", "the index is not tended");
             }
             serve_all(rt, heap, hall, seats, views, streams, incoming);
-            // The tending ends.
+            // This ends the tending.
             drop(stop);
         },
     );
@@ -219,10 +223,12 @@ where
     }
 }
 
-/// Serves streams by workers, one after another each, beside one thread that tends the index; of each stream one session is
-/// served to its end. Returns when all streams that came in are served. A session that ends by a fault is warned of and ends
-/// alone; a stream for which there is no worker is let go. `own` is the hall's own handle, by which it publishes policies. Faults:
-/// `Channel`, `Open` and `Hall` before anything is served; `Close` where a seat and the records do not agree, or a seat is lost.
+/// Serves streams by workers, beside one thread that tends the index. A worker serves one stream
+/// after another, each as one session to its end. Returns when all streams that came in are served.
+/// A session that ends with a fault ends alone, with a warning; a stream for which there is no
+/// worker is dropped, with a warning. `own` is the hall's own handle, with which it publishes
+/// policies. Faults: `Channel`, `Open` and `Hall` before anything is served; `Close` where the
+/// receipts of a seat are not its records, or a seat is lost.
 pub fn serve_streams<H, R, I, O, G, S>(
     rt: &R,
     own: H,

@@ -14,10 +14,11 @@ use std::sync::ledger::Ledger;
 use std::sync::{Mutex, Wait};
 use std::time::{Clock, Duration};
 
-/// How many milliseconds lie between two rounds of tending.
+/// The pause between two rounds of tending, in milliseconds.
 const PAUSE: u64 = 20;
 
-/// Serves a session whose replies are gathered in a buffer. Where it ends by a fault, what is left in the buffer is not written.
+/// Serves a session whose replies are buffered. If it ends with a fault, what is left in the buffer
+/// is not written.
 fn serve_buffered<
     'h,
     L: Ledger + ListName,
@@ -47,7 +48,7 @@ fn serve_buffered<
     }
 }
 
-/// Serves one stream to its end. A fault ends this session alone, and is warned of.
+/// Serves one stream to its end. A fault ends this session alone, with a warning.
 fn serve_stream<
     'h,
     L: Ledger + ListName,
@@ -71,7 +72,8 @@ fn serve_stream<
     }
 }
 
-/// Serves streams, one after another, until no more come, and hands in the seats of their sessions. They use the view in turn.
+/// Serves streams, one after another, until no more come, and hands in the seats of their sessions.
+/// The sessions use the view in turn.
 pub(crate) fn work<
     'h,
     L: Ledger + ListName,
@@ -101,7 +103,8 @@ pub(crate) fn work<
     }
 }
 
-/// Tends in rounds, until the sender of `ends` is gone. A round that is refused is warned of, and is the last.
+/// Tends in rounds, until the sender of `ends` is dropped. A round that is refused is the last,
+/// with a warning.
 pub(crate) fn tend<L: Ledger + ListName, H: Wait + Drop, R: Wait + Clock + Log>(
     rt: &R,
     hall: &Hall<L, H, Global>,

@@ -1,4 +1,4 @@
--- What is said of a session's line, whoever serves the session.
+-- What holds of a session's line over any service.
 use Rattle.std.proofs.Common.{◌≡◌, ℕ, ◌==◌, Bool, true, false, List, length, Option, None, Some, MatchOption, Result, Ok, Err, MatchResult, is_some, sym, ap, subst, inl, inr}
 use Rattle.std.specs.Bool.{MatchBool}
 use Rattle.features.specs.declared.actors.Subject.{Subject}

@@ -1,4 +1,4 @@
--- Runs of a session by itself: each is a row of calls of its service; and the text of a run.
+-- A run of a session by itself is a sequence of calls of its service; and the text of a run.
 use Rattle.std.proofs.Common.{◌≡◌, ℕ, ◌+◌, Bool, true, false, List, [], ◌∷◌, ◌++◌, Option, None, Some, Result, Ok, Err, refl, sym, ap, subst, ◌∙◌, append-nil, OnOk}
 use Rattle.std.specs.Bool.{MatchBool}
 use Rattle.features.specs.declared.actors.Subject.{Subject}
@@ -45,13 +45,13 @@ module _ {S : Type 0} (subject_of : S → Option Subject) (serves : Call → S �
       go true h = subst (λ (d : Desk S). Called old.service d.service) (sym h.0) (called_none old.service)
       go false h = line_keeps subject_of serves Called called_none called_once text old new h.reply h.answers
 
-  -- a run over a service is a row of its calls
+  -- a run over a service is a sequence of its calls
   pub run_calls : {T : Type 0} (r : Result T ServeFault) (old new : Desk S) (input left a b : Option (List ℕ)) → Ran (serving.LineTells subject_of serves) r old new input left a b → Called old.service new.service
   run_calls r old new input left a b run =
       run_keeps (serving.LineTells subject_of serves) (λ (x y : Desk S). Called x.service y.service) (λ d. called_none d.service)
       (λ x y z first more. called_then x.service y.service z.service first more) served_line r old new input left a b run
 
-  -- what each call keeps, a row of calls keeps
+  -- what each call keeps, a sequence of calls keeps
   module _ (Kept : S → S → Type 0) (same : (s : S) → Kept s s) (then : (a b c : S) → Kept a b → Kept b c → Kept a c)
       (each : (call : Call) (old new : S) (said : SaidData) → serves call old new said → Kept old new) where
     pub calls_keep : (calls : List (Call × SaidData)) (old new : S) → Calls serves calls old new → Kept old new

@@ -76,37 +76,37 @@ pub code_short : (fault : Fault) → length (code_of fault) ≤ 3
 code_short (Shape fault) = wkt_code_short fault
 code_short _ = lit≤ tt
 
--- five fields, each put behind the ones before it
+-- five fields, each appended to those before it
 pub fields_joined : (x₀ x₁ x₂ x₃ x₄ x₅ a b c d e space : List ℕ) → x₁ ≡ x₀ ++ (a ++ space) → x₂ ≡ x₁ ++ (b ++ space) → x₃ ≡ x₂ ++ (c ++ space) → x₄ ≡ x₃ ++ (d ++ space) → x₅ ≡ x₄ ++ e
     → x₅ ≡ x₀ ++ (a ++ space ++ b ++ space ++ c ++ space ++ d ++ space ++ e)
 fields_joined x₀ x₁ x₂ x₃ x₄ x₅ a b c d e space h₁ h₂ h₃ h₄ h₅ = rw (h₅, h₄, h₃, h₂, h₁) (simp append_assoc)
 
 -- ---- what a writer took
 
--- a write that was taken whole, and another behind it
+-- a write that was taken whole, and the next one
 pub took_then : {E : Type 0} (r : Result (Unit {0}) E) (a b c : Option (List ℕ)) (xs ys : List ℕ) → Appends a b xs → Took r b c ys → Took r a c (xs ++ ys)
 took_then (Ok u) a b c xs ys first second = appends_then a b c xs ys first second
 took_then (Err e) a b c xs ys first second =
     (xs ++ second.0, second.1, ap (λ (zs : List ℕ). xs ++ zs) second.2 ∙ sym (append_assoc xs second.0 second.1), appends_then a b c xs second.0 first second.3)
 
--- a write that failed, before another that did not come
+-- a write that failed, so the next one was not made
 pub failed_before : (a b : Option (List ℕ)) (xs ys : List ℕ) → ((front : List ℕ) × (left : List ℕ) × (xs ≡ front ++ left) × Appends a b front)
     → ((front : List ℕ) × (left : List ℕ) × (xs ++ ys ≡ front ++ left) × Appends a b front)
 failed_before a b xs ys failed = (failed.0, failed.1 ++ ys, ap (λ (zs : List ℕ). zs ++ ys) failed.2 ∙ append_assoc failed.0 failed.1 ys, failed.3)
 
--- the same, where the call that failed answers for both
+-- the same, where the result of the failed call is that of both
 pub took_first : {E : Type 0} (r : Result (Unit {0}) E) → IsErr r → (a b : Option (List ℕ)) (xs ys : List ℕ) → ((front : List ℕ) × (left : List ℕ) × (xs ≡ front ++ left) × Appends a b front) → Took r a b (xs ++ ys)
 took_first (Ok u) failed a b xs ys first = absurd cc
 took_first (Err e) failed a b xs ys first = failed_before a b xs ys first
 
--- what leads a line, and then its text with the line's end
+-- the lead of a line, and then its text with the line's end
 pub line_written : {E : Type 0} (r : Result (Unit {0}) E) (a b c : Option (List ℕ)) (lead text end : List ℕ) → Appends a b lead → Took r b c (text ++ end) → Took r a c ((lead ++ text) ++ end)
 line_written r a b c lead text end first second = subst (λ (t : List ℕ). Took r a c t) (sym (append_assoc lead text end)) (took_then r a b c lead (text ++ end) first second)
 
 pub line_failed : {E : Type 0} (r : Result (Unit {0}) E) → IsErr r → (a b : Option (List ℕ)) (lead text end : List ℕ) → ((front : List ℕ) × (left : List ℕ) × (lead ≡ front ++ left) × Appends a b front) → Took r a b ((lead ++ text) ++ end)
 line_failed r failed a b lead text end first = subst (λ (t : List ℕ). Took r a b t) (sym (append_assoc lead text end)) (took_first r failed a b lead (text ++ end) first)
 
--- rows that are written, as far as a loop has come, and one that is not written in full
+-- the rows that a loop has written, and one that was not written in full
 pub rows_broken : {E : Type 0} (r : Result (Unit {0}) E) → IsErr r → (front one behind all : List ℕ) (a b c : Option (List ℕ)) → all ≡ front ++ (one ++ behind) → Appends a b front
     → ((fore : List ℕ) × (left : List ℕ) × (one ≡ fore ++ left) × Appends b c fore) → Took r a c all
 rows_broken (Ok u) failed front one behind all a b c parts first second = absurd cc
@@ -139,7 +139,7 @@ pub flat_map_of_map : {T U : Type 0} (f : U → List ℕ) (g : T → U) (xs : Li
 flat_map_of_map f g [] = refl
 flat_map_of_map f g (x ∷ xs) = ap (λ (t : List ℕ). f (g x) ++ t) (flat_map_of_map f g xs)
 
--- texts of a list, and before them how many they are
+-- the number of texts of a list, and then the texts
 pub texts_joined : {T : Type 0} (g : T → List ℕ) (lead : List ℕ) (xs : List T) → led lead (codes "rolled " ++ decimal (length xs)) ++ flat_map (λ (x : T). led lead (g x)) xs ≡ texts_text lead (map g xs)
 texts_joined g lead xs =
     ap (λ (n : ℕ). led lead (codes "rolled " ++ decimal n) ++ flat_map (λ x. led lead (g x)) xs) (sym (length-map xs g))

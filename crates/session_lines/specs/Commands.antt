@@ -1,4 +1,4 @@
--- What a line asks of its session, or why it asks nothing.
+-- The command of a session's line, or the line's fault.
 use Rattle.std.specs.Prelude.{◌≡◌, ℕ, Bool, List, codes, Option, None, Some, Result, Ok, Err, if◌then◌else◌}
 use Rattle.std.specs.Str.{bytes_eq}
 use Rattle.plane.specs.declared.point.Point.{Point}
@@ -24,7 +24,7 @@ abbrev pub Gives : {X Y : Type 0} → (X → Y) → Result X Fault → Result Y 
 Gives view (Ok x) reading = reading ≡ Ok (view x)
 Gives view (Err e) reading = reading ≡ Err e
 
--- what an option has, or this fault
+-- the value of an option, or this fault
 abbrev pub or_fault : {X : Type 0} → Fault → Option X → Result X Fault
 or_fault fault None = Err fault
 or_fault fault (Some x) = Ok x
@@ -45,18 +45,18 @@ verb_of word =
     else if bytes_eq word (codes "BYE") then Some verbs.Bye
     else None
 
--- the next word, which is due
+-- the next word; E2 where there is none
 abbrev pub word_at : List ℕ → Result (List ℕ × List ℕ) Fault
 word_at text = or_fault CommandFault (next_word text)
 
--- the command's word, and what is left behind it
+-- the command that the first word names, and the rest of the line
 unfoldable pub verb_at : List ℕ → Result (Verb × List ℕ) Fault
 verb_at text = do
   word ← word_at text
   verb ← or_fault CommandFault (verb_of word.0)
   Ok (verb, word.1)
 
--- a session begins once, and everything but BYE comes after it has begun
+-- HELLO comes once, and every other command but BYE comes after it
 abbrev pub allowed : Bool → Verb → Result (Unit {0}) Fault
 allowed begun verbs.Bye = Ok tt
 allowed begun verbs.Hello = if begun then Err HelloAgain else Ok tt
@@ -70,7 +70,7 @@ allowed begun verbs.Policy = if begun then Ok tt else Err BeforeHello
 allowed begun verbs.Explain = if begun then Ok tt else Err BeforeHello
 allowed begun verbs.Roll = if begun then Ok tt else Err BeforeHello
 
--- the command of a line, which may come now, and what is left behind it
+-- the command of a line, if it may come now, and the rest of the line
 unfoldable pub verb_for : Bool → List ℕ → Result (Verb × List ℕ) Fault
 verb_for begun text = do
   verb ← verb_at text
@@ -82,7 +82,7 @@ abbrev pub shape_or_fault : Result (List Point) WktFault → Result (List Point)
 shape_or_fault (Ok corners) = Ok corners
 shape_or_fault (Err fault) = Err (Shape fault)
 
--- a shape's text takes all that is left, with its spaces
+-- a shape's text is the rest of the line, with its spaces
 unfoldable pub shape_at : List ℕ → Result (List Point) Fault
 shape_at text = shape_or_fault (shape_of text)
 
@@ -143,7 +143,7 @@ explain_at text = do
   shape ← shape_at third.1
   Ok (commands.Explain (record { action = action; owner = owner; class = class; shape = shape }))
 
--- the words of a command, from left to right; the text behind POLICY has no words
+-- a command with its words, read from left to right; the text after POLICY has no words
 unfoldable pub arguments_at : Verb → List ℕ → Result Command Fault
 arguments_at verbs.Hello text = hello_at text
 arguments_at verbs.Search text = shape_at text >>= λ shape. Ok (commands.Search shape)

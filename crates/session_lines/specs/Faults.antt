@@ -1,4 +1,4 @@
--- The codes of the faults that a line can be answered.
+-- The codes of a line's faults.
 use Rattle.std.specs.Prelude.{ℕ, List, codes}
 use Rattle.wkt.specs.FaultCodes.{code_of as wkt_code_of}
 use Rattle.session_lines.specs.declared.faults.Fault.{Fault}

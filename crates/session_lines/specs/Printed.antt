@@ -11,12 +11,12 @@ use Rattle.plain_world.specs.FaultCodes.{fault_code}
 use Rattle.session_lines.specs.Faults.{code_of}
 use Rattle.session_lines.specs.Replies.{SaidData, line, rows, rolled}
 
--- what leads each line of a reply: a session's label, where it has one
+-- the lead of each line of a reply: the session's label, if it has one
 abbrev pub lead_text : List ℕ → List ℕ
 lead_text [] = []
 lead_text (b ∷ bs) = (b ∷ bs) ++ codes ": "
 
--- a line of a reply, with what leads it and its end
+-- a line of a reply, with its lead and its end
 abbrev pub led : List ℕ → List ℕ → List ℕ
 led lead text = lead_text lead ++ text ++ codes "\n"
 
@@ -25,7 +25,7 @@ abbrev pub rule_text : Option (List ℕ) → List ℕ
 rule_text None = codes " none"
 rule_text (Some name) = codes " rule " ++ name
 
--- what is answered in one line
+-- a reply of one line
 abbrev pub reply_text : Reply → List ℕ
 reply_text (Hello name) = codes "hello " ++ name
 reply_text Staged = codes "staged"
@@ -61,11 +61,11 @@ row_text feature =
 abbrev pub rows_text : List ℕ → List Feature → List ℕ
 rows_text lead features = led lead (rows_head (length features)) ++ flat_map (λ feature. led lead (row_text feature)) features
 
--- texts, and before them how many they are
+-- a roll: the number of its lines, and then the lines
 abbrev pub texts_text : List ℕ → List (List ℕ) → List ℕ
 texts_text lead texts = led lead (codes "rolled " ++ decimal (length texts)) ++ flat_map (λ text. led lead text) texts
 
--- the bytes of what a line is answered
+-- the bytes of a reply
 abbrev pub said_text : List ℕ → SaidData → List ℕ
 said_text lead (line reply) = led lead (reply_text reply)
 said_text lead (rows answer) = rows_text lead answer.rows

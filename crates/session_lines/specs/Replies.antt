@@ -1,4 +1,4 @@
--- What a line is answered, as values.
+-- Replies, as values.
 use Rattle.std.specs.Prelude.{ℕ, Bool, true, false, List, Option, None, Some, Result, Ok, Err}
 use Rattle.policy_documents.specs.Documents.{rule_named}
 use Rattle.policy_text.specs.declared.faults.TextFault.{TextFault}
@@ -24,7 +24,8 @@ use Rattle.session_lines.specs.declared.replies.Reply.TheVariants.{Applied, Deni
 use Rattle.session_lines.specs.declared.replies.Said.{Said}
 use Rattle.session_lines.specs.declared.replies.Said.TheVariants as code
 
--- what a line is answered: one line; rows, with how many they are; the lines of a trail that was taken out, with how many
+-- a reply: one line; rows, with their number; the lines of a trail that was taken out, with their
+-- number
 pub data SaidData : Type 0 where
   line : Reply → SaidData
   rows : AnswerData → SaidData
@@ -35,7 +36,7 @@ said_view (code.Line reply) = line reply
 said_view (code.Rows answer) = rows answer
 said_view (code.Rolled piece) = rolled (arc_value piece)
 
--- after this reply a session's staged list is dropped: the list was judged
+-- the list was judged, so the session's staged list is dropped
 abbrev pub ends_list : Reply → Bool
 ends_list (Applied version) = true
 ends_list (Denied rule change) = true
@@ -44,7 +45,7 @@ ends_list (Exists change) = true
 ends_list (Stale current change) = true
 ends_list _ = false
 
--- what a call is answered that the world refuses
+-- the reply to a call that the world refuses
 abbrev pub fault_reply : WorldFault → Reply
 fault_reply (refusals.Memory refused) = Memory refused
 fault_reply (refusals.Tree (tree.Memory refused)) = Memory refused
@@ -53,12 +54,12 @@ fault_reply refusals.NoSubject = Error NoSubject
 fault_reply refusals.NoPlace = Error NoPlace
 fault_reply other = Refused other
 
--- what a text is answered that is no document
+-- the reply to a text that is no document
 abbrev pub policy_reply : TextFault → Reply
 policy_reply (unread.Memory refused) = Memory refused
 policy_reply other = Unread other
 
--- the name of a rule that a decider's document has, where there is such a rule
+-- the name of a rule of a decider's document, if there is such a rule
 abbrev pub name_of_rule : DeciderData → Option ℕ → Option (List ℕ)
 name_of_rule decider None = None
 name_of_rule decider (Some rule) = rule_named rule decider.document.root
@@ -68,7 +69,7 @@ abbrev pub denial_rule : Option DenialData → Option (List ℕ)
 denial_rule None = None
 denial_rule (Some denial) = name_of_rule denial.decider denial.rule
 
--- what a list is answered that is turned away
+-- the reply to a list that was rejected
 abbrev pub refusal_reply : Cause → ℕ → Option DenialData → Reply
 refusal_reply (causes.Denied rule) change denial = Denied (denial_rule denial) change
 refusal_reply causes.Exists change denial = Exists change
@@ -79,18 +80,18 @@ abbrev pub outcome_reply : Outcome → Reply
 outcome_reply (outcomes.Applied version) = Applied version
 outcome_reply (outcomes.Refused refusal denial) = refusal_reply refusal.cause refusal.change denial
 
--- what a question is answered
+-- the reply to EXPLAIN
 abbrev pub ruling_reply : DeciderData → Ruling → Reply
 ruling_reply decider (rulings.Permit rule) = Permitted (name_of_rule decider rule) decider.edition
 ruling_reply decider (rulings.DeniedBy rule) = Forbidden (name_of_rule decider (Some rule)) decider.edition
 ruling_reply decider rulings.NoneApplied = Forbidden None decider.edition
 
--- what steps of a search are answered
+-- the reply to STEP
 abbrev pub visit_reply : Visit → Reply
 visit_reply visits.More = More
 visit_reply visits.Ready = Ready
 
--- what a call of the world is answered: its value shown so, or its refusal
+-- the reply to a call of the world: its value as `show` has it, or its refusal
 abbrev pub told : {T : Type 0} → (T → SaidData) → Result T WorldFault → SaidData
 told show (Ok value) = show value
 told show (Err fault) = line (fault_reply fault)

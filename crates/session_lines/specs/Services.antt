@@ -1,11 +1,11 @@
--- What a session asks of whoever serves it.
+-- The calls of a service.
 use Rattle.std.specs.Prelude.{ℕ, List}
 use Rattle.plane.specs.declared.point.Point.{Point}
 use Rattle.features.specs.declared.rows.Change.{Change}
 use Rattle.policy_documents.specs.Documents.{DocumentData}
 use Rattle.combining.specs.declared.questions.Question.{Question}
 
--- what a session asks of whoever serves it
+-- what a session asks of its service
 pub data Call : Type 0 where
   Hello : (name : List ℕ) → Call
   Search : (window : List Point) → Call

@@ -1,4 +1,4 @@
--- The text that one session by itself is answered, whose lines have no label.
+-- The replies to one session by itself, whose lines have no label.
 use Rattle.std.specs.Prelude.{◌≡◌, ℕ, List, [], ◌∷◌, Option}
 use Rattle.std.specs.Bool.{MatchBool}
 use Rattle.features.specs.declared.actors.Subject.{Subject}
@@ -14,7 +14,7 @@ use Rattle.line_streams.specs.Streams.{StreamTells}
 use Rattle.line_streams.specs.declared.streams.Next.{Next}
 use Rattle.line_streams.specs.declared.streams.Next.TheVariants.{Line, End}
 
--- behind `bye` the stream ends
+-- after `bye` the stream ends
 abbrev pub next_behind : SaidData → Next
 next_behind (line Bye) = End
 next_behind _ = Line
@@ -26,22 +26,22 @@ pub record Replies {S : Type 0} (subject_of : S → Option Subject) (serves : Ca
   pub shows : said ≡ said_text [] reply
   pub ends : next ≡ next_behind reply
 
--- a line that is too long is answered so, and does nothing
+-- a line that is too long is answered E1, and does nothing
 abbrev pub IsPassedOver : {S : Type 0} → Desk S → Desk S → List ℕ → Next → Type 0
 IsPassedOver old new said next = (new ≡ old) × (said ≡ led [] (reply_text (Error LineTooLong))) × (next ≡ Line)
 
--- what a line is answered, and what it leaves; nothing leads it
+-- the reply to a line, and what the line leaves; no label leads the reply
 abbrev pub LineTells : {S : Type 0} → (S → Option Subject) → (Call → S → S → SaidData → Type 0) → List ℕ → Desk S → Desk S → List ℕ → Next → Type 0
 LineTells subject_of serves text old new said next =
     MatchBool (is_too_long text) (IsPassedOver old new said next) (Replies subject_of serves text old new said next)
 
--- The text that a session by itself is answered for an input, from how its service stands to how it stands afterwards: what
--- all lines are answered, or those up to the first that is answered `bye`.
+-- `text` is the replies to an input, for a session by itself whose service goes from `service` to
+-- `end`: the replies to all lines, or to those up to the first that is answered `bye`.
 pub record IsServedText {S : Type 0} (subject_of : S → Option Subject) (serves : Call → S → S → SaidData → Type 0) (service : S) (input : List ℕ) (end : S) (text : List ℕ) : Type 0 where
   pub staged : List Change
   pub tells : StreamTells (LineTells subject_of serves) (desk [] service) (lines_of input) (desk staged end) text
 
--- calls of a service, each with what is said, lead from one way in which it stands to another
+-- calls of a service, each with what is said, lead from one state of it to another
 abbrev pub Calls : {S : Type 0} → (Call → S → S → SaidData → Type 0) → List (Call × SaidData) → S → S → Type 0
 Calls serves [] old new = new ≡ old
 Calls {S = S} serves (call ∷ calls) old new = (mid : S) × serves call.0 old mid call.1 × Calls serves calls mid new

@@ -1,4 +1,4 @@
--- The words of a session line, which spaces part.
+-- The words of a session line, separated by spaces.
 use Rattle.std.specs.Prelude.{codes, ℕ, ◌^◌, ◌==◌, ◌&&◌, Bool, not, nat_le, nat_lt, List, [], ◌∷◌, length, take, drop, Option, None, Some, if◌then◌else◌}
 use Rattle.std.specs.List.{prefix_len}
 use Rattle.std.specs.Str.{all_ascii_digits, bytes_eq}
@@ -9,20 +9,20 @@ use Rattle.features.specs.declared.actors.Action.TheVariants.{Read, Add, Reshape
 abbrev pub is_space : ℕ → Bool
 is_space b = b == 32
 
--- whatever is no space belongs to a word
+-- every byte but a space belongs to a word
 abbrev pub is_letter : ℕ → Bool
 is_letter b = not (b == 32)
 
--- a text without the spaces that it begins with
+-- a text without its leading spaces
 abbrev pub unspaced : List ℕ → List ℕ
 unspaced text = drop (prefix_len is_space text) text
 
--- a text that begins with a word: the word, and what stands behind it
+-- the word at the front of a text, and the rest of the text
 abbrev pub parted : List ℕ → Option (List ℕ × List ℕ)
 parted [] = None
 parted (b ∷ bs) = let len = prefix_len is_letter (b ∷ bs) in Some (take len (b ∷ bs), drop len (b ∷ bs))
 
--- the next word of a text, and what is left behind it
+-- the next word of a text, and the rest of the text
 unfoldable pub next_word : List ℕ → Option (List ℕ × List ℕ)
 next_word text = parted (unspaced text)
 

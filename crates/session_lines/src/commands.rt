@@ -1,4 +1,4 @@
-//! What a line asks of its session: the one table of commands, their words and the order of faults.
+//! The commands of session lines: their words, and the order of a line's faults.
 
 ghost use Rattle.std.specs.Prelude.{◌≡◌};
 ghost use Rattle.features.specs.Names.{name_of};
@@ -11,28 +11,29 @@ use features::{Action, Change, Name};
 use plane::Shape;
 use wkt::read_shape;
 
-/// What a line asks of its session. POLICY is none of these: its document takes all the rest of the line.
+/// A command of a session. POLICY is none of these: its document is the rest of the line.
 #[derive(Clone, Copy, Debug, PartialEq, Eq)]
 pub(crate) enum Command {
-    /// HELLO: to begin, as the subject of this name.
+    /// HELLO: begins the session, for the subject of this name.
     Hello(Name),
-    /// SEARCH: the features that meet this window.
+    /// SEARCH: lists the features that meet this window.
     Search(Shape),
-    /// ADD, RESHAPE, DELETE: to stage a change.
+    /// ADD, RESHAPE, DELETE: stages a change.
     Stage(Change),
-    /// COMMIT: to commit the staged list.
+    /// COMMIT: commits the staged list.
     Commit,
-    /// ABORT: to drop the staged list.
+    /// ABORT: drops the staged list.
     Abort,
-    /// EXPLAIN: whether the session's subject may do this.
+    /// EXPLAIN: says whether the session's subject may do this.
     Explain(Asking),
-    /// ROLL: to take the trail out.
+    /// ROLL: takes the trail out.
     Roll,
-    /// BYE: to end.
+    /// BYE: ends the session.
     Bye,
 }
 
-/// What EXPLAIN asks: may the session's subject do this with a feature of this office and class, at this shape?
+/// What EXPLAIN asks: whether the session's subject may do this with a feature of this office and
+/// class, at this shape.
 #[derive(Clone, Copy, Debug, PartialEq, Eq)]
 pub(crate) struct Asking {
     /// What would be done.
@@ -61,8 +62,9 @@ pub(crate) enum Verb {
     Bye,
 }
 
-/// Reads the command of what stands behind a line's label, for a session that has begun or not, and what is left behind
-/// it. Faults in this order: `Command` for an unknown command, then `BeforeHello` or `HelloAgain`.
+/// Reads the command of a line without its label, for a session that has begun or not; returns it
+/// with the rest of the line. Faults in this order: `Command` for an unknown command, then
+/// `BeforeHello` or `HelloAgain`.
 #[tactic(auto, unfolding(crate::specs::Commands::verb_for))]
 pub(crate) fn read_verb(begun: bool, text: &[u8]) -> Result<(Verb, &[u8]), Fault>
     ensures { Gives (λ r. (r.0, r.1.now)) result (verb_for begun text.now) }
@@ -103,7 +105,7 @@ fn verb_named(word: &[u8]) -> Option<Verb>
     }
 }
 
-/// The command's word, and what is left behind it.
+/// The command that the first word names, and the rest of the line.
 #[tactic(auto, unfolding(crate::specs::Commands::verb_at))]
 fn first_verb(text: &[u8]) -> Result<(Verb, &[u8]), Fault>
     ensures { Gives (λ r. (r.0, r.1.now)) result (verb_at text.now) }
@@ -113,7 +115,7 @@ fn first_verb(text: &[u8]) -> Result<(Verb, &[u8]), Fault>
     Ok((verb, rest))
 }
 
-/// Whether the command may come now.
+/// `HelloAgain` or `BeforeHello` where the command may not come now.
 fn allow(begun: bool, verb: Verb) -> Result<(), Fault>
     ensures { result ≡ allowed begun verb }
 {
@@ -126,8 +128,8 @@ fn allow(begun: bool, verb: Verb) -> Result<(), Fault>
     }
 }
 
-/// Reads the words of a command. Faults by the words from left to right: `Command` for a missing one, `Number`, `Name`;
-/// then those of the shape's text; then `Command` for something left over.
+/// Reads the words of a command. Faults of the words from left to right: `Command` for a missing
+/// one, `Number`, `Name`; then those of the shape's text; then `Command` for something left over.
 #[tactic(auto, unfolding(crate::specs::Commands::arguments_at))]
 pub(crate) fn read_arguments(verb: Verb, rest: &[u8]) -> Result<Command, Fault>
     ensures { result ≡ arguments_at verb rest.now }
@@ -140,7 +142,7 @@ pub(crate) fn read_arguments(verb: Verb, rest: &[u8]) -> Result<Command, Fault>
         Verb::Delete => delete(rest),
         Verb::Commit => alone(Command::Commit, rest),
         Verb::Abort => alone(Command::Abort, rest),
-        // A policy's text is no row of words: `take_command` reads it before it comes here.
+        // No line comes here: `take_command` reads a policy's text before.
         Verb::Policy => Err(Fault::Command),
         Verb::Explain => explain(rest),
         Verb::Roll => alone(Command::Roll, rest),
@@ -234,7 +236,7 @@ fn as_action(word: &[u8]) -> Result<Action, Fault>
     action_named(word).ok_or(Fault::Name)
 }
 
-/// The next word, which is due, and what is left behind it.
+/// The next word, and the rest of the text. `Command` where no word is left.
 pub fn due_word(text: &[u8]) -> Result<(&[u8], &[u8]), Fault>
     ensures { Gives (λ r. (r.0.now, r.1.now)) result (word_at text.now) }
 {
@@ -255,7 +257,7 @@ fn as_name(word: &[u8]) -> Result<Name, Fault>
     Name::new(word).ok_or(Fault::Name)
 }
 
-/// The shape that all the rest of a line spells, or its fault.
+/// The shape that the rest of a line spells, or the fault of its text.
 #[tactic(auto, unfolding(crate::specs::Commands::shape_at))]
 pub fn as_shape(text: &[u8]) -> Result<Shape, Fault>
     ensures { result ≡ shape_at text.now }
@@ -263,7 +265,7 @@ pub fn as_shape(text: &[u8]) -> Result<Shape, Fault>
     read_shape(text).map_err(Fault::Shape)
 }
 
-/// Nothing but spaces is left.
+/// `Command` unless nothing but spaces is left.
 #[tactic(auto, unfolding(crate::specs::Commands::end_at))]
 pub fn end(text: &[u8]) -> Result<(), Fault>
     ensures { result ≡ end_at text.now }

@@ -1,4 +1,4 @@
-//! How a session's line is answered, whoever serves the session.
+//! Answers a session's lines, over any service.
 
 ghost use Rattle.std.specs.Prelude.{◌≡◌, List, []};
 ghost use Rattle.features.specs.declared.rows.Change.{Change};
@@ -18,8 +18,8 @@ use policy_text::read_document;
 use std::alloc::Global;
 use std::marker::Model;
 
-/// The changes that a session has staged, each of another feature. A contract sees their list. It stands in the value
-/// itself, so staging takes no memory.
+/// The changes that a session has staged, each of another feature. Contracts see their list. They
+/// are stored in the value itself, so staging takes no memory.
 #[derive(Debug, Drop)]
 pub struct Staged {
     changes: ChangeList,
@@ -68,7 +68,7 @@ impl Staged {
         self.changes.clear();
     }
 
-    /// Commits what is staged. It is dropped once it is judged. E7 where nothing is.
+    /// Commits the staged list, and drops it once it is judged. E7 where nothing is staged.
     fn commit<S: Service>(&mut self, service: &mut S) -> Reply
         ensures { Closes S.serves (desk self.old service.old) (desk self.new service.new) (line result) }
     {
@@ -112,7 +112,7 @@ pub fn answer<S: Service>(
     }
 }
 
-/// Answers a line whose command is this one.
+/// Answers a line with this command, whose words or document are the rest of the line.
 fn take_command<S: Service>(
     service: &mut S,
     heap: Global,
@@ -131,7 +131,7 @@ fn take_command<S: Service>(
     }
 }
 
-/// Puts the document in force that a text spells. What is staged stays.
+/// Puts in force the document that a text spells. The staged list stays.
 fn govern<S: Service>(service: &mut S, heap: Global, text: &[u8]) -> Reply
     ensures { (staged : List Change) → Governs S.serves text.now (desk staged service.old) (desk staged service.new) (line result) }
 {
@@ -141,7 +141,7 @@ fn govern<S: Service>(service: &mut S, heap: Global, text: &[u8]) -> Reply
     }
 }
 
-/// How the document in force rules of what the session's subject asks. What is staged stays.
+/// The ruling of the policy in force on what the session's subject asks. The staged list stays.
 fn explain<S: Service>(service: &mut S, asking: &Asking) -> Reply
     ensures { (staged : List Change) → Asks S.subject_of S.serves asking.now (desk staged service.old) (desk staged service.new) (line result) }
 {

@@ -5,14 +5,16 @@ ghost use Rattle.std.specs.Prelude.{◌≡◌};
 use std::fmt;
 use wkt::WktFault;
 
-/// Why a line asks nothing, or is not its session's.
+/// Why a line is answered `error`: its syntax, its label or its turn is wrong, or the session gets
+/// no seat or has no policy to read.
 #[derive(Clone, Copy, Debug, PartialEq, Eq)]
 pub enum Fault {
     /// E1: the line is longer than 65,536 bytes.
     LineTooLong,
     /// E2: the command is unknown, a word is missing, or something is left over.
     Command,
-    /// E3: a word is no number of 1 to 20 digits below 2^64, or no number of steps from 1 to 1,000,000.
+    /// E3: a word is no number of 1 to 20 digits below 2^64, or no number of steps from 1 to
+    /// 1,000,000.
     Number,
     /// E4: a word is no name, or no action.
     Name,
@@ -34,7 +36,7 @@ pub enum Fault {
     Closed,
     /// H7: the session has no policy to read.
     NotRead,
-    /// K1 to K5, or the code of what its points lack: the text spells no shape.
+    /// K1 to K5, or the code of its points, P2 to P9: the text is no shape.
     Shape(WktFault),
 }
 

@@ -1,4 +1,4 @@
-//! Session lines: what one asks, what it is answered, and one session by itself, whoever serves it.
+//! Session lines over any service: commands, replies, and one session by itself.
 #![tactic(auto)]
 
 mod commands;

@@ -1,4 +1,4 @@
-//! Lists of changes that stand in the value itself.
+//! Lists of changes that are stored in the value itself.
 ghost use Rattle.std.specs.Prelude.{◌≡◌, ◌≤◌, ◌<◌, ◌++◌, ◌∷◌, [], length};
 ghost use Rattle.plain_world.specs.declared.settings.TheConstants.{CHANGE_LIMIT};
 
@@ -52,7 +52,7 @@ impl ChangeList {
         self.as_slice().len()
     }
 
-    /// One more change at the end.
+    /// Appends a change.
     pub fn push(&mut self, change: Change)
         requires { length self.old < CHANGE_LIMIT }
         ensures { self.new ≡ self.old ++ change ∷ [] }
@@ -69,7 +69,7 @@ impl ChangeList {
     }
 }
 
-/// What stands in a place that no change has taken.
+/// Filler for the places that no change has taken.
 fn unused() -> Change {
     Change::Add {
         id: 0,

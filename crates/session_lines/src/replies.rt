@@ -1,4 +1,4 @@
-//! What a line is answered, as values.
+//! Replies, as values.
 
 ghost use Rattle.std.specs.Prelude.{◌≡◌};
 ghost use Rattle.session_lines.specs.Replies.{denial_rule, ends_list as reply_ends_list, fault_reply, outcome_reply, policy_reply, refusal_reply, visit_reply};
@@ -24,13 +24,15 @@ pub enum Reply {
     Applied(u64),
     /// `denied rule NAME change K`, or `denied none change K` where no rule decides.
     Denied(Option<Name>, u64),
-    /// `absent change K`: there is no feature that the change of this number, counted from 1, could change.
+    /// `absent change K`: the feature that change K, counted from 1, reshapes or deletes is not
+    /// there.
     Absent(u64),
     /// `exists change K`: the change adds a feature that is there already.
     Exists(u64),
-    /// `stale CURRENT change K`: the feature's present version, which the change does not name.
+    /// `stale CURRENT change K`: the feature's present version is CURRENT, and the change names
+    /// another.
     Stale(u64, u64),
-    /// `held`: a search that is under way looks for what would be placed.
+    /// `held`: an open search looks for a shape that would be placed.
     Held,
     /// `opened`
     Opened,
@@ -42,7 +44,8 @@ pub enum Reply {
     Aborted,
     /// `edition N`
     Edition(u64),
-    /// `permit rule NAME edition N`, or `permit none edition N` where the document permits by default.
+    /// `permit rule NAME edition N`, or `permit none edition N` where the document permits by
+    /// default.
     Permitted(Option<Name>, u64),
     /// `denied rule NAME edition N`, or `denied none edition N` where no rule decides.
     Forbidden(Option<Name>, u64),
@@ -50,17 +53,18 @@ pub enum Reply {
     Bye,
     /// `memory`: an allocation was refused.
     Memory(Refused),
-    /// `error CODE`: the line asks nothing, or is not its session's.
+    /// `error CODE`, an E, an H or the code of a shape's text: see `Fault`.
     Error(Fault),
     /// `error CODE`, D1 to D8: the text is no policy document.
     Unread(TextFault),
-    /// `error CODE`, an X or an S: the world refuses the call. X9 is shown as the code of the index; want of memory, a subject
-    /// that is unknown, a seat too many and a list that is held back have replies of their own.
+    /// `error CODE`, an X or an S: the world refuses the call. X9 is shown as the code of the
+    /// index. Out of memory, an unknown subject, no seat left and a list that is held have replies
+    /// of their own.
     Refused(WorldFault),
 }
 
 impl Reply {
-    /// Whether the session's staged list is dropped: it was applied, or turned away for one of its changes.
+    /// Whether the session's staged list was judged, applied or rejected: then it is dropped.
     pub fn ends_list(&self) -> bool
         ensures { result ≡ reply_ends_list self.now }
     {
@@ -75,7 +79,7 @@ impl Reply {
     }
 }
 
-/// What a line is answered.
+/// The reply to a line.
 #[derive(Debug, Drop)]
 pub enum Said<A: Allocator> {
     /// A reply of one line.
@@ -86,7 +90,7 @@ pub enum Said<A: Allocator> {
     Rolled(Arc<Rolled<A>, A>),
 }
 
-/// What a call that the world refuses is answered.
+/// The reply to a call that the world refuses.
 pub fn fault_reply(fault: WorldFault) -> Reply
     ensures { result ≡ fault_reply fault }
 {
@@ -100,7 +104,7 @@ pub fn fault_reply(fault: WorldFault) -> Reply
     }
 }
 
-/// What steps of a search are answered.
+/// The reply to STEP.
 pub fn visit_reply(visit: Visit) -> Reply
     ensures { result ≡ visit_reply visit }
 {
@@ -110,7 +114,7 @@ pub fn visit_reply(visit: Visit) -> Reply
     }
 }
 
-/// What a text that is no document is answered.
+/// The reply where no document was read: `memory`, or D1 to D8.
 pub(crate) fn policy_reply(fault: TextFault) -> Reply
     ensures { result ≡ policy_reply fault }
 {
@@ -129,7 +133,7 @@ fn denial_rule(denial: &Option<Denial>) -> Option<Name>
     denial.decider().rule_name(rule)
 }
 
-/// What a commit is answered that the world has judged.
+/// The reply to a commit that the world has judged.
 pub fn outcome_reply(outcome: &Outcome) -> Reply
     ensures { result ≡ outcome_reply outcome.now }
 {
@@ -139,7 +143,7 @@ pub fn outcome_reply(outcome: &Outcome) -> Reply
     }
 }
 
-/// What a list is answered that is turned away.
+/// The reply to a list that was rejected.
 fn refusal_reply(refusal: &Refusal, denial: &Option<Denial>) -> Reply
     ensures { result ≡ refusal_reply refusal.now.cause refusal.now.change denial.now }
 {

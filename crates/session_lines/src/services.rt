@@ -1,4 +1,4 @@
-//! Who serves a session.
+//! The back end of a session.
 
 ghost use Rattle.std.specs.Prelude.{◌≡◌, ◌≤◌, length};
 ghost use Rattle.audit_trail.specs.Judging.{AreDistinct};
@@ -12,18 +12,18 @@ use plane::Shape;
 use policy_text::Document;
 use std::alloc::{Allocator, Global};
 
-/// Whoever serves a session: what its lines ask that the session cannot answer by itself. Each call answers what the line
-/// is answered.
+/// The back end of a session, which makes the calls that the session's lines ask for. Each call
+/// returns the reply to its line.
 pub trait Service {
     ghost use Rattle.std.specs.Prelude.{Option};
     ghost use Rattle.features.specs.declared.actors.Subject.{Subject};
     ghost use Rattle.session_lines.specs.Replies.{SaidData};
     ghost use Rattle.session_lines.specs.Services.{Call, Hello, Search, Commit, Govern, Explain, Roll, Leave};
 
-    /// Where answers are kept.
+    /// The allocator of rows and of a roll's lines.
     type Memory: Allocator;
 
-    // for whom the session asks
+    // the subject for whom the session asks
     ghost subject_of: { Self → Option Subject };
 
     // what a call makes of the service, and what is said
@@ -33,26 +33,30 @@ pub trait Service {
     fn subject(&self) -> Option<Subject>
         ensures { result ≡ subject_of self.now };
 
-    /// Begins as the subject of a name: `hello`, H1 where there is none, H2 where no place is left, `memory`.
+    /// Begins the session for the subject of a name: `hello`, H1 where there is no such subject, H2
+    /// where no seat is left, H3 where a hall is closed, `memory`.
     fn hello(&mut self, name: Name) -> Reply
         ensures { serves (Hello name) self.old self.new (line result) };
 
-    /// What the subject may read of what meets a window: `rows`, `memory`, or the search's fault (of a world S2, S6, S7 or X10).
+    /// Lists what meets a window and the subject may read: `rows`, `memory`, or the search's fault
+    /// (of a world S2, S6, S7 or X10).
     fn search(&mut self, window: Shape) -> Said<Self::Memory>
         ensures { serves (Search window) self.old self.new (said_view result) };
 
-    /// Commits a list of changes, all or none of it: how it is judged, `held`, `memory`, or the
+    /// Commits a list of changes, all or none: the reply by its judgement, `held`, `memory`, or the
     /// commit's fault (of a world S4 to S7, X8, X10 or X11).
     fn commit(&mut self, changes: &[Change]) -> Reply
         requires distinct { AreDistinct changes.now }
         requires few { length changes.now ≤ CHANGE_LIMIT }
         ensures { serves (Commit changes.now) self.old self.new (line result) };
 
-    /// Puts a document in force: `edition`, X7 where the subject is no steward, `memory`, X8 or X10.
+    /// Puts a document in force: `edition`, X7 where the subject is no steward, `memory`, X8 or
+    /// X10.
     fn govern(&mut self, document: Document<Global>) -> Reply
         ensures { serves (Govern document) self.old self.new (line result) };
 
-    /// How the document in force rules of a question.
+    /// The ruling of the policy in force on a question: `permit`, `denied`, or H7 where there is no
+    /// policy to read.
     fn explain(&mut self, question: &Question) -> Reply
         ensures { serves (Explain question.now) self.old self.new (line result) };
 

@@ -20,7 +20,7 @@ use std::alloc::{Allocator, Global};
 use std::io::{Read, Write};
 use std::marker::PhantomData;
 
-/// Whether a session by itself goes on behind this answer.
+/// `End` after `bye`, `Line` after any other reply.
 fn next_behind<A: Allocator>(said: &Said<A>) -> Next
     ensures { result ≡ next_behind (said_view said.now) }
 {
@@ -30,13 +30,13 @@ fn next_behind<A: Allocator>(said: &Said<A>) -> Next
     }
 }
 
-/// What stands of a session by itself between two lines.
+/// What a session by itself keeps between two lines.
 #[derive(Drop)]
 struct Alone<S: Service> {
     heap: Global,
     staged: Staged,
-    // The service stands beside the desk, as the world of its `LineDesk`. Its type is named here, since an `impl` for `Alone`
-    // has no other place that fixes `S`.
+    /// The service is not kept here: it is the `World` of the `LineDesk`. Its type is named, since
+    /// an `impl` for `Alone` has no other place that fixes `S`.
     service: PhantomData<S>,
 }
 
@@ -66,10 +66,11 @@ impl<S: Service> LineDesk for Alone<S> {
     ghost long_alike = { Prim.search rules };
 }
 
-/// Serves one session to the end of the input, or to the line that is answered `bye`, behind which it returns: each line is
-/// answered as a script answers it, without labels; OPEN, STEP and FINISH, which scripts alone know, are E2. No line is
-/// skipped: an empty one has no command. Replies leave before a read waits. `alloc` serves the buffers, `heap` the documents
-/// that are read. Faults and what stands after them are those of `run_lines`.
+/// Serves one session to the end of the input, or to the line that is answered `bye`. Each line is
+/// answered as a script answers it, but without labels; OPEN, STEP and FINISH, which scripts alone
+/// know, are E2. No line is skipped: an empty one and one that begins with `#` are E2. Replies are
+/// written out before a read waits. `alloc` serves the buffers, `heap` the documents that are read.
+/// The faults, and what holds after them, are those of `run_lines`.
 pub fn serve<S: Service, A: Allocator, R: Read, W: Write>(
     alloc: A,
     heap: Global,

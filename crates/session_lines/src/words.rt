@@ -9,13 +9,13 @@ ghost use Rattle.session_lines.specs.Words.{is_space, is_letter, unspaced, next_
 
 use features::Action;
 
-/// How many digits a number has at most.
+/// The most digits that a number has.
 const DIGITS: usize = 20;
 
-/// Above every number of 64 bits: what a larger one is taken for.
+/// Stands for every number that is too large for 64 bits.
 const TOO_LARGE: u128 = 1 << 64;
 
-/// How many spaces the bytes begin with.
+/// The number of leading spaces.
 #[tactic(auto, using(wkt::proofs::DigitsLemmas::prefix_fits))]
 fn space_len(text: &[u8]) -> usize
     ensures value { result ≡ prefix_len is_space text.now }
@@ -24,7 +24,7 @@ fn space_len(text: &[u8]) -> usize
     text.iter().take_while(|byte| **byte == b' ').count()
 }
 
-/// How many bytes of a word the bytes begin with.
+/// The length of the word at the front.
 #[tactic(auto, using(wkt::proofs::DigitsLemmas::prefix_fits))]
 fn word_len(text: &[u8]) -> usize
     ensures value { result ≡ prefix_len is_letter text.now }
@@ -33,14 +33,14 @@ fn word_len(text: &[u8]) -> usize
     text.iter().take_while(|byte| **byte != b' ').count()
 }
 
-/// The text without the spaces that it begins with.
+/// The text without its leading spaces.
 fn without_spaces(text: &[u8]) -> &[u8]
     ensures { result.now ≡ unspaced text.now }
 {
     &text[space_len(text)..]
 }
 
-/// The next word, and what is left behind it; `None` where nothing but spaces is left.
+/// The next word, and the rest of the text; `None` where only spaces are left.
 #[tactic(auto, unfolding(crate::specs::Words::next_word))]
 pub fn next_word(text: &[u8]) -> Option<(&[u8], &[u8])>
     ensures { option_map (λ w. (w.0.now, w.1.now)) result ≡ word_of text.now }
@@ -77,7 +77,7 @@ fn are_digits(word: &[u8]) -> bool
     word.iter().all(|byte| byte.is_ascii_digit())
 }
 
-/// The number that digits spell, or `TOO_LARGE` where it is larger.
+/// The number that digits spell, or `TOO_LARGE` if it is larger than 64 bits hold.
 fn capped_value(digits: &[u8]) -> u128
     requires { all_ascii_digits digits.now ≡ true }
     ensures { result ≡ min (digits_value 10 digits.now) (2 ^ 64) }

@@ -1,4 +1,4 @@
-//! Replies as bytes. No reply takes memory.
+//! Replies as bytes. Writing takes no memory.
 
 ghost use Rattle.std.specs.Prelude.{◌≡◌, ◌+◌, ◌≤◌, ◌++◌, codes, decimal, length, map, string_bytes};
 ghost use Rattle.std.specs.List.{flat_map};
@@ -16,16 +16,17 @@ use std::alloc::Allocator;
 use std::io::Write;
 use wkt::shape_text;
 
-/// The longest line of a reply has 510 bytes: a label, a row's two numbers, its two names and a polygon's text.
+/// Room for every line but those of a roll. The longest one is a row of 510 bytes: a label, two
+/// numbers, two names, a polygon's text and the end of the line.
 const LINE_ROOM: usize = 512;
 
-/// How many bytes what leads a line has at most.
+/// The most bytes of a lead, which is a session's label.
 pub const LEAD_LIMIT: usize = 32;
 
-/// A line of a reply while it grows.
+/// A line of a reply while it is made.
 type Line = ArrayVec<u8, LINE_ROOM>;
 
-/// Some bytes, for which there is room.
+/// Appends bytes, for which there is room.
 fn push_bytes(line: &mut Line, bytes: &[u8])
     requires room { array_vec_len line.old + length bytes.now ≤ 512 }
     ensures items { line.new.items ≡ line.old.items ++ bytes.now }
@@ -34,7 +35,7 @@ fn push_bytes(line: &mut Line, bytes: &[u8])
     line.try_extend_from_slice(bytes).unwrap();
 }
 
-/// A number has 20 bytes at most.
+/// Appends a number, which has at most 20 bytes.
 fn push_number(line: &mut Line, number: u64)
     requires room { array_vec_len line.old + 20 ≤ 512 }
     ensures items { line.new.items ≡ line.old.items ++ decimal number }
@@ -44,7 +45,6 @@ fn push_number(line: &mut Line, number: u64)
     push_bytes(line, buffer.format(number).as_bytes());
 }
 
-/// A word and a number.
 fn push_numbered(line: &mut Line, word: &[u8], number: u64)
     requires room { array_vec_len line.old ≤ 300 }
     requires word { length word.now ≤ 14 }
@@ -55,7 +55,7 @@ fn push_numbered(line: &mut Line, word: &[u8], number: u64)
     push_number(line, number);
 }
 
-/// A line that has its lead alone: a session's label, or nothing.
+/// A line that has only its lead: a session's label and `: `, or nothing.
 fn begin(lead: &[u8]) -> Line
     requires { length lead.now ≤ LEAD_LIMIT }
     ensures items { result.items ≡ lead_text lead.now }
@@ -93,7 +93,7 @@ fn push_hello(line: &mut Line, name: &Name)
     push_bytes(line, name.as_bytes());
 }
 
-/// The name of a rule, or `none`.
+/// ` rule` and the name of a rule, or ` none`.
 fn push_rule(line: &mut Line, rule: &Option<Name>)
     requires room { array_vec_len line.old ≤ 200 }
     ensures items { line.new.items ≡ line.old.items ++ rule_text rule.now }
@@ -128,7 +128,6 @@ fn push_verdict(line: &mut Line, verdict: &[u8], rule: &Option<Name>, word: &[u8
     push_numbered(line, word, number);
 }
 
-/// Two numbered words.
 fn push_two(line: &mut Line, word: &[u8], number: u64, then: &[u8], further: u64)
     requires room { array_vec_len line.old ≤ 34 }
     requires word { length word.now ≤ 14 }
@@ -189,7 +188,7 @@ fn push_row(line: &mut Line, feature: &Feature)
     push_bytes(line, shape_text(&feature.shape).as_bytes());
 }
 
-/// A field of a row, and the space behind it.
+/// A field of a row, and the space after it.
 fn push_field(line: &mut Line, field: &[u8])
     requires room { array_vec_len line.old + length field.now ≤ 511 }
     ensures items { line.new.items ≡ line.old.items ++ (field.now ++ codes " ") }
@@ -209,7 +208,7 @@ fn push_number_field(line: &mut Line, number: u64)
     push_bytes(line, b" ");
 }
 
-/// Writes a line with its end, by one call of the writer.
+/// Writes a line and its end in one piece.
 fn finish<W: Write>(mut line: Line, writer: &mut W) -> Result<(), WriteFailed>
     requires { array_vec_len line ≤ 511 }
     ensures { Took result (W.contents writer.old) (W.contents writer.new) (line.items ++ codes "\n") }
@@ -218,7 +217,8 @@ fn finish<W: Write>(mut line: Line, writer: &mut W) -> Result<(), WriteFailed>
     write_whole(line.as_slice(), writer)
 }
 
-/// Writes what a line is answered, each line of it led by the session's label. Takes no memory. An error is the writer's.
+/// Writes the reply to a line, each of its own lines led by the session's label. Takes no memory.
+/// An error is the writer's.
 pub fn write_said<A: Allocator, W: Write>(
     lead: &[u8],
     said: &Said<A>,
@@ -234,7 +234,7 @@ pub fn write_said<A: Allocator, W: Write>(
     }
 }
 
-/// Writes a reply of one line.
+/// Writes a reply of one line. Takes no memory. An error is the writer's.
 pub fn write_line<W: Write>(lead: &[u8], reply: &Reply, writer: &mut W) -> Result<(), WriteFailed>
     requires { length lead.now ≤ LEAD_LIMIT }
     ensures { Took result (W.contents writer.old) (W.contents writer.new) (led lead.now (reply_text reply.now)) }
@@ -244,7 +244,7 @@ pub fn write_line<W: Write>(lead: &[u8], reply: &Reply, writer: &mut W) -> Resul
     finish(line, writer)
 }
 
-/// Writes how many lines come behind this one.
+/// Writes the first line of a listing or a roll: a word, and the number of lines that follow.
 fn write_count<W: Write>(
     lead: &[u8],
     word: &[u8],
@@ -260,7 +260,7 @@ fn write_count<W: Write>(
     finish(line, writer)
 }
 
-/// Writes rows, and before them how many they are.
+/// Writes the number of rows, and then the rows.
 fn write_rows<W: Write>(lead: &[u8], rows: &[Feature], writer: &mut W) -> Result<(), WriteFailed>
     requires { length lead.now ≤ LEAD_LIMIT }
     ensures { Took result (W.contents writer.old) (W.contents writer.new) (rows_text lead.now rows.now) }
@@ -269,7 +269,7 @@ fn write_rows<W: Write>(lead: &[u8], rows: &[Feature], writer: &mut W) -> Result
     write_each(lead, rows, writer)
 }
 
-/// Writes the lines of a trail that was taken out, and before them how many they are.
+/// Writes the number of a roll's lines, and then the lines.
 fn write_texts<A: Allocator, W: Write>(
     lead: &[u8],
     texts: &[String<A>],
@@ -297,7 +297,7 @@ fn write_each_text<A: Allocator, W: Write>(
     Ok(())
 }
 
-/// Writes a line of any length: what leads it, the text, and its end, each by a call of its own.
+/// Writes a line of any length in three pieces: its lead, the text, and its end.
 fn write_text<W: Write>(lead: &[u8], text: &[u8], writer: &mut W) -> Result<(), WriteFailed>
     requires { length lead.now ≤ LEAD_LIMIT }
     ensures { Took result (W.contents writer.old) (W.contents writer.new) (led lead.now text.now) }

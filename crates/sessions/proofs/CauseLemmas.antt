@@ -1,4 +1,4 @@
--- Which faults are the index's, and what searches and lists make of it.
+-- Which faults are the index's, and what searches and lists do to the index.
 use Rattle.std.proofs.Common.{◌≡◌, ℕ, suc, ◌+◌, ◌<◌, ◌==◌, Bool, true, false, List, Option, None, Some, MatchOption, Result, Ok, Err, IfErr, if◌then◌else◌, refl, sym, ap, subst, ◌∙◌, inl, inr, arith, nat_le, nat_lt, length}
 use Rattle.std.specs.Prelude.{⊤}
 use Rattle.std.specs.Bool.{MatchBool}
@@ -40,7 +40,7 @@ use Rattle.sessions.proofs.SearchLemmas.{want_is}
 
 -- ---- faults that are not the index's
 
--- every fault by which a test fails is so
+-- each fault with which a test fails fits
 module _ (Fits : Fault → Type 0) where
   abbrev pub Fails : {T : Type 0} → Result T Fault → Type 0
   Fails r = (fault : Fault) → r ≡ Err fault → Fits fault
@@ -67,7 +67,7 @@ module _ (Fits : Fault → Type 0) where
   fails_unless true met x fits = fails_ok x
   fails_unless false met x fits = fails_err met fits
 
-  -- what an event is answered, where it is refused
+  -- if the reply is a refusal, its fault fits
   abbrev pub Answered : Reply → Type 0
   Answered (Refused fault) = Fits fault
   Answered _ = ⊤
@@ -104,7 +104,7 @@ own_commit seat number w =
 own_wants : (fault : Fault) → is_want fault ≡ true → IsOwn fault
 own_wants = want_fits IsOwn (λ refusal. refl)
 
--- events that are refused by faults of their own alone
+-- events whose refusals are never the index's
 pub stage_own : (seat number : ℕ) (change : Change) (old new : WorldData) (reply : Reply) → Happens (Stage seat number change) old new reply → Answered IsOwn reply
 stage_own seat number change old new reply h =
     by_if (may_stage seat number change old) old new reply _ (Answered IsOwn) (λ fault may same. own_stage seat number change old fault may) (λ u may d. subst (Answered IsOwn) (sym d.1) tt) h
@@ -156,7 +156,7 @@ module _ (seat number count : ℕ) (start world : WorldData) (same : world ≡ s
   seeks_ready_in mid new result visit ends =
       (count, old, seen, inr (inl (mid, subst (λ (w : WorldData). VisitsIndex (may_go_on seat number w) number old mid (Ok visits.Ready)) same visit, ends)))
 
-  -- it is waited for no longer
+  -- the visits are at their upper bound
   pub seeks_no_longer_in : {T : Type 0} → STEP_LIMIT < count → SeeksIn {T = T} (may_go_on seat number start) number first old (Err (faults.Tree tree.Overrun))
   seeks_no_longer_in lt = (count, old, seen, inr (inr (lt, refl, refl)))
 
@@ -169,12 +169,12 @@ module _ (seat number count : ℕ) (first old : IndexedWorld) (walks : WalksMore
       let next : suc count ≡ count + 1 = omega arith in
       subst (λ (n : ℕ). WalksMore seat number n first new) next (old, step, walks, h)
 
--- a transaction that may be let go of, once more
+-- a transaction's place may be removed once more
 pub lets_go : {T : Type 0} (number : ℕ) (start old new : List JourneyData) (r : Result T Fault) → LetsGo number start old → new ≡ if_done r old (λ _. ended number old) → LetsGo number start new
 lets_go number start old new (Ok x) gone is = (suc gone.0, is ∙ ap (ended number) gone.1)
 lets_go number start old new (Err fault) gone is = (gone.0, is ∙ gone.1)
 
--- what is said of a list that is staged in a transaction, from the transaction's beginning on
+-- a list that is staged in its transaction, from the transaction's beginning on
 pub commits_in : {T : Type 0} (seat number : ℕ) (changes : List Change) (old mid new : IndexedWorld) (result : Result T Fault) → number ≡ old.plain.next_transaction → mid.index ≡ old.index → mid.walks ≡ with_place number old.walks
     → ConcludesIn seat number changes (begun old.plain) mid.index mid.walks new result → CommitsIn seat changes old new result
 commits_in seat number changes old mid new result is index walks h =
@@ -191,7 +191,7 @@ commits_in seat number changes old mid new result is index walks h =
 
 -- ---- a session's calls
 
--- a search, as it ends
+-- a search, by its result
 module _ (seat : ℕ) (window : List Point) (end : Result AnswerData Fault) (said : SaidData) (shown : said ≡ told rows end) where
   pub search_so : (old new : SoloState) → old.seat ≡ Some seat → new.seat ≡ old.seat → WhereAtRest old.world new.world (Searches seat window old.world new.world (reply_of Rows end)) → Serves (SearchFor window) old new said
   search_so old new is same ends =
@@ -203,7 +203,7 @@ module _ (seat : ℕ) (window : List Point) (end : Result AnswerData Fault) (sai
   search_there at old new is h =
       subst (λ (s : Option ℕ). MatchOption s (StayBeside old new) (λ seat. (end : Result AnswerData Fault) × SearchesIn seat window old new end × (said ≡ told rows end))) (sym is) (end, h, shown)
 
--- a commit, as it ends
+-- a commit, by its result
 module _ (seat : ℕ) (changes : List Change) (end : Result Outcome Fault) (said : SaidData) (shown : said ≡ told (λ outcome. line (outcome_reply outcome)) end) where
   pub commit_so : (old new : SoloState) → old.seat ≡ Some seat → new.seat ≡ old.seat → WhereAtRest old.world new.world (Commits seat changes old.world new.world (reply_of Ended end)) → Serves (CommitList changes) old new said
   commit_so old new is same ends =

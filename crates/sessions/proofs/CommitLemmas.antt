@@ -1,4 +1,4 @@
--- A commit from its beginning to its end, over a world in which no other transaction is open.
+-- A whole commit, over a world with no other open transaction.
 use Rattle.std.proofs.Common.{◌≡◌, ◌≢◌, ◌⊎◌, ℕ, zero, suc, ◌+◌, ◌<◌, ◌≤◌, ◌==◌, ◌||◌, nat_le, nat_lt, not, Bool, true, false, List, [], ◌∷◌, ◌++◌, length, take, length-take, get_or, slice_get, Option, None, Some, MatchOption, Result, Ok, Err, if◌then◌else◌, refl, sym, ap, subst, ◌∙◌, inl, inr, arith}
 use Rattle.std.specs.Bool.{MatchBool}
 use Rattle.std.proofs.lemmas.Bool.{cases_eq, ne_eqb}
@@ -63,20 +63,20 @@ may_add_at change changes few other =
     ap (λ (b : Bool). if b then Err faults.TooManyChanges else if names (change_id change) changes then Err faults.NamedTwice else Ok tt) room
     ∙ ap (λ (b : Bool). if b then Err faults.NamedTwice else Ok tt) other
 
--- a change may be staged behind those before it, where all name different features
+-- a change may be staged after those before it, if all name different features
 pub may_stage_at : (changes : List Change) (i : ℕ) (change : Change) → AreDistinct changes → length changes ≤ CHANGE_LIMIT → i < length changes → change ≡ get_or changes i change → may_add change (take i changes) ≡ Ok tt
 may_stage_at changes i change distinct few lt is =
     let other = subst (λ (x : Change). names (change_id x) (take i changes) ≡ false) (sym is) (distinct_at changes i change distinct lt) in
     let shorter : length (take i changes) ≡ i = length_take_lt i changes lt in
     may_add_at change (take i changes) (rw shorter (omega (arith, few, lt))) other
 
--- a place behind a list's end
+-- a place past the end of a list
 not_within : {T : Type 0} (xs : List T) (n : ℕ) → slice_get xs n ≡ None → nat_lt n (length xs) ≡ false
 not_within [] n none = grind (arith, nat_tests)
 not_within (x ∷ xs) zero none = absurd cc
 not_within (x ∷ xs) (suc n) none = let rest = not_within xs n none in grind (arith, nat_tests, rest)
 
--- an element stands before a place that is behind the list's end
+-- an element is before a place past the end of the list
 before_end : {T : Type 0} (xs : List T) (at n : ℕ) (x : T) → slice_get xs at ≡ Some x → slice_get xs n ≡ None → at < n
 before_end [] at n x e none = absurd cc
 before_end (first ∷ xs) at zero x e none = absurd cc
@@ -107,11 +107,11 @@ one_further changes w placed placement is none before at other lt e = elim (case
   | inr apart ↦ before at other (omega (arith, lt, apart)) e
 ]
 
--- all of them are
+-- all of them are placed
 all_placed_so : (changes : List Change) (w : WorldData) (placed : ℕ) → slice_get (placements changes) placed ≡ None → NoReadySeeksFirst placed changes w → NoReadySeeksAny changes w
 all_placed_so changes w placed none before at placement e = before at placement (before_end (placements changes) at placed placement e none) e
 
--- ---- the one transaction that is under way
+-- ---- the open transaction
 
 module _ (number seat : ℕ) (w : WorldData) (subject : Subject) (seated : subject_at seat w ≡ Ok subject) where
   abbrev one : List Change → ℕ → TransactionData
@@ -180,7 +180,7 @@ module _ (number seat : ℕ) (w : WorldData) (subject : Subject) (seated : subje
       go None e d = subst (λ (r : Reply). Advancing changes placed new r) (sym d.1) (d.0, e, all_placed_so changes w placed e before)
       go (Some placement) e d = walks changes placed placement e before new reply d
 
-  -- whatever stands of the transaction is given up
+  -- aborting the transaction, if it is still open, leaves the world without it
   pub aborted : (changes : List Change) (mid new : WorldData) (reply : Reply) → Stands seat number changes w mid → Happens (Abort seat number) mid new reply → new ≡ closed w
   aborted changes mid new reply (inl (placed, e)) h =
       let there = under number seat changes placed w in
@@ -195,7 +195,7 @@ module _ (number seat : ℕ) (w : WorldData) (subject : Subject) (seated : subje
   abbrev pub version : ℕ
   version = w.state.version + 1
 
-  -- what becomes of a list that was judged
+  -- the end of a list that was judged
   abbrev pub EndsSo : List Change → ℕ → Judgement → WorldData → Reply → Type 0
   EndsSo changes placed judgements.Accepted new reply =
       MatchBool (w.state.version == LAST) ((reply ≡ Refused faults.Spent) × (new ≡ under number seat changes placed w))
@@ -270,7 +270,7 @@ module _ (number seat : ℕ) (w : WorldData) (subject : Subject) (seated : subje
             ends e (is_memory reply) refl (does _ subject there new reply (λ s. UnlessMemory there new reply (CommitsEvent seat number s there new reply))
             (admitted ∙ ap (λ (b : Bool). and_then (if b then Err faults.TrailFull else Ok tt) (λ _. Ok subject)) e) h)
 
--- ---- commits from the beginning
+-- ---- whole commits
 
 -- a transaction that is not opened
 pub begin_refused : (seat : ℕ) (changes : List Change) (old new : WorldData) (fault : Fault) → IsAtRest old → Happens (Begin seat) old new (Refused fault)
@@ -358,7 +358,7 @@ module _ (seat : ℕ) (changes : List Change) (old mid : WorldData) (number : �
   whole new reply d =
       subst (λ (o : WorldData). Commits seat changes o new reply) (sym (closed_same old still.transactions)) (done _ started.subject (closed old) new reply (Does new reply) admits d)
 
-  -- where the trail takes a record
+  -- the trail takes a record
   judged : (new : WorldData) (reply : Reply) → is_full old ≡ false → NoReadySeeksAny changes (closed old)
       → ((judgement : Judgement) × Judged old.state started.subject changes judgement × EndsAs judgement seat started.subject changes (closed old) new reply)
       → NoReadySeeksAny changes (closed old) × MatchBool (is_full (closed old)) ((reply ≡ Refused faults.TrailFull) × (new ≡ begun (closed old)))
@@ -372,7 +372,7 @@ module _ (seat : ℕ) (changes : List Change) (old mid : WorldData) (number : �
   concluded : (stopped : WorldData) (reply : Reply) → Concludes seat number changes mid stopped reply → ConcludesAll seat number changes (begun old) stopped reply
   concluded stopped reply all = all (begun old) started.subject started.seated started.stands
 
-  -- a commit that comes to nothing, whose transaction is given up
+  -- a commit that fails, and is aborted
   pub commit_refused : (stopped new : WorldData) (fault : Fault) (reply : Reply) → Concludes seat number changes mid stopped (Refused fault) → Happens (Abort seat number) stopped new reply → IsAtRest new × Commits seat changes old new (Refused fault)
   commit_refused stopped new fault reply all drops = go (concluded stopped (Refused fault) all)
     where

@@ -1,4 +1,5 @@
--- Each search that runs is one that a session of the script has open. So none runs once all of these are given up.
+-- Each open search is one that a session of the script has open. So none is open once all of these
+-- are dropped.
 use Rattle.std.proofs.Common.{◌≡◌, ◌⊎◌, ℕ, zero, suc, ◌<◌, ◌==◌, not, Bool, true, false, List, [], ◌∷◌, ◌++◌, length, map, filter, slice_set, slice_index_or, Option, None, Some, Ok, Err, if◌then◌else◌, refl, sym, ap, subst, ◌∙◌, inl, inr, arith, append-nil}
 use Rattle.std.specs.Bool.{MatchBool}
 use Rattle.std.proofs.lemmas.Bool.Decides.{nat_tests}
@@ -22,7 +23,8 @@ use Rattle.sessions.specs.States.{IsAtRest, SessionState}
 use Rattle.sessions.specs.Stepping.{AllDrop, Drops}
 use Rattle.sessions.proofs.SearchLemmas.{same_number}
 
--- a session with this seat and this open search has opened the search
+-- a session at seat `at` with the open search `number_open` has opened the search `number` of
+-- `seat`
 abbrev pub HasOpen : Option ℕ → Option ℕ → ℕ → ℕ → Type 0
 HasOpen at number_open seat number = (at ≡ Some seat) × (number_open ≡ Some number)
 
@@ -58,7 +60,7 @@ pub held_push : (seats : List Subject) (xs : List SessionState) (ss : List Searc
 held_push seats xs [] s h one = (one, tt)
 held_push seats xs (first ∷ ss) s h one = (h.0, held_push seats xs ss s h.1 one)
 
--- more seats, and sessions that have what the former had
+-- more seats, and sessions that have open what the former ones had
 pub held_more : (seats more : List Subject) (xs ys : List SessionState) (ss : List Search) → ((seat number : ℕ) → AnyHas xs seat number → AnyHas ys seat number) → AreHeld seats xs ss → AreHeld (seats ++ more) ys ss
 held_more seats more xs ys [] has h = tt
 held_more seats more xs ys (s ∷ ss) has h =
@@ -89,7 +91,7 @@ set_has [] at after seat number lt h = absurd (omega (arith, lt))
 set_has (x ∷ xs) zero after seat number lt h = inl h
 set_has (x ∷ xs) (suc at) after seat number lt h = inr (set_has xs at after seat number (omega (arith, lt)) h)
 
--- what the session had open before, it has open afterwards, where it runs
+-- of the open searches, those that the session had open it has open afterwards
 abbrev pub AllStay : SessionState → SessionState → List Search → Type 0
 AllStay before after [] = Unit {0}
 AllStay before after (s ∷ ss) = (HasOpen before.seat before.search s.seat s.number → HasOpen after.seat after.search s.seat s.number) × AllStay before after ss
@@ -105,7 +107,7 @@ held_set seats xs at d before after (s ∷ ss) e stay h =
     let keeps = subst (λ (x : SessionState). HasOpen x.seat x.search s.seat s.number → HasOpen after.seat after.search s.seat s.number) (sym e) stay.0 in
     ((h.0.0, has_set xs at d after s.seat s.number keeps h.0.1), held_set seats xs at d before after ss e stay.1 h.1)
 
--- ---- searches that run no more
+-- ---- searches that are gone
 
 abbrev pub AreGone : Option ℕ → Option ℕ → List Search → Type 0
 AreGone at number_open [] = Unit {0}
@@ -139,7 +141,7 @@ gone_above at number n [] e below = tt
 gone_above at number n (s ∷ ss) e below =
     ((λ h. (let same = some_same number s.number h.1 in omega (arith, e, same, below.0))), gone_above at number n ss e below.1)
 
--- a search of the seat that is not admitted does not run
+-- a search that the seat may not go on with is not open
 refused_gone : (seat number next : ℕ) (seats : List Subject) (xs : List SessionState) (ss : List Search) → AreGiven next (map (λ (s : Search). s.number) ss) → AreHeld seats xs ss
     → ((s : Search) → and_then (given (subject_of seat seats)) (λ _. and_then (given (search_with number ss)) (owned seat)) ≡ Ok s → ⊥) → AreGone (Some seat) (Some number) ss
 refused_gone seat number next seats xs [] order held refused = tt
@@ -165,7 +167,7 @@ refused_gone seat number next seats xs (s ∷ ss) order held refused =
 
 -- ---- events of searches
 
--- what an event of a search that runs leaves of the searches: those that run are held by whoever held them
+-- an event of an open search: the searches that are left are held by the sessions that held them
 pub record Goes (old new : WorldData) : Type 0 where
   pub transactions : new.transactions ≡ old.transactions
   pub seats : new.seats ≡ old.seats
@@ -226,7 +228,7 @@ under_way w still =
       within = subst (λ (ts : List TransactionData). AreWithin ts) (sym still.transactions) tt;
     }
 
--- an event that leaves the transactions leaves a world at rest
+-- an event that leaves the transactions unchanged leaves a world at rest
 pub event_rests : (event : Event) (old new : WorldData) (reply : Reply) → Happens event old new reply → new.transactions ≡ old.transactions → IsAtRest old → IsAtRest new
 event_rests event old new reply h same still =
     record { searches = (way_event event old new reply h (under_way old still)).searches; transactions = same ∙ still.transactions }
@@ -247,7 +249,7 @@ drops_rest (Some seat) (Some number) old new d still = drop_rests seat number ol
 
 -- ---- what is gone
 
--- a search that is given up is gone
+-- a search that is dropped is gone
 pub drop_gone : (seat number : ℕ) (xs : List SessionState) (old new : WorldData) (reply : Reply) → Happens (DropSearch seat number) old new reply → IsAtRest old → AreHeld old.seats xs old.searches
     → AreGone (Some seat) (Some number) new.searches
 drop_gone seat number xs old new reply h still held =
@@ -272,7 +274,7 @@ number_found number (first ∷ ss) s e = go (first.number == number) refl e (λ 
         ap (λ (x : Search). x.number) same ∙ here
     go false is e later = later e
 
--- a search that is answered is gone
+-- a search that is finished is gone
 pub finish_gone : (at : Option ℕ) (seat number : ℕ) (old new : WorldData) (answer : AnswerData) → Happens (Finish seat number) old new (Rows answer) → AreGone at (Some number) new.searches
 finish_gone at seat number old new answer h =
     let a = admitted (may_finish seat number old) old new (Rows answer) (λ who. Finishes seat who old new (Rows answer)) refl h in
@@ -280,12 +282,12 @@ finish_gone at seat number old new answer h =
     subst (λ (w : WorldData). AreGone at (Some number) w.searches) (sym a.2.3)
     (subst (λ (n : ℕ). AreGone at (Some number) (filter (λ (s : Search). not (s.number == n)) old.searches)) (sym is) (gone_left at number old.searches))
 
--- a search that the index gives up is gone
+-- a search that ends with S7 is gone
 pub overrun_gone : (at : Option ℕ) (seat number : ℕ) (old new : WorldData) → Happens (VisitNext seat number) old new (Refused (faults.Tree tree.Overrun)) → AreGone at (Some number) new.searches
 overrun_gone at seat number old new h =
     subst (λ (w : WorldData). AreGone at (Some number) w.searches) (sym (leaves (VisitNext seat number) old new (faults.Tree tree.Overrun) h)) (gone_left at number old.searches)
 
--- ---- all are given up
+-- ---- all are dropped
 
 held_others : (seats : List Subject) (x : SessionState) (xs : List SessionState) (ss : List Search) → AreGone x.seat x.search ss → AreHeld seats (x ∷ xs) ss → AreHeld seats xs ss
 held_others seats x xs [] gone h = tt

@@ -1,4 +1,4 @@
--- What a call of a world keeps: one at rest is at rest afterwards.
+-- A call leaves at rest a world that was at rest.
 use Rattle.std.proofs.Common.{◌≡◌, ◌⊎◌, ℕ, ◌+◌, ◌==◌, Bool, true, false, nat_lt, List, [], ◌∷◌, ◌++◌, length, map, Option, None, Some, MatchOption, refl, sym, ap, subst, ◌∙◌, inl, inr, append-nil, append_assoc}
 use Rattle.std.specs.Bool.{MatchBool}
 use Rattle.plane.specs.declared.point.Point.{Point}
@@ -28,7 +28,7 @@ use Rattle.sessions.proofs.PolicyLemmas.{govern_rests, roll_rests, seat_rests}
 
 -- ---- a world at rest
 
--- what a call leaves of what runs: the same searches, and the seats that were given
+-- what a call leaves unchanged: the searches; of the seats all that were given
 pub record Leaves (old new : WorldData) : Type 0 where
   pub searches : new.searches ≡ old.searches
   pub more : List Subject
@@ -114,7 +114,7 @@ commits_leave seat changes old new reply h =
     wants subject true (inr d) = leaves_as old new (begun old) d refl refl
     wants subject false d = unplaced subject (is_unplaced reply) d
 
--- a world at rest is at rest afterwards, with the same searches
+-- a world at rest stays at rest, with the same searches
 abbrev pub Rests : WorldData → WorldData → Type 0
 Rests old new = IsAtRest old → IsAtRest new × Leaves old new
 
@@ -164,7 +164,7 @@ pub idle_rests : (w : WorldData) → IsIdle w → IsAtRest w
 idle_rests w idle =
     record { searches = subst (λ (ss : List Search). AreGiven w.next_search (map (λ (s : Search). s.number) ss)) (sym idle.searches) tt; transactions = idle.transactions }
 
--- nothing is under way afterwards, where nothing was before
+-- no search and no transaction is open afterwards, if none was before
 abbrev pub StaysIdle : SoloState → SoloState → Type 0
 StaysIdle old new = IsIdle old.world → IsIdle new.world
 

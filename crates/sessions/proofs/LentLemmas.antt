@@ -1,5 +1,5 @@
--- Lines over a world that is lent to a session. The loan ends with the world as the last call left it, since each call keeps
--- the reference.
+-- Lines over a world that is lent to a session. After the loan the world is as the last call left
+-- it, since each call keeps the reference.
 use Rattle.std.proofs.Common.{◌≡◌, ℕ, Bool, true, false, List, [], Option, Result, refl, ap, subst, ◌∙◌}
 use Rattle.std.specs.Bool.{MatchBool}
 use Rattle.features.specs.declared.actors.Subject.{Subject}
@@ -58,7 +58,7 @@ module _ {S T N : Type 0} (see : S → T) (name : S → N) (subject_of : T → O
   calls_name : (calls : List (Call × SaidData)) (old new : S) → Calls lent calls old new → name new ≡ name old
   calls_name calls old new h = calls_keep asks lent (λ (a b : S). name b ≡ name a) (λ s. refl) (λ a b c first more. more ∙ first) named calls old new h
 
-  -- a run, where the world ends as the loan leaves it
+  -- a run; afterwards the world is as the loan leaves it
   pub run_shown : {O : Type 0} (r : Result O ServeFault) (old new : S) (staged : List Change) (begins ends : T) (input left a b : Option (List ℕ))
       → ((calls : List (Call × SaidData)) × Calls lent calls old new) → see old ≡ begins → (name new ≡ name old → see new ≡ ends)
       → Ran (LineTells asks lent) r (desk [] old) (desk staged new) input left a b
@@ -68,7 +68,7 @@ module _ {S T N : Type 0} (see : S → T) (name : S → N) (subject_of : T → O
       (subst (λ (s : T). Ran (LineTells subject_of shown) r (desk [] s) (desk staged (see new)) input left a b) stands
       (run_seen r (desk [] old) (desk staged new) input left a b run))
 
-  -- what every call keeps of what is seen, a run keeps
+  -- what each call keeps, a run keeps
   pub run_keeps : (Kept : T → T → Type 0) → ((s : T) → Kept s s) → ((a b c : T) → Kept a b → Kept b c → Kept a c)
       → ((call : Call) (a b : T) (said : SaidData) → shown call a b said → Kept a b) → (old new : S) (begins ends : T)
       → ((calls : List (Call × SaidData)) × Calls lent calls old new) → see old ≡ begins → (name new ≡ name old → see new ≡ ends) → Kept begins ends
@@ -78,7 +78,7 @@ module _ {S T N : Type 0} (see : S → T) (name : S → N) (subject_of : T → O
       (calls_keep asks lent (λ (a b : S). Kept (see a) (see b)) (λ s. same (see s)) (λ a b c first more. chain (see a) (see b) (see c) first more)
       (λ call a b said h. each call (see a) (see b) said (shows call a b said h)) called.0 old new called.1))
 
--- nothing comes to be under way in the world of a run
+-- a run leaves no search and no transaction open, if none was open before it
 pub run_idles : {S N : Type 0} (see : S → SoloState) (name : S → N) (lent : Call → S → S → SaidData → Type 0)
     → ((call : Call) (old new : S) (said : SaidData) → lent call old new said → name new ≡ name old)
     → ((call : Call) (old new : S) (said : SaidData) → lent call old new said → Serves call (see old) (see new) said) → (old new : S) (begins ends : SoloState)

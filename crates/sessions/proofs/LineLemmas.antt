@@ -1,5 +1,5 @@
--- What a line of a script leaves of the searches that run: a world at rest is at rest afterwards, and each search that runs is one
--- that a session of the script has open.
+-- What a line of a script does to the open searches: it leaves at rest a world that was at rest,
+-- and each open search is one that a session of the script has open.
 use Rattle.std.proofs.Common.{◌≡◌, ◌⊎◌, ℕ, ◌+◌, ◌<◌, ◌≤◌, ◌==◌, Bool, true, false, nat_eq, nat_lt, List, [], ◌∷◌, ◌++◌, length, slice_set, slice_index_or, Option, None, Some, MatchOption, Result, Ok, Err, MatchResult, if◌then◌else◌, refl, sym, ap, subst, ◌∙◌, inl, inr, arith, length-append}
 use Rattle.std.specs.Bool.{MatchBool}
 use Rattle.std.specs.Cmp.Lexicographic.{pointwise}
@@ -48,7 +48,8 @@ use Rattle.line_streams.proofs.StreamLemmas.{run_keeps}
 use Rattle.sessions.proofs.SearchLemmas.{opened}
 use Rattle.sessions.proofs.StepLemmas.{finds_same}
 
--- what a line that a session takes leaves, whatever sessions there are beside
+-- what a line of one session does to the world and to what that session has open, whatever other
+-- sessions there are
 pub record Moves (before after : SessionState) (old new : WorldData) : Type 0 where
   pub rests : IsAtRest old → IsAtRest new
   pub held : (xs : List SessionState) (at : ℕ) (d : SessionState) → slice_index_or xs at d ≡ before → at < length xs → IsAtRest old → AreHeld old.seats xs old.searches
@@ -66,7 +67,7 @@ moves_goes before after old new rests goes stay =
 stay_same : (before after : SessionState) (ss : List Search) → after.seat ≡ before.seat → after.search ≡ before.search → AllStay before after ss
 stay_same before after ss seat search = all_stay before after (λ at number has. (seat ∙ has.0, search ∙ has.1)) ss
 
--- the world stays as it is, and the session keeps its seat and its search
+-- the world is unchanged, and the session keeps its seat and its search
 moves_none : (before after : SessionState) (old new : WorldData) → after.seat ≡ before.seat → after.search ≡ before.search → new ≡ old → Moves before after old new
 moves_none before after old new seat search e =
     moves_goes before after old new (λ still. subst (λ (w : WorldData). IsAtRest w) (sym e) still) (goes_same old new e) (λ xs still h. stay_same before after new.searches seat search)
@@ -75,7 +76,7 @@ tells_moves : (due : Reply) (old new : SessionState) (old_world new_world : Worl
 tells_moves due old new old_world new_world said h =
     moves_none old new old_world new_world (ap (λ (x : SessionState). x.seat) h.0) (ap (λ (x : SessionState). x.search) h.0) h.1
 
--- ---- lines that a session by itself knows too
+-- ---- lines other than OPEN, STEP and FINISH
 
 seat_kept : (a b : Option ℕ) → keeps_seat a b ≡ true → b ≡ a
 seat_kept (Some a) (Some b) e = let same : b ≡ a = grind (arith, nat_tests, e) in ap (λ (n : ℕ). Some n) same
@@ -117,9 +118,9 @@ plain_moves text old new old_world new_world said h = go (keeps_seat old.seat ne
               (goes.held mid.seats xs (held_mid xs still held)));
         }
 
--- ---- lines of a search that goes step by step
+-- ---- OPEN, STEP and FINISH
 
--- a command of a session with this open search, or without one
+-- a command of a session with this open search, or with none
 abbrev IsOfOpen : Option ℕ → StepCommand → Type 0
 IsOfOpen search (commands.Open window) = search ≡ None
 IsOfOpen search (commands.Step number count) = search ≡ Some number
@@ -129,12 +130,12 @@ abbrev AsksOpen : Option ℕ → Result StepCommand Fault → Type 0
 AsksOpen search (Ok command) = IsOfOpen search command
 AsksOpen search (Err fault) = Unit {0}
 
--- what is read before may have a fault of its own
+-- words that are read first may have a fault of their own
 read_first : {A : Type 0} (search : Option ℕ) (r : Result A Fault) (f : A → Result StepCommand Fault) → ((x : A) → AsksOpen search (f x)) → AsksOpen search (r >>= f)
 read_first search (Ok x) f h = h x
 read_first search (Err fault) f h = tt
 
--- what is asked is of the search that is open
+-- the command that is read is for the search that is open
 asks_open : (search : Option ℕ) (verb : StepVerb) (text : List ℕ) → AsksOpen search (step_command_at search verb text)
 unfolding step_command_at
 asks_open None verbs.Open text = read_first None (shape_at text) (λ window. Ok (commands.Open window)) (λ window. refl)
@@ -166,7 +167,7 @@ module _ (seat : ℕ) (old new : SessionState) (old_world new_world : WorldData)
           moves_none old new old_world new_world (ap (λ (x : SessionState). x.seat) e) (ap (λ (x : SessionState). x.search) e ∙ sym none)
           (leaves (OpenSearch seat window) old_world new_world fault h)
 
-  -- a fault leaves the search open, or the index has given it up
+  -- after a fault the search is open, or the fault was S7
   left_cases : (fault : WorldFault) (number : ℕ) → (left_open fault number ≡ Some number) ⊎ (fault ≡ refusals.Tree tree.Overrun)
   left_cases (refusals.Tree tree.Overrun) number = inr refl
   left_cases _ number = inl refl
@@ -179,7 +180,7 @@ module _ (seat : ℕ) (old new : SessionState) (old_world new_world : WorldData)
         (subst (λ (at : Option ℕ). AreGone at old.search new_world.searches) (sym seated)
         (subst (λ (o : Option ℕ). AreGone (Some seat) o new_world.searches) (sym opened_it) gone))
 
-    -- a step that is not answered More
+    -- a visit that is not answered More
     visit_moves : (reply : EventReply) → Happens (VisitNext seat number) old_world new_world reply → AllStay old new new_world.searches → Moves old new old_world new_world
     visit_moves reply h stay =
         moves_goes old new old_world new_world (visit_rests seat number old_world new_world reply h) (visit_goes seat number old_world new_world reply h) (λ xs still held. stay)
@@ -209,7 +210,7 @@ module _ (seat : ℕ) (old new : SessionState) (old_world new_world : WorldData)
             (stay_same old new new_world.searches (ap (λ (x : SessionState). x.seat) e) (ap (λ (x : SessionState). x.search) e ∙ sym opened_it))
         go (Err fault) h e = refused fault (from_here (Refused fault) h.0 h.1 h.3 h.4) e
 
-    -- on the way to its end
+    -- the search goes on towards its end
     seeks_goes : (mid : WorldData) (reply : EventReply) → Seeks seat number old_world mid reply → Goes old_world mid × (IsAtRest old_world → IsAtRest mid)
     seeks_goes mid reply (inl (fault, h, e)) = (visit_goes seat number old_world mid (Refused fault) h, visit_rests seat number old_world mid (Refused fault) h)
     seeks_goes mid reply (inr (inl (ready, h, f))) = (
@@ -289,7 +290,7 @@ session_moves text old new old_world new_world said h = go (step_verb_at text) h
 
 -- ---- lines of a script
 
--- a line is answered by a session, or leaves the script as it is
+-- a line is answered by a session, or leaves the script unchanged
 module _ (P : Script → Script → Type 0) (same : (s : Script) → P s s) (tells : (label text : List ℕ) (old new : Script) (said : List ℕ) → SessionTells label text old new said → P old new) where
   refused_by : (text : List ℕ) (old new : Script) (said : List ℕ) → IsRefused text old new said → P old new
   refused_by text old new said h = subst (λ (s : Script). P old s) (sym h.0) (same old)
@@ -324,13 +325,13 @@ module _ (P : Script → Script → Type 0) (same : (s : Script) → P s s) (tel
       long true h = refused_by (reply_text (Error LineTooLong)) old new said h
       long false h = skipped (is_skipped text) h
 
--- a world at rest is at rest after a line
+-- a world at rest stays at rest after a line
 pub line_rests : (text : List ℕ) (old new : Script) (said : List ℕ) → LineTells text old new said → IsAtRest old.world → IsAtRest new.world
 line_rests =
     line_by (λ old new. IsAtRest old.world → IsAtRest new.world) (λ s still. still)
     (λ label text old new said h. (session_moves text (slice_index_or (with_label label old.sessions) (place label old.sessions) (fresh label)) h.session old.world new.world h.reply h.answers).rests)
 
--- so it is after a line of a session by itself
+-- the same for a session by itself
 pub alone_rests : (text : List ℕ) (old new : Desk SoloState) (said : List ℕ) (next : Next) → AloneTells solo_subject Serves text old new said next → IsAtRest old.service.world → IsAtRest new.service.world
 alone_rests text old new said next h still = go (is_too_long text) h
   where
@@ -380,7 +381,7 @@ session_kept label text old new said h kept =
 line_kept : (text : List ℕ) (old new : Script) (said : List ℕ) → LineTells text old new said → IsKept old → IsKept new
 line_kept = line_by (λ old new. IsKept old → IsKept new) (λ s kept. kept) session_kept
 
--- nothing is under way after a run, where nothing was before it
+-- no search and no transaction is open after a run, if none was before it
 pub run_idle : {T : Type 0} (r : Result T ServeFault) (world last end : WorldData) (sessions : List SessionState) (input left a b : Option (List ℕ))
     → Ran (NeverEnds LineTells) r (script world []) (script last sessions) input left a b → AllDrop sessions last end → IsIdle world → IsIdle end
 run_idle r world last end sessions input left a b run drops idle =

@@ -1,4 +1,4 @@
--- Seats, documents and rolls: they begin and end nothing.
+-- Seats, documents and rolls: they open and end no search and no transaction.
 use Rattle.std.proofs.Common.{◌≡◌, ℕ, ◌+◌, Bool, true, false, List, [], ◌∷◌, ◌++◌, length, Result, Ok, Err, MatchResult, refl, sym, subst, inl, inr}
 use Rattle.std.specs.Bool.{MatchBool}
 use Rattle.features.specs.declared.actors.Subject.{Subject}
@@ -17,7 +17,7 @@ use Rattle.session_lines.specs.Replies.{SaidData, line, policy_reply}
 use Rattle.session_lines.specs.Services.{Call, Govern}
 use Rattle.sessions.specs.States.{IsAtRest}
 
--- a seat leaves what is under way as it was
+-- a seat leaves searches and transactions unchanged
 pub seat_rests : (name : List ℕ) (old new : WorldData) (reply : EventReply) → Happens (TakeSeat name) old new reply → IsAtRest old → IsAtRest new
 seat_rests name old new reply h still = go (may_sit name old) h
   where
@@ -29,7 +29,7 @@ seat_rests name old new reply h still = go (may_sit name old) h
     go (Err fault) d = subst (λ (x : WorldData). IsAtRest x) (sym d.0) still
     go (Ok subject) d = ends subject (is_memory reply) d
 
--- a document leaves what is under way as it was
+-- a document leaves searches and transactions unchanged
 pub govern_rests : (seat : ℕ) (document : DocumentData) (old new : WorldData) (reply : EventReply) → Happens (GovernEvent seat document) old new reply → IsAtRest old → IsAtRest new
 govern_rests seat document old new reply h still = go (may_govern seat old) h
   where
@@ -41,7 +41,7 @@ govern_rests seat document old new reply h still = go (may_govern seat old) h
     go (Err fault) d = subst (λ (x : WorldData). IsAtRest x) (sym d.0) still
     go (Ok subject) d = ends (is_memory reply) d
 
--- a roll leaves what is under way as it was
+-- a roll leaves searches and transactions unchanged
 pub roll_rests : (seat : ℕ) (old new : WorldData) (reply : EventReply) → Happens (Roll seat) old new reply → IsAtRest old → IsAtRest new
 roll_rests seat old new reply h still = go (may_roll seat old) h
   where

@@ -1,4 +1,4 @@
--- A trail that is taken out.
+-- ROLL: the trail is taken out.
 use Rattle.std.proofs.Common.{◌≡◌, ℕ, Option, Some, Result, MatchOption, sym, subst}
 use Rattle.plain_world.specs.declared.faults.Fault.{Fault}
 use Rattle.plain_world.specs.Events.{Happens, Roll as RollEvent, TakenOut, reply_of}
@@ -10,7 +10,7 @@ use Rattle.session_lines.specs.Services.{Roll}
 use Rattle.sessions.specs.Services.{Serves}
 use Rattle.sessions.specs.States.{SoloState}
 
--- a trail that is taken out, and shown
+-- ROLL, by its result
 pub rolled_so : (seat : ℕ) (old new : SoloState) (end : Result RolledData Fault) (said : SaidData) → old.seat ≡ Some seat → new.seat ≡ old.seat
     → Happens (RollEvent seat) old.world new.world (reply_of TakenOut end) → said ≡ told rolled end → Serves Roll old new said
 rolled_so seat old new end said is same all shown =

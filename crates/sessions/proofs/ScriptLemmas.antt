@@ -19,7 +19,7 @@ use Rattle.line_streams.specs.declared.streams.ServeFault.{ServeFault}
 use Rattle.line_streams.specs.declared.streams.ServeFault.TheVariants.{Memory}
 use Rattle.line_streams.proofs.StreamLemmas.{lines_told, ran_as}
 
--- what a session answered and wrote is what its label's line tells
+-- what a session answered and wrote is the reply to its label's line
 pub label_told : {E : Type 0} (r : Result (Unit {0}) E) (label text : List ℕ) (old : IndexedScript) (world : IndexedWorld) (sessions : List SessionState) (reply : SaidData) (a b : Option (List ℕ))
     → place label old.sessions < LABEL_LIMIT
     → ((session : SessionState) × (sessions ≡ slice_set (with_label label old.sessions) (place label old.sessions) session)
@@ -34,12 +34,12 @@ label_told r label text old world sessions reply a b room answered written = (
   rw (lt-ltb _ _ room) (answered.0, reply, answered.3 (fresh label), answered.1, refl),
 )
 
--- a run over a world with its index, as the script text has it
+-- a run over a world with its index is a run over its plain part
 pub ran_plainly : {T : Type 0} (r : Result T ServeFault) (old new : IndexedScript) (input left a b : Option (List ℕ)) → Ran (NeverEnds LineRuns) r old new input left a b
     → Ran (NeverEnds LineTells) r (script old.world.plain old.sessions) (script new.world.plain new.sessions) input left a b
 ran_plainly r old new input left a b run = ran_as (λ (s : IndexedScript). script s.world.plain s.sessions) (NeverEnds LineRuns) (NeverEnds LineTells) (λ line x y said next h. (h.0.0, h.1)) r old new input left a b run
 
--- a run that ended well has written the script text of all its known input
+-- a run that ends well has written the script text of all its known input
 pub script_text_of : {T : Type 0} (r : Result T ServeFault) (world last end : WorldData) (sessions : List SessionState) (input left a b : Option (List ℕ)) → Ran (NeverEnds LineTells) r (script world []) (script last sessions) input left a b
     → AllDrop sessions last end → OnOk r (IfSome input (λ text. (said : List ℕ) × Appends a b said × IsScriptText world text end said))
 script_text_of (Err e) world last end sessions input left a b run drops = tt
@@ -49,7 +49,7 @@ script_text_of {T = T} (Ok done) world last end sessions (Some text) left a b ru
     let told = lines_told LineTells ended (script world []) (script last sessions) (Some text) left a b run in
     (told.0, told.1, record { sessions = sessions; last = last; tells = told.2; drops = drops })
 
--- what comes of the sessions' open searches, one after another
+-- what happens to the sessions' open searches, one after another
 module _ {W : Type 0} (Ends : Option ℕ → Option ℕ → W → W → Type 0) where
   none_end : (xs : List SessionState) (w : W) → AllEnd Ends (take zero xs) w w
   none_end [] w = refl
@@ -62,14 +62,14 @@ module _ {W : Type 0} (Ends : Option ℕ → Option ℕ → W → W → Type 0) 
       (new, subst (λ (z : SessionState). Ends z.seat z.search w new) e (subst (λ (v : W). Ends x.seat x.search v new) h d), none_end xs new)
   ends_next (y ∷ xs) (suc i) x w mid new lt e h d = (h.0, h.1, ends_next xs i x h.0 mid new (omega (arith, lt)) e h.2 d)
 
-  -- that of one more of the sessions
+  -- the same for one more session
   pub ends_more : (xs : List SessionState) (i : ℕ) (x : SessionState) (w mid new : W) → i < length xs → x ≡ slice_index_or xs i x → AllEnd Ends (take i xs) w mid → Ends x.seat x.search mid new
       → AllEnd Ends (take (i + 1) xs) w new
   ends_more xs i x w mid new lt e h d =
       let next : suc i ≡ i + 1 = omega arith in
       subst (λ (n : ℕ). AllEnd Ends (take n xs) w new) next (ends_next xs i x w mid new lt e h d)
 
--- a run that found no memory for its buffers has no sessions, and so gives up nothing
+-- a run that got no memory for its buffers has no sessions, and so drops nothing
 pub untouched_so : {W D T : Type 0} (sessions : D → List SessionState) (tells : List ℕ → W × D → W × D → List ℕ → Next → Type 0) (r : Result T ServeFault) (old new : W × D) (end : W) (input left a b : Option (List ℕ)) (P Q : Type 0)
     → Ran tells r old new input left a b → sessions old.1 ≡ [] → (sessions new.1 ≡ [] → end ≡ new.0) → IfErr r (λ fault. OnMemory fault (P × Q)) → IfErr r (λ fault. OnMemory fault ((end ≡ old.0) × P × Q))
 untouched_so sessions tells (Err (Memory refused)) old new end input left a b P Q run none same rest =

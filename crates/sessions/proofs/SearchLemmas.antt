@@ -1,4 +1,4 @@
--- A search from its beginning to its end, beside those that run.
+-- A whole search, beside other open searches.
 use Rattle.std.proofs.Common.{◌≡◌, ◌⊎◌, ℕ, ◌+◌, ◌<◌, ◌==◌, nat_le, not, Bool, true, false, List, [], ◌∷◌, ◌++◌, length, map, filter, Option, None, Some, Result, Ok, Err, if◌then◌else◌, refl, sym, ap, subst, ◌∙◌, inl, inr, eq-eqb, arith}
 use Rattle.std.specs.Bool.{MatchBool}
 use Rattle.std.proofs.lemmas.Bool.Decides.{nat_tests}
@@ -27,7 +27,7 @@ use Rattle.sessions.specs.UnderWay.{searching}
 pub same_number : (n : ℕ) → (n == n) ≡ true
 same_number n = eq-eqb n n refl
 
--- a fault that tells want of memory carries a refusal
+-- a fault that means out of memory carries a refusal
 pub want_is : (fault : Fault) → is_want fault ≡ true → (refusal : Refusal) × (fault ≡ faults.Memory refusal)
 want_is (faults.Memory refusal) e = (refusal, refl)
 want_is _ e = absurd cc
@@ -36,18 +36,18 @@ want_is _ e = absurd cc
 pub does : {T : Type 0} (may : Result T Fault) (x : T) (old new : WorldData) (reply : Reply) (Does : T → Type 0) → may ≡ Ok x → If may old new reply Does → Does x
 does may x old new reply Does e h = subst (λ (r : Result _ Fault). If r old new reply Does) e h
 
--- what an event does that is refused
+-- a refused event changes nothing
 pub refuses : {T : Type 0} (may : Result T Fault) (fault : Fault) (old new : WorldData) (reply : Reply) (Does : T → Type 0) → may ≡ Err fault → If may old new reply Does → (new ≡ old) × (reply ≡ Refused fault)
 refuses may fault old new reply Does e h = subst (λ (r : Result _ Fault). If r old new reply Does) e h
 
--- an admitted event that does something
+-- an admitted event, from what it does
 pub done : {T : Type 0} (may : Result T Fault) (x : T) (old new : WorldData) (reply : Reply) (Does : T → Type 0) → may ≡ Ok x → Does x → If may old new reply Does
 done may x old new reply Does e h = subst (λ (r : Result _ Fault). If r old new reply Does) (sym e) h
 
 pub turned : {T : Type 0} (may : Result T Fault) (fault : Fault) (old new : WorldData) (reply : Reply) (Does : T → Type 0) → may ≡ Err fault → (new ≡ old) × (reply ≡ Refused fault) → If may old new reply Does
 turned may fault old new reply Does e h = subst (λ (r : Result _ Fault). If r old new reply Does) (sym e) h
 
--- what happens in a world happens in one that is the same
+-- an event of a world is an event of an equal world
 pub from_same : (event : Event) (old other new : WorldData) (reply : Reply) → old ≡ other → Happens event old new reply → Happens event other new reply
 from_same event old other new reply e h = subst (λ (x : WorldData). Happens event x new reply) e h
 
@@ -86,7 +86,7 @@ none_found : (number : ℕ) (ss : List Search) → IsFree number ss → search_w
 none_found number [] free = refl
 none_found number (s ∷ ss) free = ap (λ (b : Bool). if b then Some s else search_with number ss) (other_number s.number number free.0) ∙ none_found number ss free.2
 
--- ---- the search that is under way
+-- ---- the open search
 
 module _ (number seat : ℕ) (window : List Point) (w : WorldData) (subject : Subject) (seated : subject_at seat w ≡ Ok subject) (free : IsFree number w.searches) where
   abbrev one : Bool → Search
@@ -103,7 +103,7 @@ module _ (number seat : ℕ) (window : List Point) (w : WorldData) (subject : Su
   gone : (ready : Bool) → filter (λ (s : Search). not (s.number == number)) (w.searches ++ one ready ∷ []) ≡ w.searches
   gone ready = last_gone number (one ready) refl w.searches free
 
-  -- what a search that is visited leaves
+  -- what a visit leaves
   abbrev Visiting : WorldData → Reply → Type 0
   Visiting mid (Visited visits.Ready) = mid ≡ searching number seat window true w
   Visiting mid (Refused (faults.Memory refusal)) = mid ≡ searching number seat window false w
@@ -122,11 +122,11 @@ module _ (number seat : ℕ) (window : List Point) (w : WorldData) (subject : Su
   visiting mid reply h =
       sees mid reply (does _ (one false) (searching number seat window false w) mid reply (λ s. Visits s (searching number seat window false w) mid reply) (goes_on false) h)
 
-  -- why a search comes to nothing
+  -- why a search fails
   abbrev pub Fails : Fault → Type 0
   Fails fault = ((refusal : Refusal) × (fault ≡ faults.Memory refusal)) ⊎ ((fault ≡ faults.Tree tree.Overrun) ⊎ ((is_full w ≡ true) × (fault ≡ faults.TrailFull)))
 
-  -- how the search stands after it
+  -- the search after a visit: open, or gone
   abbrev pub Stays : WorldData → Type 0
   Stays mid = ((ready : Bool) × (mid ≡ searching number seat window ready w)) ⊎ (mid ≡ w)
 
@@ -176,7 +176,7 @@ module _ (number seat : ℕ) (window : List Point) (w : WorldData) (subject : Su
   sought new reply (inr (inl (mid, h, f))) = finishes mid new reply (visiting mid (Visited visits.Ready) h) f
   sought new reply (inr (inr (more, e, r))) = subst (λ (r : Reply). Sought new r) (sym r) (inr (inl refl), inl (false, e))
 
-  -- whatever stays is dropped
+  -- dropping the search, if it is still open, leaves the world without it
   pub dropped : (mid new : WorldData) (reply : Reply) → Stays mid → Happens (DropSearch seat number) mid new reply → new ≡ w
   dropped mid new reply (inl (ready, e)) h =
       let there = searching number seat window ready w in
@@ -194,7 +194,7 @@ given_more : (n : ℕ) (ns : List ℕ) → AreGiven n ns → AreGiven (n + 1) ns
 given_more n [] given = tt
 given_more n (m ∷ ms) given = (omega (arith, given.0), given.1, given_more n ms given.2)
 
--- a world at rest in which a number more is used up, and a record more may stand
+-- a world at rest stays at rest when one more number is used up and the trail has one more record
 pub rests_searched : (old new : WorldData) (state : PlainState) (trail : List RecordData) → IsAtRest old → new ≡ searched (record old { state = state; trail = trail }) → IsAtRest new
 rests_searched old new state trail still e =
     subst (λ (x : WorldData). IsAtRest x) (sym e) (record { searches = given_more old.next_search (map (λ (s : Search). s.number) old.searches) still.searches; transactions = still.transactions })
@@ -202,9 +202,9 @@ rests_searched old new state trail still e =
 pub rests_same : (old new : WorldData) → IsAtRest old → new ≡ old → IsAtRest new
 rests_same old new still e = subst (λ (x : WorldData). IsAtRest x) (sym e) still
 
--- ---- searches from the beginning
+-- ---- whole searches
 
--- the number that is given next
+-- the number of the next search
 room_number : (w : WorldData) (number : ℕ) → next_search w ≡ Ok number → number ≡ w.next_search
 room_number w number e = go (nat_le SEARCH_LIMIT (length w.searches)) (w.next_search == LAST) e
   where
@@ -214,7 +214,7 @@ room_number w number e = go (nat_le SEARCH_LIMIT (length w.searches)) (w.next_se
     go false false h = cc
 
 module _ (seat : ℕ) (window : List Point) (old new : WorldData) where
-  -- a world with one search more, of this number
+  -- a world with one more search, of this number
   abbrev opening : ℕ → WorldData
   opening number =
       record old { searches = old.searches ++ record { number = number; seat = seat; window = window; ready = false } ∷ []; next_search = number + 1 }
@@ -310,7 +310,7 @@ module _ (seat : ℕ) (window : List Point) (old mid : WorldData) (number : ℕ)
   whole : (new : WorldData) (reply : Reply) → Does new reply started.subject → Searches seat window old new reply
   whole new reply d = done _ started.subject old new reply (Does new reply) admits d
 
-  -- a search that comes to nothing, and is dropped
+  -- a search that fails, and is dropped
   pub search_refused : (stopped new : WorldData) (fault : Fault) (reply : Reply) → Seeks seat number mid stopped (Refused fault) → Happens (DropSearch seat number) stopped new reply → IsAtRest new × Searches seat window old new (Refused fault)
   search_refused stopped new fault reply seeks drops =
       let end = found stopped (Refused fault) seeks in
@@ -336,7 +336,7 @@ module _ (seat : ℕ) (window : List Point) (old mid : WorldData) (number : ℕ)
 
 -- ---- visits, one after another
 
--- a visit that finds more to see leaves the world as it was
+-- a visit that finds more to see leaves the world unchanged
 pub more_same : (seat number : ℕ) (old new : WorldData) → Happens (VisitNext seat number) old new (Visited visits.More) → new ≡ old
 more_same seat number old new h = go (may_go_on seat number old) h
   where
@@ -355,7 +355,7 @@ module _ (seat number : ℕ) (start old : WorldData) (same : old ≡ start) wher
   pub seeks_ready : (mid new : WorldData) (reply : Reply) → Happens (VisitNext seat number) old mid (Visited visits.Ready) → Happens (Finish seat number) mid new reply → Seeks seat number start new reply
   seeks_ready mid new reply h f = inr (inl (mid, subst (λ (x : WorldData). Happens (VisitNext seat number) x mid (Visited visits.Ready)) same h, f))
 
-  -- whatever came before, a visit has found more to see
+  -- another visit that finds more to see, after any number of them
   pub seeks_on : (new : WorldData) → Happens (VisitNext seat number) old new (Visited visits.More) → (new ≡ start) × Happens (VisitNext seat number) start start (Visited visits.More)
   seeks_on new h =
       let stays : new ≡ start = more_same seat number old new h ∙ same in

@@ -1,4 +1,4 @@
--- A session's line that a session by itself knows too, and the visits of an open search, one after another.
+-- Any line but OPEN, STEP and FINISH, and the visits of an open search, one after another.
 use Rattle.std.proofs.Common.{◌≡◌, ℕ, zero, suc, ◌+◌, ◌<◌, List, Option, None, Result, Ok, Err, sym, ap, subst, ◌∙◌, arith}
 use Rattle.std.specs.Bool.{MatchBool}
 use Rattle.features.specs.declared.rows.Change.{Change}
@@ -19,7 +19,7 @@ use Rattle.sessions.specs.Indexed.{ServesThere, Shuts, TakesThere, asks_for, ser
 use Rattle.transactions.specs.Index.{Index, IndexedWorld}
 use Rattle.transactions.specs.Stepping.{VisitsIndex}
 
--- a session is served, and its open search stays or is given up
+-- a session is served, and its open search stays or is dropped
 pub plain_so : (text : List ℕ) (old mid new : SessionState) (before : Option ℕ) (old_world mid_world new_world : WorldData) (said : SaidData) → Answers solo_subject Serves text (desk_of old_world old) (desk_of mid_world mid) said
     → mid.search ≡ old.search → new ≡ record mid { search = new.search } → before ≡ old.seat
     → MatchBool (keeps_seat before mid.seat) ((new.search ≡ mid.search) × (new_world ≡ mid_world)) ((new.search ≡ None) × Drops before mid.search mid_world new_world)
@@ -61,12 +61,12 @@ module _ (seat number count : ℕ) (start old new : WorldData) (more : FindsMore
   pub goes_refused : (most : ℕ) (fault : Fault) → count < most → Happens (VisitNext seat number) old new (Refused fault) → GoesOn seat number most start new (Err fault)
   goes_refused most fault lt h = (count, old, lt, more, h)
 
--- visits that find more to see leave the world as it was
+-- visits that find more to see leave the world unchanged
 pub finds_same : (seat number count : ℕ) (old new : WorldData) → FindsMore seat number count old new → new ≡ old
 finds_same seat number zero old new h = h
 finds_same seat number (suc count) old new h = more_same seat number h.0 new h.2 ∙ finds_same seat number count old h.0 h.1
 
--- the same as the index knows it
+-- the same in the index
 module _ (seat number count : ℕ) (start world : WorldData) (more : FindsMore seat number count start world) (first old new : Index) (seen : SeesMore (may_go_on seat number start) number count first old) where
   here : (result : Result Visit Fault) → VisitsIndex (may_go_on seat number world) number old new result → VisitsIndex (may_go_on seat number start) number old new result
   here result visit = subst (λ (w : WorldData). VisitsIndex (may_go_on seat number w) number old new result) (finds_same seat number count start world more) visit

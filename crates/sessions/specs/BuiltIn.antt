@@ -1,4 +1,4 @@
--- The subjects of a server without a configuration.
+-- The subjects of the built-in configuration.
 use Rattle.std.specs.Prelude.{true, false, List, [], ◌∷◌, codes}
 use Rattle.features.specs.declared.actors.Subject.{Subject}
 

@@ -1,5 +1,5 @@
--- What a session's call makes of the index of a world, and of the walks: how a search and a list come to be refused there, and
--- that other calls leave both alone.
+-- What a session's call does to the index of a world and to the walks: why the index refuses a
+-- search or a list, and that other calls change neither.
 use Rattle.std.specs.Prelude.{◌≡◌, ◌⊎◌, ◌<◌, ◌+◌, ◌*◌, ℕ, zero, suc, Bool, true, false, List, Option, MatchOption, Result, Ok, Err, IfErr}
 use Rattle.plane.specs.declared.point.Point.{Point}
 use Rattle.features.specs.declared.rows.Change.{Change}
@@ -37,12 +37,13 @@ is_of_index _ = false
 abbrev pub IsOwn : Fault → Type 0
 IsOwn fault = is_of_index fault ≡ false
 
--- index and walks stay as they are
+-- index and walks are unchanged
 abbrev pub StayBeside : IndexedWorld → IndexedWorld → Type 0
 StayBeside old new = (new.index ≡ old.index) × (new.walks ≡ old.walks)
 
--- A search goes on from here: so many visits find more to see, and then one is refused, and that is answered; or the search is
--- ready, and is finished; or, where these were more visits than a search may make, it is given up (S7).
+-- A search goes on from `first`: `count` visits find more to see. Then a visit is refused, and its
+-- fault is the result; or the search is ready, and is finished; or, after more visits than a search
+-- may make, the result is S7.
 abbrev pub SeeksIn : {T : Type 0} → Result Sought Fault → ℕ → Index → Index → Result T Fault → Type 0
 SeeksIn may number first new result =
     (count : ℕ) × (last : Index) × SeesMore may number count first last
@@ -50,30 +51,31 @@ SeeksIn may number first new result =
     ⊎ (((mid : Index) × VisitsIndex may number last mid (Ok Ready) × EndsInIndex number mid new result)
     ⊎ ((STEP_LIMIT < count) × (new ≡ last) × (result ≡ Err (faults.Tree tree.Overrun)))))
 
--- a search that was refused ends in the index
+-- a search that was refused is dropped in the index
 abbrev pub DropsRefused : {T : Type 0} → ℕ → Index → Index → Result T Fault → Type 0
 DropsRefused number old new (Ok x) = new ≡ old
 DropsRefused number old new (Err fault) = (end : Result (Unit {0}) Fault) × EndsInIndex number old new end
 
--- A search from its beginning on. Where the world refuses that it begins, the index stays.
+-- A whole search. If the world refuses to open it, index and walks are unchanged.
 abbrev pub SearchesIn : {T : Type 0} → ℕ → List Point → IndexedWorld → IndexedWorld → Result T Fault → Type 0
 SearchesIn seat window old new result =
     ((fault : Fault) × (result ≡ Err fault) × Happens (OpenSearch seat window) old.plain new.plain (Refused fault) × StayBeside old new)
     ⊎ ((number : ℕ) × (first : IndexedWorld) × Happens (OpenSearch seat window) old.plain first.plain (Number number) × IsOpen frames old.index first.index window number
     × (mid : Index) × SeeksIn (may_go_on seat number first.plain) number first.index mid result × DropsRefused number mid new.index result × (new.walks ≡ old.walks))
 
--- a step of a transaction's walk, and what the index does then
+-- a step of a transaction's walk, with the step of the index
 abbrev pub AdvancesIn : ℕ → ℕ → IndexedWorld → IndexedWorld → Result Advance Fault → Type 0
 AdvancesIn seat number old new result = Happens (AdvanceWalk seat number) old.plain new.plain (reply_of Advanced result) × WalksOn seat number old new result
 
--- so many steps of a transaction's walks, one after another
+-- `count` steps of a transaction's walks, one after another
 abbrev pub WalksMore : ℕ → ℕ → ℕ → IndexedWorld → IndexedWorld → Type 0
 WalksMore seat number zero old new = new ≡ old
 WalksMore seat number (suc count) old new =
     (mid : IndexedWorld) × (step : Step) × WalksMore seat number count old mid × AdvancesIn seat number mid new (Ok (Walked step))
 
--- The walks of a list go on from here: so many steps are made, and then all is placed; or the next step is refused; or, where
--- these were more steps than the walks of a list may make, the list is given up (S7).
+-- The walks of a list go on from `first`: `count` steps are made. Then all is placed; or the next
+-- step is refused, and its fault is the result; or, after more steps than the walks of a list may
+-- make, the result is S7.
 abbrev pub PlacesIn : ℕ → ℕ → IndexedWorld → IndexedWorld → Result (Unit {0}) Fault → Type 0
 PlacesIn seat number first new result =
     (count : ℕ) × (last : IndexedWorld) × WalksMore seat number count first last
@@ -81,40 +83,45 @@ PlacesIn seat number first new result =
     ⊎ (((fault : Fault) × AdvancesIn seat number last new (Err fault) × (result ≡ Err fault))
     ⊎ ((CHANGE_LIMIT * (STEP_LIMIT + 1) < count) × (new ≡ last) × (result ≡ Err (faults.Tree tree.Overrun)))))
 
--- the changes are staged in a transaction of this world, and nothing of them is placed; index and walks are these
+-- the changes are staged in a transaction of this world, none of them is placed, and index and
+-- walks are these
 pub record IsStaged (seat number : ℕ) (changes : List Change) (plain : WorldData) (index : Index) (walks : List JourneyData) (first : IndexedWorld) : Type 0 where
   pub stands : first.plain ≡ under number seat changes 0 plain
   pub index_is : first.index ≡ index
   pub walks_are : first.walks ≡ walks
 
--- once its walks have ended so, a list is answered: a refusal of theirs is handed on, and no other of the index comes
+-- how a list ends after its walks: a refusal of theirs is passed on, and no other one is the
+-- index's
 abbrev pub EndsSo : {T : Type 0} → Result (Unit {0}) Fault → Result T Fault → Type 0
 EndsSo (Ok u) result = IfErr result IsOwn
 EndsSo (Err fault) result = result ≡ Err fault
 
--- the walks where the transaction of a number is let go of so many times (once is enough)
+-- the walks after a transaction's place is removed `count` times (once is enough)
 abbrev pub let_go : ℕ → ℕ → List JourneyData → List JourneyData
 let_go zero number walks = walks
 let_go (suc count) number walks = ended number (let_go count number walks)
 
--- nothing is let go of among the walks but the transaction of a number
+-- nothing is removed from the walks but this transaction's place
 abbrev pub LetsGo : ℕ → List JourneyData → List JourneyData → Type 0
 LetsGo number old new = (count : ℕ) × (new ≡ let_go count number old)
 
--- a list that is staged so is placed as far as it is, and its transaction ends
+-- the list is staged, its walks end with `placed`, and nothing but its transaction's place is
+-- removed from the walks
 abbrev pub ConcludesIn : {T : Type 0} → ℕ → ℕ → List Change → WorldData → Index → List JourneyData → IndexedWorld → Result T Fault → Type 0
 ConcludesIn seat number changes plain index walks new result =
     (first : IndexedWorld) × IsStaged seat number changes plain index walks first
     × (mid : IndexedWorld) × (placed : Result (Unit {0}) Fault) × PlacesIn seat number first mid placed × EndsSo placed result
     × (new.index ≡ mid.index) × LetsGo number mid.walks new.walks
 
--- A list from its beginning on, in a world that is at rest. Where the world refuses that its transaction begins, the index stays.
+-- A whole commit, in a world at rest. If the world refuses to begin its transaction, index and
+-- walks are unchanged.
 abbrev pub CommitsIn : {T : Type 0} → ℕ → List Change → IndexedWorld → IndexedWorld → Result T Fault → Type 0
 CommitsIn seat changes old new result =
     ((fault : Fault) × (result ≡ Err fault) × Happens (Begin seat) old.plain new.plain (Refused fault) × StayBeside old new)
     ⊎ (let number = old.plain.next_transaction in ConcludesIn seat number changes (begun old.plain) old.index (with_place number old.walks) new result)
 
--- What a call makes of index and walks. Before HELLO, and where it is neither a search nor a commit, both stay as they are.
+-- What a call does to index and walks. Before HELLO, and for any call but a search or a commit,
+-- both are unchanged.
 abbrev pub Causes : Call → Option ℕ → IndexedWorld → IndexedWorld → SaidData → Type 0
 Causes (Search window) seat old new said =
     MatchOption seat (StayBeside old new) (λ seat. (end : Result AnswerData Fault) × SearchesIn seat window old new end × (said ≡ told rows end))

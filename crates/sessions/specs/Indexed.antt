@@ -1,5 +1,5 @@
--- What the lines of a script make of the index of their world, and of the walks: how it comes to refuse them, how far STEP goes,
--- and that a slot is tended behind each line.
+-- What the lines of a script do to the index of their world and to the walks: why the index refuses
+-- them, how far STEP goes, and that a slot is tended after each line.
 use Rattle.std.specs.Prelude.{◌≡◌, ℕ, nat_lt, List, slice_index_or, slice_set, Option, MatchOption, Result, Ok, Err, IfErr, MatchResult}
 use Rattle.std.specs.Bool.{MatchBool}
 use Rattle.features.specs.Names.{name_of}
@@ -30,7 +30,7 @@ use Rattle.sessions.specs.Services.{Serves, is_overrun, solo_subject}
 use Rattle.sessions.specs.States.{SessionState, solo}
 use Rattle.sessions.specs.Stepping.{AllEnd, VisitsOn, step_command_at, step_verb_at}
 
--- a world with its index that serves one session, and the number of the session's seat from HELLO on
+-- a world with its index that serves one session, and the session's seat from HELLO on
 pub record Server : Type 0 where
   pub world : IndexedWorld
   pub seat : Option ℕ
@@ -41,41 +41,42 @@ server world seat = record { world = world; seat = seat }
 abbrev pub asks_for : Server → Option Subject
 asks_for s = solo_subject (solo s.world.plain s.seat)
 
--- what a call makes of it, and of the index
+-- what a call does to the plain world and the seat (`Serves`), and to the index (`Causes`)
 abbrev pub ServesThere : Call → Server → Server → SaidData → Type 0
 ServesThere call old new said = Serves call (solo old.world.plain old.seat) (solo new.world.plain new.seat) said × Causes call old.seat old.world new.world said
 
--- the open search of a session with this seat ends, in the index too, if it has both
+-- the open search of a session with this seat is dropped, in the index too; nothing is done if it
+-- lacks either
 abbrev pub Shuts : Option ℕ → Option ℕ → IndexedWorld → IndexedWorld → Type 0
 Shuts at number_open old new =
     MatchOption at (new ≡ old) (λ seat.
     MatchOption number_open (new ≡ old) (λ number.
     (end : Result (Unit {0}) Fault) × Happens (DropSearch seat number) old.plain new.plain (reply_of (λ _. Done) end) × EndsInIndex number old.index new.index end × (new.walks ≡ old.walks)))
 
--- those of all these sessions, one after another
+-- the open searches of all these sessions are dropped, one after another
 abbrev pub AllShut : List SessionState → IndexedWorld → IndexedWorld → Type 0
 AllShut sessions old new = AllEnd Shuts sessions old new
 
--- a line that a session by itself knows too; a search that is open ends with its session
+-- any line but OPEN, STEP and FINISH; the open search is dropped unless the session keeps its seat
 abbrev pub TakesThere : List ℕ → SessionState → IndexedWorld → SessionState → IndexedWorld → SaidData → Type 0
 TakesThere text old old_world new new_world said =
     (mid : IndexedWorld) × Answers asks_for ServesThere text (desk old.staged (server old_world old.seat)) (desk new.staged (server mid new.seat)) said
     × MatchBool (keeps_seat old.seat new.seat) (new_world ≡ mid) (Shuts old.seat old.search mid new_world)
 
--- a search that was given up ends in the index
+-- a search that ended with S7 is dropped in the index
 abbrev pub DropsGivenUp : {T : Type 0} → ℕ → Index → Index → Result T Fault → Type 0
 DropsGivenUp number old new (Ok x) = new ≡ old
 DropsGivenUp number old new (Err fault) =
     MatchBool (is_overrun (Refused fault)) ((end : Result (Unit {0}) Fault) × EndsInIndex number old new end) (new ≡ old)
 
--- a search that is open is finished in the index
+-- FINISH, in the index: the search goes on until it is finished or refused; after S7 it is dropped
 abbrev pub FinishesIn : {T : Type 0} → ℕ → ℕ → IndexedWorld → IndexedWorld → Result T Fault → Type 0
 FinishesIn seat number old new result =
     (mid : Index) × SeeksIn (may_go_on seat number old.plain) number old.index mid result × DropsGivenUp number mid new.index result
 
--- A command of a search that goes step by step. OPEN begins it in the index. STEP makes as many visits as it asks for, or fewer,
--- where one before the last is refused or finds no more to see, and tells what the last one is answered. FINISH goes on until it
--- is ready, and finishes it.
+-- OPEN, STEP and FINISH, in the index. OPEN opens the search. STEP makes as many visits as it asks
+-- for, or stops at the first one that is refused or finds no more to see, and its reply is that of
+-- the last visit. FINISH goes on until the search is ready, and finishes it.
 abbrev pub StepsThere : ℕ → StepCommand → IndexedWorld → IndexedWorld → SaidData → Type 0
 StepsThere seat (commands.Open window) old new said =
     (end : Result ℕ Fault) × OpensInIndex window old.index new.index end × (new.walks ≡ old.walks) × (said ≡ told (λ number. line Opened) end)
@@ -85,18 +86,19 @@ StepsThere seat (commands.Step search count) old new said =
 StepsThere seat (commands.Finish search) old new said =
     (end : Result AnswerData Fault) × FinishesIn seat search old new end × (new.walks ≡ old.walks) × (said ≡ told rows end)
 
--- a line whose command is of a search that goes step by step
+-- a line OPEN, STEP or FINISH
 abbrev pub TakesStepThere : StepVerb → List ℕ → SessionState → IndexedWorld → IndexedWorld → SaidData → Type 0
 TakesStepThere verb text old old_world new_world said =
     MatchOption old.seat (new_world ≡ old_world) (λ seat.
     MatchResult (step_command_at old.search verb text) (λ command. StepsThere seat command old_world new_world said) (λ fault. new_world ≡ old_world))
 
--- a line of a session that a world serves
+-- a line of a session of the script
 abbrev pub SessionThere : List ℕ → SessionState → IndexedWorld → SessionState → IndexedWorld → SaidData → Type 0
 SessionThere text old old_world new new_world said =
     MatchOption (step_verb_at text) (TakesThere text old old_world new new_world said) (λ verb. TakesStepThere verb.0 verb.1 old old_world new_world said)
 
--- a world with its index, the sessions of the labels that have come, in their order, and the slot that is tended next
+-- a world with its index, the sessions in the order in which their labels came, and the slot to
+-- tend next
 pub record IndexedScript : Type 0 where
   pub world : IndexedWorld
   pub sessions : List SessionState
@@ -105,7 +107,7 @@ pub record IndexedScript : Type 0 where
 abbrev pub indexed : IndexedWorld → List SessionState → ℕ → IndexedScript
 indexed world sessions slot = record { world = world; sessions = sessions; slot = slot }
 
--- what stands behind a label, to these sessions and this world
+-- what the text after a label does to the sessions and the world
 abbrev pub LabelThere : List ℕ → List ℕ → IndexedScript → List SessionState → IndexedWorld → List ℕ → Type 0
 LabelThere label text old sessions world said =
     MatchBool (nat_lt (place label old.sessions) LABEL_LIMIT)
@@ -114,7 +116,7 @@ LabelThere label text old sessions world said =
     × (sessions ≡ slice_set (with_label label old.sessions) (place label old.sessions) session) × (said ≡ said_text label reply))
     (world ≡ old.world)
 
--- a line, to these sessions and this world
+-- what a line does to the sessions and the world
 abbrev pub LineThere : List ℕ → IndexedScript → List SessionState → IndexedWorld → List ℕ → Type 0
 LineThere text old sessions world said =
     MatchBool (is_too_long text) (world ≡ old.world)
@@ -123,7 +125,7 @@ LineThere text old sessions world said =
     (λ parts. MatchOption (name_of parts.0) (world ≡ old.world)
     (λ label. LabelThere label parts.1 old sessions world said))))
 
--- the slot whose turn it is is tended, unless the index refuses that, and the next one's turn comes
+-- the slot whose turn it is is tended, unless the index refuses; the turn passes on in either case
 pub record TendsNext (old : IndexedWorld) (slot : ℕ) (new : IndexedWorld) (next : ℕ) : Type 0 where
   pub plain : new.plain ≡ old.plain
   pub walks : new.walks ≡ old.walks
@@ -133,7 +135,7 @@ pub record TendsNext (old : IndexedWorld) (slot : ℕ) (new : IndexedWorld) (nex
   pub tends : TendsIndex old.plain slot old.index new.index answer
   pub turn : next ≡ behind slot (slots_of new.index)
 
--- what a line is answered and what it leaves, the index included; a slot is tended behind it
+-- the reply to a line and what the line leaves, the index included; a slot is tended after it
 abbrev pub LineRuns : List ℕ → IndexedScript → IndexedScript → List ℕ → Type 0
 LineRuns text old new said =
     LineTells text (script old.world.plain old.sessions) (script new.world.plain new.sessions) said

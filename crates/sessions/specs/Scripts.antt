@@ -1,4 +1,4 @@
--- The script text: what a list of lines is answered, over one plain state.
+-- The script text: the replies to a list of lines, over one plain state.
 use Rattle.std.specs.Prelude.{◌≡◌, ℕ, ◌+◌, ◌==◌, Bool, true, false, not, take, drop, nat_eq, nat_lt, List, [], ◌∷◌, ◌++◌, codes, length, slice_index_or, slice_set, Option, None, Some, MatchOption, Result, MatchResult, if◌then◌else◌}
 use Rattle.std.specs.Bool.{MatchBool}
 use Rattle.std.specs.Cmp.Lexicographic.{pointwise}
@@ -26,7 +26,7 @@ use Rattle.plain_world.specs.States.{WorldData}
 use Rattle.line_streams.specs.Streams.{LinesTell}
 use Rattle.sessions.specs.declared.scripts.TheConstants.{LABEL_LIMIT}
 
--- a world, and the sessions of the labels that have come, in their order
+-- a world, and the sessions in the order in which their labels came
 pub record Script : Type 0 where
   pub world : WorldData
   pub sessions : List SessionState
@@ -50,18 +50,18 @@ is_skipped (b ∷ bs) = b == 35
 abbrev pub is_not_colon : ℕ → Bool
 is_not_colon b = not (b == 58)
 
--- what stands before the first colon of a line, and what stands behind it
+-- the text before the first colon of a line, and the text after it
 unfoldable pub parts_of : List ℕ → Option (List ℕ × List ℕ)
 parts_of text =
     let len = prefix_len is_not_colon text in
     if nat_lt len (length text) then Some (take len text, drop (len + 1) text) else None
 
--- how many sessions stand before that of a label; all, where it has none
+-- the place of the label's session; the number of sessions if there is none
 abbrev pub place : List ℕ → List SessionState → ℕ
 place label [] = 0
 place label (session ∷ sessions) = if pointwise nat_eq session.label label then 0 else place label sessions + 1
 
--- the sessions with that of a label, which is begun where it was not there
+-- the sessions, with a fresh one for the label if it had none
 abbrev pub with_label : List ℕ → List SessionState → List SessionState
 with_label label sessions = if place label sessions == length sessions then sessions ++ fresh label ∷ [] else sessions
 
@@ -69,18 +69,18 @@ with_label label sessions = if place label sessions == length sessions then sess
 abbrev pub IsRefused : List ℕ → Script → Script → List ℕ → Type 0
 IsRefused text old new said = (new ≡ old) × (said ≡ led (codes "?") text)
 
--- a session had a seat, and has it still
+-- a session had a seat, and still has it
 abbrev pub keeps_seat : Option ℕ → Option ℕ → Bool
 keeps_seat (Some before) (Some after) = before == after
 keeps_seat before after = false
 
--- a line that a session by itself knows too; a search that is open ends with its session
+-- any line but OPEN, STEP and FINISH; the open search is dropped unless the session keeps its seat
 abbrev pub TakesPlain : List ℕ → SessionState → WorldData → SessionState → WorldData → SaidData → Type 0
 TakesPlain text old old_world new new_world said =
     (mid : WorldData) × Answers solo_subject Serves text (desk_of old_world old) (desk new.staged (solo mid new.seat)) said
     × MatchBool (keeps_seat old.seat new.seat) ((new.search ≡ old.search) × (new_world ≡ mid)) ((new.search ≡ None) × Drops old.seat old.search mid new_world)
 
--- nothing changes, and this is said
+-- nothing changes, and the reply is `due`
 abbrev pub OnlyTells : Reply → SessionState → WorldData → SessionState → WorldData → SaidData → Type 0
 OnlyTells due old old_world new new_world said = (new ≡ old) × (new_world ≡ old_world) × (said ≡ line due)
 
@@ -102,13 +102,13 @@ Ends seat search old old_world new new_world said =
     (end : Result AnswerData WorldFault) × Finishes seat search old_world new_world (reply_of Rows end)
     × (new ≡ record old { search = finished_as end search }) × (said ≡ told rows end)
 
--- what a command of a search that goes step by step makes of a session with this seat, and what is said
+-- what OPEN, STEP or FINISH makes of a session with this seat, and what is said
 abbrev pub ObeysStep : ℕ → StepCommand → SessionState → WorldData → SessionState → WorldData → SaidData → Type 0
 ObeysStep seat (commands.Open window) old old_world new new_world said = Opens seat window old old_world new new_world said
 ObeysStep seat (commands.Step search count) old old_world new new_world said = Steps seat search count old old_world new new_world said
 ObeysStep seat (commands.Finish search) old old_world new new_world said = Ends seat search old old_world new new_world said
 
--- a line whose command is of a search that goes step by step
+-- a line OPEN, STEP or FINISH
 abbrev pub TakesStep : StepVerb → List ℕ → SessionState → WorldData → SessionState → WorldData → SaidData → Type 0
 TakesStep verb text old old_world new new_world said =
     MatchOption old.seat (OnlyTells (Error BeforeHello) old old_world new new_world said) (λ seat.
@@ -116,13 +116,13 @@ TakesStep verb text old old_world new new_world said =
     (λ command. ObeysStep seat command old old_world new new_world said)
     (λ fault. OnlyTells (Error fault) old old_world new new_world said))
 
--- what a session answers that a world serves; after BYE its label stands for a new one
+-- a line of a session of the script; after BYE its label stands for a new session
 abbrev pub SessionAnswers : List ℕ → SessionState → WorldData → SessionState → WorldData → SaidData → Type 0
 SessionAnswers text old old_world new new_world said =
     (new.label ≡ old.label)
     × MatchOption (step_verb_at text) (TakesPlain text old old_world new new_world said) (λ verb. TakesStep verb.0 verb.1 old old_world new new_world said)
 
--- the session of a label answers what stands behind it
+-- the session of a label answers the text after it
 pub record SessionTells (label text : List ℕ) (old new : Script) (said : List ℕ) : Type 0 where
   pub session : SessionState
   pub reply : SaidData
@@ -130,12 +130,12 @@ pub record SessionTells (label text : List ℕ) (old new : Script) (said : List 
   pub stays : new.sessions ≡ slice_set (with_label label old.sessions) (place label old.sessions) session
   pub shows : said ≡ said_text label reply
 
--- a script has 64 labels at most
+-- a script has at most 64 labels
 abbrev pub LabelTells : List ℕ → List ℕ → Script → Script → List ℕ → Type 0
 LabelTells label text old new said =
     MatchBool (nat_lt (place label old.sessions) LABEL_LIMIT) (SessionTells label text old new said) (IsRefused (reply_text (Error NoLabel)) old new said)
 
--- what a line is answered, and what it leaves
+-- the reply to a line, and what the line leaves
 abbrev pub LineTells : List ℕ → Script → Script → List ℕ → Type 0
 LineTells text old new said =
     MatchBool (is_too_long text) (IsRefused (reply_text (Error LineTooLong)) old new said)
@@ -144,12 +144,13 @@ LineTells text old new said =
     (λ parts. MatchOption (name_of parts.0) (IsRefused (reply_text (Error NoLabel)) old new said)
     (λ label. LabelTells label parts.1 old new said))))
 
--- what lines are answered, one after another
+-- the replies to lines, one after another
 abbrev pub Tells : Script → List (List ℕ) → Script → List ℕ → Type 0
 Tells old lines new text = LinesTell LineTells old lines new text
 
--- The script text of an input, from one world to another. It says what each line is answered where the world was at rest at the
--- beginning, as one that has just been opened is. The searches that are open behind the last line are given up.
+-- The script text of an input, from one world to another. It fixes each reply if the world was at
+-- rest at the beginning, as one that has just been opened is. Searches that are open after the last
+-- line are dropped.
 pub record IsScriptText (world : WorldData) (input : List ℕ) (end : WorldData) (text : List ℕ) : Type 0 where
   pub sessions : List SessionState
   pub last : WorldData

@@ -1,4 +1,4 @@
--- What the calls of a session make of a world, each from its beginning to its end.
+-- What each call of a session makes of a world, from the call's beginning to its end.
 use Rattle.std.specs.Prelude.{◌≡◌, ◌≢◌, ◌⊎◌, ℕ, ◌+◌, ◌==◌, nat_le, nat_lt, Bool, true, false, List, [], length, map, slice_get, Option, None, Some, MatchOption, Result, Ok, Err, if◌then◌else◌}
 use Rattle.std.specs.Bool.{MatchBool}
 use Rattle.plane.specs.declared.point.Point.{Point}
@@ -34,11 +34,11 @@ use Rattle.sessions.specs.States.{SoloState, WhereAtRest, begun, searched}
 
 -- Searches.
 
--- the subject that searches, while a search more has a place and a number
+-- the subject that searches, if there is room and a number for one more search
 abbrev pub may_search : ℕ → WorldData → Result Subject Fault
 may_search seat w = and_then (subject_at seat w) (λ subject. map_ok (λ _. subject) (next_search w))
 
--- the index has given up a search
+-- the reply is S7
 abbrev pub is_overrun : EventReply → Bool
 is_overrun (Refused (faults.Tree tree.Overrun)) = true
 is_overrun _ = false
@@ -47,15 +47,15 @@ is_overrun _ = false
 abbrev pub is_full : WorldData → Bool
 is_full w = nat_le w.limits.records (length w.trail)
 
--- the rows that are listed are answered, and recorded
+-- the reply has the rows that are listed, and the trail records them
 abbrev pub ListsRows : ℕ → Subject → List Point → WorldData → WorldData → EventReply → Type 0
 ListsRows seat subject window old new reply =
     (rows : List Feature) × Listed old.state subject window rows
     × (reply ≡ Rows (record { subject = subject; window = window; decider = old.state.decider; rows = rows }))
     × (new ≡ searched (recorded seat (answered subject window (map (λ row. row.id) rows) (map (λ row. row.version) rows)) old))
 
--- A search from its beginning to its end. One that comes to nothing changes nothing, but uses a number up; the searches that
--- run stay as they are. Only the index knows whether it gives a search up.
+-- A whole search. One that ends with a fault changes nothing, but may use up a number; other open
+-- searches are unchanged. Only the index knows whether it gives a search up (S7).
 abbrev pub Searches : ℕ → List Point → WorldData → WorldData → EventReply → Type 0
 Searches seat window old new reply =
     If (may_search seat old) old new reply (λ subject.
@@ -66,7 +66,7 @@ Searches seat window old new reply =
 
 -- Commits.
 
--- the subject that commits, while transactions have numbers left
+-- the subject that commits, if there is a number for one more transaction
 abbrev pub may_conclude : ℕ → WorldData → Result Subject Fault
 may_conclude seat w = and_then (subject_at seat w) (λ subject. if w.next_transaction == LAST then Err faults.Spent else Ok subject)
 
@@ -74,7 +74,7 @@ may_conclude seat w = and_then (subject_at seat w) (λ subject. if w.next_transa
 abbrev pub Brings : List Change → Type 0
 Brings changes = placements changes ≢ []
 
--- the index does not place a shape
+-- the reply is S4 to S7: the index does not place a shape
 abbrev pub is_unplaced : EventReply → Bool
 is_unplaced (Refused (faults.Tree tree.Full)) = true
 is_unplaced (Refused (faults.Tree tree.TooHigh)) = true
@@ -82,7 +82,8 @@ is_unplaced (Refused (faults.Tree tree.Spent)) = true
 is_unplaced (Refused (faults.Tree tree.Overrun)) = true
 is_unplaced _ = false
 
--- a list that is accepted is applied under the next version, if there is one and the features are not too many
+-- an accepted list is applied under the next version; X8 if there is none, X11 if the features
+-- would be too many
 abbrev pub AppliesAll : ℕ → Subject → List Change → WorldData → WorldData → EventReply → Type 0
 AppliesAll seat subject changes old new reply =
     let version = old.state.version + 1 in
@@ -90,7 +91,7 @@ AppliesAll seat subject changes old new reply =
     (MatchBool (nat_lt old.limits.features (length (after version subject.office changes old.state.features))) ((reply ≡ Refused faults.StoreFull) × (new ≡ begun old))
     ((reply ≡ Ended (outcomes.Applied version)) × (new ≡ begun (recorded seat (applied subject version changes) old))))
 
--- a list ends as it is judged
+-- the end of a list by its judgement: applied, or rejected and recorded
 abbrev pub EndsAs : Judgement → ℕ → Subject → List Change → WorldData → WorldData → EventReply → Type 0
 EndsAs judgements.Accepted seat subject changes old new reply = AppliesAll seat subject changes old new reply
 EndsAs (judgements.Refused refusal question) seat subject changes old new reply =
@@ -102,7 +103,7 @@ abbrev pub holder : EventReply → Option ℕ
 holder (Refused (faults.Tree (tree.Held search))) = Some search
 holder _ = None
 
--- the search runs, and looks for a shape that the list brings
+-- the search is open, and looks for a shape that the list brings
 abbrev pub HoldsList : ℕ → List Change → WorldData → Type 0
 HoldsList search changes w = (at : ℕ) × (placement : ℕ × List Point) × (slice_get (placements changes) at ≡ Some placement) × HoldsBack search placement.1 w
 
@@ -110,9 +111,10 @@ HoldsList search changes w = (at : ℕ) × (placement : ℕ × List Point) × (s
 abbrev pub NoReadySeeksAny : List Change → WorldData → Type 0
 NoReadySeeksAny changes w = (at : ℕ) (placement : ℕ × List Point) → slice_get (placements changes) at ≡ Some placement → NoReadySeeks placement.1 w
 
--- A list of changes is committed, all or none of it. A commit that comes to nothing changes nothing, but uses a number up;
--- the searches that run stay as they are. Only the index knows whether it places a shape, and whether it holds one back for a
--- search that looks for it and is not ready; for one that is, it always does.
+-- A whole commit, of all changes of the list or none. One that ends with a fault changes nothing,
+-- but may use up a number; open searches are unchanged. Only the index knows whether it places a
+-- shape, and whether it holds one back for a search that looks for it and is not ready; for a ready
+-- one it always does.
 abbrev pub Commits : ℕ → List Change → WorldData → WorldData → EventReply → Type 0
 Commits seat changes old new reply =
     If (may_conclude seat old) old new reply (λ subject.
@@ -126,7 +128,7 @@ Commits seat changes old new reply =
 
 -- A world that serves one session.
 
--- the subject for whom a session asks, from HELLO on
+-- the session's subject, from HELLO on
 abbrev pub seated : Option ℕ → WorldData → Option Subject
 seated None w = None
 seated (Some seat) w = subject_of seat w.seats
@@ -134,12 +136,12 @@ seated (Some seat) w = subject_of seat w.seats
 abbrev pub solo_subject : SoloState → Option Subject
 solo_subject s = seated s.seat s.world
 
--- before HELLO nothing is done; no line of a session leads here, since it is refused before
+-- before HELLO nothing is done; no line of a session leads here, since E5 comes before the call
 abbrev pub WhereSeated : SoloState → SoloState → SaidData → (ℕ → Type 0) → Type 0
 WhereSeated old new said Does =
     MatchOption old.seat ((new ≡ old) × (said ≡ line (Error BeforeHello))) (λ seat. (new.seat ≡ old.seat) × Does seat)
 
--- a session begins where the subject of its name is given a seat
+-- the session's seat after HELLO: the new one, or after a fault the one before
 abbrev pub seat_after : Result ℕ Fault → Option ℕ → Option ℕ
 seat_after (Ok seat) before = Some seat
 seat_after (Err fault) before = before
@@ -149,14 +151,15 @@ Begins name old new said =
     (end : Result ℕ Fault) × Happens (TakeSeat name) old.world new.world (reply_of Number end)
     × (new.seat ≡ seat_after end old.seat) × (said ≡ told (λ seat. line (Greets name)) end)
 
--- how the document in force rules of a question
+-- the ruling of the policy in force
 abbrev pub Explains : Question → SoloState → SaidData → Type 0
 Explains question s said =
     let decider = s.world.state.decider in
     (ruling : Ruling) × Rules decider.document question ruling × (said ≡ line (ruling_reply decider ruling))
 
--- What a call makes of a world and the session's seat, and what is said. A search and a commit are several events, so what is
--- said of them is said of a world at rest; a call of one event is that event, in any world.
+-- What a call makes of a world and the session's seat, and what is said. A search and a commit are
+-- several events, so their clauses are for a world at rest; any other call is one event or none, in
+-- any world.
 abbrev pub Serves : Call → SoloState → SoloState → SaidData → Type 0
 Serves (Hello name) old new said = Begins name old new said
 Serves (Search window) old new said =

@@ -4,7 +4,7 @@ use Rattle.features.specs.declared.rows.Change.{Change}
 use Rattle.plain_world.specs.Laws.{AreGiven}
 use Rattle.plain_world.specs.States.{WorldData}
 
--- a world that serves one session, and the number of the session's seat from HELLO on
+-- a world that serves one session, and the session's seat from HELLO on
 pub record SoloState : Type 0 where
   pub world : WorldData
   pub seat : Option ℕ
@@ -12,21 +12,21 @@ pub record SoloState : Type 0 where
 abbrev pub solo : WorldData → Option ℕ → SoloState
 solo world seat = record { world = world; seat = seat }
 
--- a session of a script: its label, the number of its seat from HELLO on, the number of its open search, where it has
--- opened one, and the changes that it has staged
+-- a session of a script: its label, its seat from HELLO on, its open search if it has one, and its
+-- staged changes
 pub record SessionState : Type 0 where
   pub label : List ℕ
   pub seat : Option ℕ
   pub search : Option ℕ
   pub staged : List Change
 
--- no search runs and no transaction is open, as in a world that has just been opened
+-- no search and no transaction is open, as in a world that has just been opened
 pub record IsIdle (w : WorldData) : Type 0 where
   pub searches : w.searches ≡ []
   pub transactions : w.transactions ≡ []
 
--- No transaction is open, and the numbers of the searches that run rise, below the next one. So each world stands between two
--- lines: the searches that run are those that sessions have opened.
+-- No transaction is open, and the numbers of the open searches rise and lie below the next one.
+-- Worlds are at rest between two lines; their open searches are those that sessions have opened.
 pub record IsAtRest (w : WorldData) : Type 0 where
   pub searches : AreGiven w.next_search (map (λ s. s.number) w.searches)
   pub transactions : w.transactions ≡ []
@@ -39,6 +39,6 @@ searched w = record w { next_search = w.next_search + 1 }
 abbrev pub begun : WorldData → WorldData
 begun w = record w { next_transaction = w.next_transaction + 1 }
 
--- what stands of a call of a world that is at rest, and is at rest afterwards
+-- a call of a world at rest leaves it at rest, and `Stands` holds
 abbrev pub WhereAtRest : WorldData → WorldData → Type 0 → Type 0
 WhereAtRest old new Stands = IsAtRest old → IsAtRest new × Stands

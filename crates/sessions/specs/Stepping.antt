@@ -1,4 +1,4 @@
--- Searches that go step by step, which lines of a script ask for: OPEN, STEP, FINISH.
+-- OPEN, STEP and FINISH, which scripts alone know: searches that go step by step.
 use Rattle.std.specs.Prelude.{◌≡◌, ◌⊎◌, ℕ, ◌<◌, ◌&&◌, zero, suc, nat_le, List, [], ◌∷◌, codes, Option, None, Some, MatchOption, Result, Ok, Err, if◌then◌else◌}
 use Rattle.std.specs.Bool.{MatchBool}
 use Rattle.std.specs.Str.{bytes_eq}
@@ -42,11 +42,11 @@ abbrev pub of_word : Option (List ℕ × List ℕ) → Option (StepVerb × List 
 of_word None = None
 of_word (Some word) = with_rest word.1 (step_verb_of word.0)
 
--- the command of a line that begins with one of these, and what is left behind it
+-- the command that a line begins with, if it is one of these, and the rest of the line
 unfoldable pub step_verb_at : List ℕ → Option (StepVerb × List ℕ)
 step_verb_at text = of_word (next_word text)
 
--- how many steps are asked for: 1 to 1,000,000
+-- a number of steps: 1 to 1,000,000
 abbrev pub step_count : ℕ → Result ℕ Fault
 step_count number = if nat_le 1 number && nat_le number STEP_LIMIT then Ok number else Err Number
 
@@ -59,31 +59,30 @@ count_at text = do
   _ ← end_at word.1
   Ok count
 
--- what is asked of a session with this open search, or without one: OPEN comes where none is open, STEP and FINISH are of the
--- one that is
+-- the command, for a session with this open search or with none: OPEN where none is open, STEP and
+-- FINISH where one is
 unfoldable pub step_command_at : Option ℕ → StepVerb → List ℕ → Result StepCommand Fault
 step_command_at None verbs.Open text = shape_at text >>= λ window. Ok (commands.Open window)
 step_command_at (Some search) verbs.Step text = count_at text >>= λ count. Ok (commands.Step search count)
 step_command_at (Some search) verbs.Finish text = end_at text >>= λ _. Ok (commands.Finish search)
 step_command_at search verb text = Err OutOfTurn
 
--- What the events make of it.
+-- The events.
 
--- so many visits of a search, each of which finds more to see
+-- `count` visits of a search, each of which finds more to see
 abbrev pub FindsMore : ℕ → ℕ → ℕ → WorldData → WorldData → Type 0
 FindsMore seat number zero old new = new ≡ old
 FindsMore seat number (suc count) old new =
     (mid : WorldData) × FindsMore seat number count old mid × Happens (VisitNext seat number) mid new (Visited visits.More)
 
--- So many visits of a search at most: all find more to see, or one before the last of them is the first that does not, and then
--- the search is ready or the visit is refused.
+-- At most `most` visits of a search. All of them find more to see; or the first that does not is
+-- the last, and then the search is ready or the visit is refused.
 abbrev pub GoesOn : ℕ → ℕ → ℕ → WorldData → WorldData → Result Visit WorldFault → Type 0
 GoesOn seat number most old new (Ok visits.More) = FindsMore seat number most old new
 GoesOn seat number most old new end =
     (before : ℕ) × (mid : WorldData) × (before < most) × FindsMore seat number before old mid × Happens (VisitNext seat number) mid new (reply_of Visited end)
 
--- The same as the index knows it, of a search that may go on: it makes as many visits as were asked for, each of which finds more
--- to see, or fewer, where one before the last is the first that does not.
+-- the same in the index; `may` says whether the search may go on
 abbrev pub SeesMore : Result Search WorldFault → ℕ → ℕ → Index → Index → Type 0
 SeesMore may number zero old new = new ≡ old
 SeesMore may number (suc count) old new = (mid : Index) × SeesMore may number count old mid × VisitsIndex may number mid new (Ok visits.More)
@@ -93,32 +92,34 @@ VisitsOn may number most old new (Ok visits.More) = SeesMore may number most old
 VisitsOn may number most old new end =
     (before : ℕ) × (mid : Index) × (before < most) × SeesMore may number before old mid × VisitsIndex may number mid new end
 
--- A search goes on until it is ready, and is finished, or a visit is refused before. (Visits that find more to see leave the
--- world as it was.) The index may also find more to see for ever: then the search is given up.
+-- A search goes on until it is ready, and is finished; or a visit is refused before. (Visits that
+-- find more to see leave the world unchanged.) Or visits find more to see without end, and then the
+-- reply is S7.
 abbrev pub Seeks : ℕ → ℕ → WorldData → WorldData → EventReply → Type 0
 Seeks seat number old new reply =
     ((fault : WorldFault) × Happens (VisitNext seat number) old new (Refused fault) × (reply ≡ Refused fault))
     ⊎ (((mid : WorldData) × Happens (VisitNext seat number) old mid (Visited visits.Ready) × Happens (Finish seat number) mid new reply)
     ⊎ (Happens (VisitNext seat number) old old (Visited visits.More) × (new ≡ old) × (reply ≡ Refused (refusals.Tree tree.Overrun))))
 
--- a search that is open is finished; one that the index gives up is gone, whatever else is refused leaves it open
+-- an open search goes on until it is finished or refused; after S7 it is dropped, after any other
+-- fault it stays open
 abbrev pub Finishes : ℕ → ℕ → WorldData → WorldData → EventReply → Type 0
 Finishes seat number old new reply =
     (mid : WorldData) × Seeks seat number old mid reply
     × MatchBool (is_overrun reply) ((end : EventReply) × Happens (DropSearch seat number) mid new end) (new ≡ mid)
 
--- the open search of a session with this seat is given up, if it has both
+-- the open search of a session with this seat is dropped; nothing is done if it lacks either
 abbrev pub Drops : Option ℕ → Option ℕ → WorldData → WorldData → Type 0
 Drops at number_open old new =
     MatchOption at (new ≡ old) (λ seat.
     MatchOption number_open (new ≡ old) (λ number. (end : EventReply) × Happens (DropSearch seat number) old new end))
 
--- `Ends` comes of each of these sessions, one after another
+-- `Ends` holds for each of these sessions, one after another
 abbrev pub AllEnd : {W : Type 0} → (Option ℕ → Option ℕ → W → W → Type 0) → List SessionState → W → W → Type 0
 AllEnd Ends [] old new = new ≡ old
 AllEnd {W = W} Ends (session ∷ sessions) old new = (mid : W) × Ends session.seat session.search old mid × AllEnd Ends sessions mid new
 
--- the open searches of all these sessions are given up, one after another
+-- the open searches of all these sessions are dropped, one after another
 abbrev pub AllDrop : List SessionState → WorldData → WorldData → Type 0
 AllDrop sessions old new = AllEnd Drops sessions old new
 
@@ -128,7 +129,7 @@ abbrev pub opened_as : Result ℕ WorldFault → Option ℕ
 opened_as (Ok number) = Some number
 opened_as (Err fault) = None
 
--- the index may have given the search up
+-- after S7 the search is no longer open
 abbrev pub left_open : WorldFault → ℕ → Option ℕ
 left_open (refusals.Tree tree.Overrun) number = None
 left_open fault number = Some number

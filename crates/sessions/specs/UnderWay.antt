@@ -1,4 +1,4 @@
--- The calls of a search and of a commit on their way.
+-- A search and a commit between two of their events.
 use Rattle.std.specs.Prelude.{◌≡◌, ◌⊎◌, ◌<◌, ℕ, Bool, List, [], ◌∷◌, ◌++◌, slice_get, None, Some, Result, Ok, Err}
 use Rattle.plane.specs.declared.point.Point.{Point}
 use Rattle.features.specs.declared.actors.Subject.{Subject}
@@ -16,11 +16,11 @@ use Rattle.sessions.specs.Services.{Brings, HoldsList, NoReadySeeksAny}
 abbrev pub closed : WorldData → WorldData
 closed w = record w { transactions = [] }
 
--- a world in which one search more is under way
+-- a world with one more open search
 abbrev pub searching : ℕ → ℕ → List Point → Bool → WorldData → WorldData
 searching number seat window ready w = record w { searches = w.searches ++ record { number = number; seat = seat; window = window; ready = ready } ∷ [] }
 
--- a world in which one transaction is under way
+-- a world whose only open transaction is this one
 abbrev pub under : ℕ → ℕ → List Change → ℕ → WorldData → WorldData
 under number seat changes placed w = record w { transactions = record { number = number; seat = seat; changes = changes; placed = placed } ∷ [] }
 
@@ -30,7 +30,8 @@ Stages seat number changes old new result =
     (w : WorldData) (subject : Subject) → subject_at seat w ≡ Ok subject → old ≡ under number seat [] 0 w
     → (result ≡ Ok tt) × (new ≡ under number seat changes 0 w)
 
--- memory was wanted, the index does not make a step of a walk, or a search that runs holds the list back
+-- why a list is not placed: out of memory, the index refuses a step of a walk, or an open search
+-- holds the list back
 abbrev pub IsStuck : List Change → WorldData → Fault → Type 0
 IsStuck changes w (faults.Memory refused) = Unit {0}
 IsStuck changes w (faults.Tree (tree.Held search)) = HoldsList search changes w
@@ -40,11 +41,11 @@ IsStuck changes w (faults.Tree tree.Spent) = Brings changes
 IsStuck changes w (faults.Tree tree.Overrun) = Brings changes
 IsStuck changes w _ = ⊥
 
--- the transaction stands as far as it has come, or is gone
+-- the transaction is open with `placed` shapes placed, or is gone
 abbrev pub Stands : ℕ → ℕ → List Change → WorldData → WorldData → Type 0
 Stands seat number changes w new = ((placed : ℕ) × (new ≡ under number seat changes placed w)) ⊎ (new ≡ closed w)
 
--- no search that has answered Ready looks for one of the first shapes that the list brings
+-- no search that has answered Ready looks for one of the first `count` shapes that the list brings
 abbrev pub NoReadySeeksFirst : ℕ → List Change → WorldData → Type 0
 NoReadySeeksFirst count changes w =
     (at : ℕ) (placement : ℕ × List Point) → at < count → slice_get (placements changes) at ≡ Some placement → NoReadySeeks placement.1 w
@@ -53,13 +54,14 @@ abbrev pub PlacesAll : ℕ → ℕ → List Change → WorldData → WorldData �
 PlacesAll seat number changes w new (Ok u) = (placed : ℕ) × (new ≡ under number seat changes placed w) × (slice_get (placements changes) placed ≡ None) × NoReadySeeksAny changes w
 PlacesAll seat number changes w new (Err fault) = IsStuck changes w fault × Stands seat number changes w new
 
--- all that the changes of a transaction bring is placed, or a step is not made
+-- all shapes that the transaction's changes bring are placed, or a step is refused
 abbrev pub Places : ℕ → ℕ → WorldData → WorldData → Result (Unit {0}) Fault → Type 0
 Places seat number old new result =
     (w : WorldData) (subject : Subject) (changes : List Change) → subject_at seat w ≡ Ok subject → old ≡ under number seat changes 0 w
     → PlacesAll seat number changes w new result
 
--- the transaction is not placed, or is placed and committed
+-- the shapes are not all placed, and the reply is the fault; or they are, and the transaction is
+-- committed
 abbrev pub ConcludesAll : ℕ → ℕ → List Change → WorldData → WorldData → Reply → Type 0
 ConcludesAll seat number changes w new reply =
     ((fault : Fault) × IsStuck changes w fault × Stands seat number changes w new × (reply ≡ Refused fault))

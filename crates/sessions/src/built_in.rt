@@ -1,4 +1,4 @@
-//! The subjects of a server without a configuration.
+//! The subjects of the built-in configuration.
 
 ghost use Rattle.std.specs.Prelude.{◌≡◌, true};
 ghost use Rattle.features.specs.Names.{is_name};
@@ -6,8 +6,8 @@ ghost use Rattle.sessions.specs.BuiltIn.{built_in};
 
 use features::{Name, Subject, Subjects};
 
-/// The subjects of a server without a configuration: `north`, an editor of the office north; `south`, a viewer of the
-/// office south; and `chief`, the steward, of the office hq.
+/// The subjects of the built-in configuration: `north`, an editor of the office north; `south`, a
+/// viewer of the office south; and `chief`, the steward, of the office hq.
 pub fn built_in_subjects() -> Subjects
     ensures { result ≡ built_in }
 {

@@ -1,5 +1,5 @@
-//! What a session asks of a world, each call from its beginning to its end. A search or a commit that ends with a fault is
-//! dropped or aborted, and so nothing of it stays under way.
+//! Whole searches and commits over a world, and the calls of POLICY and ROLL. A search or a commit
+//! that fails is dropped or aborted, so nothing of it stays open.
 
 ghost use Rattle.std.specs.Prelude.{◌≡◌, ◌≤◌, [], Ok, IfErr, length};
 ghost use Rattle.std.specs.Arc.{arc_value};
@@ -24,15 +24,16 @@ use transactions::{
     Advance, Answer, CHANGE_LIMIT, Fault, Outcome, Rolled, STEP_LIMIT, TreeFault, Visit, World,
 };
 
-/// How many steps a search is waited for, which is overrun before.
+/// Upper bound on visits, one above the limit of a search, so that S7 comes from the index first.
 const SEARCH_STEPS: u32 = STEP_LIMIT + 1;
 
-/// How many steps the walks of a list are waited for: one for each change, each of which is overrun
-/// before, and the step that finds all placed.
+/// Upper bound on the steps of a list's walks: for each change one above the limit of a walk, so
+/// that S7 comes from the index first, and the step that finds all placed.
 const WALK_STEPS: u32 = CHANGE_LIMIT as u32 * (STEP_LIMIT + 1) + 1;
 
-/// Searches from the beginning to the end. X1 where the seat was not given; S2 where 16 searches run, S6 where the numbers of
-/// searches are at their end, S7 where the index gives the search up; X10 where the trail is full; X12 where a growth is refused.
+/// Runs a whole search, and drops it after a fault. X1 where the seat was not given; S2 where 16
+/// searches are open; S6 where the numbers of searches are at their end; S7 where the search takes
+/// too many steps; X10 where the trail is full; X12 where an allocation is refused.
 pub(crate) fn search<A: Allocator + Copy>(
     world: &mut World<A>,
     seat: u32,
@@ -51,7 +52,7 @@ pub(crate) fn search<A: Allocator + Copy>(
     }
 }
 
-/// Lets a search go on until it is ready, and finishes it.
+/// Visits a search until it is ready, and finishes it.
 pub(crate) fn seek<A: Allocator + Copy>(
     world: &mut World<A>,
     seat: u32,
@@ -73,10 +74,11 @@ pub(crate) fn seek<A: Allocator + Copy>(
     Err(Fault::Tree(TreeFault::Overrun))
 }
 
-/// Commits a list of changes, all or none of it. X1 where the seat was not given; X8 where the numbers of transactions
-/// are at their end; S3 to S7 where the index does not place a shape; X10 where the trail is full; X12 where a growth
-/// is refused; of a list that is accepted then X8 where the version is at its end, and X11 where more features would
-/// stand than may.
+/// Commits a list of changes, all or none, and aborts after a fault. X1 where the seat was not
+/// given; X15 where 64 transactions are open; X8 where the numbers of transactions are at their
+/// end; S3 to S7 where the index does not place a shape; X10 where the trail is full; X12 where an
+/// allocation is refused. For an accepted list also X8 where the version is at its end, and X11
+/// where there would be more features than the limit.
 pub(crate) fn commit<A: Allocator + Copy>(
     world: &mut World<A>,
     seat: u32,
@@ -97,7 +99,7 @@ pub(crate) fn commit<A: Allocator + Copy>(
     }
 }
 
-/// Stages the changes in a transaction, places what they bring, and commits.
+/// Stages the changes in a transaction, places the shapes that they bring, and commits.
 fn conclude<A: Allocator + Copy>(
     world: &mut World<A>,
     seat: u32,
@@ -134,7 +136,7 @@ fn stage_all<A: Allocator>(
     Ok(())
 }
 
-/// Places in the index what the changes of a transaction bring.
+/// Places in the index the shapes that the transaction's changes bring.
 fn place_all<A: Allocator + Copy>(world: &mut World<A>, seat: u32, number: u64) -> Result<(), Fault>
     ensures places { Places seat number world.old.plain world.new.plain result }
     ensures index { PlacesIn seat number world.old world.new result }
@@ -148,8 +150,9 @@ fn place_all<A: Allocator + Copy>(world: &mut World<A>, seat: u32, number: u64) 
     Err(Fault::Tree(TreeFault::Overrun))
 }
 
-/// Puts a document in force, as its next edition. X1 where the seat was not given, X7 where its subject is no steward, X8
-/// where the edition is at its end, X10 where the trail is full, X12 where a growth is refused.
+/// Puts a document in force as the next edition. X1 where the seat was not given, X7 where its
+/// subject is no steward, X8 where the edition is at its end, X10 where the trail is full, X12
+/// where an allocation is refused.
 pub(crate) fn govern<A: Allocator + Copy>(
     world: &mut World<A>,
     heap: Global,
@@ -165,8 +168,8 @@ pub(crate) fn govern<A: Allocator + Copy>(
     }
 }
 
-/// Takes the trail out. X1 where the seat was not given, X7 where its subject is no steward, X8 where the numbers of the
-/// records are at their end, X12 where a growth is refused.
+/// Takes the trail out. X1 where the seat was not given, X7 where its subject is no steward, X8
+/// where the numbers of records are at their end, X12 where an allocation is refused.
 pub(crate) fn roll<A: Allocator + Copy>(
     world: &mut World<A>,
     heap: Global,

@@ -1,4 +1,4 @@
-//! What follows from the definitions alone. The functions do nothing: each is its contract.
+//! Laws that follow from the definitions alone. The functions do nothing; each is its contract.
 
 ghost use Rattle.std.specs.Prelude.{◌≡◌, List, ℕ};
 ghost use Rattle.audit_trail.specs.declared.trails.TheConstants.{FIRST_LIMIT};
@@ -17,23 +17,24 @@ ghost use Rattle.plain_world.specs.declared.settings.TheConstants.{CHANGE_LIMIT,
 use features::Subject;
 use transactions::{Limits, Starts};
 
-/// Nothing is under way in a world that has just been opened.
+/// A world that has just been opened has no open search and no open transaction.
 pub fn opened_world_is_idle()
     ensures { (subjects : List Subject) (decider : DeciderData) (starts : Starts) (limits : Limits) → IsIdle (opened subjects decider starts limits) }
 {}
 
-/// A world in which nothing is under way is at rest, and each line of a script, or of a session by itself, leaves one at rest
-/// that was so before it. So each line of a run over such a world is answered exactly.
+/// A world with no open search and no open transaction is at rest. A line, of a script or of a
+/// session by itself, leaves at rest a world that was at rest. So what the definitions say of
+/// worlds at rest holds at each line of a run.
 pub fn lines_leave_worlds_at_rest()
     ensures idle { (world : WorldData) → IsIdle world → IsAtRest world }
     ensures line { (text : List ℕ) (old new : Script) (said : List ℕ) → LineTells text old new said → IsAtRest old.world → IsAtRest new.world }
     ensures alone { (text : List ℕ) (old new : Desk SoloState) (said : List ℕ) (next : Next) → AloneTells solo_subject Serves text old new said next → IsAtRest old.service.world → IsAtRest new.service.world }
 {}
 
-/// The limits that the definitions name, in numbers. Of lines: labels of a script, bytes of a line without its end, reads of a
-/// run. Of the world that serves them: seats in its life, searches that run at once, transactions that are open at once,
-/// changes of a list, and steps of a search or of the walk for one change, which are also the most that STEP takes; records
-/// that were rolled out before it opened, and the number from which its trail goes on at most.
+/// The limits that the definitions name, in numbers. Of lines: labels of a script, bytes of a line
+/// without its end, reads of a run. Of the world: seats in its life, open searches, open
+/// transactions, changes of a list, steps of a search or of the walk for one change (also the most
+/// that STEP takes), records rolled out before it was opened, and the first number of its trail.
 pub fn limits_in_numbers()
     ensures labels { LABEL_LIMIT ≡ 64 }
     ensures line { LINE_LIMIT ≡ 65536 }

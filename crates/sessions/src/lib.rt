@@ -1,4 +1,4 @@
-//! Session lines over a world: what a world makes of them, and how a whole script is run.
+//! Session lines over a world: how the world serves each line, and how a whole script is run.
 #![tactic(auto)]
 
 mod built_in;

@@ -1,4 +1,4 @@
-//! A session of a script: what its lines make of it, and of the search that it has open.
+//! A session of a script: how its lines change it and its open search.
 
 ghost use Rattle.std.specs.Bool.{MatchBool};
 ghost use Rattle.std.specs.Prelude.{◌≡◌, None};
@@ -20,7 +20,8 @@ use std::alloc::{Allocator, Global};
 use std::marker::Model;
 use transactions::World;
 
-/// A session of a script. A contract sees its label, its seat, its open search and the changes that it has staged.
+/// A session of a script. Contracts see its label, its seat, its open search and its staged
+/// changes.
 #[derive(Debug, Drop)]
 pub(crate) struct Session {
     label: Name,
@@ -50,7 +51,7 @@ impl Session {
         }
     }
 
-    /// The label that stands for the session.
+    /// The session's label.
     pub(crate) fn label(&self) -> Name
         ensures { result ≡ self.now.label }
     {
@@ -73,7 +74,8 @@ impl Session {
         }
     }
 
-    /// Answers a line that a session by itself knows too. The open search ends with the session.
+    /// Answers any line but OPEN, STEP and FINISH. Drops the open search unless the session keeps
+    /// its seat.
     fn take_plain<A: Allocator + Copy>(
         &mut self,
         world: &mut World<A>,
@@ -90,7 +92,7 @@ impl Session {
         said
     }
 
-    /// Gives the open search up, where the session has lost the seat that it had.
+    /// Drops the open search, unless the session still has the seat that it had `before`.
     fn settle<A: Allocator + Copy>(&mut self, world: &mut World<A>, before: Option<u32>)
         ensures kept { self.new ≡ record self.old { search = self.new.search } }
         ensures settles { MatchBool (keeps_seat before self.old.seat) ((self.new.search ≡ self.old.search) × (world.new.plain ≡ world.old.plain))
@@ -104,7 +106,7 @@ impl Session {
         self.search = None;
     }
 
-    /// Lets the world serve the session for a line.
+    /// Answers one line of the session, with the world as its service.
     fn be_served<A: Allocator + Copy>(
         &mut self,
         world: &mut World<A>,
@@ -122,7 +124,8 @@ impl Session {
         said
     }
 
-    /// Answers a line whose command is of a search that goes step by step.
+    /// Answers a line OPEN, STEP or FINISH. Nothing is done before HELLO (E5), or if its words have
+    /// a fault.
     fn take_step<A: Allocator + Copy>(
         &mut self,
         world: &mut World<A>,
@@ -142,7 +145,7 @@ impl Session {
         }
     }
 
-    /// Does what a command asks of a search that goes step by step: its call, and what the session has open afterwards.
+    /// Makes the call of OPEN, STEP or FINISH, and keeps the search that is open after it.
     fn obey_step<A: Allocator + Copy>(
         &mut self,
         world: &mut World<A>,
@@ -162,7 +165,7 @@ impl Session {
         }
     }
 
-    /// Opens a search.
+    /// Opens a search. After a fault the session has no open search.
     fn open_search<A: Allocator + Copy>(
         &mut self,
         world: &mut World<A>,
@@ -185,7 +188,7 @@ impl Session {
         }
     }
 
-    /// Lets the open search go on. One that the index gives up is open no more.
+    /// Makes up to `count` visits. After S7 the session has no open search.
     fn step_search<A: Allocator + Copy>(
         &mut self,
         world: &mut World<A>,
@@ -209,7 +212,7 @@ impl Session {
         }
     }
 
-    /// Finishes the open search. After a fault it stays open, unless the index has given it up.
+    /// Finishes the open search. After a fault it stays open, except after S7.
     fn finish_search<A: Allocator + Copy>(
         &mut self,
         world: &mut World<A>,
@@ -232,7 +235,7 @@ impl Session {
         }
     }
 
-    /// Gives up the open search, if there is one.
+    /// Drops the open search, if there is one.
     pub(crate) fn drop_search<A: Allocator + Copy>(&self, world: &mut World<A>)
         ensures drops { Drops self.now.seat self.now.search world.old.plain world.new.plain }
         ensures shuts { Shuts self.now.seat self.now.search world.old world.new }
@@ -241,7 +244,7 @@ impl Session {
     }
 }
 
-/// Whether a session had a seat, and has it still.
+/// Whether a session had a seat and still has the same one.
 fn keeps_seat(before: Option<u32>, after: Option<u32>) -> bool
     ensures { result ≡ keeps_seat before after }
 {
@@ -251,7 +254,7 @@ fn keeps_seat(before: Option<u32>, after: Option<u32>) -> bool
     }
 }
 
-/// Gives up the open search of a session with this seat, if it has both.
+/// Drops the open search of a session with this seat. Does nothing if it lacks either.
 fn drop_open<A: Allocator + Copy>(world: &mut World<A>, seat: Option<u32>, search: Option<u64>)
     ensures drops { Drops seat search world.old.plain world.new.plain }
     ensures shuts { Shuts seat search world.old world.new }

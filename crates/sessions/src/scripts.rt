@@ -1,4 +1,4 @@
-//! Scripts: lines of many sessions, each led by the label of its session, and the table of these sessions.
+//! Scripts: lines of many sessions, each with its session's label, and the table of these sessions.
 ghost use Rattle.std.specs.Prelude.{◌≡◌, ◌≤◌, ◌<◌, ◌+◌, ◌++◌, [], List, None, OnOk, IfOk, IfErr, IfSome, codes, length, option_map, slice_set, slice_index_or, vec_len, vec_capacity, ℕ, Result};
 ghost use Rattle.std.specs.Io.KnownBytes.{Appends};
 ghost use Rattle.std.specs.List.{prefix_len};
@@ -30,10 +30,11 @@ use std::alloc::{Allocator, Global};
 use std::io::{Read, Write};
 use transactions::World;
 
-/// How many labels a script has at most.
+/// The most labels that a script may use.
 pub const LABEL_LIMIT: usize = 64;
 
-/// The sessions of a script, with room for one of each label, and the slot of the index that is tended next.
+/// The sessions of a script, with room for `LABEL_LIMIT` of them, and the slot of the index to tend
+/// next.
 #[derive(Drop)]
 struct Table<A: Allocator> {
     heap: Global,
@@ -53,7 +54,7 @@ fn is_to_skip(line: &[u8]) -> bool
     }
 }
 
-/// How many bytes stand before the first colon.
+/// The number of bytes before the first colon, or of all bytes if there is none.
 #[tactic(auto, using(wkt::proofs::DigitsLemmas::prefix_fits))]
 fn label_len(line: &[u8]) -> usize
     ensures value { result ≡ prefix_len is_not_colon line.now }
@@ -62,7 +63,7 @@ fn label_len(line: &[u8]) -> usize
     line.iter().take_while(|byte| **byte != b':').count()
 }
 
-/// What stands before the first colon, and behind it; `None` where there is none.
+/// The text before the first colon and the text after it; `None` if there is no colon.
 #[tactic(auto, unfolding(crate::specs::Scripts::parts_of))]
 fn split_label(line: &[u8]) -> Option<(&[u8], &[u8])>
     ensures { option_map (λ parts. (parts.0.now, parts.1.now)) result ≡ parts_of line.now }
@@ -75,7 +76,7 @@ fn split_label(line: &[u8]) -> Option<(&[u8], &[u8])>
     }
 }
 
-/// How many sessions stand before that of a label.
+/// The place of the label's session; the number of sessions if there is none.
 fn place_of(sessions: &[Session], label: &Name) -> usize
     ensures place { result ≡ place label.now sessions.now }
     ensures within { result ≤ length sessions.now }
@@ -91,7 +92,7 @@ fn place_of(sessions: &[Session], label: &Name) -> usize
 }
 
 impl<A: Allocator + Copy> Table<A> {
-    /// No sessions, and room for those of 64 labels.
+    /// No sessions, and room for `LABEL_LIMIT` of them.
     fn new(alloc: A, heap: Global) -> Result<Self, Refused>
         ensures sessions { IfOk result (λ table. table.sessions.items ≡ []) }
         ensures turn { IfOk result (λ table. table.next_slot ≡ 0) }
@@ -104,7 +105,7 @@ impl<A: Allocator + Copy> Table<A> {
         })
     }
 
-    /// Begins the session of a label, where it has none.
+    /// Adds a fresh session for the label if it has none.
     fn begin_session(&mut self, label: Name, at: usize)
         requires place { at ≡ place label self.old.sessions.items }
         requires room { at < LABEL_LIMIT }
@@ -116,7 +117,7 @@ impl<A: Allocator + Copy> Table<A> {
         }
     }
 
-    /// Answers what stands behind the label of the session at a place.
+    /// Answers the text after the label, for the session at this place.
     fn answer_at(&mut self, world: &mut World<A>, at: usize, text: &[u8]) -> Said<A>
         requires { at < length self.old.sessions.items }
         ensures turn { self.new.next_slot ≡ self.old.next_slot }
@@ -129,7 +130,7 @@ impl<A: Allocator + Copy> Table<A> {
         session.answer_text(world, heap, text)
     }
 
-    /// Tends the slot of the index whose turn it is. The next one's turn comes, also where the index refuses.
+    /// Tends the slot of the index whose turn it is. The turn passes on even if the index refuses.
     fn tend(&mut self, world: &mut World<A>)
         ensures sessions { self.new.sessions.items ≡ self.old.sessions.items }
         ensures world { world.new.plain ≡ world.old.plain }
@@ -141,7 +142,8 @@ impl<A: Allocator + Copy> Table<A> {
         let _ = world.tend_next(&mut self.next_slot);
     }
 
-    /// Answers a line.
+    /// Answers a line, in this order: E1 if it is too long; nothing for an empty line or a comment;
+    /// E9 if it has no label, or one that would be the 65th.
     fn take<W: Write>(
         &mut self,
         world: &mut World<A>,
@@ -168,7 +170,7 @@ impl<A: Allocator + Copy> Table<A> {
         }
     }
 
-    /// Answers a line that has a label.
+    /// Answers a line with this label. E9 if it would be the 65th label.
     fn take_labelled<W: Write>(
         &mut self,
         world: &mut World<A>,
@@ -191,7 +193,7 @@ impl<A: Allocator + Copy> Table<A> {
     }
 }
 
-/// Answers a fault of the line itself, which belongs to no session.
+/// Writes a fault of a line that belongs to no session, with `?` for a label.
 fn refuse<W: Write>(fault: Fault, writer: &mut W) -> Result<(), WriteFailed>
     ensures { Took result (W.contents writer.old) (W.contents writer.new) (led (codes "?") (reply_text (Reply.Error fault))) }
 {
@@ -221,12 +223,13 @@ impl<A: Allocator + Copy> LineDesk for Table<A> {
     ghost long_alike = { Prim.search rules };
 }
 
-/// Runs the lines of a script to the end of the input, each line `label: line` of the session of its label, and writes
-/// what each is answered; after each line one slot of the index is tended. `alloc` serves the buffers, and `heap` documents,
-/// their texts and the lines of a roll. Faults: `Memory` where the buffers are refused, before anything is read; `Read` and
-/// `Write` where a read or a write fails, or a flush; `TooManyTurns` after 16,777,216 reads. What was done before stands, and staged
-/// lists and open searches are dropped. However the run ends, it leaves no search and no transaction under way, where none
-/// was before it.
+/// Runs the lines of a script to the end of the input. Each line is `label: line`, for the session
+/// of its label. The replies are written, and after each line one slot of the index is tended.
+/// `alloc` serves the buffers, `heap` the documents, their texts and the lines of a roll. Faults:
+/// `Memory` where an allocation for the buffers is refused, before anything is read; `Read` and
+/// `Write` where a read, a write or a flush fails; `TooManyTurns` after 16,777,216 reads. What was
+/// done before a fault stays done; staged lists and open searches are dropped. If no search and no
+/// transaction was open before the run, none is open after it, however it ends.
 pub fn run_script<A: Allocator + Copy, R: Read, W: Write>(
     alloc: A,
     heap: Global,
@@ -249,7 +252,7 @@ pub fn run_script<A: Allocator + Copy, R: Read, W: Write>(
     end
 }
 
-/// Gives up the open search of each session.
+/// Drops the open search of each session.
 fn drop_all<A: Allocator + Copy>(sessions: &[Session], world: &mut World<A>)
     ensures drops { AllDrop sessions.now world.old.plain world.new.plain }
     ensures shuts { AllShut sessions.now world.old world.new }

@@ -1,4 +1,4 @@
-//! One session of a world by itself, whose lines have no label.
+//! One session over a world, whose lines have no label.
 
 ghost use Rattle.std.specs.Prelude.{◌≡◌, [], List, Option, None, ℕ, OnOk, IfErr, IfSome};
 ghost use Rattle.std.specs.Io.KnownBytes.{Appends};
@@ -18,9 +18,9 @@ use std::alloc::{Allocator, Global};
 use std::io::{Read, Write};
 use transactions::World;
 
-/// Serves one session of a world, as `serve` does, while nobody else uses the world. `alloc` serves the buffers, `heap`
-/// documents and the lines of a trail. However the run ends, it leaves no search and no transaction under way, where none was
-/// before.
+/// Serves one session over a world, as `serve` does. `alloc` serves the buffers, `heap` the
+/// documents and the lines of a roll. If no search and no transaction was open before, none is open
+/// afterwards, however the run ends.
 pub fn serve_world<A: Allocator + Copy, R: Read, W: Write>(
     alloc: A,
     heap: Global,

@@ -14,8 +14,8 @@ use session_lines::{Fault, Reply, Said, Service, fault_reply, outcome_reply};
 use std::alloc::{Allocator, Global};
 use transactions::World;
 
-/// A world that serves one session, and nobody else meanwhile. `heap` is where documents and the lines of a trail are
-/// made.
+/// A world as the service of one session, which has it alone meanwhile. `heap` holds documents and
+/// the lines of a roll.
 #[derive(Drop)]
 pub struct Solo<'a, A: Allocator> {
     world: &'a mut World<A>,
@@ -138,7 +138,7 @@ fn subject_in<A: Allocator>(world: &World<A>, seat: Option<u32>) -> Option<Subje
     }
 }
 
-/// What a question is answered that a document rules so.
+/// The reply to EXPLAIN for a ruling of this decider.
 fn ruling_reply(decider: &Decider, ruling: Ruling) -> Reply
     ensures { result ≡ ruling_reply decider.now ruling }
 {

@@ -1,4 +1,4 @@
-//! Searches that go step by step: what a line of a script asks of one, and the calls of the world that it needs.
+//! OPEN, STEP and FINISH, which scripts alone know: their words, and their calls of the world.
 
 ghost use Rattle.std.specs.Prelude.{◌≡◌, option_map};
 ghost use Rattle.plain_world.specs.Admitting.{may_go_on};
@@ -13,18 +13,19 @@ use session_lines::{Fault, as_number, as_shape, due_word, end, next_word};
 use std::alloc::Allocator;
 use transactions::{Answer, Fault as WorldFault, STEP_LIMIT, TreeFault, Visit, World};
 
-/// What a line of a script asks of a search that goes step by step. STEP and FINISH name the search that its session has open.
+/// A command of a search that goes step by step. STEP and FINISH carry the number of the session's
+/// open search.
 #[derive(Clone, Copy, Debug, PartialEq, Eq)]
 pub(crate) enum StepCommand {
-    /// OPEN: to open a search of this window.
+    /// OPEN: opens a search of this window.
     Open(Shape),
-    /// STEP: to make so many steps.
+    /// STEP: makes at most `count` visits.
     Step { search: u64, count: u32 },
-    /// FINISH: to go on until it is ready, and to list what was found.
+    /// FINISH: visits until the search is ready, and lists what it found.
     Finish { search: u64 },
 }
 
-/// The first word of such a line. A session by itself does not know it.
+/// The first word of such a command. A session by itself does not know it (E2).
 #[derive(Clone, Copy, Debug, PartialEq, Eq)]
 pub(crate) enum StepVerb {
     Open,
@@ -32,7 +33,7 @@ pub(crate) enum StepVerb {
     Finish,
 }
 
-/// The command that a word names.
+/// The command that a word names, if it is OPEN, STEP or FINISH.
 fn step_verb_named(word: &[u8]) -> Option<StepVerb>
     ensures { result ≡ step_verb_of word.now }
 {
@@ -47,7 +48,7 @@ fn step_verb_named(word: &[u8]) -> Option<StepVerb>
     }
 }
 
-/// The command of a line that begins with one of these, and what is left behind it.
+/// The command that a line begins with, and the rest of the line; `None` if it is another one.
 #[tactic(auto, unfolding(crate::specs::Stepping::step_verb_at))]
 pub(crate) fn read_step_verb(text: &[u8]) -> Option<(StepVerb, &[u8])>
     ensures { option_map (λ r. (r.0, r.1.now)) result ≡ step_verb_at text.now }
@@ -57,8 +58,9 @@ pub(crate) fn read_step_verb(text: &[u8]) -> Option<(StepVerb, &[u8])>
     Some((verb, rest))
 }
 
-/// What is asked of a session with this open search, or without one. Faults in this order: `OutOfTurn` for OPEN beside an open
-/// search, and for STEP and FINISH without one; then by the words from left to right; then `Command` for something left over.
+/// Reads the command, for a session with this open search or with none. Faults in this order:
+/// `OutOfTurn` for OPEN where a search is open, and for STEP and FINISH where none is; then those
+/// of the words from left to right; then `Command` for something left over.
 #[tactic(auto, unfolding(crate::specs::Stepping::step_command_at))]
 pub(crate) fn read_step_command(
     search: Option<u64>,
@@ -93,7 +95,7 @@ fn step_words(rest: &[u8]) -> Result<u32, Fault>
     Ok(count)
 }
 
-/// A number of steps, or `Number` where it is none from 1 to 1,000,000.
+/// The number of steps; `Number` unless it is from 1 to 1,000,000.
 fn as_count(number: u64) -> Result<u32, Fault>
     ensures { result ≡ step_count number }
 {
@@ -103,8 +105,9 @@ fn as_count(number: u64) -> Result<u32, Fault>
     Ok(number as u32)
 }
 
-/// Makes so many steps of a search at most: fewer where it is ready before, or a step is refused. S7 where the index gives the
-/// search up, which is gone then; X1 or X2 where no such search of the seat runs; X12 where a growth is refused.
+/// Makes at most `steps` visits; stops when the search is ready or a visit is refused. S7 where the
+/// search has made all the steps that it may: it is gone then. X1 or X2 where the seat has no such
+/// open search; X12 where an allocation is refused.
 pub(crate) fn go_on<A: Allocator + Copy>(
     world: &mut World<A>,
     seat: u32,
@@ -124,9 +127,9 @@ pub(crate) fn go_on<A: Allocator + Copy>(
     Ok(Visit::More)
 }
 
-/// Lets an open search go on until it is ready, and finishes it. S7 where the index gives it up, which is gone then; after every
-/// other fault it stays open: X10 where the trail is full, X12 where a growth is refused, X1 or X2 where no such search of
-/// the seat runs.
+/// Visits an open search until it is ready, and finishes it. After S7 it is gone. After every other
+/// fault it stays open: X10 where the trail is full, X12 where an allocation is refused, X1 or X2
+/// where the seat has no such open search.
 pub(crate) fn finish_open<A: Allocator + Copy>(
     world: &mut World<A>,
     seat: u32,
@@ -147,14 +150,14 @@ pub(crate) fn finish_open<A: Allocator + Copy>(
     }
 }
 
-/// Whether the index has given a search up.
+/// Whether the fault is S7, which ends a search.
 fn is_overrun(fault: &WorldFault) -> bool
     ensures { result ≡ is_overrun (Refused fault.now) }
 {
     matches!(fault, WorldFault::Tree(TreeFault::Overrun))
 }
 
-/// What a session has open after a fault: the index may have given the search up.
+/// The open search of a session after a fault: none after S7.
 pub(crate) fn left_open(fault: &WorldFault, number: u64) -> Option<u64>
     ensures { result ≡ left_open fault.now number }
 {

@@ -36,7 +36,7 @@ module _ (seat number : ℕ) (w : WorldData) (t u : Index) (js : List JourneyDat
   going : IsWalkFor own.0 walk
   going = subst (λ (x : PlainWalk (List Point)). IsWalkFor own.0 x) (sym walk_is) (next_for number placement t own.0 w.transactions js own.2 own.3 h.walks)
 
-  -- what the clause `walked` says, from what it says of the walk's own pair
+  -- the clause `walked`, from what it says of the walk's own pair
   pub makes : (MayWalk t.limit walk → TakesStep frames t u walk.at after.at area_growth margin_growth PicksRight (walk.key, walk.item) answer) → (v : WorldData) (ks : List JourneyData) (result : Result Advance Fault) → result ≡ told_step answer → ks ≡ after_step number after answer js
       → WalksOn seat number (indexed w t js) (indexed v u ks) result
   makes first v ks result is_told left =
@@ -52,7 +52,7 @@ module _ (seat number : ℕ) (w : WorldData) (t u : Index) (js : List JourneyDat
         walks = left;
       })
 
-  -- ---- it is answered
+  -- ---- the index makes the step
 
   module _ (step : Step) (is : answer ≡ Ok step) where
     stepped : AfterStep w t u walk after (Ok step)
@@ -94,7 +94,7 @@ module _ (seat number : ℕ) (w : WorldData) (t u : Index) (js : List JourneyDat
       pub moved_walks : (ks : List JourneyData) → ks ≡ with_walk number (Some after) (with_walk number None js) → ks ≡ after_step number after answer js
       moved_walks ks left = left ∙ (kept_again number None (Some after) js ∙ left_by false (Some after) unplaced refl)
 
-  -- ---- it is refused
+  -- ---- the index refuses the step
 
   module _ (fault : TreeFault) (is : answer ≡ Err fault) where
     ceased : AfterStep w t u walk after (Err fault)
@@ -137,7 +137,7 @@ module _ (seat number : ℕ) (w : WorldData) (t u : Index) (js : List JourneyDat
       pub refused_walks : (ks : List JourneyData) → ks ≡ with_walk number (Some after) (with_walk number None js) → ks ≡ after_step number after answer js
       refused_walks ks left = left ∙ (kept_again number None (Some after) js ∙ kept_by false under)
 
--- the same is said where the worlds and the result are the same
+-- the same for equal worlds and an equal result
 pub walks_on_as : (seat number : ℕ) (old other new final : IndexedWorld) (one result : Result Advance Fault) → old ≡ other → new ≡ final → one ≡ result → WalksOn seat number old new one → WalksOn seat number other final result
 walks_on_as seat number old other new final one result from to same walks =
     subst (λ (r : Result Advance Fault). WalksOn seat number other final r) same (subst (λ (z : IndexedWorld). WalksOn seat number other z one) to (subst (λ (z : IndexedWorld). WalksOn seat number z new one) from walks))

@@ -1,4 +1,4 @@
--- Events that leave the index alone: what it owes to the world stays.
+-- Events that leave the index alone: the index still serves the world.
 use Rattle.std.proofs.Common.{◌≡◌, ℕ, ◌+◌, ◌≤◌, ◌==◌, nat_lt, Bool, true, false, List, length, Some, Ok, Err, if◌then◌else◌, refl, sym, ap, subst, ◌∙◌, arith}
 use Rattle.std.specs.Bool.{MatchBool}
 use Rattle.std.specs.Option.{option_map}
@@ -24,7 +24,7 @@ use Rattle.plain_world.proofs.RunLemmas.{and_then_ok}
 use Rattle.transactions.specs.Index.{Index, Serves, AreAmong, HasFeatures, HasPlacements, told_here}
 use Rattle.transactions.proofs.PairLemmas.{features_after, staged_more, begun_more, ended_less, all_there}
 
--- searches and limits stay, and an index that had all that was due has all that is
+-- searches and limits are unchanged, and an index that had the old world's pairs has the new one's
 pub record Beside (old new : WorldData) : Type 0 where
   pub searches : new.searches ≡ old.searches
   pub next : new.next_search ≡ old.next_search
@@ -47,11 +47,11 @@ serves_beside old new t b h = record {
 pub beside_same : (old new : WorldData) → new ≡ old → Beside old new
 beside_same old new e = subst (λ (w : WorldData). Beside old w) (sym e) (record { searches = refl; next = refl; limits = refl; features = λ all f p. f; placements = λ all p. p })
 
--- the new world is one of which this is known
+-- the same for a world that equals the new one
 beside_is : (old new w : WorldData) → new ≡ w → Beside old w → Beside old new
 beside_is old new w e b = subst (λ (w : WorldData). Beside old w) (sym e) b
 
--- a transaction ends, and the features stay
+-- a transaction ends, and the features are unchanged
 pub beside_ended : (number : ℕ) (old w : WorldData) → w.searches ≡ old.searches → w.next_search ≡ old.next_search → w.limits ≡ old.limits → w.state.features ≡ old.state.features → w.transactions ≡ old.transactions → Beside old (without_transaction number w)
 beside_ended number old w searches next limits features transactions = record {
   searches = searches;
@@ -97,7 +97,7 @@ beside_roll seat old new reply happens =
 
 -- ---- commits
 
--- of a transaction that may be committed each shape is placed
+-- a transaction that may be committed has placed each shape
 all_is_placed : (seat number : ℕ) (w : WorldData) (subject : Subject) → may_commit seat number w ≡ Ok subject
     → (t : TransactionData) × (transaction_with number w.transactions ≡ Some t) × (length (placements t.changes) ≤ t.placed)
 all_is_placed seat number w subject e =
@@ -110,7 +110,7 @@ all_is_placed seat number w subject e =
     most true is e = absurd cc
     most false is e = grind (arith, nat_tests, is)
 
--- what the committed list brings is there
+-- the index has what the committed list brings
 list_there : (all : List (ℕ × List Point)) (seat number : ℕ) (w : WorldData) (subject : Subject) → may_commit seat number w ≡ Ok subject → HasPlacements all w.transactions → AreAmong all (placements (staged_in number w.transactions))
 list_there all seat number w subject may p =
     let t = all_is_placed seat number w subject may in

@@ -1,4 +1,4 @@
--- Worlds may cross threads as their allocator may.
+-- A world may be sent to another thread if its allocator may be sent and shared.
 use denote.Param.Send.{IsSend, IsSync, Frees}
 use denote.RattleType.{RattleType}
 use Rattle.std.specs.declared.alloc.Allocator.{Ghosts}

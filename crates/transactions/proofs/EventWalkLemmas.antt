@@ -19,11 +19,11 @@ use Rattle.plain_world.proofs.AdmittedLemmas.{admitted, by_if, by_unless}
 use Rattle.transactions.specs.Walks.{AreWalks, JourneyData, begun, ended}
 use Rattle.transactions.proofs.WalkLemmas.{walks_begun, walks_ended, walks_staged}
 
--- the new world is one of which this is known
+-- what holds of a world holds of one that equals it
 known : (P : WorldData → Type 0) (new w : WorldData) → new ≡ w → P w → P new
 known P new w e h = subst P (sym e) h
 
--- the transactions stay
+-- the transactions are unchanged
 abbrev Stay : WorldData → WorldData → Type 0
 Stay old new = new.transactions ≡ old.transactions
 
@@ -48,7 +48,7 @@ transactions_roll seat old new reply happens =
     (λ x may d. by_unless old new reply _ (λ _. Stay old new) (λ fault want same. stay old new same)
     (λ d. known (Stay old) new _ d.1 refl) d) happens
 
--- ---- what is staged, begun and given up
+-- ---- staging, beginning and aborting
 
 pub walks_stage : (seat number : ℕ) (change : Change) (old new : WorldData) (js : List JourneyData) (reply : Reply) → Happens (Stage seat number change) old new reply → AreWalks old.transactions js → AreWalks new.transactions js
 walks_stage seat number change old new js reply happens h =

@@ -1,4 +1,5 @@
--- What the index keeps has each feature's shape, and all that is staged.
+-- If only pairs that the world does not keep are removed, each feature's pair and each placed pair
+-- is left.
 use Rattle.std.proofs.Common.{◌≡◌, ℕ, ◌<◌, ◌==◌, ◌||◌, ◌&&◌, zero, suc, Bool, true, false, List, [], ◌∷◌, take, Some, if◌then◌else◌, refl, ap, ◌∙◌, arith}
 use Rattle.std.specs.List.{Contains, list_any}
 use Rattle.std.proofs.lemmas.Bool.Decides.{nat_tests}
@@ -46,7 +47,7 @@ module _ (all ys : List (ℕ × List Point)) where
         h.1,
   )
 
-  -- ---- what is placed
+  -- ---- placed pairs
 
   abbrev Each : (ℕ × List Point → Type 0) → List (ℕ × List Point) → Type 0
   Each Q [] = Unit {0}

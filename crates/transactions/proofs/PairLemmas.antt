@@ -1,4 +1,4 @@
--- Pairs that are among others: those of the features, and those of what is placed.
+-- Lists that contain certain pairs: those of the features, and those that are placed.
 use Rattle.std.proofs.Common.{◌≡◌, ℕ, ◌≤◌, ◌+◌, ◌==◌, nat_lt, not, zero, suc, Bool, true, false, List, [], ◌∷◌, ◌++◌, length, take, Option, Some, if◌then◌else◌, refl, sym, ap, subst, ◌∙◌, arith}
 use Rattle.std.specs.List.{Contains, slice_get}
 use Rattle.std.proofs.lemmas.Bool.Decides.{nat_tests}
@@ -14,7 +14,7 @@ use Rattle.plain_world.specs.Staging.{TransactionData, transaction_with, placeme
 use Rattle.plain_world.proofs.TransactionLemmas.{brought_append}
 use Rattle.transactions.specs.Index.{AreAmong, HasFeatures, HasPlacements}
 
--- what is among some pairs is among more
+-- pairs that are in a list are in a longer one
 module _ (xs ys : List (ℕ × List Point)) (more : (pair : ℕ × List Point) → Contains xs pair → Contains ys pair) where
   pub among_more : (pairs : List (ℕ × List Point)) → AreAmong xs pairs → AreAmong ys pairs
   among_more [] h = tt
@@ -62,7 +62,7 @@ module _ (all : List (ℕ × List Point)) where
   features_after version office (Reshape id known shape ∷ changes) rows among h = features_after version office changes (with_shape id version shape rows) among.1 (shape_in id version shape rows among.0 h)
   features_after version office (Delete id known ∷ changes) rows among h = features_after version office changes (without id rows) among (row_out id rows h)
 
-  -- ---- what is placed
+  -- ---- placed pairs
 
   take_one_more : (pairs : List (ℕ × List Point)) (n : ℕ) (pair : ℕ × List Point) → slice_get pairs n ≡ Some pair → Contains all pair → AreAmong all (take n pairs) → AreAmong all (take (suc n) pairs)
   take_one_more [] n pair e is h = absurd cc
@@ -118,7 +118,7 @@ module _ (all : List (ℕ × List Point)) where
   take_all (p ∷ pairs) zero le = absurd (omega (arith, le))
   take_all (p ∷ pairs) (suc n) le = ap (λ (ps : List (ℕ × List Point)). p ∷ ps) (take_all pairs n (omega (arith, le)))
 
-  -- a transaction that has placed all has all that its list brings there
+  -- if a transaction has placed all, all that its list brings is there
   pub all_there : (number : ℕ) (ts : List TransactionData) (t : TransactionData) → transaction_with number ts ≡ Some t → length (placements t.changes) ≤ t.placed → HasPlacements all ts → AreAmong all (placements t.changes)
   all_there number [] t e most h = absurd cc
   all_there number (first ∷ ts) t e most h = go (first.number == number) (λ e. all_there number ts t e most h.1) e

@@ -1,4 +1,4 @@
--- The searches that run, by their numbers.
+-- The open searches, by their numbers.
 use Rattle.std.proofs.Common.{◌≡◌, ◌≢◌, ℕ, ◌+◌, ◌==◌, not, suc, Bool, true, false, List, [], ◌∷◌, ◌++◌, length, map, filter, Option, Some, None, if◌then◌else◌, refl, sym, ap, subst, ◌∙◌, arith, eq-eqb}
 use Rattle.std.proofs.lemmas.Bool.Decides.{nat_tests}
 use Rattle.plain_world.specs.declared.searches.Search.{Search}
@@ -15,7 +15,7 @@ same_number n = eq-eqb n n refl
 abbrev of_first : ℕ → Search → List Search → Bool → Option Search
 of_first number s rest b = if b then Some s else search_with number rest
 
--- the search of a number has it
+-- the search found by a number has that number
 pub has_number : (number : ℕ) (ss : List Search) (s : Search) → search_with number ss ≡ Some s → s.number ≡ number
 has_number number [] s e = absurd cc
 has_number number (first ∷ rest) s e = go (first.number == number) refl (has_number number rest s) e
@@ -24,7 +24,7 @@ has_number number (first ∷ rest) s e = go (first.number == number) refl (has_n
     go true is behind e = let same : first ≡ s = cc (e) in subst (λ (x : Search). x.number ≡ number) same (grind (arith, nat_tests, is))
     go false is behind e = behind e
 
--- ---- a search more
+-- ---- one more search
 
 pub pushed_other : (number : ℕ) (ss : List Search) (new : Search) → new.number ≢ number → search_with number (ss ++ new ∷ []) ≡ search_with number ss
 pushed_other number [] new apart = ap (of_first number new []) (differs new.number number apart)
@@ -75,7 +75,7 @@ ready_other number other (s ∷ ss) apart = go (s.number == number) refl (ready_
         ap (of_first other (record s { ready = true }) ss) no ∙ sym (ap (of_first other s ss) no)
     go false is behind = within (s.number == other) behind
 
--- ---- a search less
+-- ---- one search less
 
 abbrev pub without : ℕ → List Search → List Search
 without number ss = filter (λ (s : Search). not (s.number == number)) ss
@@ -102,12 +102,12 @@ gone_here number (s ∷ ss) = go (s.number == number) refl (gone_here number ss)
     go true is behind = behind
     go false is behind = ap (of_first number s (without number ss)) is ∙ behind
 
--- nothing goes whose number is not there
+-- removing a number that no search has changes nothing
 stays : (number : ℕ) (ss : List Search) → IsBelowEach number (map (λ (s : Search). s.number) ss) → without number ss ≡ ss
 stays number [] below = refl
 stays number (s ∷ ss) below = ap (λ (b : Bool). if not b then s ∷ without number ss else without number ss) (differs s.number number (λ e. absurd (omega (arith, below.0, e)))) ∙ ap (λ (rest : List Search). s ∷ rest) (stays number ss below.1)
 
--- each number stands once, so one search goes
+-- each number occurs once, so one search is removed
 pub one_less : (number next : ℕ) (ss : List Search) (s : Search) → AreGiven next (map (λ (s : Search). s.number) ss) → search_with number ss ≡ Some s → length (without number ss) + 1 ≡ length ss
 one_less number next [] s given e = absurd cc
 one_less number next (first ∷ rest) s given e = go (first.number == number) refl (one_less number next rest s given.2) e

@@ -1,4 +1,4 @@
--- What the index owes to a world, after its own calls.
+-- After a call of its own the index still serves the world.
 use Rattle.std.proofs.Common.{◌≡◌, ℕ, ◌+◌, Bool, true, false, List, [], ◌∷◌, ◌++◌, length, length-append, Option, Some, None, Result, Ok, Err, is_some, refl, sym, ap, subst, ◌∙◌, arith, inl, inr, IsTrue, IfOk, OnErr}
 use Rattle.std.specs.List.{Contains}
 use Rattle.std.specs.Option.{option_map}
@@ -33,7 +33,7 @@ use Rattle.transactions.proofs.SearchLemmas.{pushed_here, pushed_other, ready_he
 abbrev Seen : Type 0
 Seen = SeenSearch (List Point) (List Point)
 
--- ---- a search as both know it
+-- ---- a search in the world and in the index
 
 pub none_of : {A B : Type 0} (f : A → B) (o : Option A) → option_map f o ≡ None → o ≡ None
 none_of f None e = refl
@@ -43,13 +43,13 @@ pub some_of : {A B : Type 0} (f : A → B) (o : Option A) (y : B) → option_map
 some_of f None y e = absurd cc
 some_of f (Some x) y e = (x, refl, cc (e))
 
--- a search that runs here runs there, with its window, and as ready
+-- a search that is open in the world is open in the index, with the same window and as ready
 pub seen_of : (w : WorldData) (t : Index) (number : ℕ) (s : Search) → Serves w t → search_with number w.searches ≡ Some s → (seen : Seen) × (search_in t number ≡ Some seen) × (seen.query ≡ s.window) × (seen.ready ≡ s.ready)
 seen_of w t number s h is =
     let there = some_of seen_there (search_in t number) (told_here s) (h.searches number ∙ ap (option_map told_here) is) in
     (there.0, there.1, ap (λ (p : List Point × Bool). p.0) there.2, ap (λ (p : List Point × Bool). p.1) there.2)
 
--- and one that runs there runs here
+-- a search that is open in the index is open in the world
 pub told_of : (w : WorldData) (t : Index) (number : ℕ) (seen : Seen) → Serves w t → search_in t number ≡ Some seen → (s : Search) × (search_with number w.searches ≡ Some s) × (s.window ≡ seen.query) × (s.ready ≡ seen.ready)
 told_of w t number seen h is =
     let here = some_of told_here (search_with number w.searches) (seen_there seen) (sym (h.searches number) ∙ ap (option_map seen_there) is) in
@@ -220,7 +220,7 @@ serves_first subjects decider starts limits t first = record {
   limit = first.limit_is;
 }
 
--- tending, whatever it answers
+-- tending, with any answer
 pub serves_after_tending : (w : WorldData) (t u : Index) (result : Result Tending TreeFault) → IsOrdered w → Serves w t → IfOk result (HasTended frames t u) → IfOk result (ContentsTended frames t (λ pair. IsTrue (is_kept pair.0 pair.1 w)) u) → OnErr result (u ≡ t) → Serves w u
 serves_after_tending w t u (Ok tending) ordered h tended contents same = serves_tended w t u tending ordered h tended contents
 serves_after_tending w t u (Err fault) ordered h tended contents same = subst (λ (x : Index). Serves w x) (sym same) h

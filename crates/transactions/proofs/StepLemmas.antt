@@ -1,4 +1,4 @@
--- What a step of a search or of a walk leaves of what the index owes to a world, by its answer.
+-- A step of a search or of a walk, by its answer: the index still serves the world.
 use Rattle.std.proofs.Common.{◌≡◌, ℕ, Bool, true, false, List, Option, Some, None, MatchOption, Result, Ok, Err, refl, sym, ap, subst, ◌∙◌, inl, inr}
 use Rattle.std.specs.Bool.{MatchBool}
 use Rattle.std.specs.Option.{option_map}
@@ -73,14 +73,14 @@ module _ (w : WorldData) (t u : Index) (number : ℕ) (s : Search) where
     after_visit _ (goes_on visits.Ready under further) = let after = serves_ready w t u number s h is further in (λ r. apart r after.0, λ u. after.1)
     after_visit _ (wants_memory refusal under untouched) = let alike = untouched.alike in (waiting under.waits, serves_alike w t u h alike.contents alike.searches alike.running alike.counts.limit)
 
--- what happens at a visit, where the search is admitted
+-- a visit as an event, for a search that may go on
 pub visit_happens : (seat number : ℕ) (w new : WorldData) (s : Search) (reply : Reply) → may_go_on seat number w ≡ Ok s → Visits s w new reply → Happens (VisitNext seat number) w new reply
 visit_happens seat number w new s reply e d = admits (may_go_on seat number w) s w new reply (λ s. Visits s w new reply) e d
 
 -- ---- walks
 
 module _ (w : WorldData) (t u : Index) (old new : PlainWalk (List Point)) where
-  -- the walk's pair stays, and is not placed
+  -- the walk keeps its pair, which is not placed
   pub record GoesOn : Type 0 where
     pub key : new.key ≡ old.key
     pub item : new.item ≡ old.item
@@ -130,7 +130,7 @@ refuses_growth t item tree.Spent why = why
 refuses_growth t item tree.Overrun why = absurd why
 refuses_growth t item (tree.Memory refusal) why = tt
 
--- a search that holds a walk back runs in the world, and looks for the shape
+-- a search that holds a walk back is open in the world, and looks for the shape
 pub holds_back : (w : WorldData) (t : Index) (item : List Point) (search : ℕ) → Serves w t → IsHeldBy frames t item search → HoldsBack search item w
 holds_back w t item search h held =
     let here = told_of w t search held.seen h held.runs in
@@ -149,14 +149,14 @@ goes_on_for tr old new h key item waits = record {
   waits = waits;
 }
 
--- what happens at a step of a walk, where the transaction has something to place
+-- a step of a walk as an event, for a transaction that has something to place
 pub advance_happens : (seat number : ℕ) (w new : WorldData) (tr : TransactionData) (pair : ℕ × List Point) (reply : Reply) → may_step seat number w ≡ Ok tr → next_placement tr ≡ Some pair
     → UnlessMemory w new reply (Walks number pair.1 w new reply) → Happens (AdvanceWalk seat number) w new reply
 advance_happens seat number w new tr pair reply e next d =
     admits (may_step seat number w) tr w new reply (λ t. Advances number t w new reply) e
     (subst (λ (o : Option (ℕ × List Point)). MatchOption o ((new ≡ w) × (reply ≡ Advanced advances.AllPlaced)) (λ placement. UnlessMemory w new reply (Walks number placement.1 w new reply))) (sym next) d)
 
--- the transaction whose next placement is told
+-- the transaction whose next placement this is
 pub next_of : (seat number : ℕ) (w : WorldData) (pair : ℕ × List Point) → map_ok next_placement (may_step seat number w) ≡ Ok (Some pair)
     → (tr : TransactionData) × (may_step seat number w ≡ Ok tr) × (transaction_with number w.transactions ≡ Some tr) × (next_placement tr ≡ Some pair)
 next_of seat number w pair e = go (may_step seat number w) refl e
@@ -167,11 +167,11 @@ next_of seat number w pair e = go (may_step seat number w) refl e
         let a = and_then_ok (subject_at seat w) (λ _. own_transaction seat number w) tr is in
         (tr, is, (own_open seat number w tr a.2).0, cc (e))
 
--- what a visit leaves, of which the answer is known
+-- what a visit leaves, where its answer is known
 pub visited_as : (w : WorldData) (t u : Index) (number : ℕ) (s : Search) (result known : Result Visit TreeFault) → Serves w t → IsUnderWay w → search_with number w.searches ≡ Some s → result ≡ known → IsVisit frames t u number result → AfterVisit w t u number s known
 visited_as w t u number s result known h way is same visit = subst (λ (r : Result Visit TreeFault). AfterVisit w t u number s r) same (after_visit w t u number s h way is result visit)
 
--- a search that was not ready is
+-- a search that was not ready becomes ready
 pub ready_happens : (seat number : ℕ) (w v : WorldData) (s : Search) → may_go_on seat number w ≡ Ok s → s.number ≡ number → s.ready ≡ false → v ≡ record w { searches = with_ready number w.searches } → Happens (VisitNext seat number) w v (Visited visits.Ready)
 ready_happens seat number w v s may named unready is =
     visit_happens seat number w v s (Visited visits.Ready) may
@@ -185,13 +185,13 @@ overrun_happens seat number w v s may named unready is =
     (subst (λ (b : Bool). MatchBool b ((v ≡ w) × (Refused (faults.Tree tree.Overrun) ≡ Visited visits.Ready)) (v ≡ without_search s.number w)) (sym unready)
     (is ∙ ap (λ (n : ℕ). without_search n w) (sym named)))
 
--- ---- steps of walks that happen
+-- ---- steps of walks as events
 
--- what a step of a walk leaves, of which the answer is known
+-- what a step of a walk leaves, where its answer is known
 pub stepped_as : (w : WorldData) (t u : Index) (old new : PlainWalk (List Point)) (result known : Result Step TreeFault) → Serves w t → old.placed ≡ false → result ≡ known → IsAdvance frames t u old new result → AfterStep w t u old new known
 stepped_as w t u old new result known h waits same step = subst (λ (r : Result Step TreeFault). AfterStep w t u old new r) same (after_step w t u old new h waits result step)
 
--- ---- refusals, by what they are
+-- ---- refusals by their faults
 
 pub visit_ends : (w : WorldData) (t u : Index) (number : ℕ) (s : Search) (fault : TreeFault) → is_overrun fault ≡ true → AfterVisit w t u number s (Err fault) → (fault ≡ tree.Overrun) × (s.ready ≡ false) × Serves (without_search number w) u
 visit_ends w t u number s tree.Overrun e after = (refl, after.0, after.2)
@@ -207,7 +207,7 @@ visit_wants w t u number s tree.Spent e after = absurd after
 visit_wants w t u number s tree.Overrun e after = absurd cc
 visit_wants w t u number s (tree.Memory refusal) e after = (after.0, after.1, (refusal, refl))
 
--- a visit that found no memory
+-- a visit that ran out of memory
 pub want_happens : (seat number : ℕ) (w : WorldData) (s : Search) (fault : TreeFault) (refusal : Refusal) → may_go_on seat number w ≡ Ok s → s.ready ≡ false → fault ≡ tree.Memory refusal → Happens (VisitNext seat number) w w (Refused (told fault))
 want_happens seat number w s fault refusal may unready is =
     subst (λ (f : TreeFault). Happens (VisitNext seat number) w w (Refused (told f))) (sym is)
@@ -247,7 +247,7 @@ module _ (w : WorldData) (t u : Index) (old new : PlainWalk (List Point)) where
   is_no_overrun tree.Overrun e after = absurd cc
   is_no_overrun (tree.Memory refusal) e after = after
 
--- ---- what happens at a step of a walk
+-- ---- a step of a walk as an event
 
 module _ (seat number : ℕ) (w : WorldData) (tr : TransactionData) (pair : ℕ × List Point) (may : may_step seat number w ≡ Ok tr) (next : next_placement tr ≡ Some pair) where
   pub moved_happens : (step : Step) → is_placed step ≡ false → Happens (AdvanceWalk seat number) w w (Advanced (advances.Walked step))

@@ -13,14 +13,14 @@ use Rattle.transactions.specs.Walks.{AreWalks, IsWalkFor, JourneyData, begun, en
 abbrev Walk : Type 0
 Walk = PlainWalk (List Point)
 
--- ---- what is staged, placed, begun and ended
+-- ---- staging, placing, beginning and ending
 
 still_there : (xs ys : List (ℕ × List Point)) (n : ℕ) (x : ℕ × List Point) → slice_get xs n ≡ Some x → slice_get (xs ++ ys) n ≡ Some x
 still_there [] ys n x e = absurd cc
 still_there (y ∷ xs) ys zero x e = e
 still_there (y ∷ xs) ys (suc n) x e = still_there xs ys n x e
 
--- a walk stays one of the next placement while more is staged
+-- a walk is still of the next placement after more is staged
 still_for : (change : Change) (t : TransactionData) (walk : Option Walk) → IfSome walk (IsWalkFor t) → IfSome walk (IsWalkFor (staged change t))
 still_for change t None h = tt
 still_for change t (Some walk) h = record {
@@ -73,7 +73,7 @@ walks_ended number (t ∷ ts) (j ∷ js) h = go (t.number == number) (j.number =
     go false true e behind = absurd (cc (e))
     go false false e behind = (h.0, h.1, behind)
 
--- a walk of the transaction is kept
+-- a walk of the transaction is stored
 pub walks_kept : (number : ℕ) (walk : Walk) (tr : TransactionData) (ts : List TransactionData) (js : List JourneyData) → transaction_with number ts ≡ Some tr → IsWalkFor tr walk → AreWalks ts js → AreWalks ts (with_walk number (Some walk) js)
 walks_kept number walk tr [] [] e going h = tt
 walks_kept number walk tr [] (j ∷ js) e going h = absurd h
@@ -95,7 +95,7 @@ as_many_walks (t ∷ ts) (j ∷ js) h = ap suc (as_many_walks ts js h.2)
 
 -- ---- the walk that makes a step
 
--- a walk that is under way is one of its transaction
+-- a stored walk is one of its transaction
 under_way_for : (number : ℕ) (tr : TransactionData) (ts : List TransactionData) (js : List JourneyData) → transaction_with number ts ≡ Some tr → AreWalks ts js → IfSome (walk_of number js) (IsWalkFor tr)
 under_way_for number tr [] [] e h = absurd cc
 under_way_for number tr [] (j ∷ js) e h = absurd h
@@ -108,7 +108,7 @@ under_way_for number tr (t ∷ ts) (j ∷ js) e h = go (t.number == number) (j.n
     go false true e is behind = absurd (cc (e))
     go false false e is behind = behind is
 
--- and so is one that begins
+-- and so is a new one
 pub next_for : (number : ℕ) (placement : ℕ × List Point) (index : Index) (tr : TransactionData) (ts : List TransactionData) (js : List JourneyData) → transaction_with number ts ≡ Some tr → next_placement tr ≡ Some placement → AreWalks ts js
     → IsWalkFor tr (next_walk number placement index js)
 next_for number placement index tr ts js e next h = go (walk_of number js) (under_way_for number tr ts js e h)
@@ -117,7 +117,7 @@ next_for number placement index tr ts js e next h = go (walk_of number js) (unde
     go None h = record { next = next; waits = refl }
     go (Some walk) h = h
 
--- ---- what was taken out is kept or ended
+-- ---- a walk that was taken out is stored again, or its transaction ends
 
 pub kept_again : (number : ℕ) (one other : Option Walk) (js : List JourneyData) → with_walk number other (with_walk number one js) ≡ with_walk number other js
 kept_again number one other [] = refl

@@ -5,7 +5,7 @@ use Rattle.plain_world.specs.States.{WorldData}
 use Rattle.transactions.specs.WorkedRun.{event_of, AreMade}
 use Rattle.transactions.specs.declared.worked_run.Call.{Call}
 
--- one call, and those that come behind it
+-- one call, and those after it
 pub one_more : (call : Call) (rest : List Call) (old mid new : WorldData) → ((reply : Reply) × Happens (event_of call) old mid reply) → AreMade rest mid new → AreMade (call ∷ rest) old new
 one_more call rest old mid new first later = record {
   steps = (event_of call, first.0) ∷ later.steps;

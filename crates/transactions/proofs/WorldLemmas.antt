@@ -1,4 +1,4 @@
--- What every world keeps is kept by its events.
+-- Events keep what every world keeps.
 use Rattle.std.proofs.Common.{◌≡◌, ℕ, ◌<◌, ◌+◌, ◌==◌, nat_le, Bool, true, false, not, zero, suc, List, [], ◌∷◌, ◌++◌, map, length, if◌then◌else◌, arith, Option, Some, None, Result, Ok, Err, refl, sym, ap, subst, ◌∙◌, IsTrue}
 use Rattle.std.specs.List.{Contains, slice_index_or}
 use Rattle.std.proofs.lemmas.Bool.Decides.{nat_tests}
@@ -50,7 +50,7 @@ use Rattle.transactions.proofs.BesideLemmas.{Beside, beside_ended, serves_beside
 abbrev pub indexed : WorldData → Index → List JourneyData → IndexedWorld
 indexed w t js = record { plain = w; index = t; walks = js }
 
--- an event, where the index then serves the new world, and the walks are those of its transactions
+-- an event, after which the index serves the new world and the walks are those of its transactions
 pub world_by : (event : Event) (w v : WorldData) (t u : Index) (js ks : List JourneyData) (reply : Reply) → Happens event w v reply → IsWorld (indexed w t js) → Serves v u → AreWalks v.transactions ks → IsWorld (indexed v u ks)
 world_by event w v t u js ks reply happens h serves walks = record {
   ordered = ordered_event event w v reply happens h.ordered;
@@ -62,11 +62,11 @@ world_by event w v t u js ks reply happens h serves walks = record {
 beside : (event : Event) (w v : WorldData) (t : Index) (js ks : List JourneyData) (reply : Reply) → Happens event w v reply → IsWorld (indexed w t js) → Beside w v → AreWalks v.transactions ks → IsWorld (indexed v t ks)
 beside event w v t js ks reply happens h b walks = world_by event w v t t js ks reply happens h (serves_beside w v t b h.serves) walks
 
--- the transactions stay, and so do their walks
+-- if the transactions are unchanged, the walks are still theirs
 same_transactions : (w v : WorldData) (js : List JourneyData) → v.transactions ≡ w.transactions → AreWalks w.transactions js → AreWalks v.transactions js
 same_transactions w v js same h = subst (λ (ts : List TransactionData). AreWalks ts js) (sym same) h
 
--- what is refused leaves the world as it was
+-- a refused event leaves the world unchanged
 same_world : (w v : WorldData) (t : Index) (js : List JourneyData) → v ≡ w → IsWorld (indexed w t js) → IsWorld (indexed v t js)
 same_world w v t js e h = subst (λ (x : WorldData). IsWorld (indexed x t js)) (sym e) h
 
@@ -90,7 +90,7 @@ world_begin_refused seat w v t js fault happens h = same_world w v t js (leaves 
 pub world_begun : (seat number : ℕ) (w v : WorldData) (t : Index) (js : List JourneyData) → Happens (Begin seat) w v (Number number) → IsWorld (indexed w t js) → IsWorld (indexed v t (begun number js))
 world_begun seat number w v t js happens h = beside (Begin seat) w v t js (begun number js) (Number number) happens h (beside_begin seat w v (Number number) happens) (walks_begin seat number w v js happens h.walks)
 
--- there is room for one walk more
+-- there is room for one more walk
 pub few_walks : (seat number : ℕ) (w v : WorldData) (t : Index) (js : List JourneyData) → Happens (Begin seat) w v (Number number) → IsWorld (indexed w t js) → length js < TRANSACTION_LIMIT
 few_walks seat number w v t js happens h =
     let d = admitted (may_begin seat w) w v (Number number) _ refl happens in
@@ -152,7 +152,7 @@ world_finished seat number w v t u js answer happens shut h =
     (subst (λ (x : WorldData). Serves x u) (sym (d.2.3 ∙ ap (λ (n : ℕ). without_search n w1) number_is)) (serves_shut w1 t u number s serves1 way1 who.running shut))
     (subst (λ (x : WorldData). AreWalks x.transactions js) (sym d.2.3) h.walks)
 
--- what is made of an element is made of the list's
+-- the image of an element is in the mapped list
 contains_map : {A B : Type 0} (f : A → B) (xs : List A) (x : A) → Contains xs x → Contains (map f xs) (f x)
 contains_map {A = A} f xs x has = (has.0, subst (λ (n : ℕ). has.0 < n) (sym (length-map xs f)) has.1, there xs has.0 ∙ ap f has.2)
   where
@@ -202,7 +202,7 @@ opened_there seat number search window w t u z js may opens h same =
     let one : search ≡ number = opens.number ∙ (h.serves.next ∙ sym (open_number seat w number may)) in
     subst (λ (x : Index). IsOpen frames x u window number) same (subst (λ (n : ℕ). IsOpen frames t u window n) one opens)
 
--- a world whose index serves it on
+-- a world whose new index serves it
 pub world_served : (w : WorldData) (t u : Index) (js : List JourneyData) → IsWorld (indexed w t js) → Serves w u → IsWorld (indexed w u js)
 world_served w t u js h serves = record { ordered = h.ordered; under_way = h.under_way; serves = serves; walks = h.walks }
 
@@ -219,7 +219,7 @@ pub unready_of : (b : Bool) → not b ≡ true → b ≡ false
 unready_of true e = absurd cc
 unready_of false e = refl
 
--- the same happens where worlds and reply are the same
+-- the same event for equal worlds and replies
 pub happens_as : (event : Event) (w x v y : WorldData) (one other : Reply) → w ≡ x → v ≡ y → one ≡ other → Happens event w v one → Happens event x y other
 happens_as event w x v y one other from to reply happens =
     subst (λ (r : Reply). Happens event x y r) reply (subst (λ (z : WorldData). Happens event x z one) to (subst (λ (z : WorldData). Happens event z v one) from happens))
@@ -245,14 +245,14 @@ module _ (seat number : ℕ) (w : WorldData) (t u : Index) (js : List JourneyDat
       (λ x there. subst (λ (y : TransactionData). next_placement y ≡ Some (walk.key, walk.item)) (same_one tr x (sym found ∙ there)) going.next)))
       (rw (is, left) (walks_placed number w.transactions js h.walks))
 
-  -- the walk is given up, and its transaction with it
+  -- the walk ends, and its transaction with it
   pub world_ended : (v : WorldData) (ks : List JourneyData) → Serves w u → v ≡ without_transaction number w → ks ≡ ended number js → IsWorld (indexed w t js) → IsWorld (indexed v u ks)
   world_ended v ks serves is left h =
       world_by (AdvanceWalk seat number) w v t u js ks (Refused (faults.Tree tree.Overrun)) (ended_happens seat number w tr (walk.key, walk.item) may going.next v is) h
       (subst (λ (x : WorldData). Serves x u) (sym is) (serves_beside w (without_transaction number w) u (beside_ended number w w refl refl refl refl refl) serves))
       (rw (is, left) (walks_ended number w.transactions js h.walks))
 
-  -- the walk is kept
+  -- the walk is stored
   pub world_kept_walk : (after : PlainWalk (List Point)) (ks : List JourneyData) → Serves w u → GoesOn w t u walk after → ks ≡ with_walk number (Some after) js → IsWorld (indexed w t js) → IsWorld (indexed w u ks)
   world_kept_walk after ks serves on left h = record {
     ordered = h.ordered;

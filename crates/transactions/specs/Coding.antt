@@ -1,4 +1,4 @@
--- How a world's value is coded: its plain part as plain worlds are.
+-- How a world's value is coded. Its plain part is coded as that of a plain world.
 use Rattle.std.specs.Prelude.{◌≡◌, List}
 use Rattle.plain_world.specs.Coding.{StoredWorld, stored_world, restored_world, restored_world-stored_world}
 use Rattle.transactions.specs.Index.{Index, IndexedWorld}

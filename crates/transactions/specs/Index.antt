@@ -1,4 +1,4 @@
--- The index of a world, and what it owes to what is served.
+-- The index of a world, and what it owes to the plain world.
 use Rattle.std.specs.Prelude.{◌≡◌, ℕ, Bool, List, [], ◌∷◌, Contains, length, take}
 use Rattle.std.specs.Option.{option_map}
 use Rattle.plane.specs.declared.point.Point.{Point}
@@ -17,47 +17,47 @@ use Rattle.plain_world.specs.Staging.{TransactionData, placements}
 use Rattle.plain_world.specs.States.{WorldData}
 use Rattle.transactions.specs.Walks.{AreWalks, JourneyData}
 
--- the class of keys: a key is a frame, an item or a query a shape
+-- the class of keys: a key is a frame, items and queries are shapes
 abbrev pub frames : Class
 frames = class_of Encloses MayMeet Meet extent_of joined
 
 abbrev pub Index : Type 0
 Index = PlainTree Extent (List Point) (List Point)
 
--- how many slots the index has used at most
+-- how many slots the index has used; each node is in a slot below this number
 abbrev pub slots_of : Index → ℕ
 slots_of index = slot_count index.nodes
 
--- a world: all that is served and under way, its index, and the walks of the open transactions
+-- a world: the plain world, its index, and the walks of the open transactions
 pub record IndexedWorld : Type 0 where
   pub plain : WorldData
   pub index : Index
   pub walks : List JourneyData
 
--- what the index knows of a search, and the world: its window, and whether it has answered Ready
+-- a search, as the index and as the world know it: its window, and whether it has answered Ready
 abbrev pub seen_there : SeenSearch (List Point) (List Point) → List Point × Bool
 seen_there seen = (seen.query, seen.ready)
 
 abbrev pub told_here : Search → List Point × Bool
 told_here s = (s.window, s.ready)
 
--- each of the pairs is among others
+-- each of the pairs is in `all`
 abbrev pub AreAmong : List (ℕ × List Point) → List (ℕ × List Point) → Type 0
 AreAmong all [] = Unit {0}
 AreAmong all (pair ∷ pairs) = Contains all pair × AreAmong all pairs
 
--- each feature's id and shape are
+-- each feature's (id, shape) is in `all`
 abbrev pub HasFeatures : List (ℕ × List Point) → List Feature → Type 0
 HasFeatures all [] = Unit {0}
 HasFeatures all (feature ∷ features) = Contains all (feature.id, feature.shape) × HasFeatures all features
 
--- each shape that an open transaction has placed is
+-- each (id, shape) that an open transaction has placed is in `all`
 abbrev pub HasPlacements : List (ℕ × List Point) → List TransactionData → Type 0
 HasPlacements all [] = Unit {0}
 HasPlacements all (t ∷ ts) = AreAmong all (take t.placed (placements t.changes)) × HasPlacements all ts
 
--- The index of a world has each feature's id and shape, and each shape that an open transaction has placed. It runs the
--- searches that run, each with its window and as ready as it is.
+-- The index of a world has each feature's id and shape, and each shape that an open transaction has
+-- placed. It runs the open searches, each with its window and as ready as it is.
 pub record Serves (w : WorldData) (index : Index) : Type 0 where
   pub contents : List (ℕ × List Point)
   pub are_contents : IsContents (tree_of frames index) contents
@@ -68,8 +68,8 @@ pub record Serves (w : WorldData) (index : Index) : Type 0 where
   pub next : index.running.next ≡ w.next_search
   pub limit : index.limit ≡ w.limits.steps
 
--- what every world keeps: what is served and under way is in order, the index serves it, and the walks are those of the
--- open transactions
+-- what every world keeps: its plain part is in order, the index serves it, and the walks are those
+-- of the open transactions
 pub record IsWorld (w : IndexedWorld) : Type 0 where
   pub ordered : IsOrdered w.plain
   pub under_way : IsUnderWay w.plain

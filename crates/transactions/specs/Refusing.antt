@@ -1,4 +1,4 @@
--- When the index refuses, as its counts tell.
+-- What the index's counts show when it refuses.
 use Rattle.std.specs.Prelude.{◌≡◌, ℕ, Bool, true, false, Option, None, Some}
 use Rattle.memory.specs.declared.refused.Refused.{Refused}
 use Rattle.predicate_locks.specs.Searches.{last_number}
@@ -12,29 +12,30 @@ use Rattle.tree_answers.specs.declared.fault.TreeFault.TheVariants as tree
 use Rattle.tree_theory.specs.declared.TheConstants.{TOP_LEVEL}
 use Rattle.transactions.specs.Index.{Index, frames}
 
--- a step of a walk, or tending: fewer slots are free than it wants, the root stands as high as it may, or the counter is at its end
+-- what a refusal of a walk's step or of a tending shows: S4 that fewer slots are free than needed,
+-- S5 that the root is as high as it may be, S6 that the counter is at its end
 abbrev pub RefusesGrowth : Index → Fault → Type 0
 RefusesGrowth index (faults.Tree tree.Full) = LacksSlots frames index
 RefusesGrowth index (faults.Tree tree.TooHigh) = root_level index ≡ TOP_LEVEL
 RefusesGrowth index (faults.Tree tree.Spent) = index.counter ≡ last_number
 RefusesGrowth index fault = Unit {0}
 
--- a step of a search: it has made all its steps
+-- a step of a search: at S7 it has made all its steps
 abbrev pub GivesUp : Index → ℕ → Fault → Type 0
 GivesUp index number (faults.Tree tree.Overrun) = IsOverrun index number
 GivesUp index number fault = Unit {0}
 
--- how a world tells that the index refuses: want of memory by its own name
+-- the world's fault for a refusal of the index: X12 for out of memory, X9 for all others
 abbrev pub told : TreeFault → Fault
 told (tree.Memory refusal) = faults.Memory refusal
 told fault = faults.Tree fault
 
--- the refusal of a growth, if it is that
+-- the refused allocation, if the fault is S8
 abbrev pub refusal_of : TreeFault → Option Refused
 refusal_of (tree.Memory refusal) = Some refusal
 refusal_of fault = None
 
--- all steps were made
+-- the fault is S7: all steps were made
 abbrev pub is_overrun : TreeFault → Bool
 is_overrun tree.Overrun = true
 is_overrun fault = false

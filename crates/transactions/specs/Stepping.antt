@@ -1,4 +1,5 @@
--- What the index of a world does where a search begins, is visited or ends, and where a slot is tended.
+-- What the index of a world does when a search is opened, visited or ended, and when a slot is
+-- tended.
 use Rattle.std.specs.Prelude.{◌≡◌, ℕ, List, IsTrue, IsSome, IfOk, OnErr, Result, Ok, Err}
 use Rattle.node_arena.specs.Slots.{value_at}
 use Rattle.node_arena.specs.declared.handle.Handle.{Handle}
@@ -17,33 +18,35 @@ use Rattle.tree_answers.specs.declared.fault.TreeFault.{TreeFault}
 use Rattle.transactions.specs.Index.{Index, frames}
 use Rattle.transactions.specs.Refusing.{told}
 
--- how a world tells what the index answers
+-- the index's answer, as the world's
 abbrev pub told_as : {T : Type 0} → Result T TreeFault → Result T Fault
 told_as (Ok answer) = Ok answer
 told_as (Err fault) = Err (told fault)
 
--- A search for what meets the window begins in the index, under the number that is answered. Where it is refused, the index stays.
+-- A search for the window is opened in the index, under the number in the result. If it is refused,
+-- the index is unchanged.
 abbrev pub OpensInIndex : List Point → Index → Index → Result ℕ Fault → Type 0
 OpensInIndex window old new (Ok number) = IsOpen frames old new window number
 OpensInIndex window old new (Err fault) = new ≡ old
 
--- The search of a number ends in the index. Where it is refused, the index stays.
+-- The search of this number ends in the index. If that is refused, the index is unchanged.
 abbrev pub EndsInIndex : {T : Type 0} → ℕ → Index → Index → Result T Fault → Type 0
 EndsInIndex number old new (Ok x) = IsShut frames old new number
 EndsInIndex number old new (Err fault) = new ≡ old
 
--- The index visits for a search that may go on, and the world tells its answer. Of any other search it does not hear.
+-- If the search may go on, the index makes one visit, and its answer is the result. Otherwise the
+-- index is not called.
 abbrev pub VisitsIndex : Result Search Fault → ℕ → Index → Index → Result Visit Fault → Type 0
 VisitsIndex (Ok search) number old new result =
     (answer : Result Visit TreeFault) × IsVisit frames old new number answer × (result ≡ told_as answer)
 VisitsIndex (Err fault) number old new result = new ≡ old
 
--- a feature stands so, or an open transaction has staged that it will
+-- the feature of this id has this shape, or an open transaction has staged that it will
 abbrev pub Keeps : WorldData → ℕ × List Point → Type 0
 Keeps w pair = IsTrue (is_kept pair.0 pair.1 w)
 
--- What is due first at the node of a slot is done, nothing where no node stands there, and the world tells the answer. The
--- pairs that the world keeps stay. Where it is refused, the index stays as it was.
+-- The index does what is first due at the node of the slot, or nothing if there is no node, and its
+-- answer is the result. The pairs that the world keeps stay. If it refuses, it is unchanged.
 pub record TendsIndex (w : WorldData) (slot : ℕ) (old new : Index) (result : Result Tending Fault) : Type 0 where
   pub answer : Result Tending TreeFault
   pub is : result ≡ told_as answer

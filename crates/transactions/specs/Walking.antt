@@ -19,34 +19,34 @@ use Rattle.transactions.specs.Index.{Index, IndexedWorld, frames}
 use Rattle.transactions.specs.Refusing.{is_overrun, told}
 use Rattle.transactions.specs.Walks.{JourneyData, ended, walk_of, with_walk}
 
--- how much a frame's area grows, and its margin, where it takes another one in
+-- how much a frame's area grows, and its margin, when another frame is joined to it
 abbrev pub area_growth : Extent → Extent → ℕ
 area_growth key other = area (joined key other) - area key
 
 abbrev pub margin_growth : Extent → Extent → ℕ
 margin_growth key other = margin (joined key other) - margin key
 
--- a walk of this placement that stands at the root of the index and has made no step
+-- a walk of this placement that is at the root of the index and has made no step
 abbrev pub walk_at_root : Index → ℕ × List Point → PlainWalk (List Point)
 walk_at_root index placement = record { key = placement.0; item = placement.1; at = index.root; steps = 0; placed = false }
 
--- the walk that makes a step: the one that the transaction has under way, or else one that begins
+-- the walk that makes the step: the transaction's stored one, or a new one
 abbrev pub next_walk : ℕ → ℕ × List Point → Index → List JourneyData → PlainWalk (List Point)
 next_walk number placement index walks = unwrap_or (walk_of number walks) (walk_at_root index placement)
 
--- how a world tells what the index answers to a step
+-- the index's answer to a step, as the world's
 abbrev pub told_step : Result Step TreeFault → Result Advance Fault
 told_step (Ok step) = Ok (Walked step)
 told_step (Err fault) = Err (told fault)
 
--- The walks after a step, by what the index answers. Once its pair is placed, the transaction has no walk under way;
--- where all steps were made, it is ended; else the walk stands where the step has left it.
+-- The walks after a step, by the index's answer. Once its pair is placed, the transaction has no
+-- walk; after S7 the transaction is removed; otherwise the walk is stored as the step left it.
 abbrev pub after_step : ℕ → PlainWalk (List Point) → Result Step TreeFault → List JourneyData → List JourneyData
 after_step number walk (Ok step) walks = with_walk number (if is_placed step then None else Some walk) walks
 after_step number walk (Err fault) walks = if is_overrun fault then ended number walks else with_walk number (Some walk) walks
 
--- The walk of a transaction that is to place this next makes a step: the one that the index makes of it, by the first
--- case that holds where it stands. The answer is the index's.
+-- The walk of the transaction, with this placement, makes a step of the index, by the first case
+-- that holds at the walk's node. The result is the index's answer.
 pub record MakesStep (number : ℕ) (placement : ℕ × List Point) (old new : IndexedWorld) (result : Result Advance Fault) : Type 0 where
   pub walk : PlainWalk (List Point)
   pub after : PlainWalk (List Point)
@@ -57,12 +57,13 @@ pub record MakesStep (number : ℕ) (placement : ℕ × List Point) (old new : I
   pub is_told : result ≡ told_step answer
   pub walks : new.walks ≡ after_step number after answer old.walks
 
--- what an advance makes of index and walks, by what is to be placed next: where nothing is, or it is refused before, both stay
+-- what `advance` does, by what is to be placed next; with nothing to place, or refused before the
+-- step, it changes nothing
 abbrev pub IsWalked : ℕ → Result (Option (ℕ × List Point)) Fault → IndexedWorld → IndexedWorld → Result Advance Fault → Type 0
 IsWalked number (Ok (Some placement)) old new result = MakesStep number placement old new result
 IsWalked number (Ok None) old new result = new ≡ old
 IsWalked number (Err fault) old new result = new ≡ old
 
--- the same of the seat's own transaction of a number
+-- the same for the seat's own transaction of this number
 abbrev pub WalksOn : ℕ → ℕ → IndexedWorld → IndexedWorld → Result Advance Fault → Type 0
 WalksOn seat number old new result = IsWalked number (map_ok next_placement (may_step seat number old.plain)) old new result

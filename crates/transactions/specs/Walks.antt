@@ -5,41 +5,41 @@ use Rattle.plain_world.specs.declared.faults.Fault.{Fault}
 use Rattle.plain_world.specs.Staging.{TransactionData, next_placement}
 use Rattle.search_tree.specs.Trees.{PlainWalk}
 
--- what a transaction has under way in the index: the walk of what it is to place next, once that has begun
+-- an open transaction, and the walk of its next shape to place, once that walk has begun
 pub record JourneyData : Type 0 where
   pub number : ℕ
   pub walk : Option (PlainWalk (List Point))
 
--- the walk that the transaction of a number has under way
+-- the walk of a transaction, if it has one
 abbrev pub walk_of : ℕ → List JourneyData → Option (PlainWalk (List Point))
 walk_of number [] = None
 walk_of number (j ∷ js) = if j.number == number then j.walk else walk_of number js
 
--- the list where the transaction of a number has this walk under way, or none
+-- the list with this walk, or none, for a transaction
 abbrev pub with_walk : ℕ → Option (PlainWalk (List Point)) → List JourneyData → List JourneyData
 with_walk number walk [] = []
 with_walk number walk (j ∷ js) = if j.number == number then record j { walk = walk } ∷ js else j ∷ with_walk number walk js
 
--- one transaction more, which has no walk under way
+-- one more transaction, without a walk
 abbrev pub begun : ℕ → List JourneyData → List JourneyData
 begun number js = js ++ record { number = number; walk = None } ∷ []
 
--- the list without the transaction of a number
+-- the list without a transaction
 abbrev pub ended : ℕ → List JourneyData → List JourneyData
 ended number js = filter (λ j. not (j.number == number)) js
 
--- the walks after what may be refused: where it is, they stay
+-- the walks after a call: on Ok `after x`, on Err unchanged
 abbrev pub if_done : {T : Type 0} → Result T Fault → List JourneyData → (T → List JourneyData) → List JourneyData
 if_done (Ok x) js after = after x
 if_done (Err fault) js after = js
 
--- a walk on its way with what the transaction is to place next
+-- a walk with the transaction's next placement, which is not placed yet
 pub record IsWalkFor (t : TransactionData) (walk : PlainWalk (List Point)) : Type 0 where
   pub next : next_placement t ≡ Some (walk.key, walk.item)
   pub waits : walk.placed ≡ false
 
--- each open transaction has its place, in the same order; a walk that is under way is on its way with what its
--- transaction is to place next
+-- each open transaction has its place, in the same order, and a walk that has begun has its
+-- transaction's next placement
 abbrev pub AreWalks : List TransactionData → List JourneyData → Type 0
 AreWalks [] [] = Unit {0}
 AreWalks [] (j ∷ js) = ⊥

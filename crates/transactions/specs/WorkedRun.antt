@@ -1,4 +1,4 @@
--- Calls of a world that has just been opened, and the answer behind them.
+-- Calls of a world that has just been opened, and the answer after them.
 use Rattle.std.specs.Prelude.{◌≡◌, ℕ, List, map}
 use Rattle.features.specs.Rows.{IsSortedById}
 use Rattle.features.specs.declared.actors.Subject.{Subject}
@@ -16,7 +16,7 @@ use Rattle.plain_world.specs.declared.settings.TheConstants.{STEP_LIMIT}
 use Rattle.transactions.specs.declared.worked_run.Call.{Call}
 use Rattle.transactions.specs.declared.worked_run.Call.TheVariants as calls
 
--- A world that a document has just opened: by its first edition, with its numbers at their first ones and its limits the greatest.
+-- A world that a document has just opened: edition 1, the first numbers, the greatest limits.
 
 abbrev pub first_decider : DocumentData → DeciderData
 first_decider document = record { document = document; edition = 1 }
@@ -30,7 +30,7 @@ greatest_limits = record { steps = STEP_LIMIT; records = RECORD_LIMIT; features 
 abbrev pub just_opened : List Subject → DocumentData → WorldData
 just_opened subjects document = opened subjects (first_decider document) first_starts greatest_limits
 
--- what happens where a world is called so
+-- the event of a call
 abbrev pub event_of : Call → Event
 event_of (calls.Seat name) = TakeSeat name
 event_of (calls.OpenSearch seat window) = OpenSearch seat window
@@ -52,8 +52,9 @@ pub record AreMade (made : List Call) (old new : WorldData) : Type 0 where
   pub run : Run old steps new
   pub events : map (λ step. step.0) steps ≡ map event_of made
 
--- The answer to a seat's search behind these calls. There it is exact and its rows stand by rising id, the trail accounts for the
--- state, and its decider is the one that was put in force last.
+-- The answer to a seat's search after these calls. It is exact there, and its rows are sorted by
+-- id; the trail accounts for the state, and the answer's decider is the one that was put in force
+-- last.
 pub record IsAnswerBehind (opening : WorldData) (made : List Call) (seat search : ℕ) (answer : AnswerData) : Type 0 where
   pub there : WorldData
   pub are_made : AreMade made opening there

@@ -17,8 +17,9 @@ use search_tree::{Tree, Walk};
 use std::alloc::Allocator;
 
 impl<A: Allocator> World<A> {
-    /// Stages a change. X1 where the seat was not given or no such transaction is open, X2 where it is another seat's, X6
-    /// where the list has 16 changes, X5 where it names the feature already. It takes no memory.
+    /// Stages a change. X1 where the seat was not given or no such transaction is open, X2 where it
+    /// is another seat's, X6 where the list has 16 changes, X5 where it names the feature already.
+    /// Takes no memory.
     pub fn stage(&mut self, seat: u32, number: u64, change: Change) -> Result<(), Fault>
         ensures happens { Happens (Stage seat number change) self.old.plain self.new.plain (reply_of (λ _. Done) result) }
         ensures index { self.new.index ≡ self.old.index }
@@ -27,8 +28,8 @@ impl<A: Allocator> World<A> {
         self.plain.stage(seat, number, change)
     }
 
-    /// Gives a transaction up. X1 where the seat was not given or no such transaction is open, X2 where it is another
-    /// seat's. It takes no memory.
+    /// Aborts a transaction. X1 where the seat was not given or no such transaction is open, X2
+    /// where it is another seat's. Takes no memory.
     pub fn abort(&mut self, seat: u32, number: u64) -> Result<(), Fault>
         ensures happens { Happens (Abort seat number) self.old.plain self.new.plain (reply_of (λ _. Done) result) }
         ensures index { self.new.index ≡ self.old.index }
@@ -41,8 +42,8 @@ impl<A: Allocator> World<A> {
 }
 
 impl<A: Allocator + Copy> World<A> {
-    /// Opens a transaction of a seat, and answers its number. X1 where the seat was not given, X15 where 64 are open, X8
-    /// where the number is at its end, X12 where a growth is refused.
+    /// Opens a transaction of a seat, and returns its number. X1 where the seat was not given, X15
+    /// where 64 are open, X8 where the number is at its end, X12 where an allocation is refused.
     pub fn begin(&mut self, seat: u32) -> Result<u64, Fault>
         ensures happens { Happens (Begin seat) self.old.plain self.new.plain (reply_of Number result) }
         ensures index { self.new.index ≡ self.old.index }
@@ -53,11 +54,13 @@ impl<A: Allocator + Copy> World<A> {
         Ok(number)
     }
 
-    /// Makes a step of the walk of the next shape that is not yet placed. X1 where the seat was not given or no such
-    /// transaction is open, X2 where it is another seat's, X9 as the index refuses the step: S3 while a search that looks
-    /// for the shape is done with its place, S4 where fewer slots are free than the step wants, S5 where the index would
-    /// stand too high, S6 where its counter is at its end, S7 where the walk has made all its steps: then the transaction is
-    /// ended; X12 where a growth is refused.
+    /// Makes a step of the walk of the next shape that is not yet placed. X1 where the seat was not
+    /// given or no such transaction is open. X2 where it is another seat's. X9 where the index
+    /// refuses the step: S3 while a search that looks for the shape is done with its leaf, S4 where
+    /// fewer slots are free than the step needs, S5 where the index would become too high, S6 where
+    /// its counter is at its end, S7 where the walk has made all its steps. X12 where an allocation
+    /// is refused. S7 ends the transaction; any other fault leaves it open and its walk where it
+    /// was.
     pub fn advance(&mut self, seat: u32, number: u64) -> Result<Advance, Fault>
         ensures happens { Happens (AdvanceWalk seat number) self.old.plain self.new.plain (reply_of Advanced result) }
         ensures refused { IfErr result (RefusesGrowth self.old.index) }
@@ -88,12 +91,14 @@ impl<A: Allocator + Copy> World<A> {
         }
     }
 
-    /// Commits a transaction's list, all or none of it, and ends it. X1 where the seat was not given or no such
-    /// transaction is open, X2 where it is another seat's, X4 where a shape is not placed, X10 where the trail is full,
-    /// X12 where there is no memory for a copy of the list. Then the list is judged on the world as it is. Of one that is
-    /// accepted X8 where the version is at its end, X11 where more features would stand than may, and behind these X12
-    /// where there is no memory for its record or for the features that it adds. One that fails is answered with its first
-    /// failing change, or X12 where there is none for its record or its denial.
+    /// Commits a transaction's list, all or none, and ends the transaction. X1 where the seat was
+    /// not given or no such transaction is open, X2 where it is another seat's, X4 where a shape is
+    /// not placed, X10 where the trail is full, X12 where there is no memory for a copy of the
+    /// list. Then the list is judged on the present world. If it is accepted: X8 where the version
+    /// is at its end, X11 where there would be more features than the limit, and then X12 where
+    /// there is no memory for its record or for the features that it adds. If it is rejected: its
+    /// first failing change, or X12 where there is no memory for its record or its denial. A fault
+    /// leaves the transaction open.
     pub fn commit(&mut self, seat: u32, number: u64) -> Result<Outcome, Fault>
         ensures happens { Happens (Commit seat number) self.old.plain self.new.plain (reply_of Ended result) }
         ensures index { self.new.index ≡ self.old.index }
@@ -105,7 +110,8 @@ impl<A: Allocator + Copy> World<A> {
     }
 }
 
-/// The walk of what a transaction is to place next: the one that is under way, which is handed out, or else a new one.
+/// The walk of what a transaction is to place next: the stored one, which is taken out, or a new
+/// one.
 fn next_walk<A: Allocator>(
     walks: &mut Walks<A>,
     index: &Tree<Frames, A>,

@@ -1,4 +1,4 @@
-//! How a world tells that the index refuses.
+//! The index's refusals as faults of a world.
 
 ghost use Rattle.std.specs.Prelude.{◌≡◌};
 ghost use Rattle.transactions.specs.Refusing.{is_overrun, refusal_of, told};
@@ -7,7 +7,7 @@ use memory::Refused;
 use plain_world::Fault;
 use search_tree::TreeFault;
 
-/// What a world answers where the index refuses: want of memory by its own name.
+/// The world's fault for a refusal of the index: X12 for out of memory, X9 for all others.
 pub(crate) fn fault_of(fault: TreeFault) -> Fault
     ensures { result ≡ told fault }
 {
@@ -17,7 +17,7 @@ pub(crate) fn fault_of(fault: TreeFault) -> Fault
     }
 }
 
-/// The refusal of a growth, if it is that.
+/// The refused allocation, if the fault is S8.
 pub(crate) fn refusal_of(fault: TreeFault) -> Option<Refused>
     ensures { result ≡ refusal_of fault }
 {
@@ -27,7 +27,7 @@ pub(crate) fn refusal_of(fault: TreeFault) -> Option<Refused>
     }
 }
 
-/// Whether all steps were made.
+/// Whether the fault is S7: all steps were made.
 pub(crate) fn is_overrun(fault: &TreeFault) -> bool
     ensures { result ≡ is_overrun fault.now }
 {

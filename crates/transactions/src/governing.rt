@@ -1,4 +1,4 @@
-//! Policies are put in force, and the trail is rolled over.
+//! Putting policies in force, and rolling the trail.
 
 ghost use Rattle.std.specs.Prelude.{◌≡◌, ◌<◌, ◌+◌, IfErr};
 ghost use Rattle.std.specs.Arc.{arc_value};
@@ -12,9 +12,10 @@ use std::alloc::{Allocator, Global};
 use std::sync::Arc;
 
 impl<A: Allocator + Copy> World<A> {
-    /// Puts a document in force by a decider that was made before, of the next edition. X1 where the seat was not given,
-    /// X7 where its subject is no steward, X8 where the edition is at its end, whatever the decider's then is, X10 where the
-    /// trail is full, X12 where a growth is refused.
+    /// Puts in force the document of a decider that was made before, for the next edition. Returns
+    /// the edition. X1 where the seat was not given, X7 where its subject is no steward, X8 where
+    /// the present edition is `u64::MAX` (the decider's own edition is then ignored), X10 where the
+    /// trail is full, X12 where an allocation is refused.
     pub fn govern_by(&mut self, seat: u32, decider: Arc<Decider>) -> Result<u64, Fault>
         requires { self.old.plain.state.decider.edition < u64.MAX → (arc_value decider).edition ≡ self.old.plain.state.decider.edition + 1 }
         ensures happens { Happens (Govern seat (arc_value decider).document) self.old.plain self.new.plain (reply_of Number result) }
@@ -24,9 +25,9 @@ impl<A: Allocator + Copy> World<A> {
         self.plain.govern_by(seat, decider)
     }
 
-    /// Puts a document in force as the next edition, and answers that. X1 where the seat was not given, X7 where its
-    /// subject is no steward, X8 where the edition is at its end, X10 where the trail is full, X12 where a growth is
-    /// refused; each hands the document back.
+    /// Puts a document in force as the next edition, and returns the edition. X1 where the seat was
+    /// not given, X7 where its subject is no steward, X8 where the edition is at its end, X10 where
+    /// the trail is full, X12 where an allocation is refused. Each fault returns the document.
     pub fn govern(
         &mut self,
         heap: Global,
@@ -41,9 +42,9 @@ impl<A: Allocator + Copy> World<A> {
         self.plain.govern(heap, seat, document)
     }
 
-    /// Takes the trail out whole, with its lines; the new one begins from the present state, with the next number. X1
-    /// where the seat was not given, X7 where its subject is no steward, X8 where so many records were rolled out and are
-    /// there that the next trail's numbers would not fit, X12 where a growth is refused.
+    /// Takes out the whole trail, with its lines. The new trail begins at the present state, with
+    /// the next number. X1 where the seat was not given, X7 where its subject is no steward, X8
+    /// where the numbers of the new trail would not fit, X12 where an allocation is refused.
     pub fn roll(&mut self, heap: Global, seat: u32) -> Result<Arc<Rolled<A>, A>, Fault>
         ensures happens { Happens (Roll seat) self.old.plain self.new.plain (reply_of (λ piece. TakenOut (arc_value piece)) result) }
         ensures index { self.new.index ≡ self.old.index }

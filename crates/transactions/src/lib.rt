@@ -1,5 +1,5 @@
-//! The world of many sessions: what is served, changed and governed at each event, in whatever order they come, over an index
-//! in which searches and changes go on at the same time.
+//! The world of many sessions over its index: what each event serves, changes or governs. Events
+//! come in any order, so searches and changes interleave.
 #![tactic(auto)]
 
 mod changing;

@@ -16,8 +16,9 @@ use search_tree::Visit;
 use std::alloc::Allocator;
 
 impl<A: Allocator> World<A> {
-    /// Gives a seat to the subject of a name, and answers its number, from 1. X13 where there is no such subject, X14
-    /// where all seats are given, X12 where a growth is refused. No number is above `SEAT_LIMIT`.
+    /// Gives a seat to the subject of a name, and returns its number, from 1 to `SEAT_LIMIT`. X13
+    /// where there is no such subject, X14 where all seats are given, X12 where an allocation is
+    /// refused.
     pub fn seat(&mut self, name: Name) -> Result<u32, Fault>
         ensures happens { Happens (TakeSeat name) self.old.plain self.new.plain (reply_of Number result) }
         ensures few { IfOk result (λ number. number ≤ SEAT_LIMIT) }
@@ -27,8 +28,8 @@ impl<A: Allocator> World<A> {
         self.plain.seat(name)
     }
 
-    /// Gives a search up. X1 where the seat was not given or no such search runs, X2 where it is another seat's. It takes
-    /// no memory.
+    /// Drops a search. X1 where the seat was not given or no such search is open, X2 where it is
+    /// another seat's. Takes no memory.
     pub fn drop_search(&mut self, seat: u32, number: u64) -> Result<(), Fault>
         ensures happens { Happens (DropSearch seat number) self.old.plain self.new.plain (reply_of (λ _. Done) result) }
         ensures index { EndsInIndex number self.old.index self.new.index result }
@@ -41,8 +42,9 @@ impl<A: Allocator> World<A> {
 }
 
 impl<A: Allocator + Copy> World<A> {
-    /// Opens a search of a seat, and answers its number. X1 where the seat was not given, X9 where 16 searches run (S2)
-    /// or the number is at its end (S6), X12 where a growth is refused.
+    /// Opens a search of a seat, and returns its number. X1 where the seat was not given, X9 where
+    /// 16 searches are open (S2) or the number is at its end (S6), X12 where an allocation is
+    /// refused.
     pub fn open_search(&mut self, seat: u32, window: Shape) -> Result<u64, Fault>
         ensures happens { Happens (OpenSearch seat window) self.old.plain self.new.plain (reply_of Number result) }
         ensures index { OpensInIndex window self.old.index self.new.index result }
@@ -61,8 +63,9 @@ impl<A: Allocator + Copy> World<A> {
         }
     }
 
-    /// Makes a step of a search: it sees one place of the index. X1 where the seat was not given or no such search runs, X2
-    /// where it is another seat's, X9 where it has made all its steps (S7): then it is ended; X12 where a growth is refused.
+    /// Makes a step of a search: it sees one more node of the index. X1 where the seat was not
+    /// given or no such search is open, X2 where it is another seat's, X9 where it has made all its
+    /// steps (S7), X12 where an allocation is refused. S7 ends the search.
     pub fn visit(&mut self, seat: u32, number: u64) -> Result<Visit, Fault>
         ensures happens { Happens (VisitNext seat number) self.old.plain self.new.plain (reply_of Visited result) }
         ensures refused { IfErr result (GivesUp self.old.index number) }
@@ -87,10 +90,11 @@ impl<A: Allocator + Copy> World<A> {
         }
     }
 
-    /// Finishes a search: its answer has the rows that are listed now, by the policy in force, and is written to the trail.
-    /// X1 where the seat was not given or no such search runs, X2 where it is another seat's, X3 where it has not
-    /// answered Ready, X10 where the trail is full, X12 where a growth is refused. The meter counts at most a look-up for
-    /// each pair that the search has found in the index, and none where the call is refused before X12.
+    /// Finishes a search: returns the rows that are listed now, by the policy in force, and records
+    /// them in the trail. X1 where the seat was not given or no such search is open, X2 where it is
+    /// another seat's, X3 where it has not answered Ready, X10 where the trail is full, X12 where
+    /// an allocation is refused. The meter counts at most one look-up for each pair that the search
+    /// has found in the index, and none where the call is refused before X12.
     pub fn finish(&mut self, seat: u32, number: u64, meter: &mut Meter) -> Result<Answer<A>, Fault>
         ensures happens { Happens (Finish seat number) self.old.plain self.new.plain (reply_of Rows result) }
         ensures index { EndsInIndex number self.old.index self.new.index result }

@@ -1,4 +1,4 @@
-//! The index is tended.
+//! Tending the index.
 
 ghost use Rattle.std.specs.Prelude.{◌≡◌, IfErr};
 ghost use Rattle.plain_world.specs.Events.{Happens, Tend, Tended, reply_of};
@@ -13,9 +13,10 @@ use search_tree::Tending;
 use std::alloc::Allocator;
 
 impl<A: Allocator> World<A> {
-    /// Tends a slot of the index: it lets go of what stands there and is no longer needed. A pair stays where the feature
-    /// of its id has its shape, or an open transaction has staged that it will. X9 where a node is to
-    /// be installed or retired and the index's counter is at its end (S6). It takes no memory.
+    /// Tends a slot of the index: removes what is there and no longer needed. A pair stays while
+    /// the feature of its id has its shape, or an open transaction has staged that it will. X9
+    /// where a node is to be installed or retired and the index's counter is at its end (S6). Takes
+    /// no memory.
     pub fn tend(&mut self, slot: u32) -> Result<Tending, Fault>
         ensures happens { Happens (Tend slot) self.old.plain self.new.plain (reply_of Tended result) }
         ensures refused { IfErr result (RefusesGrowth self.old.index) }
@@ -28,8 +29,8 @@ impl<A: Allocator> World<A> {
         }
     }
 
-    /// Tends the slot of the index whose turn it is, as `tend` does, and answers the same. The next one's turn comes, also
-    /// where the index refuses: from slot 0 on, and behind the last one 0 again. It takes no memory.
+    /// Tends the slot whose turn it is, with the result of `tend`. The turn passes on even if the
+    /// index refuses: to the next slot, and after the last one to 0. Takes no memory.
     pub fn tend_next(&mut self, turn: &mut u32) -> Result<Tending, Fault>
         ensures happens { Happens (Tend turn.old) self.old.plain self.new.plain (reply_of Tended result) }
         ensures plain { self.new.plain ≡ self.old.plain }
@@ -44,7 +45,7 @@ impl<A: Allocator> World<A> {
     }
 }
 
-/// The slot whose turn comes behind this one's, of so many: from 0 on, and behind the last one 0 again.
+/// The next slot, round robin: 0 after the last one.
 fn slot_behind(slot: u32, slots: u32) -> u32
     ensures { result ≡ behind slot slots }
 {

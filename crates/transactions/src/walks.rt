@@ -10,7 +10,7 @@ use search_tree::Walk;
 use std::alloc::Allocator;
 use std::marker::Model;
 
-/// What an open transaction has under way in the index: the walk of what it is to place next, once that has begun.
+/// An open transaction, and the walk of its next shape to place, once that walk has begun.
 #[derive(Drop)]
 struct Journey {
     number: u64,
@@ -32,7 +32,7 @@ impl Journey {
         self.number
     }
 
-    /// Puts a walk, or none, in the place of what was under way, and hands that out.
+    /// Replaces the walk; returns the old one.
     fn replace(&mut self, walk: Option<Walk<Shape>>) -> Option<Walk<Shape>>
         ensures before { result ≡ self.old.walk }
         ensures after { self.new ≡ record self.old { walk = walk } }
@@ -43,8 +43,8 @@ impl Journey {
     }
 }
 
-/// The walks of open transactions, with room for as many as may be open at once. A contract sees, for each, its number and
-/// the walk that it has under way.
+/// The walks of open transactions, with room for as many as may be open at once. Contracts see the
+/// number of each and its walk, if it has one.
 #[derive(Drop)]
 pub(crate) struct Walks<A: Allocator> {
     journeys: Vec<Journey, A>,
@@ -71,7 +71,7 @@ impl<A: Allocator> Walks<A> {
         Ok(Walks { journeys })
     }
 
-    /// Takes a transaction in, which has no walk under way. It takes no memory.
+    /// Adds a transaction, without a walk. Takes no memory.
     pub fn begin(&mut self, number: u64)
         requires { length self.old < TRANSACTION_LIMIT }
         ensures { self.new ≡ begun number self.old }
@@ -79,14 +79,14 @@ impl<A: Allocator> Walks<A> {
         self.journeys.push_reserved(Journey { number, walk: None });
     }
 
-    /// Takes the transaction of a number out.
+    /// Removes a transaction.
     pub fn end(&mut self, number: u64)
         ensures { self.new ≡ ended number self.old }
     {
         self.journeys.retain(|journey| journey.number() != number);
     }
 
-    /// Hands out the walk that the transaction of a number has under way.
+    /// Takes out the walk of a transaction.
     pub fn take(&mut self, number: u64) -> Option<Walk<Shape>>
         ensures walk { result ≡ walk_of number self.old }
         ensures left { self.new ≡ with_walk number None self.old }
@@ -94,7 +94,7 @@ impl<A: Allocator> Walks<A> {
         replace_in(&mut self.journeys, number, None)
     }
 
-    /// Keeps the walk that the transaction of a number has under way. It takes no memory.
+    /// Stores the walk of a transaction. Takes no memory.
     pub fn keep(&mut self, number: u64, walk: Walk<Shape>)
         ensures { self.new ≡ with_walk number (Some walk) self.old }
     {
@@ -102,7 +102,7 @@ impl<A: Allocator> Walks<A> {
     }
 }
 
-/// Puts a walk, or none, in the place of the one that the transaction of a number has under way, and hands that out.
+/// Replaces the walk of a transaction; returns the old one.
 fn replace_in(
     journeys: &mut [Journey],
     number: u64,

@@ -1,4 +1,4 @@
-//! The laws at work over the calls of a real world, whichever they are and in whatever order.
+//! The laws, applied to calls of a real world: any calls, in any order.
 
 ghost use Rattle.std.specs.Prelude.{IfOk, OnOk};
 ghost use Rattle.plain_world.specs.Events.{Happens, Reply};
@@ -14,7 +14,7 @@ use plane::Shape;
 use policy_documents::Document;
 use std::alloc::{Allocator, Global};
 
-/// A call of a world, by the name of its method, with what it is called with.
+/// A call of a world, by the name of its method, with its arguments.
 #[derive(Debug, Drop)]
 pub enum Call {
     Seat {
@@ -68,9 +68,10 @@ pub enum Call {
     },
 }
 
-/// Opens a world by a document, makes these calls of it one after another, whatever each of them answers, and answers a
-/// seat's search behind them. X12 where the world finds no memory, or there is none for a copy of a document; else as
-/// `finish` refuses. Whichever the calls are, the answer is exact.
+/// Opens a world with a document, makes these calls one after another, whatever each of them
+/// returns, and finishes a seat's search after them. X12 where there is no memory for the world or
+/// for a copy of a document; then the faults of `finish`. The answer is exact, whatever the calls
+/// are.
 pub fn answer_after<A: Allocator + Copy>(
     alloc: A,
     heap: Global,
@@ -95,7 +96,8 @@ pub fn answer_after<A: Allocator + Copy>(
     Ok(answer)
 }
 
-/// Makes calls of a world, one after another. It ends early only where there is no memory for a copy of a document.
+/// Makes calls of a world, one after another. It ends early only where there is no memory for a
+/// copy of a document.
 fn make_all<A: Allocator + Copy>(
     world: &mut World<A>,
     heap: Global,
@@ -110,8 +112,8 @@ fn make_all<A: Allocator + Copy>(
     make_all(world, heap, rest)
 }
 
-/// Makes a call of a world, and lets go of what it answers. It is not made only where there is no memory for a copy of a
-/// document.
+/// Makes a call of a world, and drops what it returns. The call is left out only where there is no
+/// memory for a copy of its document.
 fn make<A: Allocator + Copy>(world: &mut World<A>, heap: Global, call: &Call) -> Result<(), Refused>
     ensures { OnOk result ((reply : Reply) × Happens (event_of call.now) world.old.plain world.new.plain reply) }
 {

@@ -1,4 +1,4 @@
-//! The world: what stands, and how it is opened and read.
+//! The world: what it has, and how it is opened and read.
 
 ghost use Rattle.std.specs.Prelude.{◌≡◌, ◌≤◌, ◌<◌, ◌+◌, [], length, IfOk, IfErr, OnOk};
 ghost use Rattle.std.specs.Arc.{arc_value};
@@ -30,9 +30,10 @@ use std::alloc::{Allocator, Global};
 use std::marker::Model;
 use std::sync::Arc;
 
-/// The world of many sessions: the features, the policy in force and the trail, the seats that were given, the searches and
-/// transactions that are under way, the index over the features, and the walks of the transactions. A contract sees all but
-/// the index as plain data, and the index as the contracts of the tree see it.
+/// The world of many sessions: the features, the policy in force, the trail, the seats that were
+/// given, the open searches and transactions, the index over the features, and the walks of the
+/// transactions. Contracts see all but the index as plain data, and the index as the tree's
+/// contracts see it.
 #[derive(Drop)]
 pub struct World<A: Allocator> {
     pub(crate) plain: PlainWorld<A>,
@@ -79,7 +80,7 @@ impl<A: Allocator> World<A> {
         self.plain.decider()
     }
 
-    /// The decider in force, of which another owner may be made.
+    /// The decider in force, shared: a caller may make itself another owner.
     pub fn decider_in_force(&self) -> &Arc<Decider>
         ensures { arc_value result.now ≡ self.now.plain.state.decider }
     {
@@ -93,8 +94,9 @@ impl<A: Allocator> World<A> {
         self.plain.edition()
     }
 
-    /// The edition under which a seat may put a document in force next. X1 where the seat was not given, X7 where its
-    /// subject is no steward, X8 where the edition is at its end, X10 where the trail is full. It takes no memory.
+    /// The edition under which a seat may put a document in force next. X1 where the seat was not
+    /// given, X7 where its subject is no steward, X8 where the edition is at its end, X10 where the
+    /// trail is full. Takes no memory.
     pub fn next_edition(&self, seat: u32) -> Result<u64, Fault>
         ensures value { result ≡ map_ok (λ _. self.now.plain.state.decider.edition + 1) (may_govern seat self.now.plain) }
         ensures left { OnOk result (self.now.plain.state.decider.edition < u64.MAX) }
@@ -102,8 +104,8 @@ impl<A: Allocator> World<A> {
         self.plain.next_edition(seat)
     }
 
-    /// How many pairs a search has found in the index, and so how many look-ups its `finish` makes at most; 0 where no such
-    /// search runs.
+    /// How many pairs a search has found in the index, which is the most look-ups that its `finish`
+    /// makes; 0 where no such search is open.
     pub fn found_count(&self, number: u64) -> usize
         ensures { result ≡ length (found_in self.now.index number) }
     {
@@ -133,16 +135,16 @@ impl<A: Allocator> World<A> {
         self.plain.seats_given()
     }
 
-    /// A seat's own search: its window, and whether it has answered Ready. X1 where the seat was not given or no such
-    /// search runs, X2 where it is another seat's. It takes no memory.
+    /// A seat's own search: its window, and whether it has answered Ready. X1 where the seat was
+    /// not given or no such search is open, X2 where it is another seat's. Takes no memory.
     pub fn search_of(&self, seat: u32, number: u64) -> Result<Search, Fault>
         ensures { result ≡ may_go_on seat number self.now.plain }
     {
         self.plain.may_go_on(seat, number)
     }
 
-    /// What the transaction of a number has staged, in order; nothing where no such transaction is open. No two of the
-    /// changes name one feature, and there are `CHANGE_LIMIT` at most. It takes no memory.
+    /// The changes that a transaction has staged, in order; none where no such transaction is open.
+    /// There are at most `CHANGE_LIMIT`, no two of the same feature. Takes no memory.
     pub fn staged(&self, number: u64) -> &[Change]
         ensures value { result.now ≡ staged_in number self.now.plain.transactions }
         ensures distinct { AreDistinct result.now }
@@ -151,10 +153,10 @@ impl<A: Allocator> World<A> {
         self.plain.staged(number)
     }
 
-    /// What every world keeps of what is served, so that the laws over runs begin at any world in hand: its trail is legal
-    /// from its base, the state is its replay, and no more than `SEAT_LIMIT` seats were given; its features stand by rising
-    /// id, and no list that is staged names a feature twice; what is under way is in order. The function does nothing: it is
-    /// its contract.
+    /// A fact for callers, without effect: what every world keeps, so that the laws over runs hold
+    /// from any world on. Its trail is legal from its base, the state is the trail's replay, and at
+    /// most `SEAT_LIMIT` seats were given. Its features are sorted by id, and no staged list names
+    /// a feature twice. Its open searches and transactions are in order.
     pub fn world_is_sound(&self)
         ensures sound { IsSoundWorld self.now.plain }
         ensures ordered { IsOrdered self.now.plain }
@@ -163,16 +165,16 @@ impl<A: Allocator> World<A> {
         self.plain.world_is_sound();
     }
 
-    /// What the index owes to the world: it has each feature's id and shape, and each shape that an open transaction has
-    /// placed; it runs the searches that run, as ready as they are. The function does nothing: it is its contract.
+    /// A fact for callers, without effect: the index has each feature's id and shape, and each
+    /// shape that an open transaction has placed; it runs the open searches, as ready as they are.
     pub fn index_serves_the_world(&self)
         ensures { Serves self.now.plain self.now.index }
     {
         let _index = &self.index;
     }
 
-    /// What the walks owe to the world: each open transaction has its place among them, in the same order, and a walk that
-    /// is under way is on its way with what its transaction is to place next. The function does nothing: it is its contract.
+    /// A fact for callers, without effect: each open transaction has its place among the walks, in
+    /// the same order, and a walk that has begun is for the next shape that its transaction places.
     pub fn walks_serve_the_world(&self)
         ensures { AreWalks self.now.plain.transactions self.now.walks }
     {
@@ -188,8 +190,8 @@ impl<A: Allocator> World<A> {
 }
 
 impl<A: Allocator + Copy> World<A> {
-    /// A world with no features and no seats, by a document of the first edition. X12 where a growth is refused: then
-    /// the document is handed back.
+    /// A world with no features and no seats, with this document as its first edition. X12 where an
+    /// allocation is refused: then the document is returned.
     pub fn open(
         alloc: A,
         heap: Global,
@@ -213,8 +215,9 @@ impl<A: Allocator + Copy> World<A> {
         )
     }
 
-    /// The same, where the numbers start elsewhere and the limits are other ones, for tests of what comes at their ends. No
-    /// limit is above that of `Limits::GREATEST`, and no more than `ROLLED_LIMIT` records were rolled out before.
+    /// The same with other first numbers and other limits, for tests of what happens at their ends.
+    /// No limit is above that of `Limits::GREATEST`, and at most `ROLLED_LIMIT` records were rolled
+    /// out before.
     pub fn open_at(
         alloc: A,
         heap: Global,
