@@ -1,4 +1,4 @@
--- A frame that takes in another one does not shrink.
+-- A frame that is joined with another does not shrink.
 use Rattle.std.specs.Prelude.{◌≤◌, ℤ, ◌-ℤ◌, ◌≤ℤ◌, unsigned_abs}
 use Rattle.std.specs.Int.{int_min, int_max}
 use Rattle.std.proofs.Common.{arith}

@@ -15,7 +15,7 @@ pub half_set : count_ones 65280 ≡ 8
 unfolding lib.Count.ones
 half_set = refl
 
--- of the first n keys, a bit tells whether the key at its place has the property, and no later bit is set
+-- for each of the first n keys, its bit says whether it has the property; no later bit is set
 pub record Tells (P : ℕ → Extent → Type 0) (keys : List Extent) (mask n : ℕ) : Type 0 where
   pub each : (i : ℕ) (key : Extent) → i < n → slice_get keys i ≡ Some key → (IsBitSet mask i ↔ P i key)
   pub no_other : (i : ℕ) → IsBitSet mask i → i < n
@@ -23,7 +23,7 @@ pub record Tells (P : ℕ → Extent → Type 0) (keys : List Extent) (mask n : 
 pub same_key : (keys : List Extent) (i : ℕ) (a b : Extent) → slice_get keys i ≡ Some a → slice_get keys i ≡ Some b → a ≡ b
 same_key keys i a b p q = sym (get_or_from_slice_get keys i a a p) ∙ get_or_from_slice_get keys i b a q
 
--- the key at the next place
+-- the key at the next index
 next_key : (P : ℕ → Extent → Type 0) (keys : List Extent) (n i : ℕ) (key k : Extent) → slice_get keys n ≡ Some key → i ≡ n → slice_get keys i ≡ Some k → (P n key ↔ P i k)
 next_key P keys n i key k here e found =
     let same : key ≡ k = same_key keys n key k here (subst (λ j. slice_get keys j ≡ Some k) e found) in
@@ -69,7 +69,7 @@ ones_both (suc w) n h =
     let other : count_ones (2 ^ suc w - 1 - n) ≡ (1 - n % 2) + count_ones (2 ^ w - 1 - n / 2) = ones_step (2 ^ suc w - 1 - n) ∙ (λ i. last i + count_ones (rest i)) in
     omega (arith, ones_step n, other, half)
 
--- what the one part leaves is as even
+-- the other part is even too
 pub rest_even : (part : ℕ) → part < 2 ^ 16 → IsEven part → IsEven (65535 - part)
 rest_even part fits even =
     let both = ones_both 16 part (omega (arith, fits)) in

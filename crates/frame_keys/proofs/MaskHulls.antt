@@ -9,7 +9,8 @@ use Rattle.frame_keys.specs.Keys.{Encloses}
 use Rattle.frame_keys.specs.Laws.{frames_reflexive, frames_transitive, frames_covers_first, frames_covers_second, frames_least}
 use Rattle.frame_keys.specs.Splits.{EnclosesAll, IsLeastOf}
 
--- the same, of the first n keys; what encloses all keys of the mask encloses the extent
+-- the least extent so far: it encloses the mask's keys among the first n, and is enclosed by
+-- whatever encloses all keys of the mask
 pub record IsLeastOfFirst (e : Extent) (keys : List Extent) (mask n : ℕ) : Type 0 where
   pub encloses : (i : ℕ) (key : Extent) → i < n → slice_get keys i ≡ Some key → IsBitSet mask i → Encloses e key
   pub least : (f : Extent) → EnclosesAll f keys mask → Encloses f e

@@ -1,4 +1,4 @@
--- What two stretches of an axis share, read in numbers of 32 bits.
+-- What two stretches of an axis share, computed with 32-bit numbers.
 use Rattle.std.specs.Prelude.{◌≡◌, ◌≤◌, ℤ, ◌-ℤ◌, unsigned_abs, FitsSigned}
 use Rattle.std.specs.Int.{int_min, int_max}
 use Rattle.std.proofs.Common.{arith, ap, ◌∙◌}

@@ -1,4 +1,4 @@
--- The laws of frames as keys. They stand here, and not with the proofs, since the class names them.
+-- The laws of frames as keys. They are here and not with the proofs, since the class names them.
 use Rattle.std.specs.Prelude.{List, [], ◌∷◌, ◌++◌, All, ℤ}
 use Rattle.std.specs.Int.{int_min, int_max}
 use Rattle.std.proofs.Common.{arith}
@@ -16,7 +16,7 @@ frames_whole_covers key h = record {
   up = record { low_below = h.y0_in_range.low; high_above = h.y1_in_range.high };
 }
 
--- ---- by one axis
+-- ---- along one axis
 
 same : (a b : ℤ) → Spans a b a b
 same a b = record { low_below = omega (arith, ints); high_above = omega (arith, ints) }
@@ -68,7 +68,7 @@ frames_monotone a b query h meet = record {
   in_second = meet.in_second;
 }
 
--- a list's first elements have what all have
+-- if all elements of a list have P, so do its first ones
 first_part : {X : Type 0} (P : X → Type 0) (xs ys : List X) → All P (xs ++ ys) → All P xs
 first_part P [] ys all = All-nil P
 first_part P (x ∷ xs) ys all = All-cons P x xs (All-head P x (xs ++ ys) all) (first_part P xs ys (All-tail P x (xs ++ ys) all))

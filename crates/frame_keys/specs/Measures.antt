@@ -12,11 +12,11 @@ height e = unsigned_abs (e.y1 -ℤ e.y0)
 abbrev pub area : Extent → ℕ
 area e = width e * height e
 
--- half the way around
+-- half the perimeter
 abbrev pub margin : Extent → ℕ
 margin e = width e + height e
 
--- how long the stretch is that two stretches of an axis share, and 0 where they share none
+-- the length that two stretches of an axis share; 0 where they share nothing
 abbrev pub shared : ℤ → ℤ → ℤ → ℤ → ℕ
 shared low high other_low other_high =
     let from = int_max low other_low in

@@ -19,7 +19,7 @@ abbrev pub middle : Axis → Extent → ℤ
 middle Across e = e.x0 +ℤ e.x1
 middle Up e = e.y0 +ℤ e.y1
 
--- the first middle is the greater one, or both are the same and the first key has the later place
+-- the first middle is the greater one, or both are the same and the first key has the greater index
 abbrev pub is_behind : ℤ → ℕ → ℤ → ℕ → Bool
 is_behind middle place other at = int_lt other middle || (int_eq middle other && nat_lt at place)
 
@@ -32,8 +32,8 @@ pub record IsLeastOf (result : Extent) (keys : List Extent) (mask : ℕ) : Type 
   pub encloses : EnclosesAll result keys mask
   pub least : (e : Extent) → EnclosesAll e keys mask → Encloses e result
 
--- the keys of the mask go to one part and the others to the other, the part with the larger margin stays left, and the
--- numbers are those of the two parts' least frames
+-- The keys of the mask are one part, the others the other, and the part with the larger margin
+-- stays left. The measures are those of the two parts' least frames.
 pub record IsCut (keys : List Extent) (mask right shared margins : ℕ) : Type 0 where
   pub rest : Extent
   pub taken : Extent
@@ -44,20 +44,20 @@ pub record IsCut (keys : List Extent) (mask right shared margins : ℕ) : Type 0
   pub shared_is : shared ≡ overlap rest taken
   pub margins_is : margins ≡ margin rest + margin taken
 
--- less is shared, or as much and the margins are less
+-- less overlap, or as much and smaller margins
 abbrev pub is_better : ℕ → ℕ → ℕ → ℕ → Bool
 is_better shared margins other_shared other_margins = nat_lt shared other_shared || (nat_eq shared other_shared && nat_lt margins other_margins)
 
--- these are the keys that stand behind the one at this place, in the order of their middles along an axis, and of
--- their places where the middles are the same
+-- these keys come after the one at this index in the order of their middles along an axis; keys
+-- with the same middle are in the order of their indices
 pub record AreBehind (keys : List Extent) (axis : Axis) (place part : ℕ) : Type 0 where
   pub at : Extent
   pub here : slice_get keys place ≡ Some at
   pub each : (i : ℕ) (key : Extent) → slice_get keys i ≡ Some key → (IsBitSet part i ↔ IsTrue (is_behind (middle axis key) i (middle axis at) place))
   pub no_other : (i : ℕ) → IsBitSet part i → i < NODE_SIZE
 
--- the keys are cut behind one of them along an axis, and the part with the larger margin stays left: those behind go
--- right where that part's margin is no larger, else the others
+-- The keys are cut after one of them along an axis. Those after it go right where their part's
+-- margin is at most the other's, else the others go right.
 pub record IsCutBehind (keys : List Extent) (right : ℕ) : Type 0 where
   pub axis : Axis
   pub place : ℕ
@@ -67,8 +67,8 @@ pub record IsCutBehind (keys : List Extent) (right : ℕ) : Type 0 where
   pub margins : ℕ
   pub cut : IsCut keys part right shared margins
 
--- which keys of a full node may go right: those of a cut whose parts get enough keys each, or the later half, with
--- which the search for a better cut begins
+-- Which keys of a full node may go right: those of a cut with enough keys in each part, or the
+-- later half, with which the search for a better cut begins.
 pub record PicksRight (keys : List Extent) (right : ℕ) : Type 0 where
   pub even : IsEven right
   pub picked : IsCutBehind keys right ⊎ (right ≡ LATER_HALF)

@@ -13,7 +13,8 @@ use crate::split::right_part;
 use plane::{Frame, Shape, covers, frame_of, frames_meet, hull, meets};
 use tree_theory::{KeyClass, with_bit};
 
-/// The class of keys where a key is a frame, and items and queries are shapes: a search finds the shapes that meet its own.
+/// The class whose keys are frames, and whose items and queries are shapes: a search finds the
+/// shapes that meet its own.
 pub struct Frames;
 
 impl KeyClass for Frames {
@@ -92,7 +93,8 @@ impl KeyClass for Frames {
         area(hull(key, other)) - area(key)
     }
 
-    /// The growth of the margin. A flat frame grows along its line by no area at all, so that a far one would tie with one that covers the item.
+    /// The growth of the margin. It breaks ties for flat frames: one that grows along its own line
+    /// gains no area, and would tie with one that covers the item.
     fn second_penalty(key: Frame, other: Frame) -> u64 {
         Self::known_key(key);
         margin(hull(key, other)) - margin(key)

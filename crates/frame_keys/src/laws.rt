@@ -1,11 +1,12 @@
-//! Laws of the definitions. A function here does nothing: it is its contract.
+//! Laws of the definitions. The function does nothing; its contract states the law.
 
 ghost use Rattle.std.specs.Prelude.{◌↔◌};
 ghost use Rattle.plane.specs.Extents.{Extent, IsFrame};
 ghost use Rattle.plane.specs.Rows.{Covers};
 ghost use Rattle.frame_keys.specs.Keys.{Encloses};
 
-/// Of frames, whose ends are in order, one encloses another by its ends exactly where each of the other's points lies in it.
+/// A frame's ends are in order, so an extent encloses it by its ends exactly if each point of the
+/// frame lies in the extent.
 pub fn frames_cover_by_ends()
     ensures { (outer inner : Extent) → IsFrame inner → (Encloses outer inner ↔ Covers outer inner) }
 {}

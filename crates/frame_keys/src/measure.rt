@@ -20,7 +20,7 @@ pub fn height(frame: Frame) -> u64
     ensures value { result ≡ height frame }
     ensures most { result ≤ 20000000 }
 {
-    // The reader of the left side says that the ends are in order and in range.
+    // Fact for the checker: `x0` states that the ends are in order and in range.
     let (_, low, high) = (frame.x0(), frame.y0(), frame.y1());
     u64::from((high - low).unsigned_abs())
 }
@@ -33,7 +33,7 @@ pub fn area(frame: Frame) -> u64
     width(frame) * height(frame)
 }
 
-/// Half the way around a frame.
+/// The margin of a frame: half its perimeter.
 pub fn margin(frame: Frame) -> u64
     ensures value { result ≡ margin frame }
     ensures most { result ≤ 40000000 }
@@ -41,7 +41,7 @@ pub fn margin(frame: Frame) -> u64
     width(frame) + height(frame)
 }
 
-/// How long the stretch is that two stretches of an axis share: 0 where they share none.
+/// The length that two stretches of an axis share; 0 where they share nothing.
 fn shared(low: i32, high: i32, other_low: i32, other_high: i32) -> u64
     requires low { IsCoordinate low }
     requires high { IsCoordinate high }

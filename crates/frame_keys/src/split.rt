@@ -1,6 +1,8 @@
 //! How the keys of a full node are shared out to two.
 //!
-//! Along each axis the keys stand in the order of their middles, and that order is cut behind each key in turn, where both parts get enough keys. Of these cuts the one is taken whose parts overlap least, and of those the one whose parts have the least margins. The part with the larger margin stays left.
+//! Along each axis the keys are ordered by their middles, and that order is cut after each key in
+//! turn, where both parts get enough keys. The best cut is the one whose parts overlap least, and
+//! of those the one whose parts have the least margins. The part with the larger margin stays left.
 
 ghost use Rattle.std.specs.Prelude.{◌≡◌, ◌↔◌, ◌≤◌, ◌<◌, ℕ, Some, IsTrue, IsBitSet, length, count_ones, slice_get, slice_index};
 ghost use Rattle.plane.specs.Extents.{Extent};
@@ -11,10 +13,10 @@ use crate::measure::{margin, overlap};
 use plane::{Frame, hull};
 use tree_theory::{has_bit, with_bit};
 
-/// A part gets at least so many keys.
+/// The fewest keys of a part.
 const FEWEST: u32 = 6;
 
-/// A part gets at most so many keys.
+/// The most keys of a part.
 const MOST: u32 = 10;
 
 /// The later half of the keys.
@@ -27,7 +29,8 @@ pub enum Axis {
     Up,
 }
 
-/// Two parts of a node's keys: which go right, how much the two parts' frames overlap, and both margins.
+/// Two parts of a node's keys: which keys go right, how much the parts' frames overlap, and the sum
+/// of their margins.
 #[derive(Clone, Copy)]
 struct Cut {
     right: u16,
@@ -36,7 +39,7 @@ struct Cut {
 }
 
 impl Cut {
-    /// Whether this cut's parts overlap less, or as much and have lesser margins.
+    /// Whether this cut's parts overlap less, or as much with smaller margins.
     fn is_better(&self, other: &Cut) -> bool
         ensures { result ≡ is_better self.now.overlap self.now.margins other.now.overlap other.now.margins }
     {
@@ -61,7 +64,7 @@ pub fn right_part(keys: &[Frame]) -> u16
     best_cut(keys, Axis::Up, across).right
 }
 
-/// The best cut along an axis, or the first one where none is better.
+/// The best cut along an axis, or `first` where none is better.
 fn best_cut(keys: &[Frame], axis: Axis, first: Cut) -> Cut
     requires size { length keys.now ≡ NODE_SIZE }
     requires picked { PicksRight keys.now first.right }
@@ -123,7 +126,8 @@ fn hull_of(keys: &[Frame], mask: u16) -> Frame
     frame
 }
 
-/// Which keys stand behind this one in the order of their middles along an axis, and of their places where the middles are the same.
+/// Which keys come after this one in the order of their middles along an axis. Keys with the same
+/// middle are in the order of their indices.
 fn behind(keys: &[Frame], axis: Axis, place: usize) -> u16
     requires size { length keys.now ≡ NODE_SIZE }
     requires place { place < NODE_SIZE }
@@ -143,7 +147,7 @@ fn behind(keys: &[Frame], axis: Axis, place: usize) -> u16
 fn middle(frame: Frame, axis: Axis) -> i32
     ensures { result ≡ middle axis frame }
 {
-    // The reader of the left side says that every end is in range, so that the sums fit.
+    // Fact for the checker: `x0` states that every end is in range, so the sums fit.
     let _left = frame.x0();
     match axis {
         Axis::Across => frame.x0() + frame.x1(),
@@ -151,7 +155,7 @@ fn middle(frame: Frame, axis: Axis) -> i32
     }
 }
 
-/// Whether a key with this middle and place stands behind one with that middle and place.
+/// Whether a key with this middle and index comes after one with that middle and index.
 fn is_behind(middle: i32, place: usize, other: i32, at: usize) -> bool
     ensures { result ≡ is_behind middle place other at }
 {

@@ -73,7 +73,7 @@ module _ {T : Type 0} where
       let last : next_generation s other.slot ≡ next_generation s one.slot = ap (next_generation s) same in
       same_handle one other same (omega (arith, here.0, there.0, last))
 
-  -- what a new handle, the next of its slot, makes of the map
+  -- how a new handle, the next of its slot, changes the map
   pub IsGiven-from_slot : (old new : Slots T) (handle : Handle) (value : T) → slot_at old handle.slot ≡ (handle.generation, None) → slot_at new handle.slot ≡ (handle.generation + 1, Some value) → ((slot : ℕ) → slot ≢ handle.slot → slot_at new slot ≡ slot_at old slot) → new.first ≡ old.first → old.first ≤ handle.generation → IsGiven old new handle value
   IsGiven-from_slot old new handle value before after others first begins =
       let was : next_generation old handle.slot ≡ handle.generation = ap (λ slot. slot.0) before in

@@ -37,7 +37,7 @@ no_value : (T : Type 0) (next generation : ℕ) → IsSome (held_under {T = T} (
 no_value T next generation some = some_is_not_none _ some (held_under-nothing next generation)
 
 module _ {T : Type 0} where
-  -- the handles of these slots that have a value, where the first slot has this number
+  -- the handles with a value in these slots, the first of which has this number
   abbrev handles_from : ℕ → List (ℕ × Option T) → List Handle
   handles_from slot [] = []
   handles_from slot ((next, None) ∷ rest) = handles_from (slot + 1) rest

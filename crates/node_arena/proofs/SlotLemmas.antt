@@ -13,7 +13,7 @@ use Rattle.node_arena.specs.Slots.{Slots, last_generation, held_under, is_taken,
 use Rattle.node_arena.specs.Slot.{seen, is_free, IsInRange, IsLink, IsChain, IsSound}
 
 module _ {T : Type 0} where
-  -- what a caller sees of slots, apart from room
+  -- what a caller sees of slots, apart from `places`
   abbrev seen_from : ℕ → List (Slot T) → Slots T
   seen_from first slots = record { first = first; slots = map seen slots; places = 0 }
 
@@ -75,7 +75,7 @@ module _ {T : Type 0} where
       by_slot (Free generation after) range = range.0
       by_slot WornOut range = omega (arith, range)
 
-  -- what a read of the first free slot gives is its link
+  -- a read of the first free slot gives its link
   pub read_link : (first : ℕ) (slots : List (Slot T)) (live free : ℕ) (next : Option ℕ) (slot generation : ℕ) (after : Option ℕ) (e : Slot T) → IsSound first slots live free next → next ≡ Some slot → e ≡ get_or slots slot e → e ≡ Free generation after → IsLink slots next slot generation after
   read_link first slots live free next slot generation after e sound named read is =
       record { named = named; found = slice_get_read slots (length slots) slot e refl (within free sound.chained) read ∙ ap Some is }
@@ -99,7 +99,8 @@ module _ {T : Type 0} where
           let is : e ≡ Free chained.1 chained.2 = read ∙ get_or_from_slice_get slots slot _ e (ap (slice_get slots) (sym same) ∙ link.found) in
           rw is refl
 
-  -- the first of the chain leaves it: the rest of the chain is shorter, so it does not come back to that slot
+  -- the first slot of the chain leaves it; the rest of the chain is shorter, so it does not lead
+  -- back to that slot
   pub IsSound-fill : (first : ℕ) (slots : List (Slot T)) (live free : ℕ) (next : Option ℕ) (slot generation : ℕ) (after : Option ℕ) (value : T) → IsSound first slots live free next → IsLink slots next slot generation after → IsSound first (set slots slot (Live generation value)) (live + 1) (free - 1) after
   IsSound-fill first slots live free next slot generation after value sound link = by_count free sound.free_counted sound.chained
     where
@@ -144,7 +145,7 @@ module _ {T : Type 0} where
         chained = rw (add-one free) (slot, generation + 1, next, record { named = refl; found = written }, rest);
       }
 
-  -- a slot whose last value is taken out stays off the chain
+  -- a slot whose last value is removed stays off the chain
   pub IsSound-wear_out : (first : ℕ) (slots : List (Slot T)) (live free : ℕ) (next : Option ℕ) (slot generation : ℕ) (value : T) → IsSound first slots live free next → slice_get slots slot ≡ Some (Live generation value) → IsSound first (set slots slot WornOut) (live - 1) free next
   IsSound-wear_out first slots live free next slot generation value sound found =
       let range = in_range_at first slots slot _ live free next sound found in

@@ -3,7 +3,7 @@ use Rattle.std.specs.Prelude.{ℕ, List, codes}
 use Rattle.node_arena.specs.declared.fault.ArenaFault.{ArenaFault}
 use Rattle.node_arena.specs.declared.fault.ArenaFault.TheVariants.{Full, Memory}
 
--- the code that stands for a fault
+-- the fault's code
 abbrev pub code_of : ArenaFault → List ℕ
 code_of Full = codes "A1"
 code_of (Memory refused) = codes "A2"

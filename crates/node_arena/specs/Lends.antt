@@ -1,4 +1,4 @@
--- What an arena ends as, where a `&mut` to one of its values is returned.
+-- What becomes of an arena when a `&mut` to one of its values is returned.
 use Rattle.std.specs.Prelude.{Option}
 use Rattle.std.specs.Borrow.{Lends, LendsIf, Fml, RattleType, MutBor}
 use Rattle.std.specs.declared.alloc.Allocator.{Ghosts}
@@ -11,6 +11,6 @@ module _ (T A : RattleType) (alloc : Ghosts A.Denot) (s : MutBor (Slots T.Denot)
   abbrev pub lends_value : MutBor T.Denot → Fml
   lends_value r = Lends (the_row T A alloc) T s r (with_value s.now handle)
 
-  -- the same where r is a reference, and at `None` the arena stays as it is
+  -- the same where r may be `None`: then the arena is unchanged
   abbrev pub lends_get : Option (MutBor T.Denot) → Fml
   lends_get r = LendsIf (the_row T A alloc) T s r (with_value s.now handle) s.now

@@ -29,18 +29,18 @@ module _ {T : Type 0} where
   seen (Free generation _) = (generation, None)
   seen WornOut = (last_generation + 1, None)
 
-  -- the slot was given out, from the first generation on, and its generation fits
+  -- the slot was given out, at `first` or later, and its generation fits 32 bits
   abbrev pub IsInRange : ℕ → Slot T → Type 0
   IsInRange first (Live generation _) = (first ≤ generation) × (generation ≤ last_generation)
   IsInRange first (Free generation _) = (first < generation) × (generation ≤ last_generation)
   IsInRange first WornOut = first ≤ last_generation
 
-  -- the link names this free slot, which names the one after
+  -- the link names this free slot, whose own link is `after`
   pub record IsLink (slots : List (Slot T)) (next : Option ℕ) (slot generation : ℕ) (after : Option ℕ) : Type 0 where
     pub named : next ≡ Some slot
     pub found : slice_get slots slot ≡ Some (Free generation after)
 
-  -- from this link on, so many free slots each name the next, and the last names none
+  -- from this link on, a chain of `count` free slots: each names the next, and the last names none
   abbrev pub IsChain : List (Slot T) → ℕ → Option ℕ → Type 0
   IsChain slots zero next = next ≡ None
   IsChain slots (suc count) next = (slot generation : ℕ) × (after : Option ℕ)

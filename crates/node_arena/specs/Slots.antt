@@ -1,10 +1,12 @@
--- What a contract sees of an arena: a map from handles to values, the handles that were used, and some counts.
+-- What a contract sees of an arena: a map from handles to values, the handles that were used, and
+-- counts.
 use Rattle.std.specs.Prelude.{◌≡◌, ◌≢◌, ◌↔◌, ℕ, Bool, ◌+◌, ◌<◌, ◌≤◌, ◌==◌, ◌||◌, nat_lt, List, [], length, AllPairs, Contains, IsSome, Option, Some, None, is_some, count_by, slice_index_or, slice_set, max, refl, if◌then◌else◌}
 use Rattle.std.specs.Coded.{Coded, code_by, coded×, coded_ℕ, coded_list, coded_option}
 use Rattle.node_arena.specs.declared.handle.Handle.{Handle}
 
--- each slot that was ever given out, with the generation that it gives out next and its value, the
--- generation at which a slot starts, and how many slots there is memory for
+-- `first` is the generation at which a slot starts. `slots` has each slot that was ever given out:
+-- the generation that it gives out next, and its value. `places` is for how many slots there is
+-- memory.
 pub record Slots (T : Type 0) : Type 0 where
   pub first : ℕ
   pub slots : List (ℕ × Option T)
@@ -33,7 +35,8 @@ module _ {T : Type 0} where
   abbrev pub next_generation : Slots T → ℕ → ℕ
   next_generation s slot = (slot_at s slot).0
 
-  -- what a slot holds under a generation: its value, where that is the last that it gave out
+  -- what a slot holds under a generation: its value, if that is the last generation that it gave
+  -- out
   abbrev pub held_under : ℕ × Option T → ℕ → Option T
   held_under slot generation = if slot.0 == generation + 1 then slot.1 else None
 
@@ -49,8 +52,7 @@ module _ {T : Type 0} where
   abbrev pub value_count : Slots T → ℕ
   value_count s = count_by (λ slot. is_some slot.1) s.slots
 
-  -- this is the size of the map: a list of so many handles has each handle with a value once, and no
-  -- other
+  -- the size of the map: a list of `size` handles has each handle with a value once, and no other
   pub record IsSize (s : Slots T) (size : ℕ) : Type 0 where
     pub handles : List Handle
     pub counted : length handles ≡ size
@@ -69,11 +71,11 @@ module _ {T : Type 0} where
   abbrev pub taken_count : Slots T → ℕ
   taken_count s = count_by is_taken s.slots
 
-  -- so many more values find a slot with no more memory, and before `MAX_SLOTS` are taken
+  -- `more` more values find a slot without more memory, and before `MAX_SLOTS` are taken
   abbrev pub HasRoomFor : Slots T → ℕ → Type 0
   HasRoomFor s more = taken_count s + more ≤ s.places
 
-  -- the same values, used handles and counts. There may be memory for another number of slots
+  -- the same values, used handles and counts; only `places` may differ
   abbrev pub SameButRoom : Slots T → Slots T → Type 0
   SameButRoom old new = new ≡ record old { places = new.places }
 
@@ -81,7 +83,7 @@ module _ {T : Type 0} where
   abbrev pub empty_from : ℕ → Slots T
   empty_from generation = record { first = generation; slots = []; places = 0 }
 
-  -- the slot of a handle has this value or none, and was given out up to the handle
+  -- the arena with this value or none in the handle's slot, whose last given handle is this one
   abbrev pub with_slot : Slots T → Handle → Option T → Slots T
   with_slot s handle held =
       record s { slots = slice_set s.slots handle.slot (handle.generation + 1, held) }
@@ -106,8 +108,8 @@ module _ {T : Type 0} where
     pub no_others : (other : Handle) → other ≢ handle → IsUsed new other → IsUsed old other
     pub same_first : new.first ≡ old.first
 
-  -- the counts with one more value, which stands under this handle. A slot that was given out before
-  -- gives out its next generation, and another one is the first that was never given out
+  -- the counts with one more value, under this handle: a used slot gives out its next generation,
+  -- and a new slot is the first that was never given out
   pub record CountsGiven (old new : Slots T) (handle : Handle) : Type 0 where
     pub generation : handle.generation ≡ next_generation old handle.slot
     pub values : value_count new ≡ value_count old + 1
@@ -115,7 +117,7 @@ module _ {T : Type 0} where
     pub slots : slot_count new ≡ max (slot_count old) (handle.slot + 1)
     pub next_slot : handle.slot ≤ slot_count old
 
-  -- this handle has that or nothing, each other handle reads as before, and the same handles are used
+  -- this handle has `held`, each other handle reads as before, and the same handles are used
   pub record IsChangedAt (old new : Slots T) (handle : Handle) (held : Option T) : Type 0 where
     pub here : value_at new handle ≡ held
     pub other_values : (other : Handle) → other ≢ handle → value_at new other ≡ value_at old other

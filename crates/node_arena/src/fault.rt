@@ -1,3 +1,5 @@
+//! Why an arena takes no value.
+
 ghost use Rattle.std.specs.Prelude.{◌≡◌, Some};
 ghost use Rattle.node_arena.specs.FaultCodes.{code_of};
 
@@ -8,9 +10,9 @@ use std::fmt;
 /// Why an arena took no value.
 #[derive(Debug, Drop, PartialEq, Eq)]
 pub enum ArenaFault {
-    /// A1: each slot that an arena may have holds a value or is worn out.
+    /// A1: too few of the `MAX_SLOTS` slots are left; the others hold a value or are worn out.
     Full,
-    /// A2: no slot was free, and there was no memory for one more.
+    /// A2: too few slots were free, and the allocation for more was refused.
     Memory(Refused),
 }
 
@@ -25,7 +27,7 @@ impl From<Refused> for ArenaFault {
 }
 
 impl ArenaFault {
-    /// The code that stands for the fault: `A1` or `A2`.
+    /// The fault's code: `A1` or `A2`.
     pub fn code(&self) -> &'static str
         ensures { result.now ≡ code_of self.now }
     {

@@ -1,8 +1,11 @@
+//! The laws of the map that an arena is.
+
 ghost use Rattle.std.specs.Prelude.{◌≡◌, ◌≢◌, ◌⊎◌, IsSome, Some};
 ghost use Rattle.node_arena.specs.declared.handle.Handle.{Handle};
 ghost use Rattle.node_arena.specs.Slots.{Slots, value_at, with_value};
 
-/// The laws of the map that an arena is, for proofs of callers. It does nothing.
+/// The laws of the map that an arena is, for callers' proofs. The function does nothing; its
+/// contract states the laws.
 pub fn map_laws<T>()
     // Two handles are the same, or differ.
     ensures handle_cases { (one other : Handle) → (one ≡ other) ⊎ (one ≢ other) }

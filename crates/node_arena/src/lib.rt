@@ -27,17 +27,20 @@ pub const MAX_SLOTS: u32 = 1_048_576;
 /// How many values `reserve` makes room for at most.
 pub const MOST_RESERVED: u32 = 4_096;
 
-/// A map from handles to values. `insert` picks the handle, and gives no handle twice in the life of the arena.
+/// A map from handles to values. `insert` picks the handle, and gives no handle twice in the life
+/// of the arena.
 ///
-/// A slot's handles differ in their generation, which begins at 0 and rises by 1 each time the slot's value is taken out. A slot is used again until its last generation, 4,294,967,295, has been: then it is worn out.
+/// A slot's handles differ in their generation. It begins at 0 (or where `starting_at` says) and
+/// rises by 1 each time the slot's value is removed. After its last generation, 4,294,967,295, the
+/// slot is worn out: it is never used again.
 #[derive(Drop)]
 pub struct Arena<T, A: Allocator> {
     slots: Vec<Slot<T>, A>,
-    // The generation at which each slot begins.
+    /// The generation at which each slot begins.
     first: u32,
-    // How many slots hold a value.
+    /// How many slots hold a value.
     live: u32,
-    // How many slots are free, and the first of their chain.
+    /// How many slots are free, and the first of their chain.
     free: u32,
     next_free: Option<u32>,
 }
@@ -65,7 +68,7 @@ impl<T, A: Allocator> Model for Arena<T, A> {
 impl<T, A: Allocator> Arena<T, A> {
     ghost use Rattle.node_arena.specs.Lends.{lends_get, lends_value};
 
-    /// An arena with no value, which takes no memory until the first `insert`.
+    /// An empty arena. It takes no memory until the first `insert` or `reserve`.
     pub fn new(alloc: A) -> Self
         ensures value { SameButRoom (empty_from 0) result }
         ensures empty { IsEmpty result }
@@ -73,7 +76,7 @@ impl<T, A: Allocator> Arena<T, A> {
         Self::starting_at(alloc, 0)
     }
 
-    /// The same, where each slot begins at `generation` in place of 0. It is for tests of what comes at the last generations.
+    /// As `new`, but each slot begins at `generation` in place of 0.
     pub fn starting_at(alloc: A, generation: u32) -> Self
         ensures value { SameButRoom (empty_from generation) result }
         ensures empty { IsEmpty result }
@@ -102,7 +105,8 @@ impl<T, A: Allocator> Arena<T, A> {
         self.live == 0
     }
 
-    /// How many slots were given out at least once, worn-out ones among them. Each handle that was given out has a slot below this number.
+    /// How many slots were given out at least once, including worn-out ones. The slot of every
+    /// handle that was given out is below this number.
     pub fn slots(&self) -> u32
         ensures value { result ≡ slot_count self.now }
         ensures used { (handle : Handle) → IsSome (value_at self.now handle) → IsUsed self.now handle }
@@ -114,7 +118,7 @@ impl<T, A: Allocator> Arena<T, A> {
         self.slots.len() as u32
     }
 
-    /// Whether `insert` has room for so many more values before it answers A1.
+    /// Whether `insert` takes `more` values before it fails with A1.
     pub fn has_room(&self, more: u32) -> bool
         ensures { IsTrue result ↔ (taken_count self.now + more ≤ MAX_SLOTS) }
     {
@@ -148,7 +152,7 @@ impl<T, A: Allocator> Arena<T, A> {
         ensures* writes_back { sem 𝓛 (lends_get T.row A.row A.Allocator self.entry handle result) }
         ensures value { option_copied_mut result ≡ value_at self.old handle }
 
-        // What a caller may leave behind the reference changes that pair and nothing else.
+        // Whatever the caller leaves behind the reference, that pair changes and nothing else.
         ensures changes { OnSome result ((value : T) → IsChangedAt self.old (with_value self.old handle value) handle (Some value)) }
         ensures counts { OnSome result ((value : T) → SameCounts self.old (with_value self.old handle value)) }
     {
@@ -159,9 +163,11 @@ impl<T, A: Allocator> Arena<T, A> {
         }
     }
 
-    /// Makes room for `more` values, so that so many calls of `insert` take no memory and cannot fail.
+    /// Makes room for `more` values, so that the next `more` calls of `insert` take no memory and
+    /// cannot fail.
     ///
-    /// Where that is not possible nothing changes: it answers A1 where fewer than `more` values fit below `MAX_SLOTS`, and A2 where there was no memory for the slots.
+    /// A1 where fewer than `more` values fit below `MAX_SLOTS`, A2 where the allocation for the
+    /// slots is refused. On an error nothing changes.
     pub fn reserve(&mut self, more: u32) -> Result<(), ArenaFault>
         requires { more ≤ MOST_RESERVED }
         ensures ok { OnOk result (HasRoomFor self.new more) }
@@ -180,9 +186,11 @@ impl<T, A: Allocator> Arena<T, A> {
         Ok(())
     }
 
-    /// Puts `value` under a handle that was not used. It takes memory only where no slot is free, and none where `reserve` made room.
+    /// Puts `value` under a new handle. It takes memory only where no slot is free, and none where
+    /// `reserve` made room.
     ///
-    /// Where that is not possible it hands the value back: with A1 where `MAX_SLOTS` slots hold a value or are worn out, and with A2 where no slot is free and there was no memory for one more.
+    /// A1 where `MAX_SLOTS` slots hold a value or are worn out, A2 where no slot is free and the
+    /// allocation for one more is refused. On an error the value is returned, and nothing changes.
     pub fn insert(&mut self, value: T) -> Result<Handle, (T, ArenaFault)>
         ensures ok { IfOk result (λ handle. IsGiven self.old self.new handle value) }
         ensures counts { IfOk result (CountsGiven self.old self.new) }
@@ -194,7 +202,7 @@ impl<T, A: Allocator> Arena<T, A> {
         ensures value_returned { IfErr result (λ refused. refused.0 ≡ value) }
         ensures err { OnErr result (self.new ≡ self.old) }
 
-        // Where there is room it cannot fail, and takes no memory.
+        // Where there is room, `insert` cannot fail and takes no memory.
         ensures certain { HasRoomFor self.old 1 → IsOk result }
         ensures room_kept { HasRoomFor self.old 1 → self.new.places ≡ self.old.places }
         ensures places { self.old.places ≤ self.new.places }
@@ -222,13 +230,14 @@ impl<T, A: Allocator> Arena<T, A> {
         Ok(handle)
     }
 
-    /// Takes out the value under `handle`, if there is one. The handle stays used, and reads nothing from then on.
+    /// Removes the value under `handle` and returns it, if there is one. The handle stays used, and
+    /// reads nothing from then on.
     pub fn remove(&mut self, handle: Handle) -> Option<T>
         ensures value { result ≡ value_at self.old handle }
         ensures changes { IsChangedAt self.old self.new handle None }
         ensures values { OnSome result (value_count self.new + 1 ≡ value_count self.old) }
 
-        // The slot is free from then on, or worn out where that was its last generation.
+        // The slot is then free, or worn out if that was its last generation.
         ensures taken { OnSome result (taken_count self.new + (if handle.generation == last_generation then 0 else 1) ≡ taken_count self.old) }
         ensures slots { slot_count self.new ≡ slot_count self.old }
         ensures places { self.new.places ≡ self.old.places }
@@ -277,7 +286,7 @@ impl<T, A: Allocator> Arena<T, A> {
         Handle { slot, generation }
     }
 
-    /// Takes out a value whose slot has a next generation.
+    /// Removes a value whose slot has a next generation.
     fn free_slot(&mut self, handle: Handle, generation: u32) -> T
         requires present { IsSome (value_at self.old handle) }
         requires next { generation ≡ handle.generation + 1 }
@@ -294,7 +303,7 @@ impl<T, A: Allocator> Arena<T, A> {
         self.slots[handle.slot as usize].take(freed)
     }
 
-    /// Takes out the value of a slot's last generation.
+    /// Removes the value of a slot's last generation.
     fn wear_out(&mut self, handle: Handle) -> T
         requires present { IsSome (value_at self.old handle) }
         requires last { handle.generation ≡ last_generation }

@@ -1,3 +1,5 @@
+//! What one slot of an arena holds.
+
 ghost use Rattle.std.specs.Prelude.{◌≡◌, IsSome, IsTrue, Some, option_copied};
 ghost use Rattle.node_arena.specs.Slots.{held_under};
 ghost use Rattle.std.specs.Borrow.{Lends, sem};
@@ -5,13 +7,14 @@ ghost use Rattle.node_arena.specs.Slot.{seen, value_of, rewritten, is_free};
 
 use std::mem;
 
-/// What a slot holds. The generation is that of its handle, or, where the slot is free, that of the handle which it gives out next.
+/// What a slot holds. `generation` is that of the slot's handle, or, in a free slot, that of the
+/// next handle that the slot gives out.
 #[derive(Drop)]
 pub(crate) enum Slot<T> {
     Live { generation: u32, value: T },
-    /// The free slots are chained: each knows the next.
+    /// Free slots are chained: each names the next.
     Free { generation: u32, next: Option<u32> },
-    /// The value of the last generation was taken out. The slot is never used again.
+    /// The value of the last generation was removed. The slot is never used again.
     WornOut,
 }
 
@@ -59,7 +62,7 @@ impl<T> Slot<T> {
         }
     }
 
-    /// Leaves `left` in place of a value, which it returns.
+    /// Replaces the slot by `left`, and returns its value.
     pub(crate) fn take(&mut self, left: Slot<T>) -> T
         requires { IsSome (value_of self.old) }
         ensures value { value_of self.old ≡ Some result }

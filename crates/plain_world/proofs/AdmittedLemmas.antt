@@ -1,4 +1,4 @@
--- Events that were admitted, by what they answer.
+-- What the reply says of an event that was admitted.
 use Rattle.std.proofs.Common.{◌≡◌, ℕ, ◌==◌, nat_lt, Bool, true, false, IsTrue, List, [], ◌∷◌, Some, Result, Ok, Err, if◌then◌else◌, refl, sym, ap, subst, ◌∙◌, arith}
 use Rattle.std.specs.Bool.{MatchBool}
 use Rattle.std.proofs.lemmas.Bool.Decides.{nat_tests}
@@ -19,18 +19,18 @@ abbrev pub is_refusal : Reply → Bool
 is_refusal (Refused fault) = true
 is_refusal _ = false
 
--- what is no refusal comes from an event that was admitted
+-- an event whose reply is no refusal was admitted
 pub admitted : {T : Type 0} (may : Result T Fault) (old new : WorldData) (reply : Reply) (Does : T → Type 0) → is_refusal reply ≡ false → If may old new reply Does → (x : T) × (may ≡ Ok x) × Does x
 admitted (Err fault) old new reply Does apart h = absurd (cc (subst (λ (r : Reply). is_refusal r ≡ false) h.1 apart))
 admitted (Ok x) old new reply Does apart h = (x, refl, h)
 
--- whatever holds where an event is refused and where it is admitted holds
+-- a claim on the reply that holds for a refused event and for an admitted one holds
 pub by_if : {T : Type 0} (may : Result T Fault) (old new : WorldData) (reply : Reply) (Does : T → Type 0) (P : Reply → Type 0)
     → ((fault : Fault) → may ≡ Err fault → new ≡ old → P (Refused fault)) → ((x : T) → may ≡ Ok x → Does x → P reply) → If may old new reply Does → P reply
 by_if (Err fault) old new reply Does P refused each h = subst P (sym h.1) (refused fault refl h.0)
 by_if (Ok x) old new reply Does P refused each h = each x refl h
 
--- the same of what may want memory
+-- as `by_if`, for an event that may end with X12
 pub by_unless : (old new : WorldData) (reply : Reply) (Does : Type 0) (P : Reply → Type 0)
     → ((fault : Fault) → is_want fault ≡ true → new ≡ old → P (Refused fault)) → (Does → P reply) → UnlessMemory old new reply Does → P reply
 by_unless old new (Refused fault) Does P refused each h = go (is_want fault) refl h
@@ -61,7 +61,7 @@ is_ready s u = go s.ready
     go true e = refl
     go false e = absurd cc
 
--- who finishes a search has the seat, and the search is the seat's own and ready
+-- the subject that finishes has the seat, and the search is open, the seat's own and ready
 pub record IsFinisher (seat number : ℕ) (w : WorldData) (subject : Subject) (search : Search) : Type 0 where
   pub seated : IsSeated seat w.seats subject
   pub running : admitting.search_with number w.searches ≡ Some search
@@ -108,7 +108,7 @@ own_open seat number w t e =
     let g = transaction_same seat f.0 t f.2 in
     (given_ok (transaction_with number w.transactions) f.0 f.1 ∙ ap (λ (x : TransactionData). Some x) g.0, g.1)
 
--- who commits has the seat, and the transaction is the seat's own
+-- the subject that commits has the seat, and the transaction is the seat's own
 pub committer : (seat number : ℕ) (w : WorldData) (subject : Subject) → may_commit seat number w ≡ Ok subject
     → IsSeated seat w.seats subject × ((t : TransactionData) × (transaction_with number w.transactions ≡ Some t) × (t.seat ≡ seat))
 committer seat number w subject e =
@@ -126,14 +126,14 @@ steward_true s u = go s.steward
     go true e = refl
     go false e = absurd cc
 
--- who takes the trail out has the seat, and is a steward
+-- the subject that rolls has the seat, and is a steward
 pub roller : (seat : ℕ) (w : WorldData) (u : Unit {0}) → may_roll seat w ≡ Ok u → (subject : Subject) × IsSeated seat w.seats subject × IsTrue subject.steward
 roller seat w u e =
     let a = and_then_ok (subject_at seat w) (λ subject. and_then (stewarded subject) (λ _. refused_if (nat_lt FIRST_LIMIT (next_first w)) faults.Spent)) u e in
     let b = and_then_ok (stewarded a.0) (λ _. refused_if (nat_lt FIRST_LIMIT (next_first w)) faults.Spent) u a.2 in
     (a.0, given_ok (subject_of seat w.seats) a.0 a.1, steward_true a.0 b.0 b.1)
 
--- who governs has the seat, and is a steward
+-- the subject that governs has the seat, and is a steward
 pub governor : (seat : ℕ) (w : WorldData) (subject : Subject) → may_govern seat w ≡ Ok subject → IsSeated seat w.seats subject × IsTrue subject.steward
 governor seat w subject e =
     let a = and_then_ok (subject_at seat w) _ subject e in

@@ -1,4 +1,4 @@
--- What an answer, a governed edition and a piece that is rolled out come from.
+-- Where an answer, a governed edition and a piece come from.
 use Rattle.std.proofs.Common.{◌≡◌, ℕ, IsTrue, List, refl, sym, ap, subst, ◌∙◌}
 use Rattle.features.specs.declared.actors.Subject.{Subject}
 use Rattle.audit_trail.specs.Legal.{IsSeated}
@@ -54,7 +54,7 @@ policy_stewards seat document edition mid new happens =
       ap (λ (w : WorldData). w.state.version) d.2.1,
     )
 
--- who takes the trail out is a steward
+-- only a steward rolls the trail
 pub piece_stewards : (seat : ℕ) (mid new : WorldData) (piece : RolledData) → Happens (Roll seat) mid new (TakenOut piece) → (subject : Subject) × IsSeated seat mid.seats subject × IsTrue subject.steward
 piece_stewards seat mid new piece happens =
     let d = admitted (may_roll seat mid) mid new (TakenOut piece) _ refl happens in

@@ -1,4 +1,4 @@
--- What is under way after an event was under way before it, or the event asked for it.
+-- What is open after an event was open before it, or the event asked for it.
 use Rattle.std.proofs.Common.{◌≡◌, ◌⊎◌, inl, inr, ℕ, ◌+◌, ◌==◌, nat_lt, nat_le, not, Bool, true, false, List, [], ◌∷◌, ◌++◌, length, filter, Option, None, Some, MatchOption, Result, Ok, Err, if◌then◌else◌, refl, sym, ap, subst, ◌∙◌, arith}
 use Rattle.std.specs.Bool.{MatchBool}
 use Rattle.std.proofs.lemmas.Bool.Decides.{nat_tests}
@@ -29,7 +29,7 @@ use Rattle.plain_world.proofs.RunLemmas.{and_then_ok}
 
 -- Searches.
 
--- a search of that number among these, of the same seat and window
+-- these have a search of that number, of the same seat and window
 abbrev Ran : ℕ → List Search → Search → Type 0
 Ran n ss s = (before : Search) × (search_with n ss ≡ Some before) × (s.seat ≡ before.seat) × (s.window ≡ before.window)
 
@@ -130,7 +130,7 @@ open_or_new n (x ∷ xs) more t e = go (x.number == n) (open_or_new n xs more t)
     go true rest e = inl e
     go false rest e = rest e
 
--- a transaction of that number among these, and what it is by now
+-- `t` is `before`, or, for number `k`, `step` of it
 abbrev Stepped : (TransactionData → TransactionData) → ℕ → ℕ → TransactionData → TransactionData → Type 0
 Stepped step k n before t = (t ≡ before) ⊎ ((n ≡ k) × (t ≡ step before))
 
@@ -232,7 +232,7 @@ asked_tends event old new (Tended tending) d = asked_same event old _ new d
 asked_tends event old new (Refused (faults.Tree tree.Spent)) d = asked_same event old _ new d
 asked_tends event old new _ d = absurd d
 
--- what may want memory, and what may be refused
+-- events that may end with X12, and events that may be refused
 asked_unless : (event : Event) (old new : WorldData) (reply : Reply) (Does : Type 0) → (Does → IsAsked event old new reply) → MatchBool (is_memory reply) (new ≡ old) Does → IsAsked event old new reply
 asked_unless event old new reply Does each d = by_unless old new reply Does (λ r. IsAsked event old new r) (λ fault want same. asked_same event old (Refused fault) new same) each d
 

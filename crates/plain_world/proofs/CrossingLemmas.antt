@@ -1,4 +1,4 @@
--- Worlds, what they answer and what is rolled out of them may cross threads as their allocator may.
+-- Worlds, their answers and their pieces may cross threads where their allocator may.
 use denote.Builtin.{u32}
 use denote.Enum.Declared.{shape}
 use denote.Param.Send.{IsSend, IsSync, Frees, enum_send, recorded_send}

@@ -1,4 +1,4 @@
--- Events that are admitted, and do what they say.
+-- Events that are admitted and do what `Happens` says.
 use Rattle.std.proofs.Common.{◌≡◌, ◌≢◌, ℕ, ◌+◌, ◌<◌, ◌==◌, nat_lt, Bool, true, false, List, length, Result, Ok, Err, IsErrAnd, refl, subst, sym, arith}
 use Rattle.std.specs.Bool.{MatchBool}
 use Rattle.std.proofs.lemmas.Bool.Decides.{nat_tests}
@@ -19,13 +19,13 @@ use Rattle.plain_world.specs.States.{WorldData}
 pub admitted : {T : Type 0} (may : Result T Fault) (x : T) (old new : WorldData) (reply : Reply) (Does : T → Type 0) → may ≡ Ok x → Does x → If may old new reply Does
 admitted may x old new reply Does e h = subst (λ (r : Result _ Fault). If r old new reply Does) (sym e) h
 
--- a refusal that is handed on
+-- a fault that is passed on
 pub handed_on : {T : Type 0} (gives : T → Reply) (result : Result T Fault) (fault : Fault) (old new : WorldData) (Does : Type 0) → IsErrAnd result (λ f. f ≡ fault)
     → UnlessMemory old new (Refused fault) Does → UnlessMemory old new (reply_of gives result) Does
 handed_on gives (Ok x) fault old new Does h same = absurd h
 handed_on gives (Err f) fault old new Does h same = subst (λ (g : Fault). UnlessMemory old new (Refused g) Does) (sym h) same
 
--- a list that is accepted, where more features would stand than may
+-- an accepted list that would leave too many features
 pub too_many : (seat number : ℕ) (subject : Subject) (changes : List Change) (old : WorldData) (count : ℕ) → old.state.version ≢ LAST → old.limits.features < count → count ≡ length (after (old.state.version + 1) subject.office changes old.state.features)
     → Applies seat number subject changes old old (Refused faults.StoreFull)
 too_many seat number subject changes old count left more counted =
@@ -40,7 +40,7 @@ too_many seat number subject changes old count left more counted =
     go false true e f = (refl, refl)
     go false false e f = absurd cc
 
--- an accepted list that is applied, or found no memory
+-- an accepted list that is applied, or ends with X12
 pub commits_accepted : (seat number : ℕ) (subject : Subject) (changes : List Change) (old new : WorldData) (reply : Reply) → changes ≡ staged_in number old.transactions → Judged old.state subject changes judgements.Accepted
     → UnlessMemory old new reply (Applies seat number subject changes old new reply) → UnlessMemory old new reply (Commits seat number subject old new reply)
 commits_accepted seat number subject changes old new reply e judged h = go (is_memory reply) h

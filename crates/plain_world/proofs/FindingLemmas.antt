@@ -1,4 +1,4 @@
--- Look-ups of the ids that were found: what they list is what the whole store lists.
+-- Look-ups of the found ids list what the whole store lists.
 use Rattle.std.proofs.Common.{◌≡◌, ◌⊎◌, ℕ, zero, suc, ◌<◌, List, [], ◌∷◌, map, length, All, AllPairs, Contains, slice_index_or, Option, Some, None, refl, sym, ap, subst, ◌∙◌, inl, inr, arith}
 use Rattle.std.specs.List.{cons_option, filter_map}
 use Rattle.std.specs.List.Sorted.{IsStrictlyIncreasing}
@@ -63,7 +63,7 @@ absent_below : (id : ℕ) (features : List Feature) → IsBelowAll id features �
 absent_below id [] below = refl
 absent_below id (feature ∷ features) below = grind (arith, nat_tests, below.0, absent_below id features below.1)
 
--- what look-ups of these ids find, in their order
+-- the features that look-ups of these ids find, in order
 abbrev pub looked_up : List Feature → List ℕ → List Feature
 looked_up features ids = filter_map (λ id. feature_with id features) ids
 
@@ -71,11 +71,11 @@ finds_none : (ids : List ℕ) → looked_up [] ids ≡ []
 finds_none [] = refl
 finds_none (id ∷ ids) = finds_none ids
 
--- the look-up of the first id finds this
+-- the look-ups with a first id whose look-up finds this
 pub looks_up : (features : List Feature) (id : ℕ) (ids : List ℕ) (there : Option Feature) → feature_with id features ≡ there → looked_up features (id ∷ ids) ≡ cons_option there (looked_up features ids)
 looks_up features id ids there is = ap (λ (o : Option Feature). cons_option o (looked_up features ids)) is
 
--- a first feature that no id names is not found
+-- a first feature below all ids is not found
 skipped : (feature : Feature) (features : List Feature) (ids : List ℕ) → IsLess feature.id ids → looked_up (feature ∷ features) ids ≡ looked_up features ids
 skipped feature features [] less = refl
 skipped feature features (id ∷ ids) less =
@@ -95,12 +95,12 @@ module _ (window : List Point) where
     named_of features ids (All-tail (λ (f : Feature). Meet f.shape window → Contains ids f.id) feature features all),
   )
 
-  -- an id below all features names none of them
+  -- an id below all features names none of them, so the other ids name all
   named_rest : (id : ℕ) (ids : List ℕ) (features : List Feature) → IsBelowAll id features → AreNamed features (id ∷ ids) → AreNamed features ids
   named_rest id ids [] below named = tt
   named_rest id ids (feature ∷ features) below named = (λ met. in_later id feature.id ids below.0 (named.0 met), named_rest id ids features below.1 named.1)
 
-  -- more ids name all that fewer do
+  -- a list with at least the found ids names all features that the found ids name
   pub names_kept : (features : List Feature) (found : List (ℕ × List Point)) (ids : List ℕ) → ((id : ℕ) → Contains (map (λ pair. pair.0) found) id → Contains ids id)
       → FindsAll features window found → NamesAll features window ids
   names_kept features found ids kept finds =
@@ -115,7 +115,7 @@ module _ (window : List Point) where
     lists_none [] rows named none = none
     lists_none (feature ∷ features) rows named none = inr (λ shown. named.0 shown.0, lists_none features rows named.1 none)
 
-    -- a listing of what look-ups find of the features from one on, given it of those behind
+    -- look-ups list what the features list, with one more feature in front, if they do without it
     lists_from : (feature : Feature) (features : List Feature) → IsSortedById (feature ∷ features)
         → ((ids : List ℕ) (rows : List Feature) → AreRising ids → AreNamed features ids → Lists (looked_up features ids) rows → Lists features rows)
         → (ids : List ℕ) (rows : List Feature) → AreRising ids → AreNamed (feature ∷ features) ids → Lists (looked_up (feature ∷ features) ids) rows → Lists (feature ∷ features) rows
@@ -146,7 +146,7 @@ module _ (window : List Point) where
     lists_found (feature ∷ features) sorted ids rows rising named listed =
         lists_from feature features sorted (λ more kept up known told. lists_found features sorted.1 more kept up known told) ids rows rising named listed
 
-    -- rising ids that name all features which meet the window: what look-ups of them list is what the features list
+    -- look-ups of rising ids that name all features of the window list what the features list
     pub found_listed : (features : List Feature) (ids : List ℕ) (rows : List Feature) → IsSortedById features → IsStrictlyIncreasing ids → NamesAll features window ids
         → Lists (looked_up features ids) rows → Lists features rows
     found_listed features ids rows sorted rises all listed =

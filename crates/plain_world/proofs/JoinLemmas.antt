@@ -29,7 +29,7 @@ use Rattle.plain_world.proofs.RunLemmas.{sound_event}
 abbrev pub Grows : WorldData → WorldData → Type 0
 Grows old new = (more : List Subject) × (new.seats ≡ old.seats ++ more)
 
--- the base stays, save where a roll takes the trail out: then it is the state
+-- the base is unchanged, except after a roll: then it is the old state
 abbrev pub Moves : WorldData → WorldData → Reply → Type 0
 Moves old new (TakenOut piece) = Grows old new × (piece.records ≡ old.trail) × (new.base ≡ old.state)
 Moves old new _ = Grows old new × (new.base ≡ old.base)
@@ -43,7 +43,7 @@ stays_by old new w e seats base = (([], ap (λ (w : WorldData). w.seats) e ∙ s
 stays : (old new : WorldData) → new ≡ old → Stays old new
 stays old new e = stays_by old new old e refl refl
 
--- an event that is refused, or is admitted and does something
+-- a refused event meets `Moves`, and an admitted one does if its effect does
 moves_if : {T : Type 0} (may : _) (old new : WorldData) (reply : Reply) (Does : T → Type 0) → ((x : T) → Does x → Moves old new reply) → If may old new reply Does → Moves old new reply
 moves_if may old new reply Does each h = by_if may old new reply Does (λ r. Moves old new r) (λ fault may same. stays old new same) (λ x may d. each x d) h
 
@@ -144,7 +144,7 @@ grows_run old (event ∷ events) new run =
     let rest = grows_run run.0 events new run.2 in
     (first.0 ++ rest.0, rest.1 ∙ ap (λ (seats : List Subject). seats ++ rest.0) first.1 ∙ append_assoc old.seats first.0 rest.0)
 
--- these records, from this base, are legal and make the world's state
+-- these records are legal from this base, and their replay is the world's state
 abbrev pub Joins : WorldData → PlainState → List RecordData → Type 0
 Joins new base records = IsLegal new.seats base records × (replay base records ≡ new.state)
 

@@ -1,4 +1,4 @@
--- A commit ends as its judgement asks.
+-- A commit ends as its judgement says.
 use Rattle.std.proofs.Common.{◌≡◌, ◌⊎◌, inl, inr, ℕ, ◌+◌, ◌==◌, nat_lt, Bool, true, false, List, length, Option, Some, refl, sym, subst, ◌∙◌}
 use Rattle.std.specs.Bool.{MatchBool}
 use Rattle.features.specs.declared.actors.Subject.{Subject}
@@ -20,7 +20,7 @@ use Rattle.plain_world.specs.Staging.{TransactionData, transaction_with, staged_
 use Rattle.plain_world.specs.States.{WorldData}
 use Rattle.plain_world.proofs.AdmittedLemmas.{by_if, by_unless, committer, staged_of}
 
--- refused, or ended as the judgement asks
+-- refused, or ended as the judgement says
 abbrev pub EndsAsJudged : WorldData → Judgement → Reply → Type 0
 EndsAsJudged old judgement reply = ((fault : Fault) × (reply ≡ Refused fault)) ⊎ (reply ≡ Ended (outcome_of old.state judgement))
 

@@ -1,4 +1,4 @@
--- Every run keeps the features sorted, and the staged lists apart.
+-- Every run keeps the features sorted, and the changes of a staged list distinct.
 use Rattle.std.proofs.Common.{◌≡◌, ℕ, ◌+◌, ◌==◌, ◌≤◌, nat_lt, nat_le, not, Bool, true, false, List, [], ◌∷◌, ◌++◌, length, Option, None, Some, MatchOption, Ok, Err, if◌then◌else◌, refl, sym, subst, arith}
 use Rattle.std.specs.Bool.{MatchBool}
 use Rattle.plane.specs.declared.point.Point.{Point}
@@ -38,7 +38,7 @@ use Rattle.plain_world.proofs.AdmittedLemmas.{by_if, by_unless, own_open}
 use Rattle.plain_world.proofs.RunLemmas.{and_then_ok}
 use Rattle.plain_world.proofs.TransactionLemmas.{unnamed}
 
--- A list that can be applied keeps the features sorted.
+-- An applied list keeps the features sorted.
 
 sorted_change : (version : ℕ) (office : List ℕ) (change : Change) (rows : List Feature) → CanChange change rows → IsSortedById rows → IsSortedById (after_change version office change rows)
 sorted_change version office (Add id class shape) rows can sorted =
@@ -52,7 +52,7 @@ sorted_after version office (change ∷ changes) rows can sorted =
     sorted_after version office changes (after_change version office change rows)
     (can_apply_rest version office change changes rows can.1 can.2) (sorted_change version office change rows can.0 sorted)
 
--- Staged lists stay apart.
+-- The changes of a staged list stay distinct.
 
 apart_append : (ts : List TransactionData) (t : TransactionData) → AreApart ts → AreDistinct t.changes → AreApart (ts ++ t ∷ [])
 apart_append [] t apart distinct = (distinct, tt)
@@ -226,7 +226,7 @@ opened_sound subjects decider starts limits =
 pub opened_ordered : (subjects : List Subject) (decider : DeciderData) (starts : Starts) (limits : Limits) → IsOrdered (opened subjects decider starts limits)
 opened_ordered subjects decider starts limits = record { sorted = tt; apart = tt }
 
--- the ids of an answer's rows rise
+-- the rows of an answer are sorted by id
 pub answer_rising : (seat number : ℕ) (mid new : WorldData) (answer : AnswerData) → IsOrdered mid → Happens (Finish seat number) mid new (Rows answer) → IsSortedById answer.rows
 answer_rising seat number mid new answer h happens =
     let exact = answer_exact seat number mid new answer happens in

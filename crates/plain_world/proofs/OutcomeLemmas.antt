@@ -1,4 +1,4 @@
--- What an outcome comes from.
+-- Where an outcome comes from.
 use Rattle.std.proofs.Common.{◌≡◌, ℕ, ◌+◌, ◌==◌, nat_lt, Bool, true, false, List, length, Option, None, Some, refl, sym, ap, subst}
 use Rattle.std.specs.Bool.{MatchBool}
 use Rattle.features.specs.declared.actors.Subject.{Subject}
@@ -27,7 +27,7 @@ use Rattle.plain_world.proofs.AdmittedLemmas.{admitted, committer, staged_of}
 outcome_same : (a b : Outcome) → Ended a ≡ Ended b → a ≡ b
 outcome_same a b e = cc
 
--- the denial of a founded cause asks what was denied, and goes with the cause
+-- the denial of a founded cause has the question that was denied
 asked_of : (decider : DeciderData) (cause : Cause) (question : Option Question) → IsFounded decider.document cause question → asked (denial_of decider cause question) ≡ question
 asked_of decider (Denied rule) None founded = absurd founded
 asked_of decider (Denied rule) (Some question) founded = refl
@@ -55,7 +55,7 @@ ends_applied seat number subject t old new outcome judged d =
     go false false d = subst (λ (o : Outcome). IsJudgement subject t old.state new.state o) (sym (outcome_same outcome _ d.0))
         (judged, refl, ap (λ (w : WorldData). w.state.features) d.1, ap (λ (w : WorldData). w.state.version) d.1, ap (λ (w : WorldData). w.state.decider) d.1)
 
--- a list that is turned away ends as its refusal
+-- a commit that ends as judged has the outcome of its judgement
 ends_as : (judgement : Judgement) (seat number : ℕ) (subject : Subject) (t : TransactionData) (old new : WorldData) (outcome : Outcome)
     → Judged old.state subject t.changes judgement → CommitsAs judgement seat number subject t.changes old new (Ended outcome) → IsJudgement subject t old.state new.state outcome
 ends_as judgements.Accepted seat number subject t old new outcome judged d = ends_applied seat number subject t old new outcome judged d

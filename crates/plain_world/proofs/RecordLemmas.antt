@@ -26,7 +26,7 @@ use Rattle.plain_world.proofs.AdmittedLemmas.{by_if, by_unless, committer}
 stands_same : (old new : WorldData) → new ≡ old → StandsAs old new
 stands_same old new e = subst (λ (w : WorldData). StandsAs old w) (sym e) (refl, refl, refl, refl)
 
--- a world that has changed in what is under way alone
+-- a world that equals one with the old state, base and trail has them too
 stands_by : (old new w : WorldData) → new ≡ w → StandsAs old w → StandsAs old new
 stands_by old new w e h = subst (λ (w : WorldData). StandsAs old w) (sym e) h
 

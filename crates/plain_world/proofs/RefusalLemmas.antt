@@ -1,4 +1,4 @@
--- What refused events leave.
+-- What refused events leave of the world.
 use Rattle.std.proofs.Common.{◌≡◌, ℕ, ◌+◌, ◌==◌, nat_lt, Bool, true, false, List, [], ◌∷◌, length, Option, None, Some, MatchOption, Result, Ok, Err, if◌then◌else◌, refl, sym, subst, arith}
 use Rattle.std.specs.Bool.{MatchBool}
 use Rattle.std.proofs.lemmas.Bool.Decides.{nat_tests}
@@ -35,7 +35,7 @@ fault_same a b e = cc
 err_same : {T : Type 0} (a b : Fault) → ◌≡◌ {A = Result T Fault} (Err a) (Err b) → a ≡ b
 err_same a b e = cc
 
--- Tests that no overrun refuses.
+-- Tests whose faults are no overruns.
 abbrev pub IsPlain : {T : Type 0} → Result T Fault → Type 0
 IsPlain m = (fault : Fault) → m ≡ Err fault → is_overrun fault ≡ false
 
@@ -81,7 +81,8 @@ visited_number seat number w s e =
     let same = (seat_same seat f.0 s f.2).0 in
     subst (λ (x : Search). x.number ≡ number) same (number_found number w.searches f.0 (given_ok (search_with number w.searches) f.0 f.1))
 
--- an overrun ends what it is said to end, and any other fault changes nothing
+-- an overrun leaves the world without its search or transaction, and any other fault changes
+-- nothing
 abbrev pub EndsBy : Fault → WorldData → WorldData → WorldData → Type 0
 EndsBy fault old new without = MatchBool (is_overrun fault) (new ≡ without) (new ≡ old)
 

@@ -30,7 +30,7 @@ use Rattle.plain_world.proofs.SoundLemmas.{sound_seated, sound_added}
 pub sound_same : (old new : WorldData) → new ≡ old → IsSoundWorld old → IsSoundWorld new
 sound_same old new e h = subst (λ (w : WorldData). IsSoundWorld w) (sym e) h
 
--- a refused event keeps a world sound, and an admitted one where what it does does
+-- a refused event keeps a world sound, and an admitted one does if its effect does
 sound_if : {T : Type 0} (may : Result T Fault) (old new : WorldData) (reply : Reply) (Does : T → Type 0) → If may old new reply Does → IsSoundWorld old → ((x : T) → may ≡ Ok x → Does x → IsSoundWorld new) → IsSoundWorld new
 sound_if (Err fault) old new reply Does h sound each = sound_same old new h.0 sound
 sound_if (Ok x) old new reply Does h sound each = each x refl h
@@ -39,7 +39,7 @@ sound_unless : (b : Bool) (old new : WorldData) (Does : Type 0) → MatchBool b 
 sound_unless true old new Does h sound each = sound_same old new h sound
 sound_unless false old new Does h sound each = each h
 
--- Admitted chains of tests, turned round.
+-- A chain of tests that succeeds: each of its tests does.
 
 pub and_then_ok : {A B : Type 0} (m : Result A Fault) (next : A → Result B Fault) (y : B) → and_then m next ≡ Ok y → (x : A) × (m ≡ Ok x) × (next x ≡ Ok y)
 and_then_ok (Ok x) next y e = (x, refl, e)
@@ -185,7 +185,7 @@ sound_event (Tend slot) old new reply happens h = sound_tends old new reply happ
 sound_event (Roll seat) old new reply happens h =
     sound_if (may_roll seat old) old new reply _ happens h (λ u may d. sound_unless (is_memory reply) old new _ d h (λ d. sound_rolls old new reply d h))
 
--- whatever happens, in any order
+-- any run, in any order of events
 pub sound_run : (old : WorldData) (events : List (Event × Reply)) (new : WorldData) → Run old events new → IsSoundWorld old → IsSoundWorld new
 sound_run old [] new e h = sound_same old new e h
 sound_run old (event ∷ events) new run h = sound_run run.0 events new run.2 (sound_event event.0 old run.0 event.1 run.1 h)

@@ -1,4 +1,4 @@
--- No event gives a number twice, nor changes what a world was opened with.
+-- No event gives a number twice, or changes what a world was opened with.
 use Rattle.std.proofs.Common.{◌≡◌, ℕ, ◌+◌, ◌==◌, nat_lt, Bool, true, false, List, length, Option, None, Some, MatchOption, sym, ap, subst}
 use Rattle.std.specs.Bool.{MatchBool}
 use Rattle.plane.specs.declared.point.Point.{Point}

@@ -23,7 +23,7 @@ sound_added seats base trail state r h deed = record {
   few_seats = h.few_seats;
 }
 
--- the same of what every world keeps
+-- The same for `Keeps`, the invariant of every world.
 
 pub keeps_seated : (limits : Limits) (seats : List Subject) (base : PlainState) (trail : List RecordData) (state : PlainState) (subject : Subject) → Keeps limits seats base trail state → length seats < SEAT_LIMIT
     → Keeps limits (seats ++ subject ∷ []) base trail state

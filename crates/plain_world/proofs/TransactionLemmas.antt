@@ -40,7 +40,7 @@ may_place_in number (first ∷ ts) t e few = go (first.number == number) e (may_
     go true h rest = let same : t ≡ first = cc (h) in subst (λ (x : TransactionData). x.placed < CHANGE_LIMIT) same few
     go false h rest = rest h few
 
--- what a longer list brings
+-- the pairs of a list with one more change
 pub brought_append : (changes : List Change) (change : Change) → placements (changes ++ change ∷ []) ≡ placements changes ++ placements (change ∷ [])
 brought_append [] change = refl
 brought_append (Add id class shape ∷ changes) change = ap (λ (ps : List (ℕ × List Point)). (id, shape) ∷ ps) (brought_append changes change)

@@ -1,4 +1,5 @@
--- Every run keeps what is under way in order: numbers rise and stand once, and no list is longer, or further placed, than it may be.
+-- Every run keeps the open searches and transactions in order: numbers rise and occur once, and no
+-- list is longer, or placed further, than it may be.
 use Rattle.std.proofs.Common.{◌≡◌, ℕ, ◌+◌, ◌==◌, ◌<◌, ◌≤◌, nat_lt, nat_le, not, Bool, true, false, List, [], ◌∷◌, ◌++◌, length, map, filter, Option, None, Some, MatchOption, Ok, Err, if◌then◌else◌, refl, sym, ap, subst, arith}
 use Rattle.std.specs.Bool.{MatchBool}
 use Rattle.std.proofs.lemmas.Bool.Decides.{nat_tests}
@@ -143,13 +144,13 @@ staged_within seat number change w u e within =
     let b = and_then_ok (subject_at seat w) (λ _. own_transaction seat number w) a.0 a.1 in
     within_step (staged change) number w.transactions a.0 (own_open seat number w a.0 b.2).0 (within_staged change a.0 (added_room change a.0.changes u a.2)) within
 
--- the transaction that goes a step is open
+-- the transaction that advances is open
 step_open : (seat number : ℕ) (w : WorldData) (t : TransactionData) → may_step seat number w ≡ Ok t → transaction_with number w.transactions ≡ Some t
 step_open seat number w t e =
     let a = and_then_ok (subject_at seat w) (λ _. own_transaction seat number w) t e in
     (own_open seat number w t a.2).0
 
--- the numbers that are given next
+-- the numbers that are given next are the world's next numbers
 
 pub open_number : (seat : ℕ) (w : WorldData) (number : ℕ) → may_open seat w ≡ Ok number → number ≡ w.next_search
 open_number seat w number e =
@@ -171,7 +172,7 @@ begin_number seat w number e =
     go false true h = absurd cc
     go false false h = cc
 
--- Each event keeps what is under way in order.
+-- Each event keeps the open searches and transactions in order.
 
 way_same : (old new : WorldData) → new ≡ old → IsUnderWay old → IsUnderWay new
 way_same old new e h = subst (λ (w : WorldData). IsUnderWay w) (sym e) h

@@ -1,4 +1,4 @@
--- Whether an event is admitted: its refusals, first things first.
+-- Whether an event is admitted: its refusals, in the order in which they are tested.
 use Rattle.std.specs.Prelude.{ℕ, ◌+◌, ◌==◌, nat_le, nat_lt, Bool, List, [], ◌∷◌, length, Option, None, Some, Result, Ok, Err, if◌then◌else◌}
 use Rattle.features.specs.declared.actors.Subject.{Subject}
 use Rattle.features.specs.declared.rows.Change.{Change}
@@ -36,7 +36,7 @@ LAST = 18446744073709551615
 
 -- Seats.
 
--- the subject of a name, if there is a place for it
+-- the subject of a name, if a seat is left
 abbrev pub placed : ℕ → Option Subject → Result Subject Fault
 placed seats None = Err NoSubject
 placed seats (Some subject) = if nat_le SEAT_LIMIT seats then Err NoPlace else Ok subject
@@ -74,7 +74,7 @@ next_search w =
 abbrev pub may_open : ℕ → WorldData → Result ℕ Fault
 may_open seat w = and_then (subject_at seat w) (λ _. next_search w)
 
--- of a visit, and of giving a search up
+-- for a visit, and to drop a search
 abbrev pub may_go_on : ℕ → ℕ → WorldData → Result Search Fault
 may_go_on seat number w = and_then (subject_at seat w) (λ _. own_search seat number w)
 
@@ -112,7 +112,7 @@ transaction_owned seat t = if t.seat == seat then Ok t else Err NotYours
 abbrev pub own_transaction : ℕ → ℕ → WorldData → Result TransactionData Fault
 own_transaction seat number w = and_then (given (transaction_with number w.transactions)) (transaction_owned seat)
 
--- of a step, and of giving a transaction up
+-- to advance or to abort a transaction
 abbrev pub may_step : ℕ → ℕ → WorldData → Result TransactionData Fault
 may_step seat number w = and_then (subject_at seat w) (λ _. own_transaction seat number w)
 

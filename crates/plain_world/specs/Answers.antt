@@ -1,4 +1,4 @@
--- What a search answers and what a denial shows, as plain data.
+-- The answer to a search and the data of a denial, as plain data.
 use Rattle.std.specs.Prelude.{ℕ, List, Option, None, Some}
 use Rattle.plane.specs.declared.point.Point.{Point}
 use Rattle.features.specs.declared.actors.Subject.{Subject}
@@ -17,8 +17,8 @@ pub record AnswerData : Type 0 where
   pub decider : DeciderData
   pub rows : List Feature
 
--- what every answer shows by itself: its rows stand by rising id, each meets the window, and the decider that it carries
--- permits the subject to read it
+-- what every answer keeps: its rows are sorted by id, each meets the window, and the answer's
+-- decider permits the subject to read it
 pub record IsAnswer (answer : AnswerData) : Type 0 where
   pub sorted : IsSortedById answer.rows
   pub shown : AreShown answer.decider.document answer.subject answer.window answer.rows
@@ -28,11 +28,11 @@ pub record DenialData : Type 0 where
   pub decider : DeciderData
   pub rule : Option ℕ
 
--- what every denial shows by itself: the decider that it carries denies the question, by that rule or without one
+-- what every denial keeps: its decider denies its question, by its rule or without one
 abbrev pub IsDenial : DenialData → Type 0
 IsDenial denial = Denies denial.decider.document denial.question denial.rule
 
--- the denial that goes with a cause: there is one for a denied question, and none for any other cause
+-- the denial that goes with a cause: one for a denied question, none for any other cause
 abbrev pub denial_of : DeciderData → Cause → Option Question → Option DenialData
 denial_of decider (Denied rule) None = None
 denial_of decider (Denied rule) (Some question) = Some (record { question = question; decider = decider; rule = rule })

@@ -1,4 +1,5 @@
--- How a proof tells two worlds, and two answers, apart: a document in one is stored as its zones and the list of its parts.
+-- The coding of worlds and answers, by which a proof tells two of them apart: each document in one
+-- is stored as its zones and the list of its parts.
 use Rattle.std.specs.Prelude.{◌≡◌, ℕ, List, Option, map}
 use Rattle.std.proofs.Common.{ap}
 use Rattle.plane.specs.declared.point.Point.{Point}

@@ -1,4 +1,4 @@
--- What an event makes of a world, and what it answers.
+-- What an event makes of a world, and its reply.
 use Rattle.std.specs.Prelude.{◌≡◌, ℕ, ◌+◌, ◌==◌, Bool, true, false, not, List, [], ◌∷◌, ◌++◌, map, filter, length, nat_lt, Some, MatchOption, Result, Ok, Err, if◌then◌else◌}
 use Rattle.std.specs.Bool.{MatchBool}
 use Rattle.plane.specs.declared.point.Point.{Point}
@@ -63,7 +63,7 @@ abbrev pub reply_of : {T : Type 0} → (T → Reply) → Result T Fault → Repl
 reply_of make (Ok x) = make x
 reply_of make (Err fault) = Refused fault
 
--- the same of a call that hands back what it was given
+-- as `reply_of`, for a call that returns its argument with the fault
 abbrev pub reply_handing : {T D : Type 0} → (T → Reply) → Result T (D × Fault) → Reply
 reply_handing make (Ok x) = make x
 reply_handing make (Err (back, fault)) = Refused fault
@@ -81,11 +81,11 @@ abbrev pub If : {T : Type 0} → Result T Fault → WorldData → WorldData → 
 If (Err fault) old new reply Does = (new ≡ old) × (reply ≡ Refused fault)
 If (Ok x) old new reply Does = Does x
 
--- What may want memory. Where it is wanted nothing changes.
+-- An event may end with X12, which changes nothing, or else does something.
 abbrev pub UnlessMemory : WorldData → WorldData → Reply → Type 0 → Type 0
 UnlessMemory old new reply Does = MatchBool (is_memory reply) (new ≡ old) Does
 
--- a world with one more record, and with what that does
+-- a world with one more record, and with the state that the record's deed makes
 abbrev pub recorded : ℕ → DeedData → WorldData → WorldData
 recorded seat deed w = record w { state = after_deed deed w.state; trail = w.trail ++ record { seat = seat; deed = deed } ∷ [] }
 
@@ -100,14 +100,15 @@ abbrev pub with_ready : ℕ → List Search → List Search
 with_ready number [] = []
 with_ready number (s ∷ rest) = if s.number == number then record s { ready = true } ∷ rest else s ∷ with_ready number rest
 
--- What the index may answer to a visit: which of these, it alone knows.
+-- What the index may answer to a visit. Which answer comes, only the index knows. After S7 the
+-- search is gone.
 abbrev pub Sees : ℕ → WorldData → WorldData → Reply → Type 0
 Sees number old new (Visited visits.More) = new ≡ old
 Sees number old new (Visited visits.Ready) = new ≡ record old { searches = with_ready number old.searches }
 Sees number old new (Refused (faults.Tree tree.Overrun)) = new ≡ without_search number old
 Sees number old new _ = ⊥
 
--- a search that is ready stays so
+-- a ready search stays ready, and its visit changes nothing
 abbrev pub Visits : Search → WorldData → WorldData → Reply → Type 0
 Visits s old new reply =
     MatchBool s.ready ((new ≡ old) × (reply ≡ Visited visits.Ready)) (UnlessMemory old new reply (Sees s.number old new reply))
@@ -124,16 +125,17 @@ Finishes seat who old new reply =
 abbrev pub without_transaction : ℕ → WorldData → WorldData
 without_transaction number w = record w { transactions = ended number w.transactions }
 
--- the search runs, and looks for the shape
+-- the search is open, and its window meets the shape
 abbrev pub HoldsBack : ℕ → List Point → WorldData → Type 0
 HoldsBack search shape w = (s : Search) × (search_with search w.searches ≡ Some s) × Meet shape s.window
 
--- no search that has answered Ready looks for the shape
+-- no ready search has a window that meets the shape
 abbrev pub NoReadySeeks : List Point → WorldData → Type 0
 NoReadySeeks shape w = (number : ℕ) (s : Search) → search_with number w.searches ≡ Some s → s.ready ≡ true → Meet shape s.window → ⊥
 
--- What the index may answer to a step of the walk that places a shape: which of these, it alone knows. It places none that a
--- search which has answered Ready looks for.
+-- What the index may answer to a step of the walk that places a shape. Which answer comes, only the
+-- index knows. It never places a shape that a ready search looks for. After S7 the transaction is
+-- gone.
 abbrev pub Walks : ℕ → List Point → WorldData → WorldData → Reply → Type 0
 Walks number shape old new (Advanced (advances.Walked steps.Moved)) = new ≡ old
 Walks number shape old new (Advanced (advances.Walked steps.Split)) = new ≡ old
@@ -148,21 +150,22 @@ Walks number shape old new (Refused (faults.Tree tree.Spent)) = new ≡ old
 Walks number shape old new (Refused (faults.Tree tree.Overrun)) = new ≡ without_transaction number old
 Walks number shape old new _ = ⊥
 
--- the next shape goes on its way, if there is one
+-- the walk of the next shape makes a step, if a shape is left
 abbrev pub Advances : ℕ → TransactionData → WorldData → WorldData → Reply → Type 0
 Advances number t old new reply =
     MatchOption (next_placement t)
     ((new ≡ old) × (reply ≡ Advanced advances.AllPlaced))
     (λ placement. UnlessMemory old new reply (Walks number placement.1 old new reply))
 
--- a list that is turned away
+-- a failing list: it is rejected and recorded, and its transaction ends
 abbrev pub TurnsAway : ℕ → ℕ → Subject → List Change → Judgement → WorldData → WorldData → Reply → Type 0
 TurnsAway seat number subject changes judgements.Accepted old new reply = ⊥
 TurnsAway seat number subject changes (judgements.Refused refusal question) old new reply =
     (reply ≡ Ended (outcomes.Refused refusal (denial_of old.state.decider refusal.cause question)))
     × (new ≡ without_transaction number (recorded seat (turned_away subject changes refusal) old))
 
--- a list that is accepted: it is applied under the next version, if there is one and the features are not too many
+-- an accepted list: X8 if there is no next version, X11 if there would be too many features; else
+-- it is applied under the next version and recorded, and its transaction ends
 abbrev pub Applies : ℕ → ℕ → Subject → List Change → WorldData → WorldData → Reply → Type 0
 Applies seat number subject changes old new reply =
     let version = old.state.version + 1 in
@@ -194,13 +197,14 @@ Rolls old new reply =
     (reply ≡ TakenOut (record { base = old.base; first = old.first; records = old.trail }))
     × (new ≡ record old { base = old.state; first = old.first + length old.trail; trail = [] })
 
--- What the index may answer where a slot is tended. The world is as before.
+-- What the index may answer to a tending. The world is unchanged.
 abbrev pub Tends : WorldData → WorldData → Reply → Type 0
 Tends old new (Tended tending) = new ≡ old
 Tends old new (Refused (faults.Tree tree.Spent)) = new ≡ old
 Tends old new _ = ⊥
 
--- What happens at an event. Only the index knows which of its answers comes at a visit, a step of a walk or a tending.
+-- What an event does. Which answer the index gives to a visit, a step of a walk or a tending, only
+-- the index knows.
 abbrev pub Happens : Event → WorldData → WorldData → Reply → Type 0
 Happens (TakeSeat name) old new reply =
     If (may_sit name old) old new reply (λ subject. UnlessMemory old new reply (
@@ -234,7 +238,7 @@ Happens (Tend slot) old new reply = Tends old new reply
 Happens (Roll seat) old new reply =
     If (may_roll seat old) old new reply (λ _. UnlessMemory old new reply (Rolls old new reply))
 
--- a run: what happened, one event after another, each with its reply
+-- a run: events one after another, each with its reply
 abbrev pub Run : WorldData → List (Event × Reply) → WorldData → Type 0
 Run old [] new = new ≡ old
 Run old (step ∷ steps) new = (mid : WorldData) × Happens step.0 old mid step.1 × Run mid steps new

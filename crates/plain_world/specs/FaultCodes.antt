@@ -4,7 +4,7 @@ use Rattle.plain_world.specs.declared.faults.Fault.{Fault}
 use Rattle.plain_world.specs.declared.faults.Fault.TheVariants as faults
 use Rattle.tree_answers.specs.Faults.{code_of}
 
--- of a refusal of the index the index's own code
+-- a fault of the index has the index's own code
 abbrev pub fault_code : Fault → List ℕ
 fault_code faults.NoSuch = codes "X1"
 fault_code faults.NotYours = codes "X2"

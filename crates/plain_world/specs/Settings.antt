@@ -7,8 +7,8 @@ use Rattle.plain_world.specs.States.{WorldData}
 use Rattle.plain_world.specs.declared.settings.Limits.{Limits}
 use Rattle.plain_world.specs.declared.settings.Starts.{Starts}
 
--- who may have a seat, the opening decider, where numbers started, the limits, and the next numbers of a search and of a
--- transaction
+-- the subjects, the opening decider, where numbers started, the limits, and the next numbers of a
+-- search and of a transaction
 pub record Settings : Type 0 where
   pub subjects : List Subject
   pub opening : DeciderData
@@ -28,8 +28,8 @@ settings w =
       next_transaction = w.next_transaction;
     }
 
--- A search or a transaction that begins gets the next number, and the number above it is the next one then. Nothing else of
--- these changes, whatever happens: so no number is given twice.
+-- A search or a transaction that opens gets the next number, and the next one is then one higher.
+-- No event changes anything else of these, so no number is given twice.
 abbrev pub IsSettled : Event → WorldData → WorldData → Reply → Type 0
 IsSettled (OpenSearch seat window) old new (Number number) = (number ≡ old.next_search) × (settings new ≡ record (settings old) { next_search = number + 1 })
 IsSettled (Begin seat) old new (Number number) = (number ≡ old.next_transaction) × (settings new ≡ record (settings old) { next_transaction = number + 1 })

@@ -8,25 +8,26 @@ use Rattle.features.specs.declared.rows.Change.TheVariants.{Add, Reshape, Delete
 use Rattle.features.specs.Changes.{change_id, IsUnnamed}
 use Rattle.plain_world.specs.declared.settings.TheConstants.{CHANGE_LIMIT}
 
--- a transaction of a seat: the changes that it has staged, and how many of the shapes that they bring are placed in the index
+-- a transaction of a seat: its staged changes, and how many of their shapes are placed in the index
 pub record TransactionData : Type 0 where
   pub number : ℕ
   pub seat : ℕ
   pub changes : List Change
   pub placed : ℕ
 
--- what a change brings into the index, before that of the later ones: an added or reshaped feature's id and new shape
+-- the pairs of a change and of later ones: a change brings an added or reshaped feature's id and
+-- new shape
 abbrev pub brought_by : Change → List (ℕ × List Point) → List (ℕ × List Point)
 brought_by (Add id class shape) later = (id, shape) ∷ later
 brought_by (Reshape id seen shape) later = (id, shape) ∷ later
 brought_by (Delete id seen) later = later
 
--- what a list of changes brings into the index, in order
+-- the pairs that a list of changes puts into the index, in order
 abbrev pub placements : List Change → List (ℕ × List Point)
 placements [] = []
 placements (change ∷ changes) = brought_by change (placements changes)
 
--- what is to be placed next
+-- the pair that is to be placed next
 abbrev pub next_placement : TransactionData → Option (ℕ × List Point)
 next_placement t = slice_get (placements t.changes) t.placed
 

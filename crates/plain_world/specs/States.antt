@@ -20,13 +20,13 @@ pub record WorldData : Type 0 where
   pub limits : Limits
   -- the subject of each seat that was given, from seat 1 on
   pub seats : List Subject
-  -- the trail: the state at which it begins, the number of its first record, and its records
+  -- the trail: the state at which it begins (its base), the number of its first record, its records
   pub base : PlainState
   pub first : ℕ
   pub trail : List RecordData
   -- the features, the version, and the document in force with its edition
   pub state : PlainState
-  -- what is under way
+  -- the open searches and transactions, and their next numbers
   pub searches : List Search
   pub next_search : ℕ
   pub transactions : List TransactionData
@@ -64,7 +64,8 @@ opened subjects decider starts limits =
       next_transaction = 1;
     }
 
--- what every world keeps: it is sound, its limits of records and features are none above those of any world, and its trail has its limit's records at most
+-- what every world keeps: it is sound, its limits of records and features are at most the greatest
+-- ones, and its trail is within its limit
 pub record Keeps (limits : Limits) (seats : List Subject) (base : PlainState) (trail : List RecordData) (state : PlainState) : Type 0 where
   pub sound : IsSound seats base trail state
   pub records : limits.records ≤ RECORD_LIMIT

@@ -1,4 +1,4 @@
--- As what fault a world tells that its store refuses a call.
+-- The world's fault for a fault of its store.
 use Rattle.features.specs.declared.stores.StoreFault.{StoreFault}
 use Rattle.features.specs.declared.stores.StoreFault.TheVariants as store
 use Rattle.plain_world.specs.declared.faults.Fault.{Fault}

@@ -1,4 +1,4 @@
-//! Whether an event is admitted: its refusals, first things first.
+//! Whether an event is admitted. Refusals are tested in the order of `specs/Admitting`.
 
 ghost use Rattle.std.specs.Prelude.{◌≡◌, ◌≤◌, ◌<◌, ◌+◌, length, OnOk, IfOk, IsTrue, Some};
 ghost use Rattle.features.specs.Changes.{change_id, IsUnnamed};
@@ -17,7 +17,7 @@ use std::alloc::Allocator;
 use tree_answers::TreeFault;
 
 impl<A: Allocator> PlainWorld<A> {
-    /// The subject of a name, if there is a place for it.
+    /// The subject of a name. X13 where there is none, X14 where all seats are given.
     pub(crate) fn may_sit(&self, name: Name) -> Result<Subject, Fault>
         ensures value { result ≡ may_sit name self.now }
         ensures few { OnOk result (length self.now.seats < SEAT_LIMIT) }
@@ -41,7 +41,7 @@ impl<A: Allocator> PlainWorld<A> {
         }
     }
 
-    /// The seat's own search of a number.
+    /// The search of a number. X1 where it is not open, X2 where it is another seat's.
     pub(crate) fn own_search(&self, seat: u32, number: u64) -> Result<Search, Fault>
         ensures { result ≡ own_search seat number self.now }
     {
@@ -55,7 +55,7 @@ impl<A: Allocator> PlainWorld<A> {
         }
     }
 
-    /// That the trail takes one more record.
+    /// X10 unless the trail has room for one more record.
     pub(crate) fn may_record(&self) -> Result<(), Fault>
         ensures value { result ≡ may_record self.now }
         ensures below { OnOk result (length self.now.trail < self.now.limits.records) }
@@ -66,7 +66,8 @@ impl<A: Allocator> PlainWorld<A> {
         Ok(())
     }
 
-    /// The number of the search that is opened next.
+    /// The number of the next search. X9 where 16 searches are open (S2) or the number is
+    /// `u64::MAX` (S6).
     pub(crate) fn next_search(&self) -> Result<u64, Fault>
         ensures value { result ≡ next_search self.now }
         ensures few { OnOk result (length self.now.searches < SEARCH_LIMIT) }
@@ -82,8 +83,8 @@ impl<A: Allocator> PlainWorld<A> {
         Ok(self.next_search)
     }
 
-    /// The number of the search that a seat opens next. X1 where the seat was not given, X9 where 16 searches run (S2) or
-    /// the number is at its end (S6).
+    /// The number of the search that a seat opens next. X1 where the seat was not given, X9 where
+    /// 16 searches are open (S2) or the number is `u64::MAX` (S6).
     pub fn may_open(&self, seat: u32) -> Result<u64, Fault>
         ensures value { result ≡ may_open seat self.now }
         ensures few { OnOk result (length self.now.searches < SEARCH_LIMIT) }
@@ -94,8 +95,8 @@ impl<A: Allocator> PlainWorld<A> {
         self.next_search()
     }
 
-    /// The seat's own search of a number. X1 where the seat was not given or no such search runs, X2 where it is another
-    /// seat's.
+    /// The seat's own search of a number. X1 where the seat was not given or no such search is
+    /// open, X2 where it is another seat's.
     pub fn may_go_on(&self, seat: u32, number: u64) -> Result<Search, Fault>
         ensures { result ≡ may_go_on seat number self.now }
     {
@@ -103,7 +104,7 @@ impl<A: Allocator> PlainWorld<A> {
         self.own_search(seat, number)
     }
 
-    /// The subject and the search that are finished.
+    /// The subject and the search to finish. X1, X2, X3 and X10, in this order.
     pub(crate) fn may_finish(&self, seat: u32, number: u64) -> Result<(Subject, Search), Fault>
         ensures value { result ≡ may_finish seat number self.now }
         ensures seated { IfOk result (λ who. IsSeated seat self.now.seats who.0) }
@@ -116,7 +117,8 @@ impl<A: Allocator> PlainWorld<A> {
         Ok((subject, found))
     }
 
-    /// The number of the transaction that is opened next.
+    /// The number of the next transaction. X15 where `TRANSACTION_LIMIT` are open, X8 where the
+    /// number is `u64::MAX`.
     pub(crate) fn next_transaction(&self) -> Result<u64, Fault>
         ensures value { result ≡ next_transaction self.now }
         ensures left { IfOk result (λ number. number < u64.MAX) }
@@ -130,7 +132,7 @@ impl<A: Allocator> PlainWorld<A> {
         Ok(self.next_transaction)
     }
 
-    /// The number of the transaction that a seat opens next.
+    /// The number of the transaction that a seat opens next. X1, X15 and X8, in this order.
     pub(crate) fn may_begin(&self, seat: u32) -> Result<u64, Fault>
         ensures value { result ≡ may_begin seat self.now }
         ensures left { IfOk result (λ number. number < u64.MAX) }
@@ -139,7 +141,7 @@ impl<A: Allocator> PlainWorld<A> {
         self.next_transaction()
     }
 
-    /// The seat's own transaction of a number.
+    /// The transaction of a number. X1 where it is not open, X2 where it is another seat's.
     pub(crate) fn own_transaction(&self, seat: u32, number: u64) -> Result<&Transaction<A>, Fault>
         ensures value { map_ok (λ t. t.now) result ≡ own_transaction seat number self.now }
         ensures is { IfOk result (λ t. transaction_with number self.now.transactions ≡ Some t.now) }
@@ -154,7 +156,8 @@ impl<A: Allocator> PlainWorld<A> {
         }
     }
 
-    /// The transaction that a seat goes on with, or gives up.
+    /// The seat's own transaction, to advance or to abort. X1 where the seat was not given or no
+    /// such transaction is open, X2 where it is another seat's.
     pub(crate) fn may_step(&self, seat: u32, number: u64) -> Result<&Transaction<A>, Fault>
         ensures value { map_ok (λ t. t.now) result ≡ may_step seat number self.now }
         ensures is { IfOk result (λ t. transaction_with number self.now.transactions ≡ Some t.now) }
@@ -163,7 +166,7 @@ impl<A: Allocator> PlainWorld<A> {
         self.own_transaction(seat, number)
     }
 
-    /// That the seat's own transaction of a number takes a change.
+    /// Whether the seat's own transaction takes this change. X1, X2, X6 and X5, in this order.
     pub(crate) fn may_stage(&self, seat: u32, number: u64, change: &Change) -> Result<(), Fault>
         ensures value { result ≡ may_stage seat number change.now self.now }
         ensures may { OnOk result ((t : TransactionData) × (transaction_with number self.now.transactions ≡ Some t) × (length t.changes < CHANGE_LIMIT) × IsUnnamed (change_id change.now) t.changes) }
@@ -172,7 +175,7 @@ impl<A: Allocator> PlainWorld<A> {
         may_add(transaction.changes(), change)
     }
 
-    /// The subject that commits the seat's own transaction of a number.
+    /// The subject that commits. X1, X2, X4 and X10, in this order.
     pub(crate) fn may_commit(&self, seat: u32, number: u64) -> Result<Subject, Fault>
         ensures value { result ≡ may_commit seat number self.now }
         ensures seated { IfOk result (λ subject. IsSeated seat self.now.seats subject) }
@@ -184,7 +187,7 @@ impl<A: Allocator> PlainWorld<A> {
         Ok(subject)
     }
 
-    /// That there is a next edition.
+    /// X8 where the edition is `u64::MAX`.
     pub(crate) fn edition_left(&self) -> Result<(), Fault>
         ensures value { result ≡ edition_left self.now }
         ensures left { OnOk result (self.now.state.decider.edition < u64.MAX) }
@@ -195,7 +198,7 @@ impl<A: Allocator> PlainWorld<A> {
         Ok(())
     }
 
-    /// The steward who puts a document in force.
+    /// The steward who puts a document in force. X1, X7, X8 and X10, in this order.
     pub(crate) fn may_govern(&self, seat: u32) -> Result<Subject, Fault>
         ensures value { result ≡ may_govern seat self.now }
         ensures seated { IfOk result (λ subject. IsSeated seat self.now.seats subject × IsTrue subject.steward) }
@@ -209,7 +212,7 @@ impl<A: Allocator> PlainWorld<A> {
         Ok(subject)
     }
 
-    /// That a seat may roll the trail over.
+    /// Whether a seat may roll the trail. X1, X7 and X8, in this order.
     pub(crate) fn may_roll(&self, seat: u32) -> Result<(), Fault>
         ensures value { result ≡ may_roll seat self.now }
         ensures left { OnOk result (self.now.first + length self.now.trail ≤ FIRST_LIMIT) }
@@ -224,7 +227,7 @@ impl<A: Allocator> PlainWorld<A> {
     }
 }
 
-/// Whether a search has answered Ready.
+/// X3 unless the search has answered Ready.
 fn ready(search: &Search) -> Result<(), Fault>
     ensures { result ≡ has_answered_ready search.now }
 {
@@ -234,7 +237,7 @@ fn ready(search: &Search) -> Result<(), Fault>
     Ok(())
 }
 
-/// Whether a subject is a steward.
+/// X7 unless the subject is a steward.
 fn stewarded(subject: &Subject) -> Result<(), Fault>
     ensures value { result ≡ stewarded subject.now }
     ensures steward { OnOk result (IsTrue subject.now.steward) }
@@ -245,7 +248,7 @@ fn stewarded(subject: &Subject) -> Result<(), Fault>
     Ok(())
 }
 
-/// Whether each shape that a list brings is placed.
+/// X4 unless each shape of the list is placed.
 fn all_placed<A: Allocator>(transaction: &Transaction<A>) -> Result<(), Fault>
     ensures { result ≡ all_placed transaction.now }
 {
@@ -255,7 +258,7 @@ fn all_placed<A: Allocator>(transaction: &Transaction<A>) -> Result<(), Fault>
     Ok(())
 }
 
-/// Whether a list takes one more change.
+/// Whether a list takes one more change. X6 where it is full, X5 where it names the feature.
 #[tactic(auto, using(crate::proofs::TransactionLemmas::unnamed))]
 fn may_add(changes: &[Change], change: &Change) -> Result<(), Fault>
     ensures value { result ≡ may_add change.now changes.now }
@@ -271,7 +274,7 @@ fn may_add(changes: &[Change], change: &Change) -> Result<(), Fault>
     Ok(())
 }
 
-/// The subject of a seat.
+/// The subject of a seat; seats are numbered from 1.
 fn subject_in(seats: &[Subject], seat: u32) -> Option<Subject>
     ensures { result ≡ subject_of seat seats.now }
 {

@@ -12,8 +12,8 @@ use std::alloc::Allocator;
 use std::marker::Model;
 use std::sync::Arc;
 
-/// What a search answers: rows by rising id, each of which meets the window and may be read by the subject, as the
-/// decider that the answer carries rules. Only a world makes one.
+/// The result of a search: its rows by rising id. Each row meets the window, and the decider that
+/// the answer carries permits the subject to read it. Only a world makes one.
 #[derive(Debug, Drop)]
 pub struct Answer<A: Allocator> {
     subject: Subject,
@@ -65,21 +65,22 @@ impl<A: Allocator> Answer<A> {
         self.subject
     }
 
-    /// Where was searched.
+    /// The window that was searched.
     pub fn window(&self) -> Shape
         ensures { result ≡ self.now.window }
     {
         self.window
     }
 
-    /// The decider by which each row is shown.
+    /// The decider that permits each row.
     pub fn decider(&self) -> &Arc<Decider>
         ensures { arc_value result.now ≡ self.now.decider }
     {
         &self.decider
     }
 
-    /// The rows, by rising id. Each meets the window, and the decider permits the subject to read it.
+    /// The rows, by rising id. Each meets the window, and the decider permits the subject to read
+    /// it.
     pub fn rows(&self) -> &[Feature]
         ensures value { result.now ≡ self.now.rows }
         ensures sorted { IsSortedById self.now.rows }

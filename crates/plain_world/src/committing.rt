@@ -26,8 +26,9 @@ use plane::Shape;
 use std::alloc::Allocator;
 
 impl<A: Allocator> PlainWorld<A> {
-    /// Stages a change. X1 where the seat was not given or no such transaction is open, X2 where it is another seat's, X6
-    /// where the list has 16 changes, X5 where it names the feature already. It takes no memory.
+    /// Stages a change. X1 where the seat was not given or no such transaction is open, X2 where it
+    /// is another seat's, X6 where the list has 16 changes, X5 where it names the feature already.
+    /// It takes no memory.
     pub fn stage(&mut self, seat: u32, number: u64, change: Change) -> Result<(), Fault>
         ensures { Happens (Stage seat number change) self.old self.new (reply_of (λ _. Done) result) }
     {
@@ -36,8 +37,8 @@ impl<A: Allocator> PlainWorld<A> {
         Ok(())
     }
 
-    /// The shape of a transaction that is to be placed next, if one is left. X1 where the seat was not given or no such
-    /// transaction is open, X2 where it is another seat's.
+    /// The pair of a transaction that is to be placed next, or `None` where all are placed. X1
+    /// where the seat was not given or no such transaction is open, X2 where it is another seat's.
     pub fn next_to_place(&self, seat: u32, number: u64) -> Result<Option<(u64, Shape)>, Fault>
         ensures value { map_ok next_placement (may_step seat number self.now) ≡ result }
         ensures may { IfOk result (λ next. IsSome next → MayPlace number self.now.transactions) }
@@ -46,14 +47,16 @@ impl<A: Allocator> PlainWorld<A> {
         Ok(transaction.next())
     }
 
-    /// Ends a transaction whose walk was given up.
+    /// Removes a transaction whose walk the index has ended (S7). Only a part of the event
+    /// `advance`: `transactions` calls it.
     pub fn end_transaction(&mut self, number: u64)
         ensures { self.new ≡ without_transaction number self.old }
     {
         end(&mut self.transactions, number);
     }
 
-    /// Counts the next shape of a transaction as placed.
+    /// Counts the next shape of a transaction as placed. Only a part of the event `advance`:
+    /// `transactions` calls it once the index has placed the shape.
     pub fn place_next(&mut self, number: u64)
         requires { MayPlace number self.old.transactions }
         ensures { self.new ≡ record self.old { transactions = with_step one_placed number self.old.transactions } }
@@ -61,8 +64,8 @@ impl<A: Allocator> PlainWorld<A> {
         place_in(&mut self.transactions, number);
     }
 
-    /// Gives a transaction up. X1 where the seat was not given or no such transaction is open, X2 where it is another
-    /// seat's. It takes no memory.
+    /// Aborts a transaction. X1 where the seat was not given or no such transaction is open, X2
+    /// where it is another seat's. It takes no memory.
     pub fn abort(&mut self, seat: u32, number: u64) -> Result<(), Fault>
         ensures { Happens (Abort seat number) self.old self.new (reply_of (λ _. Done) result) }
     {
@@ -73,8 +76,8 @@ impl<A: Allocator> PlainWorld<A> {
 }
 
 impl<A: Allocator + Copy> PlainWorld<A> {
-    /// Opens a transaction of a seat, and answers its number. X1 where the seat was not given, X15 where 64 are open, X8
-    /// where the number is at its end, X12 where a growth is refused.
+    /// Opens a transaction of a seat, and returns its number. X1 where the seat was not given, X15
+    /// where 64 are open, X8 where the number is `u64::MAX`, X12 where an allocation is refused.
     pub fn begin(&mut self, seat: u32) -> Result<u64, Fault>
         ensures { Happens (Begin seat) self.old self.new (reply_of Number result) }
     {
@@ -86,12 +89,15 @@ impl<A: Allocator + Copy> PlainWorld<A> {
         Ok(number)
     }
 
-    /// Commits a transaction's list, all or none of it, and ends it. X1 where the seat was not given or no such
-    /// transaction is open, X2 where it is another seat's, X4 where a shape is not placed, X10 where the trail is full,
-    /// X12 where there is no memory for a copy of the list. Then the list is judged on the world as it is. Of one that is
-    /// accepted X8 where the version is at its end, X11 where more features would stand than may, and behind these X12
-    /// where there is no memory for its record or for the features that it adds. One that fails is answered with its first
-    /// failing change, or X12 where there is none for its record or its denial.
+    /// Commits a transaction's list, all or none of it, and ends the transaction. X1 where the seat
+    /// was not given or no such transaction is open, X2 where it is another seat's, X4 where a
+    /// shape is not placed, X10 where the trail is full, X12 where the allocation for a copy of the
+    /// list is refused. Then the list is judged on the present state.
+    ///
+    /// Of an accepted list: X8 where the version is `u64::MAX`, X11 where it would leave too many
+    /// features, then X12 where an allocation for its record or for the features that it adds is
+    /// refused. A failing list is rejected, and the outcome names its first failing change; X12
+    /// where an allocation for its record or its denial is refused.
     pub fn commit(&mut self, seat: u32, number: u64) -> Result<Outcome, Fault>
         ensures { Happens (Commit seat number) self.old self.new (reply_of Ended result) }
     {
@@ -105,7 +111,7 @@ impl<A: Allocator + Copy> PlainWorld<A> {
         }
     }
 
-    /// Ends a transaction whose list is turned away.
+    /// Records a rejected list, and ends its transaction.
     fn turn_away(
         &mut self,
         seat: u32,
@@ -129,7 +135,7 @@ impl<A: Allocator + Copy> PlainWorld<A> {
         Ok(Outcome::Refused(*refusal, denial))
     }
 
-    /// Applies a transaction's list as a whole, and ends it.
+    /// Applies an accepted list as a whole, records it, and ends its transaction.
     fn apply(
         &mut self,
         seat: u32,
@@ -161,7 +167,7 @@ impl<A: Allocator + Copy> PlainWorld<A> {
     }
 }
 
-/// The record of a list that is turned away.
+/// The record of a rejected list.
 fn turned_away<A: Allocator>(
     seat: u32,
     subject: Subject,

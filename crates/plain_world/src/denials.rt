@@ -12,8 +12,8 @@ use memory::{Refused, another};
 use std::marker::Model;
 use std::sync::Arc;
 
-/// That the policy denies what a change asks: the question, the decider, and the first deciding rule, or that no rule
-/// decided it. Only a world makes one.
+/// A change that the policy denies: the question, the decider, and the first deciding rule, or
+/// `None` where no rule decided. Only a world makes one.
 #[derive(Debug, Drop)]
 pub struct Denial {
     question: Question,
@@ -39,7 +39,8 @@ impl Model for Denial {
 impl Denial {
     ghost use Rattle.decision.specs.Rulings.{Denies};
 
-    /// What was asked. The decider that the denial carries denies it, by the rule that it names, or without one: since none applied, or by default.
+    /// The question. The denial's decider denies it, by the denial's rule, or without one: because
+    /// no rule applied, or by default.
     pub fn question(&self) -> Question
         ensures value { result ≡ self.now.question }
         ensures denied { Denies self.now.decider.document self.now.question self.now.rule }
@@ -54,7 +55,8 @@ impl Denial {
         &self.decider
     }
 
-    /// The number of the first deciding rule in document order; none where no rule decided it: none applied, or it is denied by default.
+    /// The number of the first deciding rule, in document order. `None` where no rule decided: none
+    /// applied, or the question is denied by default.
     pub fn rule(&self) -> Option<u32>
         ensures { result ≡ self.now.rule }
     {
@@ -62,7 +64,8 @@ impl Denial {
     }
 }
 
-/// The denial of a cause, if it is one.
+/// The denial to report for this cause: `None` unless the cause is `Denied`. Fails only where an
+/// allocation is refused.
 pub(crate) fn denial_for(
     decider: &Arc<Decider>,
     cause: &Cause,

@@ -7,11 +7,11 @@ use memory::Refused;
 use std::fmt;
 use tree_answers::TreeFault;
 
-/// Why a world refuses a call. A refused call changes nothing that is served or under way, save that an overrun ends the search, or
-/// the transaction whose walk it was.
+/// Why a world refuses a call. A refused call leaves the world's plain data unchanged, except that
+/// an overrun (S7) ends its search or transaction.
 #[derive(Debug, Drop, PartialEq, Eq)]
 pub enum Fault {
-    /// X1: the seat was not given, or no such search runs, or no such transaction is open.
+    /// X1: the seat was not given, or no such search or transaction is open.
     NoSuch,
     /// X2: the search or the transaction is another seat's.
     NotYours,
@@ -21,32 +21,33 @@ pub enum Fault {
     NotPlaced,
     /// X5: the list names the feature already.
     NamedTwice,
-    /// X6: the list has as many changes as it may have.
+    /// X6: the list has `CHANGE_LIMIT` changes already.
     TooManyChanges,
     /// X7: the seat's subject is no steward.
     NotSteward,
-    /// X8: a transaction's number, the version, the edition or the records' numbers are at their end.
+    /// X8: the next transaction's number, the version, the edition or the records' numbers are at
+    /// their limit.
     Spent,
-    /// X9: the index refuses the step.
+    /// X9: the index refuses the step; for a search that opens, S2 or S6.
     Tree(TreeFault),
-    /// X10: the trail has as many records as it may have.
+    /// X10: the trail has `Limits::records` records.
     TrailFull,
-    /// X11: more features would stand than may.
+    /// X11: the list would leave more than `Limits::features` features.
     StoreFull,
-    /// X12: a growth was refused.
+    /// X12: an allocation was refused.
     Memory(Refused),
-    /// X13: there is no subject of the name.
+    /// X13: no subject has this name.
     NoSubject,
-    /// X14: all seats are given.
+    /// X14: all `SEAT_LIMIT` seats are given.
     NoPlace,
-    /// X15: as many transactions are open as may be open at once.
+    /// X15: `TRANSACTION_LIMIT` transactions are open.
     TooMany,
 }
 
 impl Fault {
     ghost use Rattle.plain_world.specs.FaultCodes.{fault_code};
 
-    /// The code by which users know the fault; of a refusal of the index, the index's own.
+    /// The code that users see. A fault of the index has the index's own code, `S1` to `S8`.
     pub fn code(&self) -> &'static str
         ensures { result.now ≡ fault_code self.now }
     {

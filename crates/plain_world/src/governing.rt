@@ -1,4 +1,4 @@
-//! Policies are put in force.
+//! How a policy is put in force.
 
 ghost use Rattle.std.specs.Prelude.{◌≡◌, ◌<◌, ◌+◌, IfErr, OnOk};
 ghost use Rattle.std.specs.Arc.{arc_value};
@@ -15,8 +15,9 @@ use std::alloc::{Allocator, Global};
 use std::sync::Arc;
 
 impl<A: Allocator> PlainWorld<A> {
-    /// The edition under which a seat may put a document in force next. X1 where the seat was not given, X7 where its
-    /// subject is no steward, X8 where the edition is at its end, X10 where the trail is full. It takes no memory.
+    /// The edition under which a seat may put a document in force next. X1 where the seat was not
+    /// given, X7 where its subject is no steward, X8 where the edition is `u64::MAX`, X10 where the
+    /// trail is full. It takes no memory.
     pub fn next_edition(&self, seat: u32) -> Result<u64, Fault>
         ensures value { result ≡ map_ok (λ _. self.now.state.decider.edition + 1) (may_govern seat self.now) }
         ensures left { OnOk result (self.now.state.decider.edition < u64.MAX) }
@@ -27,9 +28,10 @@ impl<A: Allocator> PlainWorld<A> {
 }
 
 impl<A: Allocator + Copy> PlainWorld<A> {
-    /// Puts a document in force by a decider that was made before, of the next edition. X1 where the seat was not given,
-    /// X7 where its subject is no steward, X8 where the edition is at its end, whatever the decider's then is, X10 where the
-    /// trail is full, X12 where a growth is refused.
+    /// Puts the document of a decider in force; the decider was made before, with the next edition.
+    /// X1 where the seat was not given, X7 where its subject is no steward, X8 where the present
+    /// edition is `u64::MAX` (the decider's own may then be any), X10 where the trail is full, X12
+    /// where an allocation is refused.
     pub fn govern_by(&mut self, seat: u32, decider: Arc<Decider>) -> Result<u64, Fault>
         requires { self.old.state.decider.edition < u64.MAX → (arc_value decider).edition ≡ self.old.state.decider.edition + 1 }
         ensures { Happens (Govern seat (arc_value decider).document) self.old self.new (reply_of Number result) }
@@ -50,7 +52,7 @@ impl<A: Allocator + Copy> PlainWorld<A> {
         Ok(edition)
     }
 
-    /// Puts a copy of a document in force.
+    /// Puts a copy of a document in force, with the faults of `govern`.
     fn govern_copy(
         &mut self,
         heap: Global,
@@ -64,9 +66,9 @@ impl<A: Allocator + Copy> PlainWorld<A> {
         self.govern_by(seat, decider)
     }
 
-    /// Puts a document in force as the next edition, and answers that. X1 where the seat was not given, X7 where its
-    /// subject is no steward, X8 where the edition is at its end, X10 where the trail is full, X12 where a growth is
-    /// refused; each hands the document back.
+    /// Puts a document in force as the next edition, and returns the edition. X1 where the seat was
+    /// not given, X7 where its subject is no steward, X8 where the edition is `u64::MAX`, X10 where
+    /// the trail is full, X12 where an allocation is refused. Each fault returns the document.
     pub fn govern(
         &mut self,
         heap: Global,

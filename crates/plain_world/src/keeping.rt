@@ -16,13 +16,14 @@ impl<A: Allocator> Keeper<Shape> for PlainWorld<A> {
 
     ghost kept = { λ world id shape. is_kept id shape world };
 
-    /// Whether a feature stands so, or an open transaction has staged that it will.
+    /// Whether the store has this id with this shape, or an open transaction has staged a change
+    /// that would make it so.
     fn keeps(&self, id: u64, shape: &Shape) -> bool {
         stands(&self.store, id, shape) || is_staged(&self.transactions, id, shape)
     }
 }
 
-/// Whether the feature of this id stands with this shape.
+/// Whether the store's feature of this id has this shape.
 fn stands<A: Allocator>(store: &Store<A>, id: u64, shape: &Shape) -> bool
     ensures { result ≡ stands id shape.now store.now }
 {

@@ -1,5 +1,5 @@
-//! The world of many sessions without its index: what happens to features, policy and trail at each event, in whatever order
-//! they come.
+//! The world of many sessions without its index: what each event makes of features, policy and
+//! trail, in whatever order events come.
 #![tactic(auto)]
 
 mod admitting;

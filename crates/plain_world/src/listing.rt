@@ -16,7 +16,7 @@ use memory::{GrowVec, Refused};
 use plane::{Shape, meets};
 use std::alloc::Allocator;
 
-/// The ids that were found, by rising id and each once. The only error is want of memory.
+/// The found ids, by rising id and each once. Fails only where an allocation is refused.
 pub(crate) fn ids_found<A: Allocator>(
     alloc: A,
     found: &[(u64, Shape)],
@@ -41,7 +41,7 @@ fn first_parts<A: Allocator>(alloc: A, found: &[(u64, Shape)]) -> Result<Vec<u64
     Ok(ids)
 }
 
-/// Puts ids in order, each once.
+/// Sorts ids, and removes repeated ones.
 fn put_in_order<A: Allocator>(ids: &mut Vec<u64, A>)
     ensures rises { IsStrictlyIncreasing ids.new.items }
     ensures keeps { (id : ℕ) → Contains ids.old.items id → Contains ids.new.items id }
@@ -51,8 +51,9 @@ fn put_in_order<A: Allocator>(ids: &mut Vec<u64, A>)
     ids.dedup();
 }
 
-/// The features that a search lists, by rising id, by a look-up of each of these ids, which name all that meet the window.
-/// What a look-up finds is judged as it stands in the store.
+/// The features that a search lists, by rising id: looks up each of these ids, among which are
+/// those of all features that meet the window. Each feature is judged by its shape in the store,
+/// whatever shape the index found.
 pub(crate) fn listed<A: Allocator>(
     alloc: A,
     folded: &Folded<'_>,
@@ -82,14 +83,15 @@ pub(crate) fn listed<A: Allocator>(
     Ok(rows)
 }
 
-/// The features of a store stand by rising id. The look-up of a row says so, and one of an id does not.
+/// Fact for the checker, no effect: the store is sorted by id. `row_at` states it, `get` does not.
 fn stand_in_order<A: Allocator>(store: &Store<A>)
     ensures { IsSortedById store.now }
 {
     let _first = store.row_at(0);
 }
 
-/// The ticks of a meter are at most the greatest `u64`. The reader of its ticks says so, and a tick does not.
+/// Fact for the checker, no effect: a meter's ticks are at most `u64::MAX`. `ticks` states it, a
+/// tick does not.
 fn count_to_the_greatest(meter: &Meter)
     ensures { meter.now ≤ u64.MAX }
 {
@@ -104,7 +106,7 @@ fn shows(folded: &Folded<'_>, window: &Shape, feature: &Feature) -> bool
     meets(&feature.shape, window) && permits(folded, feature)
 }
 
-/// May the subject read the feature?
+/// Whether the subject may read the feature.
 fn permits(folded: &Folded<'_>, feature: &Feature) -> bool
     requires { folded.now.action ≡ Action.Read }
     ensures { IsTrue result ↔ Permits folded.now.decider.document (question_on folded.now.subject Action.Read feature.now feature.now.shape) }
@@ -116,7 +118,7 @@ fn permits(folded: &Folded<'_>, feature: &Feature) -> bool
     }
 }
 
-/// The record of what a seat was answered.
+/// The record of an answer to a seat.
 pub(crate) fn answered<A: Allocator + Copy>(
     alloc: A,
     seat: u32,
@@ -137,7 +139,6 @@ pub(crate) fn answered<A: Allocator + Copy>(
     ))
 }
 
-/// The ids of rows.
 fn ids_of<A: Allocator>(alloc: A, rows: &[Feature]) -> Result<Vec<u64, A>, Refused>
     ensures { IfOk result (λ ids. ids.items ≡ map (λ row. row.id) rows.now) }
 {
@@ -148,7 +149,6 @@ fn ids_of<A: Allocator>(alloc: A, rows: &[Feature]) -> Result<Vec<u64, A>, Refus
     Ok(ids)
 }
 
-/// The versions of rows.
 fn versions_of<A: Allocator>(alloc: A, rows: &[Feature]) -> Result<Vec<u64, A>, Refused>
     ensures { IfOk result (λ versions. versions.items ≡ map (λ row. row.version) rows.now) }
 {

@@ -1,4 +1,4 @@
-//! What becomes of a committed list.
+//! The outcome of a commit.
 
 use crate::denials::Denial;
 use audit_trail::Refusal;
@@ -8,7 +8,7 @@ use audit_trail::Refusal;
 pub enum Outcome {
     /// The whole list is applied, under this version.
     Applied(u64),
-    /// The list is turned away, and no feature is changed. A denial is there exactly where the first
-    /// change that is turned away is turned away because the policy denies it.
+    /// The list is rejected, and no feature is changed. The denial is given exactly where the first
+    /// failing change fails because the policy denies it.
     Refused(Refusal, Option<Denial>),
 }

@@ -1,4 +1,4 @@
-//! The trail is rolled over.
+//! Rolls: the trail is taken out, and a new one begins.
 
 ghost use Rattle.std.specs.Prelude.{◌≡◌, ◌+◌, ◌≤◌, length, map, string_bytes, IfOk, IfErr};
 ghost use Rattle.std.specs.Arc.{arc_value};
@@ -17,7 +17,8 @@ use std::marker::Model;
 use std::mem;
 use std::sync::Arc;
 
-/// What a roll takes out: the state at which the trail began, the trail, and the trail's lines. Only a world makes one.
+/// A piece: the state at which the trail began, the trail, and the trail's lines. Only a world
+/// makes one.
 #[derive(Debug, Drop)]
 pub struct Rolled<A: Allocator> {
     base: Base<A>,
@@ -66,9 +67,10 @@ impl<A: Allocator> Rolled<A> {
 }
 
 impl<A: Allocator + Copy> PlainWorld<A> {
-    /// Takes the trail out whole, with its lines; the new one begins from the present state, with the next number. X1
-    /// where the seat was not given, X7 where its subject is no steward, X8 where so many records were rolled out and are
-    /// there that the next trail's numbers would not fit, X12 where a growth is refused.
+    /// Takes the whole trail out, with its lines. The new trail begins at the present state, with
+    /// the next number. X1 where the seat was not given, X7 where its subject is no steward, X8
+    /// where the new trail's first number would be above `FIRST_LIMIT`, X12 where an allocation is
+    /// refused.
     pub fn roll(&mut self, heap: Global, seat: u32) -> Result<Arc<Rolled<A>, A>, Fault>
         ensures { Happens (Roll seat) self.old self.new (reply_of (λ piece. TakenOut (arc_value piece)) result) }
     {
@@ -78,8 +80,9 @@ impl<A: Allocator + Copy> PlainWorld<A> {
         self.take_out(next, lines)
     }
 
-    /// Takes the trail out with its base and these lines, and lets the next one begin from this base. Where the piece finds
-    /// no memory, what was taken out is put back.
+    /// Replaces the base by `next` and the trail by an empty one, and returns the old ones with
+    /// these lines as a piece. Where the allocation for the piece is refused, puts the old ones
+    /// back.
     fn take_out(
         &mut self,
         next: Base<A>,
@@ -104,7 +107,7 @@ impl<A: Allocator + Copy> PlainWorld<A> {
         }
     }
 
-    /// The present state, from which a trail may begin.
+    /// The present state, as the base of a new trail.
     fn present(&self) -> Result<Base<A>, Fault>
         ensures ok { IfOk result (λ base. base ≡ self.now.state) }
         ensures err { IfErr result (λ fault. fault ≡ Fault.Memory refused) }

@@ -1,4 +1,4 @@
-//! Searches that run.
+//! Open searches.
 
 ghost use Rattle.std.specs.Prelude.{◌≡◌, ◌<◌, ◌++◌, ◌∷◌, ◌==◌, [], not, filter, length, IfOk};
 ghost use Rattle.plain_world.specs.Admitting.{search_with};
@@ -10,20 +10,20 @@ use plane::Shape;
 use std::alloc::Allocator;
 use std::marker::Model;
 
-/// A search that runs: whose it is, its window, and whether it has answered Ready.
+/// An open search: its seat, its window, and whether it has answered Ready.
 #[derive(Clone, Copy, Debug, PartialEq, Eq)]
 pub struct Search {
     /// Its number, which no other search is given.
     pub number: u64,
     /// The seat that opened it.
     pub seat: u32,
-    /// The shape that what it looks for meets.
+    /// The window: the search looks for the shapes that meet it.
     pub window: Shape,
     /// Whether it has answered Ready.
     pub ready: bool,
 }
 
-/// The searches that run, with room for as many as may run at once. A contract sees their list.
+/// The open searches, with room for `SEARCH_LIMIT` of them. A contract sees their list.
 #[derive(Debug, Drop)]
 pub(crate) struct Searches<A: Allocator> {
     list: Vec<Search, A>,
@@ -42,7 +42,7 @@ impl<A: Allocator> Model for Searches<A> {
 }
 
 impl<A: Allocator> Searches<A> {
-    /// No searches.
+    /// No searches, with room for all that may be open at once.
     pub fn new(alloc: A) -> Result<Self, Refused>
         ensures { IfOk result (λ searches. searches ≡ []) }
     {
@@ -50,7 +50,7 @@ impl<A: Allocator> Searches<A> {
         Ok(Searches { list })
     }
 
-    /// How many run.
+    /// How many are open.
     pub fn len(&self) -> usize
         ensures { result ≡ length self.now }
     {
@@ -64,7 +64,7 @@ impl<A: Allocator> Searches<A> {
         search_in(&self.list, number)
     }
 
-    /// Takes a search in. It takes no memory.
+    /// Adds a search. It takes no memory.
     pub fn push(&mut self, search: Search)
         requires { length self.old < SEARCH_LIMIT }
         ensures { self.new ≡ self.old ++ search ∷ [] }
@@ -79,7 +79,7 @@ impl<A: Allocator> Searches<A> {
         make_ready(&mut self.list, number);
     }
 
-    /// Takes the search of a number out.
+    /// Removes the search of a number.
     pub fn forget(&mut self, number: u64)
         ensures { self.new ≡ filter (λ s. not (s.number == number)) self.old }
     {

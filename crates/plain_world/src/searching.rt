@@ -19,8 +19,9 @@ use plane::Shape;
 use std::alloc::Allocator;
 
 impl<A: Allocator> PlainWorld<A> {
-    /// Gives a seat to the subject of a name, and answers its number, from 1. X13 where there is no such subject, X14
-    /// where all seats are given, X12 where a growth is refused. No number is above `SEAT_LIMIT`.
+    /// Gives a seat to the subject of a name, and returns its number, from 1 to `SEAT_LIMIT`. X13
+    /// where there is no such subject, X14 where all seats are given, X12 where an allocation is
+    /// refused.
     pub fn seat(&mut self, name: Name) -> Result<u32, Fault>
         ensures happens { Happens (TakeSeat name) self.old self.new (reply_of Number result) }
         ensures few { IfOk result (λ number. number ≤ SEAT_LIMIT) }
@@ -31,7 +32,8 @@ impl<A: Allocator> PlainWorld<A> {
         Ok(self.seats.len() as u32)
     }
 
-    /// Takes in a search that the index has opened for a seat, under the next number. It takes no memory.
+    /// Adds a search that the index has opened for a seat, under the next number. Only a part of
+    /// the event `open_search`: `transactions` calls it. It takes no memory.
     pub fn enter_search(&mut self, seat: u32, window: Shape)
         requires few { length self.old.searches < SEARCH_LIMIT }
         requires left { self.old.next_search < u64.MAX }
@@ -46,22 +48,24 @@ impl<A: Allocator> PlainWorld<A> {
         self.next_search += 1;
     }
 
-    /// Marks a search as one that has answered Ready.
+    /// Marks a search as ready. Only a part of the event `visit`: `transactions` calls it once the
+    /// index has answered Ready.
     pub fn make_ready(&mut self, number: u64)
         ensures { self.new ≡ record self.old { searches = with_ready number self.old.searches } }
     {
         self.searches.make_ready(number);
     }
 
-    /// Takes a search out that the index has given up.
+    /// Removes a search that the index has dropped (S7). Only a part of the event `visit`:
+    /// `transactions` calls it.
     pub fn forget_search(&mut self, number: u64)
         ensures { self.new ≡ without_search number self.old }
     {
         self.searches.forget(number);
     }
 
-    /// Gives a search up. X1 where the seat was not given or no such search runs, X2 where it is another seat's. It takes
-    /// no memory.
+    /// Drops a search. X1 where the seat was not given or no such search is open, X2 where it is
+    /// another seat's. It takes no memory.
     pub fn drop_search(&mut self, seat: u32, number: u64) -> Result<(), Fault>
         ensures { Happens (DropSearch seat number) self.old self.new (reply_of (λ _. Done) result) }
     {
@@ -72,13 +76,16 @@ impl<A: Allocator> PlainWorld<A> {
 }
 
 impl<A: Allocator + Copy> PlainWorld<A> {
-    /// Finishes a search for which the index has found these pairs of an id and a shape, among them the id of every feature
-    /// that meets the window if the search has answered Ready. Its answer has the rows that are listed now, by the policy in
-    /// force and at the shapes that stand in the store, and is written to the trail. X1 where the seat was not given or no
-    /// such search runs, X2 where it is another seat's, X3 where it has not answered Ready, X10 where the trail is full, X12
-    /// where a growth is refused. The meter counts at most a tick for each pair that was found, and none where the call is
-    /// refused before X12. The body looks each id that was found up once, and at the store's first row, which costs no
-    /// tick; what it reads no clause says.
+    /// Finishes a search, records its answer in the trail, and closes it. `found` holds the pairs
+    /// of an id and a shape that the index has found; if the search is ready, the id of every
+    /// feature that meets the window is among them. The answer has the rows that are listed now, by
+    /// the policy in force and at the shapes in the store. X1 where the seat was not given or no
+    /// such search is open, X2 where it is another seat's, X3 where it has not answered Ready, X10
+    /// where the trail is full, X12 where an allocation is refused.
+    ///
+    /// The meter counts at most one tick for each found pair, and none where the call is refused
+    /// before X12. The body looks up each found id once, a tick each, and the store's first row,
+    /// which costs no tick. No contract bounds what it reads beside the ticks.
     pub fn finish(
         &mut self,
         seat: u32,
@@ -101,7 +108,7 @@ impl<A: Allocator + Copy> PlainWorld<A> {
         Ok(answer)
     }
 
-    /// What a subject is answered for a window, for which these pairs were found.
+    /// The answer to a subject's search of a window, from the pairs that the index has found.
     fn answer(
         &self,
         subject: Subject,

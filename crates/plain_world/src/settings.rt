@@ -22,7 +22,7 @@ pub struct Starts {
 }
 
 impl Starts {
-    /// Of a world with nothing before it: searches and editions start at 1, all else at 0.
+    /// A world with nothing before it: searches and editions start at 1, all else at 0.
     pub const FIRST: Starts = Starts {
         generation: 0,
         counter: 0,
@@ -36,16 +36,16 @@ impl Starts {
 /// The limits of a world.
 #[derive(Clone, Copy, Debug, PartialEq, Eq)]
 pub struct Limits {
-    /// The steps of one search or walk.
+    /// The most steps of one search or walk.
     pub steps: u32,
-    /// The records of the trail, those that were rolled out aside.
+    /// The most records of a trail; those that were rolled out do not count.
     pub records: u32,
-    /// The features.
+    /// The most features.
     pub features: u32,
 }
 
 impl Limits {
-    /// The greatest that a world may have.
+    /// The greatest limits that a world may have.
     pub const GREATEST: Limits = Limits {
         steps: STEP_LIMIT,
         records: RECORD_LIMIT,
@@ -53,10 +53,10 @@ impl Limits {
     };
 }
 
-/// How many seats are given in the life of a world.
+/// The most seats that a world gives in its life.
 pub const SEAT_LIMIT: usize = 1_024;
 
-/// How many searches run at once at most.
+/// The most searches that are open at once.
 pub const SEARCH_LIMIT: usize = 16;
 
 /// How many transactions are open at once at most.
@@ -68,5 +68,6 @@ pub const CHANGE_LIMIT: usize = 16;
 /// How many steps a search or a walk makes at most.
 pub const STEP_LIMIT: u32 = MAX_STEPS as u32;
 
-/// How many records may be rolled out in the life of a world, so that each number fits.
+/// The most records that may be rolled out in the life of a world, so that each record's number
+/// fits.
 pub const ROLLED_LIMIT: u32 = FIRST_LIMIT - 1;

@@ -14,8 +14,9 @@ use plane::Shape;
 use std::alloc::Allocator;
 use std::marker::Model;
 
-/// An open transaction: the seat that opened it, the changes that it has staged, and how many of the shapes that they bring
-/// are placed in the index. No two changes name one feature, and there is room for all that it may stage.
+/// An open transaction: the seat that opened it, the changes that it has staged, and how many of
+/// their shapes are placed in the index. No two changes name one feature, and there is room for
+/// `CHANGE_LIMIT` changes.
 #[derive(Drop)]
 pub(crate) struct Transaction<A: Allocator> {
     number: u64,
@@ -38,7 +39,7 @@ impl<A: Allocator> Model for Transaction<A> {
 }
 
 impl<A: Allocator> Transaction<A> {
-    /// A transaction of a seat, with room for all the changes that a list may have.
+    /// A transaction of a seat, with nothing staged and room for `CHANGE_LIMIT` changes.
     pub(crate) fn new(alloc: A, number: u64, seat: u32) -> Result<Self, Refused>
         ensures { IfOk result (λ t. t ≡ record { number = number; seat = seat; changes = []; placed = 0 }) }
     {
@@ -96,7 +97,7 @@ impl<A: Allocator> Transaction<A> {
         self.placed += 1;
     }
 
-    /// What is to be placed next.
+    /// The pair that is to be placed next, if one is left.
     pub(crate) fn next(&self) -> Option<(u64, Shape)>
         ensures value { result ≡ next_placement self.now }
         ensures few { IsSome result → self.now.placed < CHANGE_LIMIT }
@@ -105,7 +106,7 @@ impl<A: Allocator> Transaction<A> {
     }
 }
 
-/// What a change brings into the index.
+/// The pair that a change puts into the index: an added or reshaped feature's id and new shape.
 fn brought_by(change: &Change) -> Option<(u64, Shape)>
     ensures some { IfSome result (λ placement. (later : List (ℕ × List Point)) → brought_by change.now later ≡ placement ∷ later) }
     ensures none { IfNone result ((later : List (ℕ × List Point)) → brought_by change.now later ≡ later) }
@@ -117,7 +118,7 @@ fn brought_by(change: &Change) -> Option<(u64, Shape)>
     }
 }
 
-/// Which of the shapes that a list of changes brings into the index stands at a place.
+/// The pair at a position among those that a list of changes puts into the index.
 fn placement_at(changes: &[Change], place: usize) -> Option<(u64, Shape)>
     ensures value { result ≡ slice_get (placements changes.now) place }
     ensures within { IsSome result → place < length changes.now }
@@ -137,7 +138,7 @@ fn placement_at(changes: &[Change], place: usize) -> Option<(u64, Shape)>
     }
 }
 
-/// How many shapes a list of changes brings into the index.
+/// How many pairs a list of changes puts into the index.
 pub(crate) fn placement_count(changes: &[Change]) -> usize
     ensures value { result ≡ length (placements changes.now) }
     ensures few { result ≤ length changes.now }
@@ -175,7 +176,7 @@ pub(crate) fn transaction_in<A: Allocator>(
     None
 }
 
-/// The changes that the transaction of a number has staged; none where there is no such transaction.
+/// The changes that the transaction of a number has staged; none where no such transaction is open.
 pub(crate) fn staged_in<A: Allocator>(transactions: &[Transaction<A>], number: u64) -> &[Change]
     ensures value { result.now ≡ staged_in number transactions.now }
     ensures distinct { AreDistinct result.now }
@@ -189,7 +190,7 @@ pub(crate) fn staged_in<A: Allocator>(transactions: &[Transaction<A>], number: u
     &[]
 }
 
-/// Takes the transaction of a number out.
+/// Removes the transaction of a number.
 pub(crate) fn end<A: Allocator>(transactions: &mut Vec<Transaction<A>, A>, number: u64)
     ensures { transactions.new.items ≡ ended number transactions.old.items }
 {

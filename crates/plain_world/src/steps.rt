@@ -1,8 +1,8 @@
-//! What `advance` answers.
+//! The result of one step of a walk.
 
 use tree_answers::Step;
 
-/// What `advance` answers.
+/// What `advance` returns.
 #[derive(Clone, Copy, Debug, PartialEq, Eq)]
 pub enum Advance {
     /// The walk of the next change made a step.

@@ -1,4 +1,4 @@
-//! The world: what stands, and how it is opened and read.
+//! The world: its data, and how it is opened and read.
 
 ghost use Rattle.std.specs.Prelude.{◌≡◌, ◌≤◌, length, IfOk, IfErr};
 ghost use Rattle.std.specs.Arc.{arc_value};
@@ -45,8 +45,9 @@ impl<A: Allocator> Model for Base<A> {
     ghost view = { λ b. record { features = b.features.items; version = b.version; decider = arc_value b.decider } };
 }
 
-/// The world of many sessions without its index: the features, the policy in force and the trail, the seats that were
-/// given, and the searches and transactions that are under way. A contract sees it as plain data.
+/// The world of many sessions without its index: the features, the policy in force and the trail,
+/// the seats that were given, and the open searches and transactions. A contract sees it as plain
+/// data.
 #[derive(Drop)]
 pub struct PlainWorld<A: Allocator> {
     pub(crate) alloc: A,
@@ -120,7 +121,7 @@ impl<A: Allocator> PlainWorld<A> {
         self.decider_in_force()
     }
 
-    /// The decider in force, of which another owner may be made.
+    /// The decider in force, shared: a caller may make another owner of it.
     pub fn decider_in_force(&self) -> &Arc<Decider>
         ensures { arc_value result.now ≡ self.now.state.decider }
     {
@@ -149,8 +150,9 @@ impl<A: Allocator> PlainWorld<A> {
         self.seats.len()
     }
 
-    /// What the transaction of a number has staged, in order; nothing where no such transaction is open. No two of the
-    /// changes name one feature, and there are `CHANGE_LIMIT` at most. It takes no memory.
+    /// The changes that the transaction of a number has staged, in order; none where no such
+    /// transaction is open. No two of them name one feature, and there are at most `CHANGE_LIMIT`.
+    /// It takes no memory.
     pub fn staged(&self, number: u64) -> &[Change]
         ensures value { result.now ≡ staged_in number self.now.transactions }
         ensures distinct { AreDistinct result.now }
@@ -159,8 +161,9 @@ impl<A: Allocator> PlainWorld<A> {
         staged_in(&self.transactions, number)
     }
 
-    /// What every world keeps: its trail is legal from its base, the state is its replay, and no more than `SEAT_LIMIT`
-    /// seats were given. The function does nothing: it is its contract.
+    /// The invariant of every world: its trail is legal from its base, the state is its replay, and
+    /// at most `SEAT_LIMIT` seats were given. The function does nothing; its contract states the
+    /// fact.
     pub fn world_is_sound(&self)
         ensures { IsSoundWorld self.now }
     {
@@ -169,9 +172,10 @@ impl<A: Allocator> PlainWorld<A> {
 }
 
 impl<A: Allocator + Copy> PlainWorld<A> {
-    /// A world with no features and no seats, by a document, with its numbers starting here and with these limits. None of
-    /// these is above that of `Limits::GREATEST`, and no more than `ROLLED_LIMIT` records were rolled out before. X12 where
-    /// a growth is refused: then the document is handed back.
+    /// A world with no features and no seats, governed by `document`, whose numbers start at
+    /// `starts`. No limit may be above that of `Limits::GREATEST`, and at most `ROLLED_LIMIT`
+    /// records may have been rolled out before. X12 where an allocation is refused; the document is
+    /// then returned.
     pub fn open_at(
         alloc: A,
         heap: Global,

@@ -1,4 +1,4 @@
--- The searches that are attached and accepted, gathered in turn.
+-- The attached and accepted searches, gathered one by one.
 use Rattle.std.proofs.Common.{◌≡◌, ℕ, ◌+◌, ◌<◌, ◌≤◌, Bool, true, false, List, [], ◌∷◌, ◌++◌, length, get_or, Contains, Some, sym, ap, subst, ◌∙◌, inl, inr, arith, length-append}
 use Rattle.std.proofs.lemmas.Bool.{cases_eq}
 use Rattle.std.specs.List.Sorted.{IsStrictlyIncreasing}
@@ -10,7 +10,7 @@ use Rattle.predicate_locks.proofs.SearchLemmas.{placed, find-at, rising-before, 
 use Rattle.predicate_locks.proofs.NumberLemmas.{increasing-pushed}
 
 module _ {Q : Type 0} where
-  -- a number that was met: it stands before this place, is attached, and its query is accepted
+  -- a gathered number: it is among the first `count` searches, attached, and its query is accepted
   pub record IsMet (accepts : Q → Bool → Type 0) (searches : List (RunningSearch Q)) (count : ℕ) (attached : List ℕ) (number : ℕ) : Type 0 where
     pub place : ℕ
     pub before : place < count
@@ -18,7 +18,7 @@ module _ {Q : Type 0} where
     pub is_attached : Contains attached number
     pub accepted : (d : RunningSearch Q) → accepts (get_or searches place d).query true
 
-  -- what was met among the first `count` searches
+  -- the numbers gathered from the first `count` searches
   pub record AreMet (accepts : Q → Bool → Type 0) (searches : List (RunningSearch Q)) (count : ℕ) (attached met : List ℕ) : Type 0 where
     pub counted : length met ≤ count
     pub rising : IsStrictlyIncreasing met
@@ -36,7 +36,7 @@ module _ {Q : Type 0} where
   later : (accepts : Q → Bool → Type 0) (searches : List (RunningSearch Q)) (count : ℕ) (attached : List ℕ) (number : ℕ) → IsMet accepts searches count attached number → IsMet accepts searches (count + 1) attached number
   later accepts searches count attached number met = record { place = met.place; before = omega (arith, met.before); same = met.same; is_attached = met.is_attached; accepted = met.accepted }
 
-  -- those that were met have lesser numbers than what stands next
+  -- gathered numbers are below that of the next search
   below-next : (accepts : Q → Bool → Type 0) (searches : List (RunningSearch Q)) (next count : ℕ) (attached met : List ℕ) (search : RunningSearch Q) → IsRising 0 searches next → count < length searches → ((d : RunningSearch Q) → get_or searches count d ≡ search) → AreMet accepts searches count attached met → (number : ℕ) → Contains met number → number < search.number
   below-next accepts searches next count attached met search rising within is so_far number contains =
       let found = so_far.listed number contains in
@@ -129,7 +129,7 @@ module _ {Q : Type 0} where
       let since = all there.place search there.within in
       omega (arith, since, begun)
 
-  -- what stands at a place runs
+  -- the search at an index runs
   pub runs_at : (s : Searches Q) → IsRising 0 s.running s.next → (k : ℕ) (search : RunningSearch Q) → k < length s.running → ((d : RunningSearch Q) → get_or s.running k d ≡ search) → search_at s search.number ≡ Some search
   runs_at s rising k search within is =
       subst (λ (x : RunningSearch Q). search_at s x.number ≡ Some x) (is search) (find-at 0 s.running s.next rising k search within)

@@ -18,7 +18,7 @@ Contains-cons_cases head x rest p = by_index p.0 p.1 p.2
     by_index zero within found = inl found
     by_index (suc k) within found = inr (k, omega arith, found)
 
--- a greater number behind numbers that rise
+-- a greater number after rising numbers
 pub increasing-pushed : (numbers : List ℕ) (new : ℕ) → IsStrictlyIncreasing numbers → ((number : ℕ) → Contains numbers number → number < new) → IsStrictlyIncreasing (numbers ++ new ∷ [])
 increasing-pushed [] new rising below k within = absurd (omega arith)
 increasing-pushed (x ∷ []) new rising below zero within = below x (Contains-head x [])

@@ -19,7 +19,7 @@ module _ {Q : Type 0} where
       let later = rising-bound (search.number + 1) rest next rising.1 in
       omega (arith, rising.0, later)
 
-  -- a number below the first, or from the next one on, is none
+  -- a number below `low`, or from `next` on, is not found
   find-below : (number low : ℕ) (searches : List (RunningSearch Q)) (next : ℕ) → IsRising low searches next → number < low → find_number number searches ≡ None
   find-below number low [] next rising below = refl
   find-below number low (search ∷ rest) next rising below =
@@ -40,7 +40,7 @@ module _ {Q : Type 0} where
         absurd (cc (found))
   ]
 
-  -- a search that comes last
+  -- a search added at the end
   pub find-pushed : (searches : List (RunningSearch Q)) (new : RunningSearch Q) → find_number new.number searches ≡ None → find_number new.number (searches ++ new ∷ []) ≡ Some new
   find-pushed [] new none = find-here new.number new [] refl
   find-pushed (search ∷ rest) new none = elim (cases_eq search.number new.number) [
@@ -59,7 +59,7 @@ module _ {Q : Type 0} where
   rising-pushed low [] new rising = (rising, omega arith)
   rising-pushed low (search ∷ rest) new rising = (rising.0, rising-pushed (search.number + 1) rest new rising.1)
 
-  -- by place
+  -- by index
   rising-get : (low : ℕ) (searches : List (RunningSearch Q)) (next : ℕ) → IsRising low searches next → (k : ℕ) (d : RunningSearch Q) → k < length searches → low ≤ (get_or searches k d).number
   rising-get low [] next rising k d within = absurd (omega arith)
   rising-get low (search ∷ rest) next rising zero d within = rising.0
@@ -78,7 +78,7 @@ module _ {Q : Type 0} where
   found_at low searches next rising k number search within same read =
       subst (λ (n : ℕ). find_number n searches ≡ Some (get_or searches k search)) (same search) (find-at low searches next rising k search within) ∙ ap Some (sym read)
 
-  -- what stands later has the greater number
+  -- a later search has the greater number
   pub rising-lt : (low : ℕ) (searches : List (RunningSearch Q)) (next : ℕ) → IsRising low searches next → (i k : ℕ) (d : RunningSearch Q) → i < k → k < length searches → (get_or searches i d).number < (get_or searches k d).number
   rising-lt low [] next rising i k d order within = absurd (omega arith)
   rising-lt low (search ∷ rest) next rising i zero d order within = absurd (omega arith)
@@ -98,7 +98,7 @@ module _ {Q : Type 0} where
     ]
   ]
 
-  -- what is found stands somewhere
+  -- a found search has an index
   pub record IsPlaced (number : ℕ) (searches : List (RunningSearch Q)) (search : RunningSearch Q) : Type 0 where
     pub place : ℕ
     pub within : place < length searches
@@ -117,13 +117,13 @@ module _ {Q : Type 0} where
         record { place = suc there.place; within = omega (arith, there.within); is = there.is; same = there.same }
   ]
 
-  -- no place has the number, so none is found
+  -- a number that no search has is not found
   pub none_placed : (number : ℕ) (searches : List (RunningSearch Q)) → ((k : ℕ) (d : RunningSearch Q) → k < length searches → (get_or searches k d).number ≢ number) → find_number number searches ≡ None
   none_placed number [] nowhere = refl
   none_placed number (search ∷ rest) nowhere =
       find-later number search rest (nowhere 0 search (omega arith)) ∙ none_placed number rest (λ k d within. nowhere (suc k) d (omega arith))
 
-  -- one search taken out
+  -- one search removed
   rising-weaker : (low lower : ℕ) (searches : List (RunningSearch Q)) (next : ℕ) → lower ≤ low → IsRising low searches next → IsRising lower searches next
   rising-weaker low lower [] next below rising = omega (arith, rising)
   rising-weaker low lower (search ∷ rest) next below rising = (omega (arith, rising.0), rising.1)

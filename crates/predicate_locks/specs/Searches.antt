@@ -24,7 +24,7 @@ module _ {Q : Type 0} where
   abbrev pub does_run : Searches Q → ℕ → Bool
   does_run s number = is_some (search_at s number)
 
-  -- one search more, under the next number, which did not run
+  -- one more search, under the next number, which did not run
   pub record IsEntered (old new : Searches Q) (search : RunningSearch Q) : Type 0 where
     pub next_number : search.number ≡ old.next
     pub did_not_run : search_at old search.number ≡ None
@@ -32,14 +32,14 @@ module _ {Q : Type 0} where
     pub others : (other : ℕ) → other ≢ search.number → search_at new other ≡ search_at old other
     pub next : new.next ≡ old.next + 1
 
-  -- the search with this number runs no more, and nothing else changes
+  -- the search with this number no longer runs, and nothing else changes
   pub record IsLeft (old new : Searches Q) (number : ℕ) : Type 0 where
     pub gone : search_at new number ≡ None
     pub others : (other : ℕ) → other ≢ number → search_at new other ≡ search_at old other
     pub next : new.next ≡ old.next
 
-  -- the search of this number runs and is attached, its query is accepted, and that of no smaller such
-  -- number is. `accepts` says what a test may answer for a query
+  -- the running search of the least number that is attached and whose query is accepted; `accepts`
+  -- says what the test may return for a query
   pub record IsFirstMeeting (accepts : Q → Bool → Type 0) (s : Searches Q) (attached : List ℕ) (number : ℕ) : Type 0 where
     pub search : RunningSearch Q
     pub runs : search_at s number ≡ Some search
@@ -52,7 +52,7 @@ module _ {Q : Type 0} where
   NoneMeets accepts s attached =
       (number : ℕ) (search : RunningSearch Q) → search_at s number ≡ Some search → Contains attached number → accepts search.query false
 
-  -- the numbers `met` are those of running searches that are attached and whose query is accepted
+  -- `met` has the numbers of all attached running searches whose query is accepted, and no others
   pub record AreMeeting (accepts : Q → Bool → Type 0) (s : Searches Q) (attached met : List ℕ) : Type 0 where
     pub listed : (number : ℕ) → Contains met number → (search : RunningSearch Q) × (search_at s number ≡ Some search) × Contains attached number × accepts search.query true
     pub missed : (number : ℕ) (search : RunningSearch Q) → search_at s number ≡ Some search → Contains attached number → (Contains met number → ⊥) → accepts search.query false

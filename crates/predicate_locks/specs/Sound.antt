@@ -1,4 +1,4 @@
--- How the running searches are kept.
+-- The invariant of the running searches.
 use Rattle.std.specs.Prelude.{ℕ, ◌+◌, ◌≤◌, List, [], ◌∷◌, length}
 use Rattle.predicate_locks.specs.declared.running.RunningSearch.{RunningSearch}
 use Rattle.predicate_locks.specs.declared.TheConstants.{MAX_RUNNING}
@@ -9,7 +9,7 @@ module _ {Q : Type 0} where
   IsRising low [] next = low ≤ next
   IsRising low (search ∷ rest) next = (low ≤ search.number) × IsRising (search.number + 1) rest next
 
-  -- and there is room for as many as may run
+  -- the numbers rise below `next`, and there is room for all that may run
   pub record IsSound (searches : List (RunningSearch Q)) (next capacity : ℕ) : Type 0 where
     pub rising : IsRising 0 searches next
     pub limit : length searches ≤ MAX_RUNNING

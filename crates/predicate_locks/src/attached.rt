@@ -1,3 +1,5 @@
+//! The searches that are attached to a node.
+
 ghost use Rattle.std.specs.Prelude.{◌≡◌, ◌↔◌, ℕ, ◌+◌, ◌≤◌, ◌<◌, [], ◌∷◌, ◌++◌, length, filter, Contains, IsTrue, IsOk, IfOk, IfErr, OnOk, OnErr};
 ghost use Rattle.predicate_locks.specs.Numbers.{HasRoomFor, is_in, with_number, with_numbers, IsUnion};
 ghost use Rattle.predicate_locks.specs.Searches.{does_run};
@@ -12,7 +14,8 @@ use std::marker::Model;
 
 /// The searches that are attached to a node: a set of numbers.
 ///
-/// A search that runs no more may still be listed, until `prune` takes it out. Its number is given to no other search.
+/// It may still list a search that no longer runs, until `prune` removes it. No other search ever
+/// gets that number.
 #[derive(Drop)]
 pub struct Attached<A: Allocator> {
     numbers: Vec<u64, A>,
@@ -36,7 +39,7 @@ impl<A: Allocator> Attached<A> {
         self.numbers.as_slice().contains(&number)
     }
 
-    /// How many numbers are attached, those of searches that run no more among them.
+    /// How many numbers are attached, including those that no longer run.
     pub fn len(&self) -> usize
         ensures { result ≡ length self.now.numbers }
     {
@@ -52,7 +55,7 @@ impl<A: Allocator> Attached<A> {
 }
 
 impl<A: Allocator + Copy> Attached<A> {
-    /// No number. It takes no memory until the first is attached.
+    /// No numbers. It takes no memory until it makes room or the first number is attached.
     pub fn new(alloc: A) -> Self
         ensures { result.numbers ≡ [] }
     {
@@ -61,7 +64,8 @@ impl<A: Allocator + Copy> Attached<A> {
         }
     }
 
-    /// Makes room for `more` numbers, so that so many can be attached without memory. L3 where there is none; then nothing changed.
+    /// Makes room for `more` numbers, which can then be attached without memory. L3 where the
+    /// allocation is refused: nothing changes.
     pub fn make_room(&mut self, more: usize) -> Result<(), LockFault>
         requires { more ≤ MAX_ROOM }
         ensures ok { OnOk result (HasRoomFor self.new more) }
@@ -74,7 +78,8 @@ impl<A: Allocator + Copy> Attached<A> {
         Ok(())
     }
 
-    /// Attaches a number. It takes memory only where there is no room: L3 where there is none then, and nothing changed.
+    /// Attaches a number. It takes memory only where there is no room. L3 where the allocation is
+    /// refused: nothing changes.
     pub fn attach(&mut self, number: u64) -> Result<(), LockFault>
         ensures ok { OnOk result (self.new.numbers ≡ with_number number self.old.numbers) }
         ensures union { OnOk result (IsUnion self.old.numbers (number ∷ []) self.new.numbers) }
@@ -91,7 +96,8 @@ impl<A: Allocator + Copy> Attached<A> {
         Ok(())
     }
 
-    /// Attaches each of these numbers. It takes memory only where there is no room: L3 where there is none then, and nothing changed.
+    /// Attaches each of these numbers. It takes memory only where there is not room for so many. L3
+    /// where the allocation is refused: nothing changes.
     pub fn attach_all(&mut self, more: &[u64]) -> Result<(), LockFault>
         requires { length more.now ≤ MAX_ROOM }
         ensures ok { OnOk result (self.new.numbers ≡ with_numbers more.now self.old.numbers) }
@@ -106,7 +112,7 @@ impl<A: Allocator + Copy> Attached<A> {
         Ok(())
     }
 
-    /// The same numbers once more. L3 where there is no memory.
+    /// A copy of the numbers. L3 where an allocation is refused.
     pub fn copy(&self) -> Result<Self, LockFault>
         ensures ok { IfOk result (λ made. made.numbers ≡ self.now.numbers) }
         ensures memory { IfErr result (λ fault. fault ≡ LockFault.Memory refused) }
@@ -115,7 +121,7 @@ impl<A: Allocator + Copy> Attached<A> {
         Ok(Attached { numbers })
     }
 
-    /// Takes out the numbers that do not run.
+    /// Removes the numbers that do not run.
     pub fn prune<Q: Copy, B: Allocator>(&mut self, running: &Running<Q, B>)
         ensures numbers { self.new.numbers ≡ filter (does_run running.now) self.old.numbers }
         ensures places { self.new.places ≡ self.old.places }

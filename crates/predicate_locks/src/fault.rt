@@ -1,3 +1,5 @@
+//! Why a search was not entered or attached.
+
 ghost use Rattle.std.specs.Prelude.{◌≡◌, Some};
 ghost use Rattle.predicate_locks.specs.FaultCodes.{code_of};
 
@@ -8,11 +10,11 @@ use std::fmt;
 /// Why a search was not entered or attached.
 #[derive(Debug, Drop, PartialEq, Eq)]
 pub enum LockFault {
-    /// L1: as many searches run as may.
+    /// L1: `MAX_RUNNING` searches run.
     TooMany,
-    /// L2: the next number is at its end.
+    /// L2: the next number is `u64::MAX`.
     Spent,
-    /// L3: there was no memory.
+    /// L3: an allocation was refused.
     Memory(Refused),
 }
 
@@ -27,7 +29,7 @@ impl From<Refused> for LockFault {
 }
 
 impl LockFault {
-    /// The code that stands for the fault: `L1`, `L2` or `L3`.
+    /// The fault's code: `L1`, `L2` or `L3`.
     pub fn code(&self) -> &'static str
         ensures { result.now ≡ code_of self.now }
     {

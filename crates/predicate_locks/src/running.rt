@@ -1,3 +1,5 @@
+//! The running searches.
+
 ghost use Rattle.std.specs.Prelude.{◌≡◌, ◌↔◌, ℕ, ◌+◌, ◌<◌, ◌≤◌, [], ◌∷◌, ◌++◌, false, true, length, Contains, slice_index_or, is_some, option_map, IsTrue, IsSome, IsOk, IfOk, IfErr, IfSome, IfNone, OnErr, Some, Ok, Err};
 ghost use Rattle.std.specs.Fn.{FnReturnsAt};
 ghost use Rattle.std.specs.List.Sorted.{IsStrictlyIncreasing};
@@ -16,7 +18,7 @@ use std::marker::Model;
 /// A search that runs.
 #[derive(Clone, Copy, Debug)]
 pub struct RunningSearch<Q> {
-    /// The number by which it is known. No other search gets it.
+    /// Its number. No other search gets it.
     pub number: u64,
     /// What it searches for.
     pub query: Q,
@@ -27,7 +29,7 @@ pub struct RunningSearch<Q> {
 /// The searches that run, at most `MAX_RUNNING` at a time. No number is given twice.
 #[derive(Drop)]
 pub struct Running<Q, A: Allocator> {
-    // By rising number.
+    /// By rising number.
     searches: Vec<RunningSearch<Q>, A>,
     next: u64,
 }
@@ -45,7 +47,8 @@ impl<Q, A: Allocator> Model for Running<Q, A> {
 }
 
 impl<Q: Copy, A: Allocator> Running<Q, A> {
-    /// No search, with room for as many as may run. The first one that is entered gets the number `first_number`. L3 where there is no memory.
+    /// No searches, with room for `MAX_RUNNING`. The first one gets the number `first_number`. L3
+    /// where the allocation is refused.
     pub fn new(alloc: A, first_number: u64) -> Result<Self, LockFault>
         ensures ok { IfOk result (λ made. made ≡ record { running = []; next = first_number }) }
         ensures memory { IfErr result (λ fault. fault ≡ LockFault.Memory refused) }
@@ -76,7 +79,8 @@ impl<Q: Copy, A: Allocator> Running<Q, A> {
 
     /// Starts a search for `query` that begins at the stamp `begun`, and returns its number.
     ///
-    /// It is refused with L1 where `MAX_RUNNING` searches run, and else with L2 where the next number is the last of 64 bits. It takes no memory.
+    /// L1 where `MAX_RUNNING` searches run, else L2 where the next number is `u64::MAX`. It takes
+    /// no memory.
     pub fn enter(&mut self, query: Q, begun: u64) -> Result<u64, LockFault>
         ensures ok { IfOk result (λ number. IsEntered self.old self.new (record { number = number; query = query; begun = begun })) }
         ensures listed { IfOk result (λ number. self.new.running ≡ self.old.running ++ record { number = number; query = query; begun = begun } ∷ []) }
@@ -168,7 +172,8 @@ impl<Q: Copy, A: Allocator> Running<Q, A> {
         None
     }
 
-    /// The numbers that are attached and run, and whose query `accepts` accepts, each once, by rising number.
+    /// The attached numbers that run and whose query `accepts` accepts, each once, by rising
+    /// number.
     pub fn meeting<F: Fn(&Q) -> bool, B: Allocator>(
         &self,
         attached: &Attached<B>,
@@ -188,7 +193,7 @@ impl<Q: Copy, A: Allocator> Running<Q, A> {
         met
     }
 
-    /// Where the search with this number stands.
+    /// The index of the search with this number.
     fn position(&self, number: u64) -> Option<usize>
         ensures found { IfSome result (λ at. (at < length self.now.running) × ((none : RunningSearch Q) → (slice_index_or self.now.running at none).number ≡ number)) }
         ensures runs { is_some result ≡ does_run self.now number }

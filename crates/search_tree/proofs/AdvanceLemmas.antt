@@ -1,4 +1,4 @@
--- What is said of a success, by what was said of it, and which step a walk takes, by what is next for it.
+-- Weaker claims of a success; which step a walk takes, by what is next for it.
 use Rattle.std.proofs.Common.{◌≡◌, ◌↔◌, ◌⊎◌, ◌∙◌, ◌+◌, ◌<◌, ◌≤◌, ℕ, List, Result, Ok, Err, IfOk, refl, ap, sym, subst, inl, inr}
 use Rattle.std.proofs.lemmas.Bool.{cases_lt}
 use Rattle.memory.specs.Refused.{refused}
@@ -26,7 +26,7 @@ if_ok (Ok x) goes p = goes x p
 if_ok (Err e) goes p = tt
 
 module _ (C : Class) (t u : PlainTree C.Key C.Query C.Item) (at now : Handle) where
-  -- a walk that has to wait for a change makes it, or is refused
+  -- a walk for which room has to be made makes the change, or is refused
   pub makes_room : (growth second_growth : C.Key → C.Key → ℕ) (picks : List C.Key → ℕ → Type 0) (pair : ℕ × C.Item) (room : Room C.Key) (answer : Result Step TreeFault) → IsChange room × ((change : Change) → ComesTo C t room change → Wants C t at pair.1 change) → Makes C t u at now picks room answer → TakesStep C t u at now growth second_growth picks pair answer
   makes_room growth second_growth picks pair (Install entry) answer next made = makes (next.1 (Linking entry.left) refl) made
   makes_room growth second_growth picks pair (Split full) answer next made = makes (next.1 (Parting full) refl) made
@@ -38,7 +38,7 @@ module _ (C : Class) (t u : PlainTree C.Key C.Query C.Item) (at now : Handle) wh
   pub not_linked : {picks : List C.Key → ℕ → Type 0} (left : Handle) (fault : TreeFault) → (fault ≡ Spent) × (t.counter ≡ last_number) → u ≡ t → Answers C t u at now picks (Linking left) (Err fault)
   not_linked {picks} left fault is same = subst (λ f. Answers C t u at now picks (Linking left) (Err f)) (sym is.0) (counter_ends is.1 same)
 
-  -- so many slots are left where it is not the slots that are refused
+  -- enough slots are left where the fault is not `Full`
   fits : (T : Type 0) (more : ℕ) (fault : TreeFault) → fault ≡ Memory refused → ◌≡◌ {A = Result T TreeFault} (Err fault) (Err Full) ↔ (MAX_SLOTS < taken_count t.nodes + more) → taken_count t.nodes + more ≤ MAX_SLOTS
   fits T more fault is full = elim (cases_lt MAX_SLOTS (taken_count t.nodes + more)) [
     | inl few ↦
@@ -47,7 +47,7 @@ module _ (C : Class) (t u : PlainTree C.Key C.Query C.Item) (at now : Handle) wh
     | inr enough ↦ enough
   ]
 
-  -- the root stands lower where it is not its level that is refused
+  -- the root is below the highest level where the fault is not `TooHigh`
   lower : (T : Type 0) (fault : TreeFault) → fault ≡ Memory refused → ◌≡◌ {A = Result T TreeFault} (Err fault) (Err TooHigh) → ⊥
   lower T fault is e =
       let both : ◌≡◌ {A = Result T TreeFault} (Err (Memory refused)) (Err TooHigh) = ap (λ (f : TreeFault). Err f) (sym is) ∙ e in

@@ -1,4 +1,4 @@
--- What a walk finds where room is to be made is the change to begin with.
+-- What a walk finds to make room is the first change to make.
 use Rattle.std.proofs.Common.{◌≡◌, ◌≢◌, ℕ, ◌+◌, ◌<◌, ◌≤◌, arith, true, false, [], Some, refl, ap, sym, subst, ◌∙◌, inl, inr}
 use Rattle.std.proofs.lemmas.Bool.{cases_lt}
 use Rattle.node_arena.specs.Slots.{value_at}
@@ -31,7 +31,7 @@ module _ (C : Class) (t : PlainTree C.Key C.Query C.Item) where
       record { node = looks.node; is = looks.is; parent = looks.parent; linked = looks.linked; level_is = omega (arith, less, above); low = looks.low }
   looks_lower low high Nothing less looks = looks
 
-  -- what comes first where the parent of a marked node is full
+  -- the first change where the parent of a marked node is full
   pub begins_above : (change : Change) (at parent : Handle) (above : Node C) (place : Place) → IsMarkedUnder t.nodes at parent → value_at t.nodes parent ≡ Some above → size_of above.body ≡ NODE_SIZE → above.place ≡ place → MakesRoom C t parent place change → BeginsWith C t change at
   begins_above change at parent above place marked is full stands makes = by place stands makes
     where
@@ -45,7 +45,7 @@ module _ (C : Class) (t : PlainTree C.Key C.Query C.Item) where
       by (Unlinked left) e makes = under_unlinked (under (Unlinked left) e) makes
       by (Retired stamp) e makes = absurd makes
 
-  -- the change to begin with in a full parent
+  -- the first change in a full parent
   pub begins_there : (change : Change) (at parent : Handle) → IsMarkedUnder t.nodes at parent → (n : Node C) × (value_at t.nodes parent ≡ Some n) × (size_of n.body ≡ NODE_SIZE) × MakesRoom C t parent n.place change → BeginsWith C t change at
   begins_there change at parent marked found = begins_above change at parent found.0 found.0.place marked found.1 found.2 refl found.3
 
@@ -71,7 +71,7 @@ module _ (C : Class) (t : PlainTree C.Key C.Query C.Item) where
   is_change_now level Nothing not_behind looks = looks
 
 module _ (C : Class) (t : PlainTree C.Key C.Query C.Item) (sound : IsSound C t) where
-  -- a marked node stands below the highest level
+  -- a marked node is below the highest level
   below_top : (at parent : Handle) (node : Node C) → value_at t.nodes at ≡ Some node → node.place ≡ Linked parent true → node.level < TOP_LEVEL
   below_top at parent node is linked =
       let root = sound.invariant.shape.root_place in
@@ -100,7 +100,7 @@ module _ (C : Class) (t : PlainTree C.Key C.Query C.Item) (sound : IsSound C t) 
       let size : NODE_SIZE ≡ 0 = sym full ∙ ap (λ (b : Body C). size_of b) empty in
       absurd (omega (arith, size))
 
-  -- where an install finds no room in the parent, what makes room there stands higher
+  -- where the parent has no room for an install, what makes room there is higher
   pub looks_above : (level : ℕ) (at parent : Handle) (room : Room C.Key) → IsMarkedFrom C t level at → IsMarkedUnder t.nodes at parent → (LacksEntry C t at → ⊥) → ((node : Node C) → value_at t.nodes parent ≡ Some node → size_of node.body ≡ NODE_SIZE → LooksFrom C t node.level room) → LooksFrom C t (level + 1) room
   looks_above level at parent room from marked lacks looks =
       let up = sound.invariant.shape.entry_up at marked.node marked.is parent true marked.linked in

@@ -1,4 +1,4 @@
--- The cleaning of a leaf keeps what every tree keeps.
+-- Cleaning a leaf keeps the tree's invariant.
 use Rattle.std.proofs.Common.{◌≡◌, ℕ, Bool, true, false, List, [], ◌∷◌, IsTrue, cond, filter, refl, sym, subst, ◌∙◌, inl, inr, arith}
 use Rattle.node_arena.specs.Slots.{Slots}
 use Rattle.node_arena.specs.declared.handle.Handle.{Handle}
@@ -45,7 +45,7 @@ module _ {T : Type 0} (f : T → Bool) where
         ];
       }
 
-  -- what a test leaves are the elements that pass it
+  -- `filter` picks the elements that pass the test
   pub filter_picked : (xs : List T) → Picked (λ y. IsTrue (f y)) xs (filter f xs)
   filter_picked [] = picked_none
   filter_picked (x ∷ xs) = by (f x) refl (filter_picked xs)

@@ -10,7 +10,7 @@ use Rattle.search_tree.specs.Calls.{IsComplete, found_in, found_of}
 use Rattle.search_tree.specs.Trees.{PlainTree, SeenSearch, IsSound, search_of, progress_at, seen, tree_of}
 use Rattle.tree_nodes.specs.Progresses.{is_empty}
 
--- a list that tells to be empty is
+-- `is_empty` holds only for the empty list
 pub nothing_left : {T : Type 0} (xs : List T) → is_empty xs ≡ true → xs ≡ []
 nothing_left [] e = refl
 nothing_left (x ∷ xs) e = absurd (cc (e))

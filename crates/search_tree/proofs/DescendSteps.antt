@@ -1,4 +1,4 @@
--- A walk's whole step down: what joining leaves is what enlarging needs.
+-- A descent: joining leaves what enlarging needs.
 use Rattle.std.proofs.Common.{◌∙◌, ℕ, List, Contains, sym, ap, subst, inl, inr}
 use Rattle.node_arena.specs.Slots.{Slots}
 use Rattle.tree_theory.proofs.ListLemmas.{got_in}
@@ -24,7 +24,7 @@ module _ (C : Class) (t : PlainTree C.Key C.Query C.Item) (way : WayDown C.Key) 
         each = are_led.listed;
       }
 
-  -- where nodes have got searches attached
+  -- the nodes after searches were attached
   module _ (nodes : Slots (Node C)) (more : MoreAttached C t led nodes) where
     abbrev joined : PlainTree C.Key C.Query C.Item
     joined = record t { nodes = nodes }

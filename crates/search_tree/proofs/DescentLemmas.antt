@@ -1,4 +1,5 @@
--- A walk's way down: searches join the child, and its right node where it is marked, before the entry is enlarged.
+-- A descent: searches join the child, and its right node where the child is marked, before the
+-- entry is enlarged.
 use Rattle.std.proofs.Common.{◌≡◌, ◌≢◌, ◌⊎◌, ◌∙◌, ℕ, List, [], ◌∷◌, Contains, Bool, true, false, if◌then◌else◌, filter, IsTrue, Option, None, Some, is_some, refl, sym, ap, subst, inl, inr, Result, Ok, Err, OnOk}
 use Rattle.std.proofs.lemmas.Bool.{cases_eq}
 use Rattle.std.specs.Option.{option_map}
@@ -28,14 +29,14 @@ no_mark : (place : Place) (left : Handle) → place ≡ Unlinked left → IsTrue
 no_mark place left is marked = let no : false ≡ true = (rw is at marked) in absurd (cc (no))
 
 module _ (C : Class) where
-  -- a tree is like itself
+  -- `IsAlike` is reflexive
   pub alike_self : (t : PlainTree C.Key C.Query C.Item) → IsAlike C t t
   alike_self t = record { searches = λ s. refl; steps = λ s. refl; running = refl; contents = λ xs is. is; counts = record { counter = refl; limit = refl; level = refl; taken = refl; slots = refl } }
 
   pub untouched_self : (t : PlainTree C.Key C.Query C.Item) → IsUntouched C t t
   untouched_self t = record { alike = alike_self t; root = refl; nodes = record { look = λ h. refl }; searches = record { search = λ s. refl } }
 
-  -- a tree like another, and a third like that
+  -- `IsAlike` is transitive
   pub alike_both : (t u v : PlainTree C.Key C.Query C.Item) → IsAlike C t u → IsAlike C u v → IsAlike C t v
   alike_both t u v one two =
       record {
@@ -106,7 +107,7 @@ module _ (C : Class) (t : PlainTree C.Key C.Query C.Item) (sound : IsSound C t) 
               };
         }
 
--- what is said of a success, by what was said of it
+-- a weaker claim of a success
 pub on_ok : {T E : Type 0} (r : Result T E) (P Q : Type 0) → (P → Q) → OnOk r P → OnOk r Q
 on_ok (Ok x) P Q goes p = goes p
 on_ok (Err e) P Q goes p = tt
@@ -137,7 +138,7 @@ marked_parts (Some node) r e = by (is_marked node.place) refl e
     by true test leads = record { node = node; is = refl; marked = test; leads = leads }
     by false test leads = absurd (cc (leads))
 
--- where there is none, a node that is marked leads nowhere
+-- where no right node is found, a marked node has no rightlink
 pub marked_none : {Key Item : Type 0} (node : PlainNode Key Item) → marked_right (Some node) ≡ None → IsTrue (is_marked node.place) → (r : Handle) → node.right ≡ Some r → ⊥
 marked_none node e marked r leads = by (is_marked node.place) marked e
   where
@@ -145,7 +146,7 @@ marked_none node e marked r leads = by (is_marked node.place) marked e
     by true test none = absurd (cc (none, leads))
     by false test none = absurd (cc (test))
 
--- the list that was made for a node is set
+-- a node gets the list that was made for it
 pub list_set : {Key Item : Type 0} (runs : ℕ → Bool) (searches : List ℕ) (old new : Slots (PlainNode Key Item)) (at : Handle) (list : List ℕ)
     → Holds old at (λ n. list ≡ filter runs (with_numbers searches n.attached))
     → IsChanged old new at (λ n. record n { attached = list })
@@ -200,7 +201,7 @@ module _ (C : Class) (t : PlainTree C.Key C.Query C.Item) where
   abbrev with_nodes : Slots (Node C) → PlainTree C.Key C.Query C.Item
   with_nodes nodes = record t { nodes = nodes }
 
-  -- who has joined a node is done with it
+  -- searches that are attached to a node are done with it
   joined_done : (nodes : Slots (Node C)) (at : Handle) (searches : List ℕ) (n : Node C) → value_at t.nodes at ≡ Some n → IsChanged t.nodes nodes at (λ n. record n { attached = filter (does_run t.running) (with_numbers searches n.attached) }) → (s : ℕ) → Contains searches s → does_run t.running s ≡ true → Done (tree_of C (with_nodes nodes)) s at
   joined_done nodes at searches n is changed s has runs =
       record {
@@ -209,7 +210,7 @@ module _ (C : Class) (t : PlainTree C.Key C.Query C.Item) where
         attached = all_join C t searches n.attached s has runs;
       }
 
-  -- what the child's entry says stays
+  -- the child's entry is the same after more searches are attached
   below_still : (nodes : Slots (Node C)) (child : Handle) (searches : List ℕ) → MoreAttached C t searches nodes → MayJoinBelow C t child searches → MayJoinBelow C (with_nodes nodes) child searches
   below_still nodes child searches more may =
       let there = more.forth may.parent may.node may.is in
@@ -226,14 +227,14 @@ module _ (C : Class) (t : PlainTree C.Key C.Query C.Item) where
     parts : MarkedRight (value_at t.nodes child) right
     parts = marked_parts (value_at t.nodes child) right leads
 
-    -- the right node is another one
+    -- the right node is not the child
     child_apart : child ≢ right
     child_apart same =
         let beside = sound.invariant.shape.mark_right child parts.node parts.is parts.marked in
         let there : value_at t.nodes child ≡ Some beside.node = subst (λ h. value_at t.nodes h ≡ Some beside.node) (some_one beside.is_right parts.leads ∙ sym same) beside.is in
         no_mark parts.node.place child (ap (λ (n : Node C). n.place) (some_one parts.is there) ∙ beside.place) parts.marked
 
-    -- the list that was made for the child is set after the right node's
+    -- the child gets its list after the right node has its own
     pub second_set : (list : List ℕ) → Holds t.nodes child (λ n. list ≡ filter (does_run t.running) (with_numbers searches n.attached)) → IsChanged one two child (λ n. record n { attached = list }) → IsChanged one two child (λ n. record n { attached = filter (does_run t.running) (with_numbers searches n.attached) })
     second_set list made = list_set (does_run t.running) searches one two child list (λ n is. made n (sym (first.others child child_apart) ∙ is))
 
@@ -260,7 +261,8 @@ module _ (C : Class) (t : PlainTree C.Key C.Query C.Item) where
     pub second_sound : IsChanged one two child (λ n. record n { attached = filter (does_run t.running) (with_numbers searches n.attached) }) → IsSound C (with_nodes two)
     second_sound second = joined_sound C (with_nodes one) two laws child searches may_second second first_sound
 
-    -- who has joined the right node is done with it after the child is joined too
+    -- searches that are attached to the right node are done with it, also after the child gets its
+    -- list
     right_done : IsChanged one two child (λ n. record n { attached = filter (does_run t.running) (with_numbers searches n.attached) }) → ((s : ℕ) → Contains searches s → Done (tree_of C (with_nodes two)) s child) → (s : ℕ) → Contains searches s → Done (tree_of C (with_nodes two)) s right
     right_done second child_done s has =
         let before = joined_done one right searches may_first.node may_first.is first s has (ap is_some (may.each s has).runs) in

@@ -1,4 +1,4 @@
--- What tending finds due at nodes is due there, and what it does not find is not.
+-- Tending finds exactly what is due at a node.
 use Rattle.std.proofs.Common.{◌≡◌, ◌↔◌, ℕ, ◌+◌, ◌<◌, ◌≤◌, arith, Bool, true, false, List, [], Contains, IsTrue, IfNone, length, map, slice_get, Option, None, Some, refl, ap, sym, subst, ◌∙◌, ⊎_elim}
 use Rattle.std.proofs.lemmas.Bool.{cases_lt}
 use Rattle.std.proofs.lemmas.List.{length-map}
@@ -145,7 +145,7 @@ module _ (C : Class) (t : PlainTree C.Key C.Query C.Item) (sound : IsSound C t) 
           let found = place_in pairs due.pair has in
           told_true told (λ no. due.unkept (none no found.0 due.pair found.1))
 
-  -- at a retired node to which a running search may still come nothing is due
+  -- nothing is due at a retired node that a running search may still visit
   awaited_here : (Kept : ℕ × C.Item → Type 0) (at : Handle) (node : Node C) (stamp : ℕ) → value_at t.nodes at ≡ Some node → node.place ≡ Retired stamp → (AllBegunSince t.running stamp → ⊥) → NothingDue C t Kept at
   awaited_here Kept at node stamp here rest some_earlier =
       record {

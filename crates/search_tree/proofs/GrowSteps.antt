@@ -1,4 +1,4 @@
--- The growth of the root keeps what every tree keeps.
+-- The root's growth keeps the tree's invariant.
 use Rattle.std.proofs.Common.{◌≡◌, ◌≢◌, ℕ, ◌+◌, ◌<◌, ◌≤◌, List, Contains, IsSome, Option, None, Some, Result, Ok, Err, OnOk, OnErr, refl, sym, ap, subst, ◌∙◌, inl, inr, arith}
 use Rattle.std.specs.Option.{option_map}
 use Rattle.node_arena.specs.Slots.{Slots, value_at}
@@ -26,7 +26,7 @@ use Rattle.search_tree.proofs.SplitSteps.{nothing_there, more_after}
 use Rattle.tree_nodes.proofs.ListEnds.{some_one}
 use Rattle.search_tree.proofs.WalkSteps.{same_sound, untouched_call}
 
--- where a change leaves nothing, nothing was
+-- a mapped option is `None` only where the option is
 map_nothing : {T : Type 0} (f : T → T) (o : Option T) → option_map f o ≡ None → o ≡ None
 map_nothing f None e = refl
 map_nothing f (Some x) e = absurd (cc)
@@ -37,7 +37,7 @@ module _ {Key Item : Type 0} where
   root_stays parent node place = ap (λ p. record node { place = p }) (subst (λ p. place_under parent p ≡ p) (sym place) refl)
 
   module _ {old new : Slots (PlainNode Key Item)} {made : PlainNode Key Item} {children : List Handle} {p : Handle} (put : IsPutOver old new made children p) where
-    -- what stands at another handle
+    -- a handle that names a node is not the new one
     not_new : {h : Handle} {node : PlainNode Key Item} → value_at old h ≡ Some node → h ≢ p
     not_new is e = nothing_there is (subst (λ h. value_at old h ≡ None) (sym e) put.fresh)
 
@@ -47,7 +47,7 @@ module _ {Key Item : Type 0} where
       | inr not ↦ put.others root (not_new is) not ∙ is
     ]
 
-    -- where nothing stands now but the new node, nothing stood
+    -- a handle other than the new node's that names nothing now named nothing before
     was_nothing : (h : Handle) → h ≢ p → value_at new h ≡ None → value_at old h ≡ None
     was_nothing h apart none = elim (child_cases children h) [
       | inl has ↦ map_nothing (under p) (value_at old h) (sym (put.adopted h apart has) ∙ none)
@@ -60,14 +60,14 @@ module _ {Key Item : Type 0} where
       | inr not ↦ (made, put.here not)
     ]
 
-    -- each node that stood stands, on its level
+    -- each old node is still there, on its level
     still_there : (h : Handle) (node : PlainNode Key Item) → value_at old h ≡ Some node → (now : PlainNode Key Item) × (value_at new h ≡ Some now) × (now.level ≡ node.level)
     still_there h node is = elim (child_cases children h) [
       | inl has ↦ (under p node, put.adopted h (not_new is) has ∙ ap (option_map (under p)) is, refl)
       | inr not ↦ (node, put.others h (not_new is) not ∙ is, refl)
     ]
 
-  -- a full root is the node that stands there
+  -- the node at a full root
   abbrev pub same_full : (nodes : Slots (PlainNode Key Item)) (root : Handle) → IsFullRoot nodes root → (node : PlainNode Key Item) → value_at nodes root ≡ Some node → IsFullRoot nodes root
   same_full nodes root full node is =
       let same = some_one full.is is in
@@ -122,7 +122,7 @@ module _ (C : Class) (picks : List C.Key → ℕ → Type 0) (old new : Slots (N
   fresh_two : value_at old put.b ≡ None
   fresh_two = was_nothing put.put_one put.b (λ e. differ (sym e)) put.put_two.fresh
 
-  -- the children stand, so none of them is new
+  -- the children are in the arena, so none of them is new
   not_child : (h : Handle) → value_at old h ≡ None → Contains (children_of full.node.body) h → ⊥
   not_child h none has = none_stands (value_at old h) none (full.children h has)
 
@@ -167,7 +167,7 @@ module _ (C : Class) (picks : List C.Key → ℕ → Type 0) (old new : Slots (N
         more = put.more;
       }
 
--- where nothing but the room had changed before
+-- growth after a reservation, which changes spare room alone
 pub grown_after : (C : Class) (picks : List C.Key → ℕ → Type 0) (old mid new : Slots (Node C)) (root : Handle) (seq : ℕ) → AreSame old mid → HasGrown C picks mid new root seq → HasGrown C picks old new root seq
 grown_after C picks old mid new root seq same grown =
     record {

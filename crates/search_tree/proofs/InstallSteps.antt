@@ -1,4 +1,4 @@
--- The installing of a right node keeps what every tree keeps.
+-- Installing a right node keeps the tree's invariant.
 use Rattle.std.proofs.Common.{◌≡◌, ◌≢◌, ℕ, ◌+◌, ◌<◌, ◌∷◌, ◌++◌, [], true, false, Contains, length, slice_get, slice_set, IsTrue, Some, refl, sym, ap, subst, ◌∙◌, arith}
 use Rattle.std.proofs.lemmas.List.{length-set}
 use Rattle.std.proofs.lemmas.Option.{slice_get_within}

@@ -1,4 +1,4 @@
--- Numbers that are attached, of which those that do not run are let go.
+-- Attached numbers, without those that do not run.
 use Rattle.std.proofs.Common.{◌≡◌, ℕ, Bool, true, false, cond, List, [], ◌∷◌, Contains, filter, Option, Some, None, refl, sym, subst, ◌∙◌, inl, inr}
 use Rattle.predicate_locks.proofs.NumberLemmas.{with_one, with_all}
 use Rattle.predicate_locks.specs.Numbers.{with_number, with_numbers}
@@ -60,7 +60,7 @@ module _ (C : Class) (t : PlainTree C.Key C.Query C.Item) where
   pub runs_of : (s : ℕ) (search : Search C) → search_of (search_at t.running s) (progress_at s t.progress) ≡ Some search → does_run t.running s ≡ true
   runs_of s search e = let parts = parts_of (search_at t.running s) (progress_at s t.progress) search e in rw parts.is_run refl
 
-  -- one number more
+  -- one more number
   pub with_one_kept : (number : ℕ) (old : List ℕ) → Numbers (tree_of C t) (λ other. other ≡ number) old (filter (does_run t.running) (with_number number old))
   with_one_kept number old = record {
     keeps = λ s search is has. filter_keeps (does_run t.running) (with_number number old) s ((with_one number old s).1 (inl has)) (runs_of s search is);
@@ -73,7 +73,7 @@ module _ (C : Class) (t : PlainTree C.Key C.Query C.Item) where
   pub one_joins : (number : ℕ) (old : List ℕ) → does_run t.running number ≡ true → Contains (filter (does_run t.running) (with_number number old)) number
   one_joins number old runs = filter_keeps (does_run t.running) (with_number number old) number ((with_one number old number).1 (inr (first_in number []))) runs
 
-  -- several numbers more
+  -- several more numbers
   pub with_all_kept : (Also : ℕ → Type 0) (more old : List ℕ) → ((s : ℕ) → Contains more s → Also s) → Numbers (tree_of C t) Also old (filter (does_run t.running) (with_numbers more old))
   with_all_kept Also more old each = record {
     keeps = λ s search is has. filter_keeps (does_run t.running) (with_numbers more old) s ((with_all more old s).1 (inl has)) (runs_of s search is);

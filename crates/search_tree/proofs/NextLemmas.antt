@@ -26,7 +26,7 @@ use Rattle.search_tree.proofs.DescentLemmas.{known}
 use Rattle.tree_nodes.proofs.ListEnds.{both_at, filled, get_some, some_one}
 
 module _ (C : Class) (t : PlainTree C.Key C.Query C.Item) (sound : IsSound C t) where
-  -- the node where a walk stands may take its item's key
+  -- a node may take the item's key if it is the root or its entry covers the key
   pub here_takes : (at : Handle) (key : C.Key) → IsHere C t.nodes at key → (node : Node C) → value_at t.nodes at ≡ Some node → MayTake (tree_of C t) at node key
   here_takes at key here node is =
       let same : here.node ≡ node = some_one here.is is in
@@ -60,7 +60,7 @@ module _ (C : Class) (t : PlainTree C.Key C.Query C.Item) (sound : IsSound C t) 
         may_take = here_takes at key here node is;
       }
 
-  -- the entry at the place of a key
+  -- the entry at a key's index
   pub may_go_down : (at : Handle) (key : C.Key) → IsHere C t.nodes at key → (node : Node C) → value_at t.nodes at ≡ Some node → IsInner node.body → (keys : List C.Key) (children : List Handle) (place : ℕ) (old : C.Key) (none : Handle) → keys ≡ map (λ (entry : C.Key × Handle). entry.0) (entries_of node.body) → children ≡ children_of node.body → place < length keys → old ≡ slice_index_or keys place old → MayDescend C t (record { parent = at; place = place; key = old; child = slice_index_or children place none }) key
   may_go_down at key here node is inner keys children place old none keys_are children_are within read =
       let first : length keys ≡ length (entries_of node.body) = ap length keys_are ∙ length-map (entries_of node.body) (λ (entry : C.Key × Handle). entry.0) in
@@ -68,7 +68,7 @@ module _ (C : Class) (t : PlainTree C.Key C.Query C.Item) (sound : IsSound C t) 
       let inside : place < length children = omega (arith, first, second, within) in
       may_descend at key here node is inner place (slice_index_or children place none) (subst (λ (l : List Handle). slice_get l place ≡ Some (slice_index_or children place none)) children_are (get_some children place none inside)) keys old keys_are read
 
-  -- who holds a pair back is seen by all who call
+  -- callers see the search that holds a pair back
   pub held_by : (attached : List ℕ) (item : C.Item) (number : ℕ) → IsHolder C t.running attached item number → IsHeldBy C t item number
   held_by attached item number holder =
       let there = known C t sound number holder.search holder.runs in
@@ -104,7 +104,7 @@ module _ (C : Class) (t : PlainTree C.Key C.Query C.Item) (sound : IsSound C t) 
         best = subst (λ (ks : List C.Key). IsBest growth second_growth ks key place) (keys_are ∙ ap (λ (b : Body C). map (λ (entry : C.Key × Handle). entry.0) (entries_of b)) body) best;
       }
 
-  -- the leaf where a walk stands
+  -- the leaf where the walk is
   pub at_leaf : (at : Handle) (item : C.Item) (node : Node C) → value_at t.nodes at ≡ Some node → (leaf : Node C) × IsAtLeaf C t at item leaf → IsAtLeaf C t at item node
   at_leaf at item node is there = subst (λ (n : Node C). IsAtLeaf C t at item n) (some_one there.1.is is) there.1
 
@@ -130,12 +130,12 @@ module _ (C : Class) (t : PlainTree C.Key C.Query C.Item) (sound : IsSound C t) 
         none_matches = free.free;
       }
 
-  -- a right node that has no entry yet waits for it
+  -- the change for a right node without an entry
   pub waits_behind : (at left : Handle) (item : C.Item) (room : Room C.Key) → IsUnlinked t.nodes at left → ((change : Change) → ComesTo C t room change → ComesTo C t (Behind left) change) → (LooksFrom C t 0 (Behind left) → IsChange room) → IsChange room × ((change : Change) → ComesTo C t room change → Wants C t at item change)
   waits_behind at left item room unlinked first last =
       (last (looks_lower C t 0 unlinked.node.level (Behind left) (omega arith) (looks_left C t sound at left unlinked.node unlinked.is unlinked.place)), λ change comes. inl (left, unlinked, first change comes))
 
-  -- a full leaf
+  -- the change for a full leaf
   pub waits_at : (at : Handle) (item : C.Item) (leaf : Node C) (wanted room : Room C.Key) → IsFree C t at item leaf → size_of leaf.body ≡ NODE_SIZE
       → ((change : Change) → ComesTo C t wanted change → (n : Node C) × (value_at t.nodes at ≡ Some n) × (size_of n.body ≡ NODE_SIZE) × MakesRoom C t at n.place change)
       → ((n : Node C) → value_at t.nodes at ≡ Some n → size_of n.body ≡ NODE_SIZE → LooksFrom C t n.level wanted)

@@ -1,4 +1,4 @@
--- At most one case can be said of a walk.
+-- At most one case of a walk holds.
 use Rattle.std.proofs.Common.{◌≡◌, ℕ, ◌<◌, ◌≤◌, true, false, List, Contains, Some, None, Option, Result, Err, refl, sym, ap, subst, ◌∙◌, inl, inr, arith}
 use Rattle.std.proofs.lemmas.Bool.{cases_lt, cases_eq}
 use Rattle.node_arena.specs.Slots.{value_at}
@@ -24,7 +24,7 @@ use Rattle.tree_answers.specs.declared.fault.TreeFault.{TreeFault}
 use Rattle.tree_answers.specs.declared.fault.TreeFault.TheVariants.{Held}
 use Rattle.tree_nodes.proofs.ListEnds.{some_one}
 
--- ---- how a node stands, as a number: gone or retired, unlinked, the root, or linked
+-- ---- the place of a node, as a number: gone or retired, unlinked, the root, or linked
 
 abbrev kind_of_place : Place → ℕ
 kind_of_place (Retired stamp) = 0
@@ -77,7 +77,7 @@ module _ (C : Class) (t : PlainTree C.Key C.Query C.Item) where
         a.uncovered (subst (λ p. IsCoveredBy C t.nodes p at key) (same_linked place) linked.3)
   ]
 
-  -- ---- the change to begin with
+  -- ---- the first change to make
 
   under_one : (at p q : Handle) (place other : Place) → IsUnderFull C t at p place → IsUnderFull C t at q other → (p ≡ q) × (place ≡ other)
   under_one at p q place other one two =
@@ -144,7 +144,8 @@ module _ (C : Class) (t : PlainTree C.Key C.Query C.Item) where
         let same = leaf_one one.0 other.0 one.1.at_leaf other.1.at_leaf in
         makes_room_one at one.0.place c d one.3 (subst (λ (n : Node C). MakesRoom C t at n.place d) (sym same) other.3)
 
-    -- what wants a change stands at a right node that has no entry yet, or at a leaf that may take the item
+    -- a change is needed only at a right node without an entry, or at a leaf that is the root or
+    -- whose entry covers the item
     wants_not_nowhere : (c : Change) → Wants C t at item c → IsNowhere t.nodes at → ⊥
     wants_not_nowhere c (inl one) nowhere = let k = kind_unlinked at one.0 one.1 in let l = kind_nowhere at nowhere in omega (arith, k, l)
     wants_not_nowhere c (inr one) nowhere = let k = kind_here at _ one.1.at_leaf.here in let l = kind_nowhere at nowhere in omega (arith, k, l)
@@ -189,7 +190,7 @@ module _ (C : Class) (t : PlainTree C.Key C.Query C.Item) where
           ]
         ]
 
-  -- ---- answers
+  -- ---- results
 
   module _ (u v : PlainTree C.Key C.Query C.Item) (at one other : Handle) (picks : List C.Key → ℕ → Type 0) (ends : HasEnds u) (ends_too : HasEnds v) where
     answers_alike : {change : Change} {a b : Result Step TreeFault} → Answers C t u at one picks change a → Answers C t v at other picks change b → AnswersAlike a b

@@ -1,4 +1,4 @@
--- Searches begin and end.
+-- How searches begin and end.
 use Rattle.std.proofs.Common.{◌≡◌, ◌≢◌, ℕ, ◌==◌, true, false, not, [], ◌∷◌, ◌++◌, ◌+◌, length, length-append, filter, slice_index_or, Option, Some, None, is_some, refl, sym, ap, subst, ◌∙◌, inl, inr}
 use Rattle.std.proofs.lemmas.Bool.{cases_eq}
 use Rattle.std.proofs.lemmas.List.Kept.{AllPairs-filter}
@@ -21,7 +21,7 @@ none_of None e = refl
 none_of (Some x) e = absurd (cc (e))
 
 module _ (C : Class) (t : PlainTree C.Key C.Query C.Item) where
-  -- a search more, which has the root before it
+  -- one more search, with the root on its stack
   pub record HasEntered (running : RunningSearches C.Query) (p : PlainProgress C.Item) (query : C.Query) : Type 0 where
     pub entered : IsEntered t.running running (record { number = p.number; query = query; begun = t.counter })
     pub listed : running.running ≡ t.running.running ++ record { number = p.number; query = query; begun = t.counter } ∷ []
@@ -82,7 +82,7 @@ module _ (C : Class) (t : PlainTree C.Key C.Query C.Item) where
         step = opened_step sound has;
       }
 
-  -- a search less
+  -- one search less
   abbrev without : RunningSearches C.Query → ℕ → PlainTree C.Key C.Query C.Item
   without running number = record t { running = running; progress = filter (λ p. not (p.number == number)) t.progress }
 
@@ -147,7 +147,7 @@ module _ (C : Class) (t : PlainTree C.Key C.Query C.Item) where
         nothing = λ none. nothing_closed running number sound same none;
       }
 
-  -- what a search has found stands in its progress
+  -- what a search has found is in its progress
   pub found_there : (search at : ℕ) (p : PlainProgress C.Item) → IsSound C t → IsFirstOf search t.progress at → slice_index_or t.progress at p ≡ p → found_in t search ≡ p.found
   found_there search at p sound first reads = by (search_at t.running search) refl
     where

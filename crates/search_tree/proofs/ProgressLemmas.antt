@@ -18,7 +18,7 @@ module _ {Item : Type 0} where
   nowhere number [] none = refl
   nowhere number (p ∷ rest) none = later number p rest (none 0 p (omega arith)) ∙ nowhere number rest (λ k d within. none (suc k) d (omega arith))
 
-  -- what stands at the first place with the number is found, before and after a change there
+  -- the first progress with the number is found, before and after it is replaced
   pub first_read : (number : ℕ) (ps : List (PlainProgress Item)) (at : ℕ) (p : PlainProgress Item) → IsFirstOf number ps at → ((d : PlainProgress Item) → slice_index_or ps at d ≡ p) → progress_at number ps ≡ Some p
   first_read number [] at p first is = let lt = first.within in absurd (omega arith)
   first_read number (q ∷ rest) zero p first is = here number q rest (first.named q) ∙ ap Some (is q)
@@ -45,7 +45,7 @@ module _ {Item : Type 0} where
         ∙ sym (later other q rest ne)
   ]
 
-  -- one more, which comes last
+  -- one more progress, at the end
   pub pushed_here : (ps : List (PlainProgress Item)) (p : PlainProgress Item) → progress_at p.number ps ≡ None → progress_at p.number (ps ++ p ∷ []) ≡ Some p
   pushed_here [] p none = here p.number p [] refl
   pushed_here (q ∷ rest) p none = elim (cases_eq q.number p.number) [
@@ -60,7 +60,7 @@ module _ {Item : Type 0} where
     | inr ne ↦ later other q (rest ++ p ∷ []) ne ∙ (pushed_other other rest p apart ∙ sym (later other q rest ne))
   ]
 
-  -- all with a number taken out
+  -- after all with a number are removed
   pub filtered_here : (number : ℕ) (ps : List (PlainProgress Item)) → progress_at number (filter (λ p. not (p.number == number)) ps) ≡ None
   filtered_here number [] = refl
   filtered_here number (p ∷ rest) = elim (cases_eq p.number number) [
@@ -85,7 +85,7 @@ module _ {Item : Type 0} where
     ])
   ]
 
-  -- what has no number yet comes to those whose numbers differ
+  -- numbers still differ where one with a new number is added
   pub differ_pushed : (ps : List (PlainProgress Item)) (p : PlainProgress Item) → progress_at p.number ps ≡ None → NumbersDiffer ps → NumbersDiffer (ps ++ p ∷ [])
   differ_pushed ps p none differ = all_pairs_push (λ (a b : PlainProgress Item). a.number ≢ b.number) ps p differ (λ k d within. absent p.number ps none k d within)
     where
@@ -97,7 +97,7 @@ module _ {Item : Type 0} where
         | inr other ↦ absent number rest (sym (later number q rest other) ∙ none) k d (omega arith)
       ]
 
-  -- one with the same number takes the place of another
+  -- numbers still differ where one is replaced by another with the same number
   pub differ_set : (number : ℕ) (ps : List (PlainProgress Item)) (at : ℕ) (p : PlainProgress Item) → IsFirstOf number ps at → p.number ≡ number → NumbersDiffer ps → NumbersDiffer (slice_set ps at p)
   differ_set number ps at p first same differ i j d order within =
       let long = length-set ps at p in

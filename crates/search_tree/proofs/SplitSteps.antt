@@ -1,4 +1,4 @@
--- The split of a node keeps what every tree keeps.
+-- The split of a node keeps the tree's invariant.
 use Rattle.std.proofs.Common.{◌≡◌, ◌≢◌, ◌⊎◌, ℕ, List, Contains, Option, None, Some, Result, Ok, Err, IfOk, OnOk, OnErr, false, refl, sym, ap, subst, ◌∙◌, inl, inr, arith}
 use Rattle.std.specs.Option.{option_map}
 use Rattle.node_arena.specs.Slots.{Slots, value_at}
@@ -20,7 +20,7 @@ use Rattle.search_tree.specs.Trees.{PlainTree, IsSound, level_of, tree_of}
 use Rattle.tree_answers.specs.declared.fault.TreeFault.{TreeFault}
 use Rattle.search_tree.proofs.WalkSteps.{same_sound, untouched_call}
 
--- where nothing stands, no node does
+-- an option is not both `Some` and `None`
 pub nothing_there : {T : Type 0} {o : Option T} {x : T} → o ≡ Some x → o ≡ None → ⊥
 nothing_there some none = absurd (cc)
 
@@ -30,7 +30,7 @@ module _ {Key Item : Type 0} where
   under_level parent None = refl
   under_level parent (Some node) = refl
 
-  -- what one node's change leaves of the counts
+  -- a change of one node keeps the counts of slots
   pub more_changed : {old mid new : Slots (PlainNode Key Item)} {at : Handle} {change : PlainNode Key Item → PlainNode Key Item} (more : ℕ) → MoreTaken old mid more → IsChanged mid new at change → MoreTaken old new more
   more_changed more before changed =
       let taken = changed.counts.taken in
@@ -83,7 +83,7 @@ module _ {Key Item : Type 0} where
           more = more_changed 1 more changed;
         }
 
-  -- where nothing but the room had changed before
+  -- a split after a reservation, which changes spare room alone
   pub split_after : (key_of : Item → Key) (picks : List Key → ℕ → Type 0) (old mid new : Slots (PlainNode Key Item)) (at right : Handle) → AreSame old mid → HasSplit key_of picks mid new at right → HasSplit key_of picks old new at right
   split_after key_of picks old mid new at right same split =
       record {

@@ -1,4 +1,4 @@
--- The steps of tending keep what every tree keeps.
+-- The steps of tending keep the tree's invariant.
 use Rattle.std.proofs.Common.{◌≡◌, ◌≢◌, ◌==◌, ℕ, ◌+◌, ◌<◌, ◌≤◌, Bool, true, false, List, if◌then◌else◌, remove, Option, Some, None, OnSome, refl, sym, ap, subst, ◌∙◌, inl, inr, arith}
 use Rattle.std.proofs.lemmas.Option.{slice_get_within}
 use Rattle.std.specs.Option.{option_map}
@@ -33,16 +33,16 @@ one_at_most : (b : Bool) → (if b then 0 else 1) ≤ 1
 one_at_most true = omega arith
 one_at_most false = omega arith
 
--- a leaf and an inner node are two
+-- no node is both a leaf and an inner node
 pub body_apart : {Key Item : Type 0} (pairs : List (ℕ × Item)) (entries : List (Key × Handle)) (one other : PlainNode Key Item) → one.body ≡ Leaf pairs → other.body ≡ Inner entries → one ≡ other → ⊥
 body_apart pairs entries one other leaf inner e = let same : one.body ≡ other.body = ap (λ node. node.body) e in absurd (cc (leaf, inner, same))
 
--- the level of a node that is changed, but not in its level
+-- a change of a node that keeps its level
 level_through : {Key Item : Type 0} (change : PlainNode Key Item → PlainNode Key Item) → ((node : PlainNode Key Item) → (change node).level ≡ node.level) → (o : Option (PlainNode Key Item)) → level_of (option_map change o) ≡ level_of o
 level_through change same None = refl
 level_through change same (Some node) = same node
 
--- where one node is changed, but not in its level, each has the level it had
+-- a change of one node that keeps its level keeps every node's level
 pub level_stays : {Key Item : Type 0} {old new : Slots (PlainNode Key Item)} {at : Handle} {change : PlainNode Key Item → PlainNode Key Item} (h : Handle) → IsChanged old new at change → ((node : PlainNode Key Item) → (change node).level ≡ node.level) → level_of (value_at new h) ≡ level_of (value_at old h)
 level_stays {old = old} {new = new} {at = at} {change = change} h changed same = elim (handle_cases h at) [
   | inl e ↦ subst (λ x. level_of (value_at new x) ≡ level_of (value_at old x)) (sym e) (ap level_of changed.here ∙ level_through change same (value_at old at))
@@ -50,7 +50,7 @@ level_stays {old = old} {new = new} {at = at} {change = change} h changed same =
 ]
 
 module _ (C : Class) (t : PlainTree C.Key C.Query C.Item) where
-  -- a retired node goes
+  -- a retired node is removed
   module _ (nodes : Slots (Node C)) (at : Handle) (may : MayFree C t at) (changed : IsChangedAt t.nodes nodes at None) (sound : IsSound C t) where
     abbrev let_go : PlainTree C.Key C.Query C.Item
     let_go = record t { nodes = nodes }
@@ -107,7 +107,7 @@ module _ (C : Class) (t : PlainTree C.Key C.Query C.Item) where
           taken = (omega (arith, counted, most), omega (arith, counted, most));
         }
 
-  -- an empty leaf is taken out of its parent
+  -- an empty leaf is retired
   module _ (mid nodes : Slots (Node C)) (at parent : Handle) (place counter : ℕ) (may : MayRetire C t at parent place) (stamped : IsChanged t.nodes mid at (λ n. record n { place = AtRest counter })) (removed : IsChanged mid nodes parent (λ n. record n { body = Inner (remove (entries_of n.body) place) })) (ticked : counter ≡ t.counter + 1) where
     abbrev let_out : PlainTree C.Key C.Query C.Item
     let_out = record t { nodes = nodes; counter = counter }
@@ -164,7 +164,7 @@ module _ (C : Class) (t : PlainTree C.Key C.Query C.Item) where
           taken = removed.counts.taken ∙ stamped.counts.taken;
         }
 
-  -- the parent still has its entries where the leaf alone is changed
+  -- the parent keeps its entries where only the leaf is changed
   module _ (mid : Slots (Node C)) (at parent : Handle) (place : ℕ) (change : Node C → Node C) (may : MayRetire C t at parent place) (stamped : IsChanged t.nodes mid at change) where
     apart : parent ≢ at
     apart e =

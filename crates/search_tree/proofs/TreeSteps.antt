@@ -1,4 +1,4 @@
--- From what the code does to the steps of the theory.
+-- The code's changes are steps of the theory.
 use Rattle.std.proofs.Common.{◌≡◌, ℕ, List, [], ◌∷◌, ◌++◌, slice_index_or, slice_set, Option, Some, None, refl, sym, ap, ◌∙◌, inl, inr, arith}
 use Rattle.node_arena.specs.Slots.{Slots}
 use Rattle.node_arena.specs.declared.handle.Handle.{Handle}
@@ -16,7 +16,7 @@ use Rattle.tree_nodes.specs.Visits.{HasVisited, HasSeenAt, IsGoneAt}
 use Rattle.search_tree.proofs.Kept.{with_one_kept, one_joins}
 use Rattle.search_tree.proofs.ProgressLemmas.{first_read, set_here, set_other}
 
--- a handle by its two parts
+-- a handle is its two parts
 pub handle_is : (h : Handle) (slot generation : ℕ) → h.slot ≡ slot → h.generation ≡ generation → h ≡ record { slot = slot; generation = generation }
 handle_is h slot generation one other = ap (λ s. made s h.generation) one ∙ ap (made slot) other
   where
@@ -24,7 +24,7 @@ handle_is h slot generation one other = ap (λ s. made s h.generation) one ∙ a
     made s g = record { slot = s; generation = g }
 
 module _ (C : Class) where
-  -- a tree with the same nodes and searches: as where a search is closed that does not run
+  -- a tree with the same nodes and searches is as after the end of a search that does not run
   pub same_tree : (t u : Tree C) → Invariant t → ((h : Handle) → u.look h ≡ t.look h) → u.root ≡ t.root → u.counter ≡ t.counter → u.next ≡ t.next → ((s : ℕ) → u.searches s ≡ t.searches s) → IsClosed t u t.next
   same_tree t u inv look root counter next searches =
       record {

@@ -1,4 +1,4 @@
--- What a visit reads, and what it leaves, in the words of its calls.
+-- What a visit reads and leaves, in the terms of `Calls`.
 use Rattle.std.proofs.Common.{◌≡◌, ℕ, ◌<◌, ◌≤◌, true, false, [], slice_index_or, slice_set, Option, Some, None, Result, Ok, Err, OnErr, is_some, refl, sym, ap, subst, ◌∙◌, arith}
 use Rattle.std.specs.Option.{option_map}
 use Rattle.node_arena.specs.Slots.{Slots}
@@ -28,7 +28,7 @@ pub same_ready : {Item : Type 0} (a b : PlainProgress Item) → a ≡ b → is_e
 same_ready {Item = Item} a b e = ap (λ (p : PlainProgress Item). is_empty p.stack) e
 
 module _ (C : Class) (t : PlainTree C.Key C.Query C.Item) (search at : ℕ) where
-  -- the search runs, and this is how far it has come
+  -- the search runs, and this is its progress
   pub record RunsAt (p : PlainProgress C.Item) : Type 0 where
     pub run : RunningSearch C.Query
     pub is_run : search_at t.running search ≡ Some run
@@ -52,7 +52,7 @@ module _ (C : Class) (t : PlainTree C.Key C.Query C.Item) (search at : ℕ) wher
         steps_is = ap steps_of way;
       }
 
-  -- two readings of one place
+  -- two readings of one index are equal
   pub read_once : (a b : PlainProgress C.Item) → IsFirstOf search t.progress at → slice_index_or t.progress at a ≡ a → slice_index_or t.progress at b ≡ b → a ≡ b
   read_once a b first one other = sym (read_any t.progress at a b first.within one) ∙ other
 
@@ -71,7 +71,7 @@ module _ (C : Class) (t : PlainTree C.Key C.Query C.Item) (search at : ℕ) wher
       visited_call C t at search runs.run p q nodes runs.is_run first (λ d. read_any t.progress at p d first.within reads)
       (subst (λ z. HasVisited C z t.counter t.running t.nodes nodes p q) (query_is (search_at t.running search) runs.run query runs.is_run told) visited)
 
-  -- how a search stands
+  -- the state of a search
   pub now_ready : (p : PlainProgress C.Item) → IsSound C t → IsFirstOf search t.progress at → slice_index_or t.progress at p ≡ p → is_empty p.stack ≡ true → IsReadyIn t search
   now_ready p sound first reads empty = let runs = runs_at p sound first reads in rw (runs.seen_is, empty) refl
 

@@ -25,7 +25,7 @@ module _ (C : Class) (t : PlainTree C.Key C.Query C.Item) (at search : ℕ) wher
   abbrev changed : Slots (Node C) → PlainProgress C.Item → PlainTree C.Key C.Query C.Item
   changed nodes q = record t { nodes = nodes; progress = slice_set t.progress at q }
 
-  -- progress stands for each search as before
+  -- exactly the running searches still have progress
   each_still : (p q : PlainProgress C.Item) → IsFirstOf search t.progress at → ((d : PlainProgress C.Item) → slice_index_or t.progress at d ≡ p) → q.number ≡ search → IsSound C t → (s : ℕ) → is_some (progress_at s (slice_set t.progress at q)) ≡ is_some (search_at t.running s)
   each_still p q first reads number sound s = elim (cases_eq s search) [
     | inl same ↦
@@ -44,7 +44,7 @@ module _ (C : Class) (t : PlainTree C.Key C.Query C.Item) (at search : ℕ) wher
         limited = sound.limited;
       }
 
-  -- where only the room has changed
+  -- searches are unchanged where only the room has changed
   same_searches : (p q : PlainProgress C.Item) (nodes : Slots (Node C)) → IsFirstOf search t.progress at → ((d : PlainProgress C.Item) → slice_index_or t.progress at d ≡ p) → SameButRoom p q → (s : ℕ) → search_of (search_at t.running s) (progress_at s (slice_set t.progress at q)) ≡ search_of (search_at t.running s) (progress_at s t.progress)
   same_searches p q nodes first reads same s = elim (cases_eq s search) [
     | inl e ↦
@@ -100,7 +100,7 @@ module _ (C : Class) (t : PlainTree C.Key C.Query C.Item) (at search : ℕ) wher
   not_empty [] x = refl
   not_empty (y ∷ xs) x = refl
 
-  -- the root's level where one node is changed in its attached numbers alone
+  -- a change of one node that keeps its level keeps the root's level
   pub level_kept : (nodes : Slots (Node C)) (x : Handle) (change : Node C → Node C) → IsChanged t.nodes nodes x change → ((n : Node C) → (change n).level ≡ n.level) → level_of (value_at nodes t.root) ≡ level_of (value_at t.nodes t.root)
   level_kept nodes x change is same = elim (handle_cases t.root x) [
     | inl e ↦ subst (λ h. level_of (value_at nodes h) ≡ level_of (value_at t.nodes h)) (sym e) (rw is.here (by (value_at t.nodes x)))

@@ -1,4 +1,4 @@
--- The steps of a walk keep what every tree keeps.
+-- The steps of a walk keep the tree's invariant.
 use Rattle.std.proofs.Common.{◌≡◌, ◌∙◌, ℕ, ◌<◌, List, [], ◌∷◌, ◌++◌, true, filter, slice_get, slice_set, Option, Some, None, refl, sym, ap, subst, inl, inr}
 use Rattle.std.proofs.lemmas.Option.{slice_get_within}
 use Rattle.std.specs.Option.{option_map}
@@ -33,7 +33,7 @@ module _ (C : Class) (t : PlainTree C.Key C.Query C.Item) (nodes : Slots (Node C
   abbrev now : PlainTree C.Key C.Query C.Item
   now = record t { nodes = nodes }
 
-  -- what runs in the theory runs
+  -- a search that runs in the theory runs
   running : (s : ℕ) (search : Search C) → search_of (search_at t.running s) (progress_at s t.progress) ≡ Some search → Parts (search_at t.running s) (progress_at s t.progress) search
   running s search is = parts_of (search_at t.running s) (progress_at s t.progress) search is
 
@@ -73,7 +73,7 @@ module _ (C : Class) (t : PlainTree C.Key C.Query C.Item) (nodes : Slots (Node C
         counts = record { counter = refl; limit = refl; level = level_kept C t 0 0 nodes at _ changed (λ n. refl); taken = changed.counts.taken; slots = changed.counts.slots };
       }
 
-  -- no search that is ready looks for what is placed
+  -- no ready search looks for what is placed
   behind_none : Laws C → (at : Handle) (pair : ℕ × C.Item) → MayPlace C t at pair → IsChanged t.nodes nodes at (λ n. record n { body = Leaf (pairs_of n.body ++ pair ∷ []) }) → IsSound C t → (s : ℕ) (found : SeenSearch C.Query C.Item) → search_in t s ≡ Some found → found.ready ≡ true → C.Matches pair.1 found.query → ⊥
   behind_none laws at pair may changed sound s found is ready matches = by (search_of (search_at t.running s) (progress_at s t.progress)) refl is
     where

@@ -1,4 +1,4 @@
--- What a step of a walk answers, when, and what it leaves.
+-- What a step of a walk returns, when, and what it leaves.
 use Rattle.std.specs.Prelude.{◌≡◌, ◌⊎◌, ◌+◌, ◌<◌, ◌≤◌, ℕ, Bool, true, false, Some, Result, Ok, Err, ⊤}
 use Rattle.node_arena.specs.Slots.{taken_count}
 use Rattle.node_arena.specs.declared.TheConstants.{MAX_SLOTS}
@@ -42,22 +42,22 @@ pub record IsHeldBy (C : Class) (t : PlainTree C.Key C.Query C.Item) (item : C.I
   pub matches : C.Matches item seen.query
 
 module _ (C : Class) (t u : PlainTree C.Key C.Query C.Item) where
-  -- a right node has got its entry: the counter has risen by one. Nothing else changes
+  -- a right node has got its entry, and the counter has risen by one; nothing else changes
   pub record HasInstalled : Type 0 where
     pub tended : HasTended C t u GotEntry
     pub contents : SameContents C t u
 
-  -- a node has been parted: one slot more is taken, or two where the root has grown, by one level. Nothing else
-  -- changes
+  -- a node has split, with one more slot taken; or the root has grown by one level, with two more
+  -- slots taken. Nothing else changes
   abbrev pub HasParted : Type 0
   HasParted = HasMoreNodes C t u 1 0 ⊎ HasMoreNodes C t u 2 1
 
-  -- the pair is in the contents once more, and no search that is ready looks for it. Nothing else changes
+  -- the contents have the pair once more, and no ready search looks for it; nothing else changes
   pub record HasPlacedBehindNone (pair : ℕ × C.Item) : Type 0 where
     pub placed : HasPlaced C t u pair
     pub behind : (search : ℕ) (seen : SeenSearch C.Query C.Item) → search_in t search ≡ Some seen → seen.ready ≡ true → C.Matches pair.1 seen.query → ⊥
 
-  -- what a step of a walk of this pair leaves, by its answer
+  -- what a step of a walk of this pair leaves, by what it returns
   abbrev pub HasAdvanced : ℕ × C.Item → Step → Type 0
   HasAdvanced pair Moved = IsAlike C t u
   HasAdvanced pair Split = HasParted
@@ -65,7 +65,7 @@ module _ (C : Class) (t u : PlainTree C.Key C.Query C.Item) where
   HasAdvanced pair Restarted = IsAlike C t u
   HasAdvanced pair Placed = HasPlacedBehindNone pair
 
--- no slot is free for one node more; or the root is full, and two are not
+-- no slot is left for one more node; or the root is full, and two are not left
 abbrev pub LacksSlots : (C : Class) → PlainTree C.Key C.Query C.Item → Type 0
 LacksSlots C t = (MAX_SLOTS < taken_count t.nodes + 1) ⊎ (MayGrow C t × (MAX_SLOTS < taken_count t.nodes + 2))
 
@@ -80,7 +80,7 @@ MayRefuse C t item Spent = t.counter ≡ last_number
 MayRefuse C t item Overrun = ⊥
 MayRefuse C t item (Memory refusal) = ⊤
 
--- what a step of a walk answers, when, and what it leaves of tree and walk
+-- what a step of a walk returns, when, and what it leaves of tree and walk
 pub data IsAdvance (C : Class) (t u : PlainTree C.Key C.Query C.Item) (old new : PlainWalk C.Item) : Result Step TreeFault → Type 0 where
   was_placed : old.placed ≡ true → u ≡ t → new ≡ old → IsAdvance C t u old new (Ok Placed)
   overruns : old.placed ≡ false → t.limit ≤ old.steps → u ≡ t → new ≡ old → IsAdvance C t u old new (Err Overrun)

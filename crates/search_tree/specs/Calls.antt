@@ -25,16 +25,16 @@ found_of (Some search) = search.found
 abbrev pub found_in : {Key Query Item : Type 0} → PlainTree Key Query Item → ℕ → List (ℕ × Item)
 found_in t s = found_of (search_in t s)
 
--- where the counter stood when the search with this number began, if it runs
+-- the counter when the search with this number began, if it runs
 abbrev pub begun_in : {Key Query Item : Type 0} → PlainTree Key Query Item → ℕ → Option ℕ
 begun_in {Query = Query} t s = option_map (λ (run : RunningSearch Query). run.begun) (search_at t.running s)
 
 module _ (C : Class) where
-  -- the same contents, order aside
+  -- the same contents, in any order
   abbrev pub SameContents : PlainTree C.Key C.Query C.Item → PlainTree C.Key C.Query C.Item → Type 0
   SameContents t u = (xs : List (ℕ × C.Item)) → IsContents (tree_of C t) xs → IsContents (tree_of C u) xs
 
-  -- the counts that no search moves, be it by its begin, a step or its end
+  -- the counts that neither the opening nor a step nor the end of a search changes
   pub record SameCounts (t u : PlainTree C.Key C.Query C.Item) : Type 0 where
     pub counter : u.counter ≡ t.counter
     pub limit : u.limit ≡ t.limit
@@ -42,8 +42,8 @@ module _ (C : Class) where
     pub taken : taken_count u.nodes ≡ taken_count t.nodes
     pub slots : slot_count u.nodes ≡ slot_count t.nodes
 
-  -- a search begins under the next number and at the tree's counter, with the root before it. It has found nothing and
-  -- has made no step. Nothing else changes, the nodes included
+  -- A search opens under the next number and at the tree's counter, with the root on its stack. It
+  -- has found nothing and made no step. Nothing else changes, the nodes included.
   pub record IsOpen (t u : PlainTree C.Key C.Query C.Item) (query : C.Query) (search : ℕ) : Type 0 where
     pub number : search ≡ t.running.next
     pub did_not_run : search_in t search ≡ None
@@ -59,7 +59,8 @@ module _ (C : Class) where
     pub others_steps : (other : ℕ) → other ≢ search → steps_in u other ≡ steps_in t other
     pub step : IsOpened (tree_of C t) (tree_of C u) query
 
-  -- No search runs under the number. Nothing else changes, the nodes included, and where none ran nothing at all
+  -- No search runs under the number. Nothing else changes, the nodes included; where none ran,
+  -- nothing at all.
   pub record IsShut (t u : PlainTree C.Key C.Query C.Item) (search : ℕ) : Type 0 where
     pub gone : search_in u search ≡ None
     pub others : (other : ℕ) → other ≢ search → search_in u other ≡ search_in t other
@@ -78,7 +79,7 @@ module _ (C : Class) where
       (s : SeenSearch C.Query C.Item) → search_in t search ≡ Some s → s.ready ≡ true → (xs : List (ℕ × C.Item)) → IsContents (tree_of C t) xs
       → (pair : ℕ × C.Item) → Contains xs pair → C.Matches pair.1 s.query → Contains found pair
 
-  -- the same to all who call: contents, searches and counts
+  -- no difference that callers see: in contents, searches and counts
   pub record IsAlike (t u : PlainTree C.Key C.Query C.Item) : Type 0 where
     pub searches : (search : ℕ) → search_in u search ≡ search_in t search
     pub steps : (search : ℕ) → steps_in u search ≡ steps_in t search
@@ -86,22 +87,24 @@ module _ (C : Class) where
     pub contents : SameContents t u
     pub counts : SameCounts t u
 
-  -- The tree is as it was, but for the memory that it has at hand: the same to all who call, and no node has changed,
-  -- nor what any search has before it
+  -- Only spare capacity differs: callers see no difference, and no node and no search's stack has
+  -- changed.
   pub record IsUntouched (t u : PlainTree C.Key C.Query C.Item) : Type 0 where
     pub alike : IsAlike t u
     pub root : u.root ≡ t.root
     pub nodes : SameNodes (tree_of C t) (tree_of C u)
     pub searches : SameSearches (tree_of C t) (tree_of C u)
 
-  -- the search takes the last node from its stack, with its memo, and sees it or finds it gone, as the theory has it
+  -- the search takes the last node and its memo from its stack, and sees the node or finds it gone,
+  -- as in the theory
   pub record SeesNode (t u : PlainTree C.Key C.Query C.Item) (search : ℕ) : Type 0 where
     pub node : Handle
     pub memo : ℕ
     pub sees : IsVisited (tree_of C t) (tree_of C u) search node memo ⊎ IsVisitedGone (tree_of C t) (tree_of C u) search node memo
 
-  -- the search makes a step: it finds these pairs, no more than a node has, each of them in the tree and one that
-  -- it looks for. The step is one of the theory's. Nothing else that callers see changes
+  -- The search makes a step. It finds these pairs, at most as many as a node has; each is in the
+  -- tree and matches its query. The step is one of the theory's. Nothing else that callers see
+  -- changes.
   pub record IsFurther (t u : PlainTree C.Key C.Query C.Item) (search : ℕ) (ready : Bool) : Type 0 where
     pub before : SeenSearch C.Query C.Item
     pub ran : search_in t search ≡ Some before
@@ -127,7 +130,7 @@ pub record IsOverrun {Key Query Item : Type 0} (t : PlainTree Key Query Item) (s
   pub waits : option_map (λ s. s.ready) (search_in t search) ≡ Some false
   pub spent : t.limit ≤ steps_in t search
 
--- the search whose progress stands at this place has more to see, and may make a step more
+-- the search whose progress is at this index has more to see, and may make one more step
 pub record MayStep {Key Query Item : Type 0} (t : PlainTree Key Query Item) (search at : ℕ) : Type 0 where
   pub first : IsFirstOf search t.progress at
   pub waits : (p : PlainProgress Item) → slice_index_or t.progress at p ≡ p → is_empty p.stack ≡ false
@@ -142,7 +145,8 @@ pub record IsUnderWay {Key Query Item : Type 0} (t : PlainTree Key Query Item) (
   pub waits : option_map (λ s. s.ready) (search_in t search) ≡ Some false
   pub left : steps_in t search < t.limit
 
--- what a visit answers, when, and what it leaves. At most one of the first four can be said of a search
+-- What a visit returns, when, and what it leaves. At most one of the first four cases holds for a
+-- search.
 pub data IsVisit (C : Class) (t u : PlainTree C.Key C.Query C.Item) (search : ℕ) : Result Visit TreeFault → Type 0 where
   none_runs : search_in t search ≡ None → u ≡ t → IsVisit C t u search (Err NoSearch)
   was_ready : IsReadyIn t search → u ≡ t → IsVisit C t u search (Ok Ready)

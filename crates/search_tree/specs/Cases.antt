@@ -1,4 +1,5 @@
--- In which case a walk is, what its step answers then, and where it stands afterwards: the first case that holds.
+-- The cases of a walk: what its step returns and where the walk is afterwards, by the first case
+-- that holds.
 use Rattle.std.specs.Prelude.{◌≡◌, ◌≢◌, ◌⊎◌, ◌+◌, ◌<◌, ◌≤◌, ℕ, true, false, List, map, Some, Result, Ok, Err, slice_get}
 use Rattle.memory.specs.declared.refused.Refused.{Refused}
 use Rattle.node_arena.specs.Slots.{value_at, taken_count}
@@ -25,15 +26,15 @@ use Rattle.tree_theory.specs.declared.TheConstants.{NODE_SIZE, TOP_LEVEL}
 use Rattle.tree_theory.specs.declared.place.Place.{Place}
 use Rattle.tree_theory.specs.declared.place.Place.TheVariants.{Root, Linked, Unlinked, Retired}
 
--- A change that makes room for what a walk brings, or that has to come before: the right node of this marked node
--- gets its entry; this full node is parted; the full root grows.
+-- A change that makes room for a walk's pair, or that has to come first: the right node of this
+-- marked node gets its entry; this full node splits; the full root grows.
 pub data Change : Type 0 where
   Linking : Handle → Change
   Parting : Handle → Change
   Growing : Change
 
 module _ (C : Class) (t : PlainTree C.Key C.Query C.Item) where
-  -- a marked node under this full parent, which stands at this place
+  -- a marked node under this full parent, which has this place
   pub record IsUnderFull (at parent : Handle) (place : Place) : Type 0 where
     pub node : Node C
     pub is : value_at t.nodes at ≡ Some node
@@ -43,9 +44,9 @@ module _ (C : Class) (t : PlainTree C.Key C.Query C.Item) where
     pub full : size_of above.body ≡ NODE_SIZE
     pub stands : above.place ≡ place
 
-  -- The change to begin with where the right node of this marked node is to get its entry. It is that one where their
-  -- parent has room. A full parent is parted, or the root grows; but where the parent is marked or unlinked itself,
-  -- a right node has to get its entry there first.
+  -- The first change to make so that the right node of this marked node gets its entry. Where their
+  -- parent has room, it is the install itself. A full parent splits, or the root grows. But where
+  -- the parent is marked or unlinked itself, a right node has to get its entry there first.
   pub data BeginsWith (change : Change) : Handle → Type 0 where
     has_room : {at : Handle} → LacksEntry C t at → change ≡ Linking at → BeginsWith change at
     under_linked : {at parent other : Handle} → IsUnderFull at parent (Linked other false) → change ≡ Parting parent → BeginsWith change at
@@ -53,7 +54,7 @@ module _ (C : Class) (t : PlainTree C.Key C.Query C.Item) where
     under_marked : {at parent other : Handle} → IsUnderFull at parent (Linked other true) → BeginsWith change parent → BeginsWith change at
     under_unlinked : {at parent left : Handle} → IsUnderFull at parent (Unlinked left) → BeginsWith change left → BeginsWith change at
 
-  -- the change to begin with where there is to be room in a full node, by its place
+  -- the first change to make for room in a full node, by its place
   abbrev pub MakesRoom : Handle → Place → Change → Type 0
   MakesRoom at Root change = change ≡ Growing
   MakesRoom at (Linked parent false) change = change ≡ Parting at
@@ -61,7 +62,7 @@ module _ (C : Class) (t : PlainTree C.Key C.Query C.Item) where
   MakesRoom at (Unlinked left) change = BeginsWith change left
   MakesRoom at (Retired stamp) change = ⊥
 
-  -- an inner node that may take the key, and the child of an entry of least penalties, with the entry's key
+  -- an inner node that may take the key, and the child and key of an entry of least penalties
   pub record IsWayDown (growth second_growth : C.Key → C.Key → ℕ) (at : Handle) (key : C.Key) (child : Handle) (old : C.Key) : Type 0 where
     pub here : IsHere C t.nodes at key
     pub node : Node C
@@ -73,28 +74,29 @@ module _ (C : Class) (t : PlainTree C.Key C.Query C.Item) where
     pub best : IsBest growth second_growth (map (λ entry. entry.0) entries) key place
 
   module _ (at : Handle) (item : C.Item) where
-    -- a leaf that may take the item, as far as its entry goes
+    -- a leaf that is the root, or whose entry covers the item
     pub record IsAtLeaf (leaf : Node C) : Type 0 where
       pub here : IsHere C t.nodes at (C.key_of item)
       pub is : value_at t.nodes at ≡ Some leaf
       pub body : IsLeaf leaf.body
 
-    -- a leaf that may take the item, and no search that is done with it looks for the item
+    -- such a leaf, where no search that is done with it looks for the item
     pub record IsFree (leaf : Node C) : Type 0 where
       pub at_leaf : IsAtLeaf leaf
       pub free : NoneHolds C t.running leaf.attached item
 
-    -- the change to begin with: for a right node that has no entry yet, or for a full leaf
+    -- the first change to make: for a right node without an entry, or for a full leaf
     abbrev pub Wants : Change → Type 0
     Wants change =
         ((left : Handle) × IsUnlinked t.nodes at left × BeginsWith change left)
         ⊎ ((leaf : Node C) × IsFree leaf × (size_of leaf.body ≡ NODE_SIZE) × MakesRoom at leaf.place change)
 
 module _ (C : Class) (t u : PlainTree C.Key C.Query C.Item) (at now : Handle) where
-  -- What a change answers, what it leaves, and where the walk stands now. After a split that is the new right node. A
-  -- change is refused where the counter is at its end, where too few slots are left, else where the root stands at the
-  -- highest level, else where there is no memory. What is refused leaves the tree as it was; where there is no memory, all
-  -- but the memory that it has at hand.
+  -- What a change returns, what it leaves, and where the walk is now: after a split, at the new
+  -- right node. A change is refused where the counter is at its end, or too few slots are left,
+  -- else where the root is at the highest level, else where an allocation is refused. A refused
+  -- change leaves the tree unchanged; where an allocation is refused, only spare capacity may
+  -- differ.
   pub data Answers (picks : List C.Key → ℕ → Type 0) : Change → Result Step TreeFault → Type 0 where
     links : {parent left right : Handle} → IsInstalled (tree_of C t) (tree_of C u) parent left right → now ≡ at → Answers picks (Linking left) (Ok Installed)
     counter_ends : {left : Handle} → t.counter ≡ last_number → u ≡ t → Answers picks (Linking left) (Err Spent)
@@ -106,9 +108,9 @@ module _ (C : Class) (t u : PlainTree C.Key C.Query C.Item) (at now : Handle) wh
     top_level : taken_count t.nodes + 2 ≤ MAX_SLOTS → root_level t ≡ TOP_LEVEL → u ≡ t → Answers picks Growing (Err TooHigh)
     no_memory_to_grow : {refusal : Refused} → taken_count t.nodes + 2 ≤ MAX_SLOTS → root_level t ≢ TOP_LEVEL → IsUntouched C t u → Answers picks Growing (Err (Memory refusal))
 
-  -- What a step of a walk of this pair answers that stands here, by the first case that holds, what it leaves, and
-  -- where the walk stands now. At most one of the cases can be said of a tree, a node and an item, want of memory aside:
-  -- a way down is gone, or refused where memory is wanting.
+  -- What a step of a walk of this pair returns at this node, by the first case that holds, what it
+  -- leaves, and where the walk is now. At most one case holds for a tree, a node and an item,
+  -- except that a descent either is made or fails because an allocation is refused.
   pub data TakesStep (growth second_growth : C.Key → C.Key → ℕ) (picks : List C.Key → ℕ → Type 0) (pair : ℕ × C.Item) : Result Step TreeFault → Type 0 where
     begins_anew : IsNowhere t.nodes at → u ≡ t → now ≡ t.root → TakesStep growth second_growth picks pair (Ok Restarted)
     climbs : IsAside C t.nodes at now (C.key_of pair.1) → u ≡ t → TakesStep growth second_growth picks pair (Ok Moved)

@@ -26,7 +26,7 @@ module _ (C : Class) (t : PlainTree C.Key C.Query C.Item) where
     pub above_is : value_at t.nodes parent ≡ Some above
     pub room : size_of above.body < NODE_SIZE
 
-  -- an empty unmarked leaf that has an entry, beside others of its parent
+  -- an empty unmarked leaf whose parent has other entries too
   pub record IsUnneeded (at : Handle) : Type 0 where
     pub leaf : Node C
     pub is : value_at t.nodes at ≡ Some leaf
@@ -61,7 +61,8 @@ module _ (C : Class) (t : PlainTree C.Key C.Query C.Item) where
     IsFirstDue at Clean = HasUnkept at × (LacksEntry at → ⊥)
     IsFirstDue at (Retire parent place) = IsUnneeded at
 
-    -- tending a node answers by the first that is due there. A fault comes where the counter was to rise
+    -- tending a node returns the first that is due there; it is refused only where the counter
+    -- would rise
     abbrev pub AnswersFirst : Handle → Result Tending TreeFault → Type 0
     AnswersFirst at (Ok Idle) = NothingDue at
     AnswersFirst at (Ok Freed) = MayFree C t at

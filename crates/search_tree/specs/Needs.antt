@@ -1,4 +1,4 @@
--- What tending finds to do at a node.
+-- What tending needs to know of a node.
 use Rattle.std.specs.Prelude.{◌≡◌, ℕ, Option, None, Some, ⊤}
 use Rattle.node_arena.specs.declared.handle.Handle.{Handle}
 use Rattle.search_tree.specs.Tends.{MayClean, MayFree, MayInstall, MayRetire}
@@ -10,7 +10,7 @@ use Rattle.tree_theory.specs.Nodes.{PlainNode}
 use Rattle.tree_theory.specs.declared.place.Place.{Place}
 use Rattle.tree_theory.specs.declared.place.Place.TheVariants.{Root, Linked, Unlinked, Retired}
 
--- the stamp of what is retired
+-- the stamp in a retired place; `None` in any other
 abbrev pub stamp_in : Place → Option ℕ
 stamp_in Root = None
 stamp_in (Linked parent marked) = None

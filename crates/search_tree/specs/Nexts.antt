@@ -30,7 +30,7 @@ room_by_place at (Linked parent marked) = if marked then Behind at else Split at
 room_by_place at (Unlinked left) = Behind left
 room_by_place at (Retired stamp) = Nothing
 
--- a change, and none that others come before
+-- a change itself, not something that has to come before it
 abbrev pub IsChange : {Key : Type 0} → Room Key → Type 0
 IsChange (Install entry) = ⊤
 IsChange (Split at) = ⊤
@@ -39,7 +39,7 @@ IsChange (Behind left) = ⊥
 IsChange Nothing = ⊥
 
 module _ (C : Class) (t : PlainTree C.Key C.Query C.Item) where
-  -- what makes room may be done
+  -- the change may be made
   abbrev pub MayMake : Room C.Key → Type 0
   MayMake (Install entry) = MayInstall C t entry
   MayMake (Split at) = MaySplit C t at
@@ -47,7 +47,7 @@ module _ (C : Class) (t : PlainTree C.Key C.Query C.Item) where
   MayMake (Behind left) = ⊤
   MayMake Nothing = ⊤
 
-  -- what is next for a walk of this item that stands here may be done
+  -- what is next for a walk of this item at this node may be done
   abbrev pub MayGo : Handle → C.Item → Next C.Key → Type 0
   MayGo at item Restart = ⊤
   MayGo at item (Climb parent) = ⊤
@@ -56,7 +56,7 @@ module _ (C : Class) (t : PlainTree C.Key C.Query C.Item) where
   MayGo at item Place = (key : ℕ) → MayPlace C t at (key, item)
   MayGo at item (Make room) = MayMake room
 
-  -- the change that this room comes to
+  -- the change that is made for this room
   abbrev pub ComesTo : Room C.Key → Change → Type 0
   ComesTo (Install entry) change = change ≡ Linking entry.left
   ComesTo (Split at) change = change ≡ Parting at
@@ -73,7 +73,8 @@ module _ (C : Class) (t : PlainTree C.Key C.Query C.Item) where
     pub level_is : level ≤ node.level
     pub low : node.level < TOP_LEVEL
 
-  -- a change, or a marked node of this level or a higher one whose right node is to have its entry first
+  -- a change, or a marked node of this level or a higher one whose right node has to get its entry
+  -- first
   abbrev pub LooksFrom : ℕ → Room C.Key → Type 0
   LooksFrom level (Install entry) = ⊤
   LooksFrom level (Split at) = ⊤
@@ -81,7 +82,7 @@ module _ (C : Class) (t : PlainTree C.Key C.Query C.Item) where
   LooksFrom level (Behind left) = IsMarkedFrom level left
   LooksFrom level Nothing = ⊥
 
-  -- what is next for a walk of this item that stands here: the first case that holds
+  -- what is next for a walk of this item at this node: the first case that holds
   abbrev pub IsNext : (growth second_growth : C.Key → C.Key → ℕ) → Handle → C.Item → Next C.Key → Type 0
   IsNext growth second_growth at item Restart = IsNowhere t.nodes at
   IsNext growth second_growth at item (Climb parent) = IsAside C t.nodes at parent (C.key_of item)
@@ -91,7 +92,7 @@ module _ (C : Class) (t : PlainTree C.Key C.Query C.Item) where
   IsNext growth second_growth at item (Make room) = IsChange room × ((change : Change) → ComesTo room change → Wants C t at item change)
 
 module _ (C : Class) (t u : PlainTree C.Key C.Query C.Item) (at now : Handle) where
-  -- what is answered where this room is made
+  -- what is returned where this room is made
   abbrev pub Makes : (picks : List C.Key → ℕ → Type 0) → Room C.Key → Result Step TreeFault → Type 0
   Makes picks (Install entry) answer = Answers C t u at now picks (Linking entry.left) answer
   Makes picks (Split full) answer = Answers C t u at now picks (Parting full) answer
@@ -99,12 +100,12 @@ module _ (C : Class) (t u : PlainTree C.Key C.Query C.Item) (at now : Handle) wh
   Makes picks (Behind left) answer = ⊥
   Makes picks Nothing answer = ⊥
 
--- what a step answers
+-- what a step returns
 abbrev pub answer_in : Result Arrival TreeFault → Result Step TreeFault
 answer_in (Ok arrival) = Ok arrival.step
 answer_in (Err fault) = Err fault
 
--- where a walk that stood here stands after it
+-- where the walk is after the step
 abbrev pub place_in : Handle → Result Arrival TreeFault → Handle
 place_in at (Ok arrival) = arrival.at
 place_in at (Err fault) = at

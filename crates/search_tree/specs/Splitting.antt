@@ -24,7 +24,7 @@ module _ {Key Item : Type 0} where
     pub linked : node.place ≡ Linked parent false
     pub full : size_of node.body ≡ NODE_SIZE
 
-  -- a full root, each of whose children stands
+  -- a full root, whose children are all in the arena
   pub record IsFullRoot (nodes : Slots (PlainNode Key Item)) (root : Handle) : Type 0 where
     pub node : PlainNode Key Item
     pub is : value_at nodes root ≡ Some node
@@ -39,8 +39,8 @@ module _ {Key Item : Type 0} where
     pub is : value_at nodes at ≡ Some node
     pub below_top : node.level < TOP_LEVEL
 
-  -- a full node has split: it is marked, and its new right node has that part of what it had which the class picks. It
-  -- has the other part itself
+  -- A full node has split. It is marked. Its new right node has the part that the class picks, and
+  -- the node has the other part.
   pub record HasSplit (key_of : Item → Key) (picks : List Key → ℕ → Type 0) (old new : Slots (PlainNode Key Item)) (at right : Handle) : Type 0 where
     pub node : PlainNode Key Item
     pub is : value_at old at ≡ Some node
@@ -63,7 +63,8 @@ pub record IsLower (C : Class) (made : Node C) (node : Node C) (children : List 
   pub children_are : children ≡ children_of made.body
   pub union : IsUnion C made.body key
 
--- two new nodes stand over their children, and the node at the root has entries for them, one level higher
+-- two new nodes are over their children, and the node at the root has entries for them, one level
+-- higher
 pub record HasPutBelow {Key Item : Type 0} (old new : Slots (PlainNode Key Item)) (root : Handle) (one : PlainNode Key Item) (one_children : List Handle) (one_key : Key) (two : PlainNode Key Item) (two_children : List Handle) (two_key : Key) : Type 0 where
   pub a : Handle
   pub b : Handle
@@ -74,8 +75,8 @@ pub record HasPutBelow {Key Item : Type 0} (old new : Slots (PlainNode Key Item)
   pub risen : IsChanged last new root (λ node. record node { level = node.level + 1; body = Inner ((one_key, a) ∷ (two_key, b) ∷ []) })
   pub more : MoreTaken old new 2
 
--- the root has grown: two new nodes have what it had, the second one that part which the class picks, and it has their
--- entries in this order, one level higher
+-- The root has grown: two new nodes have its contents, the second one the part that the class
+-- picks. The root has their entries, in this order, and is one level higher.
 pub record HasGrown (C : Class) (picks : List C.Key → ℕ → Type 0) (old new : Slots (Node C)) (root : Handle) (seq : ℕ) : Type 0 where
   pub node : Node C
   pub is : value_at old root ≡ Some node
@@ -113,8 +114,8 @@ module _ (C : Class) (t : PlainTree C.Key C.Query C.Item) where
     pub is : value_at t.nodes t.root ≡ Some node
     pub full : size_of node.body ≡ NODE_SIZE
 
-  -- so many slots more are taken, and the root stands so much higher. Contents, searches and the other counts stay,
-  -- and nothing but nodes is another
+  -- `nodes` more slots are taken, and the root is `levels` higher. Contents, searches and the other
+  -- counts are unchanged, and only the nodes differ.
   pub record HasMoreNodes (u : PlainTree C.Key C.Query C.Item) (nodes levels : ℕ) : Type 0 where
     pub nodes_alone : u ≡ record t { nodes = u.nodes }
     pub contents : SameContents C t u

@@ -1,4 +1,4 @@
--- How a search stands before a step of it.
+-- The state of a search before a step.
 use Rattle.std.specs.Prelude.{◌≡◌, ℕ, None}
 use Rattle.search_tree.specs.Calls.{IsOverrun, IsReadyIn, IsUnderWay, MayStep}
 use Rattle.search_tree.specs.Trees.{PlainTree, search_in}

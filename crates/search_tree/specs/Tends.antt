@@ -24,7 +24,7 @@ ticks Installed = 1
 ticks Cleaned = 0
 ticks Retired = 1
 
--- how many slots are taken afterwards: where a node goes, its slot is free or worn out
+-- how many slots are taken afterwards; where a node is removed, its slot is free or worn out
 abbrev pub TakenAfter : Tending → ℕ → ℕ → Type 0
 TakenAfter Idle before after = after ≡ before
 TakenAfter Freed before after = (after ≤ before) × (before ≤ after + 1)
@@ -32,12 +32,13 @@ TakenAfter Installed before after = after ≡ before
 TakenAfter Cleaned before after = after ≡ before
 TakenAfter Retired before after = after ≡ before
 
--- how many slots are free again where the node at this handle goes: its own, but none where it is worn out
+-- how many slots are free again where the node at this handle is removed: its own, or none if it is
+-- worn out
 abbrev pub slots_freed : Handle → ℕ
 slots_freed at = if at.generation == last_generation then 0 else 1
 
 module _ (C : Class) (t : PlainTree C.Key C.Query C.Item) where
-  -- tending changes no search, and of the counts no other than the counter and the slots that are taken
+  -- tending changes no search, and of the counts only the counter and the taken slots
   pub record HasTended (u : PlainTree C.Key C.Query C.Item) (tending : Tending) : Type 0 where
     pub searches : (search : ℕ) → search_in u search ≡ search_in t search
     pub steps : (search : ℕ) → steps_in u search ≡ steps_in t search
@@ -48,7 +49,7 @@ module _ (C : Class) (t : PlainTree C.Key C.Query C.Item) where
     pub counter : u.counter ≡ t.counter + ticks tending
     pub taken : TakenAfter tending (taken_count t.nodes) (taken_count u.nodes)
 
-  -- the contents without some pairs, none of which is in Kept
+  -- the contents without some pairs, all outside of Kept
   abbrev pub ContentsLess : PlainTree C.Key C.Query C.Item → (ℕ × C.Item → Type 0) → Type 0
   ContentsLess u Kept = (xs : List (ℕ × C.Item)) → IsContents (tree_of C t) xs → (ys : List (ℕ × C.Item)) × IsContents (tree_of C u) ys × LosesPairs Kept xs ys
 
@@ -60,8 +61,8 @@ module _ (C : Class) (t : PlainTree C.Key C.Query C.Item) where
   ContentsTended Kept u Cleaned = ContentsLess u Kept
   ContentsTended Kept u Retired = SameContents C t u
 
-  -- what tending does at a node: nothing, or the one step that its answer tells. Where a node goes, its slot is free
-  -- again or worn out. A cleaned leaf has what it had of Kept, and nothing else
+  -- What tending does at a node: nothing, or the one step that it returns. Where a node is removed,
+  -- its slot is free again or worn out. A cleaned leaf keeps exactly its pairs in Kept.
   abbrev pub StepsAt : (ℕ × C.Item → Type 0) → Handle → PlainTree C.Key C.Query C.Item → Tending → Type 0
   StepsAt Kept at u Idle = u ≡ t
   StepsAt Kept at u Freed = IsFreed (tree_of C t) (tree_of C u) at × (taken_count u.nodes + slots_freed at ≡ taken_count t.nodes)
@@ -76,7 +77,7 @@ module _ (C : Class) (t : PlainTree C.Key C.Query C.Item) where
     pub pairs : List (ℕ × C.Item)
     pub body : node.body ≡ Leaf pairs
 
-  -- a retired node, at whose stamp or later every running search began
+  -- a retired node, and every running search began at its stamp or later
   pub record MayFree (at : Handle) : Type 0 where
     pub node : Node C
     pub is : value_at t.nodes at ≡ Some node
@@ -84,7 +85,7 @@ module _ (C : Class) (t : PlainTree C.Key C.Query C.Item) where
     pub place : node.place ≡ AtRest stamp
     pub all_later : AllBegunSince t.running stamp
 
-  -- an empty leaf whose parent has another entry too, at whose place the leaf's stands
+  -- an empty leaf whose parent has another entry too; the leaf's entry is at index `place`
   pub record MayRetire (at parent : Handle) (place : ℕ) : Type 0 where
     pub leaf : Node C
     pub leaf_is : value_at t.nodes at ≡ Some leaf
@@ -98,8 +99,8 @@ module _ (C : Class) (t : PlainTree C.Key C.Query C.Item) where
     pub key : C.Key
     pub entry : slice_get entries place ≡ Some (key, at)
 
-  -- a marked node and its right node under a parent with room, where the entry of the left one stands at the
-  -- place, and the keys that their entries are to have
+  -- a marked node and its right node under a parent with room, where the left one's entry is at
+  -- index `place`, and the new keys of both entries
   pub record MayInstall (e : NewEntry C.Key) : Type 0 where
     pub node : Node C
     pub is : value_at t.nodes e.parent ≡ Some node

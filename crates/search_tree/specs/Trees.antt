@@ -27,17 +27,17 @@ module _ {Item : Type 0} where
   steps_of None = 0
   steps_of (Some progress) = progress.steps
 
-  -- no number stands twice
+  -- no two have the same number
   abbrev pub NumbersDiffer : List (PlainProgress Item) → Type 0
   NumbersDiffer ps = AllPairs (λ (p q : PlainProgress Item). p.number ≢ q.number) ps
 
-  -- the first place that has the number
+  -- the first index with the number
   pub record IsFirstOf (number : ℕ) (ps : List (PlainProgress Item)) (at : ℕ) : Type 0 where
     pub within : at < length ps
     pub named : (d : PlainProgress Item) → (slice_index_or ps at d).number ≡ number
     pub before : (k : ℕ) (d : PlainProgress Item) → k < at → (slice_index_or ps k d).number ≢ number
 
--- the nodes, the counter, the running searches and how far they have come, and the limit of steps
+-- the nodes, the counter, the running searches and their progress, and the limit of steps
 pub record PlainTree (Key Query Item : Type 0) : Type 0 where
   pub nodes : Slots (PlainNode Key Item)
   pub root : Handle
@@ -59,7 +59,7 @@ search_of (Some running) (Some progress) =
       found = progress.found;
     })
 
--- a walk: its pair, where it stands, its steps, and whether the pair is placed
+-- a walk: its pair, the node where it is, its steps, and whether the pair is placed
 pub record PlainWalk (Item : Type 0) : Type 0 where
   pub key : ℕ
   pub item : Item
@@ -104,13 +104,13 @@ module _ (C : Class) where
   -- what every tree keeps
   pub record IsSound (t : PlainTree C.Key C.Query C.Item) : Type 0 where
     pub invariant : Invariant (tree_of t)
-    -- each search that runs has its progress, and no other; and has it once
+    -- each running search has its progress, exactly once, and nothing else has one
     pub progress_of_each : (s : ℕ) → is_some (progress_at s t.progress) ≡ is_some (search_at t.running s)
     pub progress_once : NumbersDiffer t.progress
     pub limited : t.limit ≤ MAX_STEPS
 
-  -- a tree that nobody has called yet: it has no pairs and no searches, its root is its one node, in the first slot, and
-  -- each slot starts at this generation. The root is a leaf that has nothing yet, and has the counter's number
+  -- A new tree. It has no pairs and no searches. Its root is its one node, in the first slot: an
+  -- empty leaf with the counter as its number. Each slot starts at this generation.
   pub record IsFirst (generation counter next limit : ℕ) (t : PlainTree C.Key C.Query C.Item) : Type 0 where
     pub contents : IsContents (tree_of t) []
     pub searches : (s : ℕ) → search_in t s ≡ None

@@ -19,7 +19,7 @@ use Rattle.search_tree.specs.declared.descents.WayDown.{WayDown}
 use Rattle.tree_nodes.specs.Descents.{IsNotLed, AreLed, marked_right}
 
 module _ (C : Class) (s : Searches C.Query) (attached : List ℕ) (item : C.Item) where
-  -- the search of this number runs, is attached and looks for the item, and none of a lesser number does
+  -- the running search of the least number that is attached and looks for the item
   pub record IsHolder (number : ℕ) : Type 0 where
     pub search : RunningSearch C.Query
     pub runs : search_at s number ≡ Some search
@@ -32,7 +32,8 @@ module _ (C : Class) (s : Searches C.Query) (attached : List ℕ) (item : C.Item
   NoneHolds = (number : ℕ) (search : RunningSearch C.Query) → search_at s number ≡ Some search → Contains attached number → C.Matches item search.query → ⊥
 
 module _ (C : Class) (t : PlainTree C.Key C.Query C.Item) where
-  -- a leaf with room may take the pair: its entry covers the item, and no search that is done with it looks for the item
+  -- a leaf with room that may take the pair: it is the root, or its entry covers the item, and no
+  -- search that is done with the leaf looks for the item
   pub record MayPlace (at : Handle) (pair : ℕ × C.Item) : Type 0 where
     pub node : Node C
     pub is : value_at t.nodes at ≡ Some node
@@ -42,7 +43,7 @@ module _ (C : Class) (t : PlainTree C.Key C.Query C.Item) where
     pub may_take : MayTake (tree_of C t) at node (C.key_of pair.1)
     pub none_matches : (s : ℕ) (run : RunningSearch C.Query) → search_at t.running s ≡ Some run → Contains node.attached s → C.Matches pair.1 run.query → ⊥
 
-  -- the pair is in the contents once more. Nothing else changes
+  -- the contents have the pair once more; nothing else changes
   pub record HasPlaced (u : PlainTree C.Key C.Query C.Item) (pair : ℕ × C.Item) : Type 0 where
     pub contents : (xs : List (ℕ × C.Item)) → IsContents (tree_of C t) xs → IsContents (tree_of C u) (xs ++ pair ∷ [])
     pub searches : (search : ℕ) → search_in u search ≡ search_in t search
@@ -56,19 +57,20 @@ module _ (C : Class) (t : PlainTree C.Key C.Query C.Item) where
     pub is : value_at t.nodes at ≡ Some node
     pub each : (s : ℕ) → Contains searches s → MayJoin (tree_of C t) at node s
 
-  -- these searches are attached to the node too, and those that do not run are let go. No other node changes
+  -- these searches are attached to the node too, and those that do not run are removed; no other
+  -- node changes
   pub record HasJoined (u : PlainTree C.Key C.Query C.Item) (at : Handle) (searches : List ℕ) : Type 0 where
     pub only_nodes : u ≡ record t { nodes = u.nodes }
     pub changed : IsChanged t.nodes u.nodes at (λ n. record n { attached = filter (does_run t.running) (with_numbers searches n.attached) })
     pub alike : IsAlike C t u
 
-  -- A node has got some of these searches attached, and each search that was attached to it and runs still is. Nothing
-  -- else of it changes
+  -- Some of these searches are attached to a node, and each running search that was attached still
+  -- is. Nothing else of the node changes.
   pub record HasMore (searches : List ℕ) (old new : Node C) : Type 0 where
     pub same : new ≡ record old { attached = new.attached }
     pub numbers : Numbers (tree_of C t) (λ s. Contains searches s) old.attached new.attached
 
-  -- nodes have got some of these searches attached
+  -- in each node, some of these searches are attached
   pub record MoreAttached (searches : List ℕ) (new : Slots (Node C)) : Type 0 where
     pub forth : (h : Handle) (node : Node C) → value_at t.nodes h ≡ Some node → (now : Node C) × (value_at new h ≡ Some now) × HasMore searches node now
 
@@ -91,7 +93,7 @@ module _ (C : Class) (t : PlainTree C.Key C.Query C.Item) where
     pub entry : slice_get entries way.place ≡ Some (way.key, way.child)
     pub may_take : MayTake (tree_of C t) way.parent node key
 
-  -- searches that the key of a child's entry does not lead on
+  -- the key of the child's entry leads none of these searches on
   pub record MayJoinBelow (child : Handle) (searches : List ℕ) : Type 0 where
     pub parent : Handle
     pub node : Node C
@@ -100,8 +102,8 @@ module _ (C : Class) (t : PlainTree C.Key C.Query C.Item) where
     pub entry : Contains (entries_of node.body) (key, child)
     pub each : (s : ℕ) → Contains searches s → IsNotLed C t.running key s
 
-  -- the child has them attached, and where it is marked its right node too. At these two nodes nothing else changes but
-  -- who is attached, and no other node changes
+  -- The searches are attached to the child, and to its right node where the child is marked.
+  -- Nothing else of these two nodes changes, and no other node.
   pub record HasJoinedBelow (u : PlainTree C.Key C.Query C.Item) (child : Handle) (searches : List ℕ) : Type 0 where
     pub only_nodes : u ≡ record t { nodes = u.nodes }
     pub more : MoreAttached searches u.nodes
@@ -110,14 +112,15 @@ module _ (C : Class) (t : PlainTree C.Key C.Query C.Item) where
     pub beside : (right : Handle) → marked_right (value_at t.nodes child) ≡ Some right → (s : ℕ) → Contains searches s → Done (tree_of C u) s right
     pub others : (h : Handle) → h ≢ child → marked_right (value_at t.nodes child) ≢ Some h → value_at u.nodes h ≡ value_at t.nodes h
 
-  -- the entry of p that has this key and names the child has the union of the key with another one
+  -- the entry of p with this key and child has the union of its key with another one
   pub record HasEnlarged (u : PlainTree C.Key C.Query C.Item) (p : Handle) (old key : C.Key) (child : Handle) : Type 0 where
     pub step : IsEnlarged (tree_of C t) (tree_of C u) p key
     pub old_is : step.old ≡ old
     pub child_is : step.child ≡ child
 
--- The searches that are done with the node and that the entry's wider key leads on, but not the old one, are attached
--- to the child, and where it is marked to its right node. Then the entry has the union of its key with the item's.
+-- The searches that are done with the node and that only the entry's wider key leads on are
+-- attached to the child, and to its right node where the child is marked. Then the entry has the
+-- union of its key with the item's.
 pub record HasDescended (C : Class) (t u : PlainTree C.Key C.Query C.Item) (at child : Handle) (old key : C.Key) : Type 0 where
   pub node : Node C
   pub is : value_at t.nodes at ≡ Some node

@@ -16,7 +16,7 @@ use std::alloc::Allocator;
 use tree_answers::{Step, TreeFault};
 use tree_theory::KeyClass;
 
-/// What a step of a walk answers, and where the walk stands then.
+/// What a step of a walk returns, and the node where the walk is then.
 #[derive(Clone, Copy)]
 pub(crate) struct Arrival {
     pub(crate) step: Step,
@@ -24,9 +24,17 @@ pub(crate) struct Arrival {
 }
 
 impl<C: KeyClass, A: Allocator + Copy> Tree<C, A> {
-    /// One step of a walk. Placed is answered where its pair is in the tree then: no search that is ready looks for it. Where other nodes have to be parted or to get their entries first, one of them is, and the answer is Split or Installed.
+    /// Makes one step of a walk. Returns `Placed` once its pair is in the tree; no ready search
+    /// looks for the pair. Where a node has to split or to get its entry first, makes one such
+    /// change, and returns `Split` or `Installed`.
     ///
-    /// A walk whose pair is placed is answered Placed again, and makes no step. S7 where it has made all its steps. S3 where a search that is done with the leaf (it has seen it, or has passed it over), and so would miss the pair, looks for it, with the least number of those that do: the walk goes on once they are closed. S4 where fewer slots are free than a split or the root's growth wants, else S5 where the root would stand too high, S6 where the counter is at its end, S8 where there is no memory. A step that is refused is not counted, and changes nothing; only where there is no memory, nothing but the memory at hand.
+    /// A walk whose pair is placed returns `Placed` again, and makes no step. S7 where it has made
+    /// all its steps. S3 where a search looks for the pair but is done with the leaf (it has seen
+    /// it, or has passed it over), and so would miss the pair: `Held` names the one of the least
+    /// number. The walk goes on once these searches are closed. S4 where too few slots are left for
+    /// a split or the root's growth, else S5 where the root would be too high. S6 where an entry is
+    /// to be installed and the counter is `u64::MAX`. S8 where an allocation is refused. A refused
+    /// step is not counted and changes nothing; after S8 only spare capacity may have grown.
     pub fn advance(&mut self, walk: &mut Walk<C::Item>) -> Result<Step, TreeFault>
         ensures step { IsAdvance (class_of C.covered C.may_match C.is_match C.key_with C.united) self.old self.new walk.old walk.new result }
         ensures first { MayWalk self.old.limit walk.old → TakesStep (class_of C.covered C.may_match C.is_match C.key_with C.united) self.old self.new walk.old.at walk.new.at C.growth C.second_growth C.picks (walk.old.key, walk.old.item) result }
@@ -42,7 +50,7 @@ impl<C: KeyClass, A: Allocator + Copy> Tree<C, A> {
         Ok(arrival.step)
     }
 
-    // Does what is next for a walk of this pair that stands here.
+    /// Does what is next for a walk of this pair at this node.
     fn make_step(&mut self, at: Handle, key: u64, item: C::Item) -> Result<Arrival, TreeFault>
         ensures ok { IfOk result (λ made. HasAdvanced (class_of C.covered C.may_match C.is_match C.key_with C.united) self.old self.new (key, item) made.step) }
         ensures err { IfErr result (MayRefuse (class_of C.covered C.may_match C.is_match C.key_with C.united) self.old item) }
@@ -74,7 +82,7 @@ impl<C: KeyClass, A: Allocator + Copy> Tree<C, A> {
         }
     }
 
-    // At the root, where a walk begins anew.
+    /// The walk is back at the root.
     fn restart(&self) -> Arrival
         ensures step { result.step ≡ Step.Restarted }
         ensures at { result.at ≡ self.now.root }
@@ -85,7 +93,8 @@ impl<C: KeyClass, A: Allocator + Copy> Tree<C, A> {
         }
     }
 
-    // Makes room where a walk stands, or brings that nearer. After a split the walk stands at the new right node, since its left node would get all that comes.
+    /// Makes the change that makes room where the walk is, or that has to come first. After a split
+    /// the walk is at the new right node; else whatever comes would go to the left one.
     fn make_room(&mut self, room: &Room<C::Key>, at: Handle) -> Result<Arrival, TreeFault>
         requires may { MayMake (class_of C.covered C.may_match C.is_match C.key_with C.united) self.old room.now }
         requires change { IsChange room.now }

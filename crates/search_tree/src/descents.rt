@@ -1,4 +1,5 @@
-//! A walk goes down: an entry takes in the item's key, and the searches that this leads on join what lies below first.
+//! How a walk descends: searches join the child first, then its entry is enlarged by the item's
+//! key.
 
 ghost use Rattle.std.specs.Prelude.{◌≡◌, ◌≤◌, Some, OnOk, OnErr, length};
 ghost use Rattle.node_arena.specs.Slots.{value_at};
@@ -18,7 +19,7 @@ use std::alloc::Allocator;
 use tree_nodes::led_searches;
 use tree_theory::KeyClass;
 
-/// An entry by which a walk goes down: where it stands, its key, and the child that it names.
+/// An entry by which a walk descends: its node and its index there, its key, and its child.
 #[derive(Clone, Copy)]
 pub(crate) struct WayDown<K> {
     pub(crate) parent: Handle,
@@ -28,7 +29,9 @@ pub(crate) struct WayDown<K> {
 }
 
 impl<C: KeyClass, A: Allocator + Copy> Tree<C, A> {
-    // Makes the key of an entry its union with an item's key. Before, the searches that are done with the parent and that only the union leads on join the child. Where there is no memory nothing changes.
+    /// Enlarges the key of an entry to its union with an item's key. First attaches to the child
+    /// the searches that are done with the parent and that only the union leads on. Nothing changes
+    /// where an allocation is refused, except that spare capacity may grow.
     pub(crate) fn descend(&mut self, way: &WayDown<C::Key>, key: C::Key) -> Result<(), Refused>
         requires { MayDescend (class_of C.covered C.may_match C.is_match C.key_with C.united) self.old way.now key }
         ensures ok { OnOk result (IsAlike (class_of C.covered C.may_match C.is_match C.key_with C.united) self.old self.new) }
@@ -41,7 +44,8 @@ impl<C: KeyClass, A: Allocator + Copy> Tree<C, A> {
         Ok(())
     }
 
-    // The searches that are done with the parent, and that the wider key would lead on to the child.
+    /// The searches that are done with the parent and that only the wider key leads on to the
+    /// child.
     fn led_by(&self, way: &WayDown<C::Key>, wider: C::Key) -> ArrayVec<u64, MAX_RUNNING>
         ensures led { (node : PlainNode C.Key C.Item) → value_at self.now.nodes way.now.parent ≡ Some node → AreLed (class_of C.covered C.may_match C.is_match C.key_with C.united) self.now.running way.now.key wider node.attached result.items }
         ensures few { length result.items ≤ MAX_RUNNING }

@@ -23,7 +23,7 @@ use tree_answers::TreeFault;
 use tree_nodes::{Body, Entries, Halves, Nodes, TreeNode, key_for, put_over, rise, shared_out};
 use tree_theory::{KeyClass, TOP_LEVEL};
 
-// A node that is to stand below the root, with the key of its entry and the handles of its children.
+/// A new node to be put below the root, with the key of its entry and the handles of its children.
 #[derive(Drop)]
 struct Lower<K, I, A: Allocator> {
     key: K,
@@ -32,9 +32,11 @@ struct Lower<K, I, A: Allocator> {
 }
 
 impl<C: KeyClass, A: Allocator + Copy> Tree<C, A> {
-    // Gives the full root two new nodes, which have a part each of what it had and the searches attached to it. It has their entries, one level higher.
-    //
-    // S4 where fewer than two slots more can be taken, else S5 where the root stands at the highest level, and then nothing has changed. Else S8 where there is no memory, and then nothing has changed but the memory at hand.
+    /// Moves the contents of the full root into two new nodes, each with a part and with the root's
+    /// attached searches. The root then has their two entries, and is one level higher.
+    ///
+    /// S4 where fewer than two slots are left, else S5 where the root is at `TOP_LEVEL`: nothing
+    /// changes. Else S8 where an allocation is refused: only spare capacity may grow.
     pub(crate) fn grow(&mut self) -> Result<(), TreeFault>
         requires { MayGrow (class_of C.covered C.may_match C.is_match C.key_with C.united) self.old }
         ensures ok { OnOk result (HasMoreNodes (class_of C.covered C.may_match C.is_match C.key_with C.united) self.old self.new 2 1) }
@@ -49,7 +51,7 @@ impl<C: KeyClass, A: Allocator + Copy> Tree<C, A> {
     }
 }
 
-// Lets a full root grow. Where that is refused no node has changed.
+/// Grows a full root. On an error no node has changed.
 fn grow_in<C: KeyClass, A: Allocator + Copy>(
     nodes: &mut Nodes<C::Key, C::Item, A>,
     alloc: A,
@@ -75,7 +77,7 @@ fn grow_in<C: KeyClass, A: Allocator + Copy>(
     Ok(())
 }
 
-// The level of a node, and 0 where none stands there.
+/// The level of a node; 0 where the handle names none.
 fn level_at<K: Copy, I: Copy, A: Allocator>(nodes: &Nodes<K, I, A>, at: Handle) -> u8
     ensures { result ≡ level_of (value_at nodes.now at) }
 {
@@ -85,7 +87,8 @@ fn level_at<K: Copy, I: Copy, A: Allocator>(nodes: &Nodes<K, I, A>, at: Handle) 
     }
 }
 
-// Lets a full root grow that is not at the highest level, where there is room for two nodes more. All that may want memory comes before the first change.
+/// Grows a full root below `TOP_LEVEL`, where two slots are reserved. Everything that allocates
+/// comes before the first change.
 fn grow_root<C: KeyClass, A: Allocator + Copy>(
     nodes: &mut Nodes<C::Key, C::Item, A>,
     alloc: A,
@@ -109,7 +112,7 @@ fn grow_root<C: KeyClass, A: Allocator + Copy>(
     Ok(())
 }
 
-// Puts two nodes below the root, which has their entries from then on.
+/// Puts two nodes below the root, whose only entries are then theirs.
 fn put_below<C: KeyClass, A: Allocator + Copy>(
     nodes: &mut Nodes<C::Key, C::Item, A>,
     root: Handle,
@@ -139,7 +142,7 @@ fn put_below<C: KeyClass, A: Allocator + Copy>(
     rise(nodes, root, entries);
 }
 
-// A node with this part of what the root has.
+/// A new node with this part of the root's contents.
 fn lower_half<C: KeyClass, A: Allocator + Copy>(
     node: &TreeNode<C::Key, C::Item, A>,
     root: Handle,

@@ -14,7 +14,8 @@ use tree_answers::Tending;
 use tree_nodes::{push_entry, set_key, set_place, set_seq};
 use tree_theory::{KeyClass, Place};
 
-/// An entry for a right node, and what becomes of its left node's entry, which stands at the place.
+/// A new entry for a right node, and the new key of its left node's entry, which is at index
+/// `place` of the parent.
 #[derive(Clone, Copy)]
 pub(crate) struct NewEntry<K> {
     pub(crate) parent: Handle,
@@ -26,7 +27,8 @@ pub(crate) struct NewEntry<K> {
 }
 
 impl<C: KeyClass, A: Allocator> Tree<C, A> {
-    // Gives a right node its entry. The left node is marked no more, and has the number to which the counter rises: so searches that remember a lesser one still go on to its right.
+    /// Gives a right node its entry. The left node loses its mark, and gets the counter's next
+    /// value as its number: so a search with a lesser memo still goes on to the right node.
     pub(crate) fn install(&mut self, entry: &NewEntry<C::Key>, seq: u64)
         requires may { MayInstall (class_of C.covered C.may_match C.is_match C.key_with C.united) self.old entry.now }
         requires seq { seq ≡ self.old.counter + 1 }

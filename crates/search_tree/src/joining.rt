@@ -1,4 +1,5 @@
-//! What a walk changes on its way down: searches join a node, and an entry takes in the item's key.
+//! What a walk changes on its way down: searches are attached to nodes, and an entry is enlarged by
+//! the item's key.
 
 ghost use Rattle.std.specs.Prelude.{◌≡◌, ◌≤◌, Some, OnOk, OnErr, length};
 ghost use Rattle.node_arena.specs.Slots.{value_at};
@@ -16,7 +17,8 @@ use tree_nodes::{joined, marked_right, set_attached, set_key};
 use tree_theory::KeyClass;
 
 impl<C: KeyClass, A: Allocator + Copy> Tree<C, A> {
-    // Attaches searches to a node in which they have nothing to look for. Where there is no memory nothing changes.
+    /// Attaches searches to a node in which they have nothing to look for. Nothing changes where an
+    /// allocation is refused.
     fn join(&mut self, at: Handle, searches: &[u64]) -> Result<(), Refused>
         requires may { MayJoinAll (class_of C.covered C.may_match C.is_match C.key_with C.united) self.old at searches.now }
         requires few { length searches.now ≤ MAX_ROOM }
@@ -28,7 +30,8 @@ impl<C: KeyClass, A: Allocator + Copy> Tree<C, A> {
         Ok(())
     }
 
-    // Attaches searches to a child whose entry does not lead them on, and to its right node too where the child is marked. Where there is no memory nothing changes.
+    /// Attaches searches to a child whose entry does not lead them on, and to its right node where
+    /// the child is marked. Nothing changes where an allocation is refused.
     pub(crate) fn join_below(&mut self, child: Handle, searches: &[u64]) -> Result<(), Refused>
         requires may { MayJoinBelow (class_of C.covered C.may_match C.is_match C.key_with C.united) self.old child searches.now }
         requires few { length searches.now ≤ MAX_ROOM }
@@ -45,7 +48,8 @@ impl<C: KeyClass, A: Allocator + Copy> Tree<C, A> {
         }
     }
 
-    // The same for a marked child and this right node of it. Both lists are made before the first change.
+    /// As `join_below`, for a marked child and its right node. Both lists are made before the first
+    /// change.
     fn join_both(&mut self, child: Handle, right: Handle, searches: &[u64]) -> Result<(), Refused>
         requires may { MayJoinBelow (class_of C.covered C.may_match C.is_match C.key_with C.united) self.old child searches.now }
         requires leads { right_of_marked (value_at self.old.nodes child) ≡ Some right }
@@ -62,7 +66,7 @@ impl<C: KeyClass, A: Allocator + Copy> Tree<C, A> {
 }
 
 impl<C: KeyClass, A: Allocator> Tree<C, A> {
-    // Makes the key of a child's entry, which stands at the place, its union with another key.
+    /// Enlarges the key of a child's entry, at index `place`, to its union with another key.
     pub(crate) fn enlarge(
         &mut self,
         parent: Handle,

@@ -1,4 +1,5 @@
-//! What follows from the definitions alone. A function here does nothing: it is its contract.
+//! Laws that follow from the definitions alone. The function does nothing; its contract states the
+//! law.
 
 ghost use Rattle.node_arena.specs.declared.handle.Handle.{Handle};
 ghost use Rattle.search_tree.specs.Answering.{HasEnds, AnswersAlike};
@@ -11,7 +12,9 @@ ghost use Rattle.tree_theory.specs.KeyClasses.{class_of};
 
 use tree_theory::KeyClass;
 
-/// A step of a walk has one answer, want of memory aside: of the cases in which a walk may be, at most one can be said of a tree, of the node where the walk stands and of its item. (Of entries of equal penalties any may be the one by which it goes down.)
+/// A step of a walk has one result, unless an allocation is refused: at most one of the cases of a
+/// walk holds for a tree, a node and an item. (Of entries with equal penalties, the walk may
+/// descend by any.)
 pub fn steps_answer_alike<C: KeyClass>()
     ensures { (t u v : PlainTree C.Key C.Query C.Item) (at one other : Handle) (pair : ℕ × C.Item) (a b : Result Step TreeFault)
         → HasEnds u → HasEnds v

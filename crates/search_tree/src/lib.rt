@@ -1,4 +1,5 @@
-//! The search tree of features: a tree over any class of keys.
+//! The search tree of features, over any class of keys: searches and walks go on at the same time,
+//! step by step, and no search misses anything.
 #![tactic(auto)]
 
 mod advancing;

@@ -1,4 +1,4 @@
-//! What tending finds to do at a node. Nothing here changes anything.
+//! What tending finds due at a node. Nothing here changes anything.
 
 ghost use Rattle.std.specs.Prelude.{◌≡◌, ◌↔◌, ◌<◌, ℕ, false, [], None, Some, IsTrue, IsSome, IfSome, IfNone, slice_get};
 ghost use Rattle.tree_theory.specs.Nodes.PlainBody.{Leaf};
@@ -19,7 +19,7 @@ use tree_answers::Keeper;
 use tree_nodes::{Nodes, TreeNode, key_for, parent_of, place_among};
 use tree_theory::{KeyClass, NODE_SIZE, Place};
 
-/// What is to be done at a node.
+/// What is due at a node.
 pub(crate) enum Due<K> {
     Nothing,
     /// It is retired, and every running search began at its stamp or later.
@@ -28,12 +28,12 @@ pub(crate) enum Due<K> {
     Install(NewEntry<K>),
     /// It is a leaf with pairs that are not kept.
     Clean,
-    /// It is an empty leaf, whose entry stands at this place of its parent.
+    /// It is an empty leaf, whose entry is at this index of its parent.
     Retire { parent: Handle, place: usize },
 }
 
 impl<C: KeyClass, A: Allocator> Tree<C, A> {
-    // What is to be done at a node: the first of the cases that holds.
+    /// What is due at a node: the first case that holds.
     pub(crate) fn first_due<K: Keeper<C::Item>>(&self, at: Handle, keeper: &K) -> Due<C::Key>
         ensures may { MayDo (class_of C.covered C.may_match C.is_match C.key_with C.united) self.now at result }
         ensures first { IsSome (value_at self.now.nodes at) → IsFirstDue (class_of C.covered C.may_match C.is_match C.key_with C.united) self.now (λ pair. IsTrue (K.kept keeper.now pair.0 pair.1)) at result }
@@ -50,7 +50,7 @@ impl<C: KeyClass, A: Allocator> Tree<C, A> {
         }
     }
 
-    // What is to be done at a node that is not retired.
+    /// What is to be done at a node that is not retired.
     fn due_in_place<K: Keeper<C::Item>>(&self, at: Handle, keeper: &K) -> Due<C::Key>
         ensures may { MayDo (class_of C.covered C.may_match C.is_match C.key_with C.united) self.now at result }
         ensures first { stamp_at (value_at self.now.nodes at) ≡ None → IsFirstDue (class_of C.covered C.may_match C.is_match C.key_with C.united) self.now (λ pair. IsTrue (K.kept keeper.now pair.0 pair.1)) at result }
@@ -67,7 +67,7 @@ impl<C: KeyClass, A: Allocator> Tree<C, A> {
         }
     }
 
-    // The entry that the right node of a marked node lacks, where their parent has room for it.
+    /// The entry that the right node of a marked node lacks, where their parent has room for it.
     pub(crate) fn lacking(&self, at: Handle) -> Option<NewEntry<C::Key>>
         ensures may { IfSome result (MayInstall (class_of C.covered C.may_match C.is_match C.key_with C.united) self.now) }
         ensures due { IfSome result (λ entry. LacksEntry (class_of C.covered C.may_match C.is_match C.key_with C.united) self.now at) }
@@ -94,7 +94,7 @@ impl<C: KeyClass, A: Allocator> Tree<C, A> {
         })
     }
 
-    // Whether a leaf has a pair that is not kept.
+    /// Whether a leaf has a pair that is not kept.
     fn has_unkept<K: Keeper<C::Item>>(&self, at: Handle, keeper: &K) -> bool
         ensures may { IsTrue result → MayClean (class_of C.covered C.may_match C.is_match C.key_with C.united) self.now at }
         ensures due { IsTrue result ↔ HasUnkept (class_of C.covered C.may_match C.is_match C.key_with C.united) self.now (λ pair. IsTrue (K.kept keeper.now pair.0 pair.1)) at }
@@ -108,7 +108,8 @@ impl<C: KeyClass, A: Allocator> Tree<C, A> {
         is_one_unkept(node.pairs(), keeper)
     }
 
-    // The parent of an empty unmarked leaf that is not its only child, and the place of the leaf's entry.
+    /// The parent of an empty unmarked leaf that is not its only child, and the index of the leaf's
+    /// entry.
     fn empty_below(&self, at: Handle) -> Option<(Handle, usize)>
         ensures may { IfSome result (λ found. MayRetire (class_of C.covered C.may_match C.is_match C.key_with C.united) self.now at found.0 found.1) }
         ensures due { IfSome result (λ found. IsUnneeded (class_of C.covered C.may_match C.is_match C.key_with C.united) self.now at) }
@@ -128,7 +129,7 @@ impl<C: KeyClass, A: Allocator> Tree<C, A> {
     }
 }
 
-// The stamp of a node, where one stands there and is retired.
+/// The stamp of a retired node; `None` where the handle names no node or one that is not retired.
 fn stamp_of<K: Copy, I: Copy, A: Allocator>(nodes: &Nodes<K, I, A>, at: Handle) -> Option<u64>
     ensures { result ≡ stamp_at (value_at nodes.now at) }
 {
@@ -138,7 +139,7 @@ fn stamp_of<K: Copy, I: Copy, A: Allocator>(nodes: &Nodes<K, I, A>, at: Handle) 
     }
 }
 
-// The stamp of what is retired.
+/// The stamp in a retired place; `None` in any other.
 fn stamp_in_place(place: Place) -> Option<u64>
     ensures { result ≡ stamp_in place }
 {
@@ -148,7 +149,7 @@ fn stamp_in_place(place: Place) -> Option<u64>
     }
 }
 
-// Whether one of the pairs is not kept.
+/// Whether one of the pairs is not kept.
 fn is_one_unkept<I: Copy, K: Keeper<I>>(pairs: &[(u64, I)], keeper: &K) -> bool
     ensures some { IsTrue result → (place : ℕ) × (pair : ℕ × I) × (slice_get pairs.now place ≡ Some pair) × (K.kept keeper.now pair.0 pair.1 ≡ false) }
     ensures none { result ≡ false → (place : ℕ) (pair : ℕ × I) → slice_get pairs.now place ≡ Some pair → IsTrue (K.kept keeper.now pair.0 pair.1) }
@@ -161,7 +162,7 @@ fn is_one_unkept<I: Copy, K: Keeper<I>>(pairs: &[(u64, I)], keeper: &K) -> bool
     false
 }
 
-// Whether it is a leaf without pairs.
+/// Whether it is a leaf without pairs.
 fn is_empty_leaf<K: Copy, I: Copy, A: Allocator>(node: &TreeNode<K, I, A>) -> bool
     ensures leaf { IsTrue result → IsLeaf node.now.body }
     ensures empty { IsTrue result → size_of node.now.body ≡ 0 }
@@ -173,7 +174,7 @@ fn is_empty_leaf<K: Copy, I: Copy, A: Allocator>(node: &TreeNode<K, I, A>) -> bo
     node.size() == 0
 }
 
-// Whether it is an inner node with more than one entry.
+/// Whether it is an inner node with more than one entry.
 fn has_others<K: Copy, I: Copy, A: Allocator>(node: &TreeNode<K, I, A>) -> bool
     ensures inner { IsTrue result → IsInner node.now.body }
     ensures more { IsTrue result → 1 < size_of node.now.body }
@@ -185,7 +186,7 @@ fn has_others<K: Copy, I: Copy, A: Allocator>(node: &TreeNode<K, I, A>) -> bool
     1 < node.size()
 }
 
-// Whether it is an inner node that one entry more goes into.
+/// Whether a node is an inner node with room for one more entry.
 fn has_room<K: Copy, I: Copy, A: Allocator>(node: &TreeNode<K, I, A>) -> bool
     ensures inner { IsTrue result → IsInner node.now.body }
     ensures room { IsTrue result → size_of node.now.body < NODE_SIZE }

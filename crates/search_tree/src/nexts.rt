@@ -21,9 +21,9 @@ use tree_theory::KeyClass;
 
 /// What is next for a walk.
 pub(crate) enum Next<K> {
-    /// It begins anew at the root, since it stands at no node of the tree.
+    /// It starts again at the root, since its handle names no node, or a retired one.
     Restart,
-    /// It goes up to this parent, whose entry does not cover the item.
+    /// It climbs to this parent, whose entry for the node does not cover the item.
     Climb(Handle),
     /// It goes down by this entry.
     Descend(WayDown<K>),
@@ -36,7 +36,7 @@ pub(crate) enum Next<K> {
 }
 
 impl<C: KeyClass, A: Allocator> Tree<C, A> {
-    // What is next for a walk of this item that stands here: the first of the cases that holds.
+    /// What is next for a walk of this item at this node: the first case that holds.
     pub(crate) fn next_for(&self, at: Handle, item: C::Item) -> Next<C::Key>
         ensures may { MayGo (class_of C.covered C.may_match C.is_match C.key_with C.united) self.now at item result }
         ensures first { IsNext (class_of C.covered C.may_match C.is_match C.key_with C.united) self.now C.growth C.second_growth at item result }
@@ -49,7 +49,7 @@ impl<C: KeyClass, A: Allocator> Tree<C, A> {
         }
     }
 
-    // What is next at a node that may take the item.
+    /// What is next at a node that may take the item.
     fn next_here(&self, at: Handle, item: C::Item) -> Next<C::Key>
         requires { IsHere (class_of C.covered C.may_match C.is_match C.key_with C.united) self.now.nodes at (C.key_with item) }
         ensures may { MayGo (class_of C.covered C.may_match C.is_match C.key_with C.united) self.now at item result }
@@ -64,7 +64,7 @@ impl<C: KeyClass, A: Allocator> Tree<C, A> {
         Next::Descend(self.best_way(at, C::key_of(item)))
     }
 
-    // What is next at a leaf that may take the item.
+    /// What is next at a leaf that may take the item.
     fn next_at_leaf(&self, at: Handle, item: C::Item) -> Next<C::Key>
         requires { (leaf : PlainNode C.Key C.Item) × IsAtLeaf (class_of C.covered C.may_match C.is_match C.key_with C.united) self.now at item leaf }
         ensures may { MayGo (class_of C.covered C.may_match C.is_match C.key_with C.united) self.now at item result }
@@ -79,7 +79,7 @@ impl<C: KeyClass, A: Allocator> Tree<C, A> {
         }
     }
 
-    // What is next at a leaf where no search holds the item back.
+    /// What is next at a leaf where no search holds the item back.
     fn next_when_free(&self, at: Handle, item: C::Item) -> Next<C::Key>
         requires { (leaf : PlainNode C.Key C.Item) × IsFree (class_of C.covered C.may_match C.is_match C.key_with C.united) self.now at item leaf }
         ensures may { MayGo (class_of C.covered C.may_match C.is_match C.key_with C.united) self.now at item result }
@@ -94,7 +94,7 @@ impl<C: KeyClass, A: Allocator> Tree<C, A> {
         Next::Make(self.nearest(self.room_at(at)))
     }
 
-    // The entry of an inner node to go down by: one that grows least by the key.
+    /// The entry of an inner node to go down by: one that grows least by the key.
     fn best_way(&self, at: Handle, key: C::Key) -> WayDown<C::Key>
         requires here { IsHere (class_of C.covered C.may_match C.is_match C.key_with C.united) self.now.nodes at key }
         requires inner { (node : PlainNode C.Key C.Item) × (value_at self.now.nodes at ≡ Some node) × IsInner node.body }

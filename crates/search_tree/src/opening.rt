@@ -1,4 +1,4 @@
-//! Searches begin and end.
+//! How searches begin and end, and what they have found.
 
 ghost use Rattle.std.specs.Prelude.{◌≡◌, ◌≢◌, ◌↔◌, ◌⊎◌, ◌<◌, ◌+◌, ◌==◌, [], not, filter, length, None, Some, Err, IfOk, IfErr, IfSome, IfNone, OnErr};
 ghost use Rattle.memory.specs.Refused.{refused};
@@ -17,9 +17,10 @@ use tree_nodes::Progress;
 use tree_theory::KeyClass;
 
 impl<C: KeyClass, A: Allocator + Copy> Tree<C, A> {
-    /// Begins a search for the pairs whose item matches the query, and answers its number.
+    /// Opens a search for the pairs whose item matches the query, and returns its number.
     ///
-    /// It is refused with S2 where `MAX_RUNNING` searches run, else with S6 where the next number is the last of 64 bits, and with S8 where there is no memory.
+    /// S2 where `MAX_RUNNING` searches run, else S6 where the next number is `u64::MAX`, else S8
+    /// where an allocation is refused.
     pub fn open_search(&mut self, query: C::Query) -> Result<u64, TreeFault>
         ensures ok { IfOk result (IsOpen (class_of C.covered C.may_match C.is_match C.key_with C.united) self.old self.new query) }
         ensures too_many { (result ≡ Err TreeFault.TooMany) ↔ (length self.old.running.running ≡ MAX_RUNNING) }
@@ -45,7 +46,7 @@ impl<C: KeyClass, A: Allocator + Copy> Tree<C, A> {
 }
 
 impl<C: KeyClass, A: Allocator> Tree<C, A> {
-    /// Ends a search. Where none runs under the number nothing changes.
+    /// Ends a search. Nothing changes where none runs under the number.
     pub fn close_search(&mut self, search: u64)
         ensures { IsShut (class_of C.covered C.may_match C.is_match C.key_with C.united) self.old self.new search }
     {
@@ -53,7 +54,8 @@ impl<C: KeyClass, A: Allocator> Tree<C, A> {
         drop_progress(&mut self.progress, search);
     }
 
-    /// What a search has found, and nothing where none runs under the number. Of a search that is ready every pair of the tree whose item matches its query is among them.
+    /// The pairs that a search has found; none where no search runs under the number. If the search
+    /// is ready, they include every pair of the tree whose item matches its query.
     pub fn found(&self, search: u64) -> &[(u64, C::Item)]
         ensures value { result.now ≡ found_in self.now search }
         ensures complete { IsComplete (class_of C.covered C.may_match C.is_match C.key_with C.united) self.now search result.now }
@@ -65,7 +67,7 @@ impl<C: KeyClass, A: Allocator> Tree<C, A> {
     }
 }
 
-/// The first place that has the number.
+/// The index of the first progress with this number.
 pub fn place_of<I: Copy, A: Allocator>(progress: &[Progress<I, A>], number: u64) -> Option<usize>
     ensures found { IfSome result (IsFirstOf number progress.now) }
     ensures none { IfNone result (progress_at number progress.now ≡ None) }
@@ -78,7 +80,7 @@ pub fn place_of<I: Copy, A: Allocator>(progress: &[Progress<I, A>], number: u64)
     None
 }
 
-// Takes out what has this number.
+/// Removes the progress with this number.
 fn drop_progress<I: Copy, A: Allocator>(progress: &mut Vec<Progress<I, A>, A>, number: u64)
     ensures { progress.new.items ≡ filter (λ held. not (held.number == number)) progress.old.items }
 {

@@ -1,4 +1,5 @@
-//! What makes room where a node is full, or brings that nearer. Nothing here changes anything.
+//! The change that makes room in a full node, or that has to come first: an install, a split or the
+//! root's growth. Nothing here changes anything.
 
 ghost use Rattle.std.specs.Prelude.{◌≡◌, ◌+◌, ℕ, Some};
 ghost use Rattle.node_arena.specs.Slots.{value_at};
@@ -17,7 +18,7 @@ use std::alloc::Allocator;
 use tree_nodes::parent_of;
 use tree_theory::{KeyClass, Place, TOP_LEVEL};
 
-/// What makes room where a node is full, or brings that nearer.
+/// What makes room in a full node, or has to come first.
 #[derive(Clone, Copy)]
 pub(crate) enum Room<K> {
     /// A right node gets its entry.
@@ -26,14 +27,14 @@ pub(crate) enum Room<K> {
     Split(Handle),
     /// The root, which is full, grows.
     Grow,
-    /// The right node of the marked node here is to have its entry first.
+    /// The right node of this marked node has to get its entry first.
     Behind(Handle),
-    /// Nothing: no such node stands in a tree.
+    /// Nothing: the invariant allows no such node.
     Nothing,
 }
 
 impl<C: KeyClass, A: Allocator> Tree<C, A> {
-    // The change to begin with, where others stand in the way of this one.
+    /// The first change to make where others have to come before `wanted`.
     pub(crate) fn nearest(&self, wanted: Room<C::Key>) -> Room<C::Key>
         requires { MayMake (class_of C.covered C.may_match C.is_match C.key_with C.united) self.now wanted }
         ensures may { MayMake (class_of C.covered C.may_match C.is_match C.key_with C.united) self.now result }
@@ -50,7 +51,8 @@ impl<C: KeyClass, A: Allocator> Tree<C, A> {
         room
     }
 
-    // What gives the right node of a marked node its entry: its install, or what makes room in their parent.
+    /// What gives the right node of a marked node its entry: its install, or what makes room in
+    /// their parent first.
     fn room_behind(&self, left: Handle) -> Room<C::Key>
         ensures may { MayMake (class_of C.covered C.may_match C.is_match C.key_with C.united) self.now result }
         ensures first { (change : Change) → ComesTo (class_of C.covered C.may_match C.is_match C.key_with C.united) self.now result change → BeginsWith (class_of C.covered C.may_match C.is_match C.key_with C.united) self.now change left }
@@ -62,7 +64,7 @@ impl<C: KeyClass, A: Allocator> Tree<C, A> {
         }
     }
 
-    // What makes room in the full parent of a marked node.
+    /// What makes room in the full parent of a marked node.
     fn room_above(&self, left: Handle) -> Room<C::Key>
         requires { LacksEntry (class_of C.covered C.may_match C.is_match C.key_with C.united) self.now left → ⊥ }
         ensures may { MayMake (class_of C.covered C.may_match C.is_match C.key_with C.united) self.now result }
@@ -78,7 +80,7 @@ impl<C: KeyClass, A: Allocator> Tree<C, A> {
         }
     }
 
-    // What makes room in a full node.
+    /// What makes room in a full node.
     pub(crate) fn room_at(&self, at: Handle) -> Room<C::Key>
         ensures may { MayMake (class_of C.covered C.may_match C.is_match C.key_with C.united) self.now result }
         ensures first { (change : Change) → ComesTo (class_of C.covered C.may_match C.is_match C.key_with C.united) self.now result change → (node : PlainNode C.Key C.Item) × (value_at self.now.nodes at ≡ Some node) × (size_of node.body ≡ NODE_SIZE) × MakesRoom (class_of C.covered C.may_match C.is_match C.key_with C.united) self.now at node.place change }
@@ -94,7 +96,7 @@ impl<C: KeyClass, A: Allocator> Tree<C, A> {
     }
 }
 
-// What makes room in a full node at this place.
+/// What makes room in a full node at this place.
 fn room_in<K>(at: Handle, place: Place) -> Room<K>
     ensures { result ≡ room_by_place at place }
 {

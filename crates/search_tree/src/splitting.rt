@@ -19,9 +19,12 @@ use tree_nodes::{Halves, Nodes, leave_left, parent_of, put_over, shared_out};
 use tree_theory::KeyClass;
 
 impl<C: KeyClass, A: Allocator + Copy> Tree<C, A> {
-    // Splits a full node that is linked and not marked, and answers its new right node. The right node has a part of what the node had, its number, its rightlink and its attached searches; no entry names it yet. The node is marked, and leads to it.
-    //
-    // S4 where no slot more can be taken, and then nothing has changed. S8 where there is no memory, and then nothing has changed but the memory at hand.
+    /// Splits a full node that is linked and not marked, and returns its new right node. The right
+    /// node has a part of the node's contents, its number, its rightlink and its attached searches;
+    /// no entry names it yet. The node is marked, and its rightlink leads to the right node.
+    ///
+    /// S4 where no slot is left: nothing changes. S8 where an allocation is refused: only spare
+    /// capacity may grow.
     pub(crate) fn split(&mut self, at: Handle) -> Result<Handle, TreeFault>
         requires { MaySplit (class_of C.covered C.may_match C.is_match C.key_with C.united) self.old at }
         ensures ok { OnOk result (HasMoreNodes (class_of C.covered C.may_match C.is_match C.key_with C.united) self.old self.new 1 0) }
@@ -36,7 +39,7 @@ impl<C: KeyClass, A: Allocator + Copy> Tree<C, A> {
     }
 }
 
-// Splits a full linked node. Where that is refused no node has changed.
+/// Splits a full linked node. On an error no node has changed.
 fn split_in<C: KeyClass, A: Allocator + Copy>(
     nodes: &mut Nodes<C::Key, C::Item, A>,
     alloc: A,
@@ -54,7 +57,7 @@ fn split_in<C: KeyClass, A: Allocator + Copy>(
     Ok(right)
 }
 
-// Makes room for so many more nodes. S4 where fewer than so many more slots can be taken, S8 where there is no memory for them.
+/// Reserves slots for `more` new nodes. S4 where fewer are left, S8 where an allocation is refused.
 pub(crate) fn make_slots<K, I, A: Allocator>(
     nodes: &mut Nodes<K, I, A>,
     more: u32,
@@ -74,7 +77,8 @@ pub(crate) fn make_slots<K, I, A: Allocator>(
     }
 }
 
-// Splits a full linked node, where there is room for one node more. All that may want memory comes before the first change.
+/// Splits a full linked node, where a slot is reserved. Everything that allocates comes before the
+/// first change.
 fn split_node<C: KeyClass, A: Allocator + Copy>(
     nodes: &mut Nodes<C::Key, C::Item, A>,
     alloc: A,

@@ -1,4 +1,4 @@
-//! Walks begin.
+//! How a walk begins.
 
 ghost use Rattle.std.specs.Prelude.{◌≡◌, false};
 
@@ -8,7 +8,8 @@ use std::alloc::Allocator;
 use tree_theory::KeyClass;
 
 impl<C: KeyClass, A: Allocator> Tree<C, A> {
-    /// A walk for a pair of this number and this item. It stands at the root and has made no step; the tree is as before, since it does not know of walks.
+    /// A walk for the pair of this number and item, at the root and with no step made. The tree is
+    /// unchanged.
     pub fn start_walk(&self, key: u64, item: C::Item) -> Walk<C::Item>
         ensures { result ≡ record { key = key; item = item; at = self.now.root; steps = 0; placed = false } }
     {

@@ -1,4 +1,4 @@
-//! Tending: slot by slot a tree lets go of what it no longer needs.
+//! Tending: slot by slot, a tree removes what it no longer needs.
 
 ghost use Rattle.std.specs.Prelude.{◌≡◌, ◌+◌, Ok, IsTrue, IsSome, IfOk, IfErr, OnErr};
 ghost use Rattle.node_arena.specs.Slots.{taken_count, value_at};
@@ -20,11 +20,16 @@ use tree_nodes::{keep, remove_entry, set_place};
 use tree_theory::{KeyClass, Place};
 
 impl<C: KeyClass, A: Allocator> Tree<C, A> {
-    /// Tends one slot: it lets go of what stands there and is no longer needed, or gives a right node its entry. Of what is due there the first is done, in this order. Where nothing is due it answers Idle, and changes nothing.
+    /// Tends one slot: does the first of the following that is due at its node, and returns which.
+    /// Where nothing is due, returns `Idle` and changes nothing.
     ///
-    /// A retired node goes (Freed) where every running search began since it was retired. A marked node's right node gets its entry where their parent has room (Installed). A leaf loses the pairs that are not kept (Cleaned). An empty leaf that has an entry, beside others, and is not marked is retired (Retired). It takes no memory, and changes no search.
+    /// - `Freed`: a retired node is removed, once every running search began after it was retired.
+    /// - `Installed`: a marked node's right node gets its entry, where their parent has room.
+    /// - `Cleaned`: a leaf loses the pairs that are not kept.
+    /// - `Retired`: an empty, unmarked leaf loses its entry, where its parent has others.
     ///
-    /// S6 where a node is to be installed or retired and the counter is at its end. Then nothing has changed.
+    /// It takes no memory, and changes no search. S6 where a node is to be installed or retired and
+    /// the counter is `u64::MAX`: nothing changes.
     pub fn tend<K: Keeper<C::Item>>(&mut self, slot: u32, keeper: &K) -> Result<Tending, TreeFault>
         ensures tended { IfOk result (HasTended (class_of C.covered C.may_match C.is_match C.key_with C.united) self.old self.new) }
         ensures contents { IfOk result (ContentsTended (class_of C.covered C.may_match C.is_match C.key_with C.united) self.old (λ pair. IsTrue (K.kept keeper.now pair.0 pair.1)) self.new) }
@@ -41,7 +46,7 @@ impl<C: KeyClass, A: Allocator> Tree<C, A> {
         }
     }
 
-    // Does what is due at a node.
+    /// Does the first thing that is due at a node.
     fn tend_at<K: Keeper<C::Item>>(&mut self, at: Handle, keeper: &K) -> Result<Tending, TreeFault>
         ensures tended { IfOk result (HasTended (class_of C.covered C.may_match C.is_match C.key_with C.united) self.old self.new) }
         ensures contents { IfOk result (ContentsTended (class_of C.covered C.may_match C.is_match C.key_with C.united) self.old (λ pair. IsTrue (K.kept keeper.now pair.0 pair.1)) self.new) }
@@ -73,7 +78,7 @@ impl<C: KeyClass, A: Allocator> Tree<C, A> {
         }
     }
 
-    // The number to which the counter rises.
+    /// The counter's next value. S6 where the counter is `u64::MAX`.
     pub(crate) fn next_count(&self) -> Result<u64, TreeFault>
         ensures ok { IfOk result (λ next. next ≡ self.now.counter + 1) }
         ensures err { IfErr result (λ fault. (fault ≡ TreeFault.Spent) × (self.now.counter ≡ last_number)) }
@@ -84,7 +89,7 @@ impl<C: KeyClass, A: Allocator> Tree<C, A> {
         }
     }
 
-    // Lets a retired node go.
+    /// Removes a retired node.
     fn free(&mut self, at: Handle)
         requires { MayFree (class_of C.covered C.may_match C.is_match C.key_with C.united) self.old at }
         ensures tended { HasTended (class_of C.covered C.may_match C.is_match C.key_with C.united) self.old self.new Tending.Freed }
@@ -95,7 +100,8 @@ impl<C: KeyClass, A: Allocator> Tree<C, A> {
         self.nodes.remove(at);
     }
 
-    // Takes an empty leaf out of its parent, at whose place its entry stands. Searches that remember it may still come to it.
+    /// Retires an empty leaf: removes its entry, at index `place` of its parent. Searches whose
+    /// stacks name it may still visit it.
     fn retire(&mut self, at: Handle, parent: Handle, place: usize, stamp: u64)
         requires may { MayRetire (class_of C.covered C.may_match C.is_match C.key_with C.united) self.old at parent place }
         requires stamp { stamp ≡ self.old.counter + 1 }
@@ -108,7 +114,7 @@ impl<C: KeyClass, A: Allocator> Tree<C, A> {
         self.counter = stamp;
     }
 
-    // Lets the pairs of a leaf go that are not kept.
+    /// Removes the pairs of a leaf that are not kept.
     fn clean<K: Keeper<C::Item>>(&mut self, at: Handle, keeper: &K)
         requires { MayClean (class_of C.covered C.may_match C.is_match C.key_with C.united) self.old at }
         ensures tended { HasTended (class_of C.covered C.may_match C.is_match C.key_with C.united) self.old self.new Tending.Cleaned }

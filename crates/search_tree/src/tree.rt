@@ -1,4 +1,4 @@
-//! The tree.
+//! The tree: its parts, and how an empty one is made.
 
 ghost use Rattle.std.specs.Prelude.{◌≡◌, ◌≤◌, [], IfOk, IfErr};
 ghost use Rattle.memory.specs.Refused.{refused};
@@ -15,18 +15,19 @@ use tree_answers::{MAX_STEPS, TreeFault};
 use tree_nodes::{Progress, TreeNode, refusal_in};
 use tree_theory::KeyClass;
 
-/// An index of items under keys of the class `C`, in which searches and walks go on at the same time, step by step.
+/// An index of items under keys of the class `C`, in which searches and walks go on at the same
+/// time, step by step.
 #[derive(Drop)]
 pub struct Tree<C: KeyClass, A: Allocator> {
     pub(crate) alloc: A,
     pub(crate) nodes: Arena<TreeNode<C::Key, C::Item, A>, A>,
     pub(crate) root: Handle,
-    // It rises at each install and each retiring.
+    /// It rises at each install and each retiring.
     pub(crate) counter: u64,
     pub(crate) running: Running<C::Query, A>,
-    // How far each running search has come.
+    /// The progress of each running search.
     pub(crate) progress: Vec<Progress<C::Item, A>, A>,
-    // How many steps each of its searches and walks makes at most: no more than `MAX_STEPS`.
+    /// The most steps of each search and walk; at most `MAX_STEPS`.
     pub(crate) limit: u64,
 }
 
@@ -56,7 +57,7 @@ impl<C: KeyClass, A: Allocator> Model for Tree<C, A> {
 }
 
 impl<C: KeyClass, A: Allocator + Copy> Tree<C, A> {
-    /// A tree with no pairs and no searches. S8 where there is no memory.
+    /// A tree with no pairs and no searches. S8 where an allocation is refused.
     pub fn new(alloc: A) -> Result<Self, TreeFault>
         ensures ok { IfOk result (IsFirst (class_of C.covered C.may_match C.is_match C.key_with C.united) 0 0 1 MAX_STEPS) }
         ensures memory { IfErr result (λ fault. fault ≡ TreeFault.Memory refused) }
@@ -64,7 +65,8 @@ impl<C: KeyClass, A: Allocator + Copy> Tree<C, A> {
         Self::starting_at(alloc, 0, 0, 1, MAX_STEPS)
     }
 
-    /// The same, where slots start at this generation, and the counter and the numbers of searches here, and a search or a walk makes at most so many steps. It is for tests of what comes at their ends.
+    /// As `new`, but slots start at this generation, the counter at `counter` and the numbers of
+    /// searches at `search`, and each search and walk makes at most `steps` steps.
     pub fn starting_at(
         alloc: A,
         generation: u32,
@@ -93,7 +95,7 @@ impl<C: KeyClass, A: Allocator + Copy> Tree<C, A> {
 }
 
 impl<C: KeyClass, A: Allocator> Tree<C, A> {
-    /// How many slots the tree has used at most: each node stands in a slot below this number.
+    /// How many slots the tree has used so far. The slot of every node is below this number.
     pub fn slots(&self) -> u32
         ensures value { result ≡ slot_count self.now.nodes }
         ensures taken { taken_count self.now.nodes ≤ result }
@@ -102,7 +104,7 @@ impl<C: KeyClass, A: Allocator> Tree<C, A> {
     }
 }
 
-// No search, with room for as many as may run.
+/// No running searches, with room for `MAX_RUNNING`; the first gets the number `first`.
 fn no_searches<Q: Copy, A: Allocator>(alloc: A, first: u64) -> Result<Running<Q, A>, Refused>
     ensures { IfOk result (λ made. made ≡ record { running = []; next = first }) }
 {
@@ -112,7 +114,7 @@ fn no_searches<Q: Copy, A: Allocator>(alloc: A, first: u64) -> Result<Running<Q,
     }
 }
 
-// Puts the first node into an arena that has none.
+/// Puts the first node into an empty arena.
 fn plant<T: Drop, A: Allocator>(nodes: &mut Arena<T, A>, first: T) -> Result<Handle, Refused>
     requires { taken_count nodes.old ≡ 0 }
     ensures ok { IfOk result (λ handle. IsGiven nodes.old nodes.new handle first) }

@@ -14,23 +14,28 @@ use tree_answers::{TreeFault, Visit};
 use tree_nodes::{Progress, visit_last};
 use tree_theory::KeyClass;
 
-/// How a search stands before a step of it.
+/// The state of a search before a step.
 #[derive(Clone, Copy)]
 pub(crate) enum State {
-    /// None runs under the number.
+    /// No search runs under the number.
     Gone,
     /// It has seen all there is.
     Ready,
     /// It has made all its steps.
     Spent,
-    /// It may make a step; its progress stands at this place.
+    /// It may make a step; its progress is at this index.
     Waits(usize),
 }
 
 impl<C: KeyClass, A: Allocator + Copy> Tree<C, A> {
-    /// One step of a search: it sees one node. Ready is answered where it has then seen all there is; from then on until it is closed, `found` has every pair of the tree whose item matches its query.
+    /// Makes one step of a search: it sees one node. Returns `Ready` once it has seen all there is;
+    /// from then on until it is closed, `found` has every pair of the tree whose item matches its
+    /// query.
     ///
-    /// S1 where no search runs under the number. A search that is ready is answered Ready again, and makes no step. S7 where it has made all its steps: then it ends. S8 where there is no memory; then nothing has changed, the search's stack and the nodes included, but the memory at hand.
+    /// S1 where no search runs under the number. A ready search returns `Ready` again, and makes no
+    /// step. S7 where it has made all its steps: the search is closed. S8 where an allocation is
+    /// refused: nothing changes, the nodes and the search's stack included, except that spare
+    /// capacity may grow.
     pub fn visit(&mut self, search: u64) -> Result<Visit, TreeFault>
         ensures { IsVisit (class_of C.covered C.may_match C.is_match C.key_with C.united) self.old self.new search result }
     {
@@ -48,7 +53,7 @@ impl<C: KeyClass, A: Allocator + Copy> Tree<C, A> {
         }
     }
 
-    // How a search stands.
+    /// The state of a search.
     fn state_of(&self, search: u64) -> State
         ensures { IsState self.now search result }
     {
@@ -66,14 +71,14 @@ impl<C: KeyClass, A: Allocator + Copy> Tree<C, A> {
         State::Waits(at)
     }
 
-    // How many steps each search, and each walk, makes at most.
+    /// The most steps of each search and walk.
     pub(crate) fn step_limit(&self) -> u64
         ensures { result ≡ self.now.limit }
     {
         self.limit
     }
 
-    // One step of the search whose progress stands at this place.
+    /// Makes one step of the search whose progress is at this index.
     fn visit_at(&mut self, at: usize, search: u64) -> Result<Visit, Refused>
         requires { MayStep self.old search at }
         ensures ok { IfOk result (λ visit. IsFurther (class_of C.covered C.may_match C.is_match C.key_with C.united) self.old self.new search (is_ready visit)) }
@@ -93,7 +98,7 @@ impl<C: KeyClass, A: Allocator + Copy> Tree<C, A> {
     }
 }
 
-// What a visit answers that has come so far.
+/// What a visit returns that leaves this progress.
 fn visit_of<I: Copy, A: Allocator>(progress: &Progress<I, A>) -> Visit
     ensures { is_ready result ≡ is_empty progress.now.stack }
 {

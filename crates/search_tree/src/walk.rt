@@ -8,7 +8,8 @@ use node_arena::Handle;
 use std::marker::Model;
 use tree_answers::Step;
 
-/// A pair on its way from the root to its leaf. Between two steps it stands at a node, and is kept by the caller alone: a tree does not know of it.
+/// A pair on its way from the root to its leaf. Only the caller keeps it: the tree does not know
+/// its walks. Between two steps it is at a node.
 #[derive(Drop)]
 pub struct Walk<I> {
     key: u64,
@@ -29,7 +30,7 @@ impl<I> Model for Walk<I> {
 impl<I: Copy> Walk<I> {
     ghost use Rattle.search_tree.specs.Advances.{HasStepped};
 
-    /// A walk that stands at the root.
+    /// A walk at the root that has made no step.
     pub(crate) fn at_root(key: u64, item: I, root: Handle) -> Self
         ensures { result ≡ record { key = key; item = item; at = root; steps = 0; placed = false } }
     {
@@ -42,7 +43,7 @@ impl<I: Copy> Walk<I> {
         }
     }
 
-    /// The slot where it stands.
+    /// The slot of the node where the walk is.
     pub fn slot(&self) -> u32
         ensures { result ≡ self.now.at.slot }
     {
@@ -70,7 +71,7 @@ impl<I: Copy> Walk<I> {
         self.item
     }
 
-    /// Where it stands.
+    /// The node where the walk is.
     pub(crate) fn at(&self) -> Handle
         ensures { result ≡ self.now.at }
     {
@@ -84,7 +85,7 @@ impl<I: Copy> Walk<I> {
         self.steps
     }
 
-    /// Counts a step with this answer, after which it stands here.
+    /// Records one step: what it returned, and the node where the walk is now.
     pub(crate) fn count(&mut self, step: Step, at: Handle)
         requires { self.old.steps < last_number }
         ensures step { HasStepped self.old self.new step }

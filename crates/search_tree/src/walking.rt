@@ -14,7 +14,8 @@ use std::alloc::Allocator;
 use tree_nodes::push_pair;
 use tree_theory::KeyClass;
 
-/// The least number of a running search that is attached and looks for the item.
+/// The least number of the running searches that are attached and look for the item; `None` where
+/// there is none.
 pub(crate) fn holder_of<C: KeyClass, A: Allocator>(
     running: &Running<C::Query, A>,
     attached: &Attached<A>,
@@ -27,7 +28,7 @@ pub(crate) fn holder_of<C: KeyClass, A: Allocator>(
 }
 
 impl<C: KeyClass, A: Allocator> Tree<C, A> {
-    // Puts a pair into a leaf that may take it. No search that is ready looks for it.
+    /// Adds a pair to a leaf that may take it. No ready search looks for the pair.
     pub(crate) fn place(&mut self, at: Handle, key: u64, item: C::Item)
         requires { MayPlace (class_of C.covered C.may_match C.is_match C.key_with C.united) self.old at (key, item) }
         ensures placed { HasPlacedBehindNone (class_of C.covered C.may_match C.is_match C.key_with C.united) self.old self.new (key, item) }

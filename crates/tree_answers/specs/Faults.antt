@@ -2,7 +2,7 @@ use Rattle.std.specs.Prelude.{ℕ, List, codes}
 use Rattle.tree_answers.specs.declared.fault.TreeFault.{TreeFault}
 use Rattle.tree_answers.specs.declared.fault.TreeFault.TheVariants.{NoSearch, TooMany, Held, Full, TooHigh, Spent, Overrun, Memory}
 
--- the code that stands for a fault
+-- the fault's code
 abbrev pub code_of : TreeFault → List ℕ
 code_of NoSearch = codes "S1"
 code_of TooMany = codes "S2"

@@ -1,6 +1,6 @@
-//! What the steps of searches and walks answer.
+//! What the steps of searches and walks return, and what tending did.
 
-/// What a step of a search answers.
+/// What a step of a search returns.
 #[derive(Clone, Copy, Debug, PartialEq, Eq)]
 pub enum Visit {
     /// There is more to see.
@@ -9,16 +9,16 @@ pub enum Visit {
     Ready,
 }
 
-/// What a step of a walk answers.
+/// What a step of a walk returns.
 #[derive(Clone, Copy, Debug, PartialEq, Eq)]
 pub enum Step {
-    /// The walk stands elsewhere.
+    /// The walk is at another node.
     Moved,
-    /// A full node was parted.
+    /// A full node was split, or the full root has grown.
     Split,
     /// A right node got its entry.
     Installed,
-    /// The walk begins anew at the root, since the node where it stood is gone or retired.
+    /// The walk is back at the root, since the node where it was is gone or retired.
     Restarted,
     /// The pair is placed.
     Placed,
@@ -29,12 +29,12 @@ pub enum Step {
 pub enum Tending {
     /// There was nothing to do.
     Idle,
-    /// A retired node is gone, since every running search began at its stamp or later.
+    /// A retired node was removed, since every running search began at its stamp or later.
     Freed,
     /// A right node got its entry.
     Installed,
-    /// A leaf lost the pairs that were not to be kept.
+    /// A leaf lost the pairs that the keeper does not keep.
     Cleaned,
-    /// An empty leaf was taken out of the tree.
+    /// An empty leaf lost its entry, and is retired.
     Retired,
 }

@@ -7,25 +7,28 @@ use memory::Refused;
 use std::error::Error;
 use std::fmt;
 
-/// Why a tree refuses a step. A refused step is not counted, and changes nothing that callers see; S7 alone ends its own search, and
-/// a walk that it refuses is refused by it from then on.
+/// Why a tree refuses a step. A refused step is not counted and changes nothing that callers see,
+/// with one exception: S7 ends the search that it refuses. A walk that S7 refuses is refused by S7
+/// at every later step.
 #[derive(Debug, Drop, PartialEq, Eq)]
 pub enum TreeFault {
     /// S1: no search runs under the number.
     NoSearch,
-    /// S2: as many searches run as may run at once.
+    /// S2: as many searches run as may run at once (16).
     TooMany,
-    /// S3: the search of this number is done with the leaf (it has seen it, or has passed it over), and looks for the item that would be put there. Of several it is the one of the least number.
+    /// S3: the search of this number is done with the leaf (it has seen it, or has passed it over),
+    /// and looks for the item that would be placed there. If there are several, it is the one of
+    /// the least number.
     Held(u64),
-    /// S4: fewer slots are free than the new nodes want.
+    /// S4: fewer slots are left than the new nodes need.
     Full,
-    /// S5: the root would stand too high.
+    /// S5: the root would be above the highest level.
     TooHigh,
-    /// S6: the counter, or the number of the next search, is at its end.
+    /// S6: the counter, or the number of the next search, is `u64::MAX`.
     Spent,
     /// S7: the search or the walk has made all its steps.
     Overrun,
-    /// S8: a growth was refused.
+    /// S8: an allocation was refused.
     Memory(Refused),
 }
 
@@ -40,7 +43,7 @@ impl From<Refused> for TreeFault {
 }
 
 impl TreeFault {
-    /// The code by which users know the fault: `S1` to `S8`.
+    /// The code that users see: `S1` to `S8`.
     pub fn code(&self) -> &'static str
         ensures { result.now ≡ code_of self.now }
     {

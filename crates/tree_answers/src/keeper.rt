@@ -2,9 +2,9 @@
 
 ghost use Rattle.std.specs.Prelude.{◌≡◌, ℕ, Bool};
 
-/// Tells which pairs a tree keeps when it is tended.
+/// Says which pairs stay in a tree when it is tended.
 pub trait Keeper<I> {
-    // Whether it keeps the pair of this number and this item.
+    /// Whether it keeps the pair of this number and this item.
     ghost kept: { Self → ℕ → I → Bool };
 
     /// Whether the pair of this number and this item stays in the tree.

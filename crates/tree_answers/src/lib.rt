@@ -1,5 +1,5 @@
-//! What the search tree answers, and what it asks of whoever stands above it. Nothing here knows of nodes or keys, so those
-//! who speak of answers alone stand on no tree.
+//! What the search tree returns, and what it asks of the crates above it. Nothing here knows of
+//! nodes or keys, so a crate that only handles these results does not depend on the tree.
 #![tactic(auto)]
 
 mod answers;

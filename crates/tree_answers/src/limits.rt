@@ -1,4 +1,5 @@
-//! The limit of a search's and of a walk's steps.
+//! The limit of steps of a search and of a walk.
 
-/// The highest limit of the steps that a search or a walk makes, and that of a tree which is told no other.
+/// The highest limit of steps that a tree may have, and the limit of a tree for which no other is
+/// given.
 pub const MAX_STEPS: u64 = 1_000_000;

@@ -12,7 +12,7 @@ use Rattle.tree_nodes.specs.Arenas.{IsChanged}
 use Rattle.tree_nodes.specs.NewNodes.{HasAdopted, IsPutOver, MoreTaken}
 use Rattle.tree_nodes.proofs.ListEnds.{take_one, get_some}
 
--- of two parents the last one counts
+-- of two parents, the last one stays
 place_twice : (parent other : Handle) (place : Place) → place_under parent (place_under other place) ≡ place_under parent place
 place_twice parent other Root = refl
 place_twice parent other (Linked before marked) = refl
@@ -48,7 +48,7 @@ module _ {Key Item : Type 0} where
         | inr e ↦ absurd (apart (sym e))
       ]
 
-  -- the next of several
+  -- one more of several children
   pub adopted_next : (old mid new : Slots (PlainNode Key Item)) (children : List Handle) (i : ℕ) (d parent : Handle) → i < length children → HasAdopted old mid (take i children) parent → IsChanged mid new (slice_index_or children i d) (under parent) → new.places ≡ mid.places → HasAdopted old new (take (i + 1) children) parent
   adopted_next old mid new children i d parent lt before changed places = rw (take_one children i (slice_index_or children i d) (get_some children i d lt)) (adopted_one old mid new (take i children) (slice_index_or children i d) parent before changed places)
 

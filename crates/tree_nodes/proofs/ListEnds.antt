@@ -1,12 +1,12 @@
--- The end of a list, its first elements, and what stands at its places.
+-- The end of a list, its first elements, and the elements at its indices.
 use Rattle.std.proofs.Common.{◌≡◌, ◌≢◌, ℕ, zero, suc, ◌+◌, ◌<◌, List, [], ◌∷◌, ◌++◌, length, slice_index_or, slice_get, take, map, Contains, Option, Some, refl, sym, ap, ◌∙◌, ⊎_elim, arith}
 use Rattle.tree_theory.proofs.ListLemmas.{nothing_in, in_cases}
 
--- what an option holds
+-- an option holds one value
 pub some_one : {T : Type 0} {o : Option T} {a b : T} → o ≡ Some a → o ≡ Some b → a ≡ b
 some_one {a = a} {b = b} one other = let same : Some a ≡ Some b = sym one ∙ other in cc (same)
 
--- what a list contains stands at a place of it
+-- an element of a list has an index
 pub place_in : {T : Type 0} (xs : List T) (x : T) → Contains xs x → (i : ℕ) × (slice_get xs i ≡ Some x)
 place_in [] x has = absurd (nothing_in x has)
 place_in (y ∷ xs) x has = ⊎_elim (λ e. (zero, ap (λ z. Some z) e)) (λ later. let rest = place_in xs x later in (suc rest.0, rest.1)) (in_cases y xs x has)
@@ -22,7 +22,7 @@ module _ {T : Type 0} where
   last_at (x ∷ (z ∷ xs)) zero y n e = absurd (omega arith)
   last_at (x ∷ xs) (suc i) y n e = let before = last_at xs i y (omega arith) e in (x ∷ before.0, ap (λ l. x ∷ l) before.1)
 
-  -- one element more than the first i
+  -- the first i + 1 elements
   pub take_one : (xs : List T) (i : ℕ) (x : T) → slice_get xs i ≡ Some x → take (i + 1) xs ≡ take i xs ++ x ∷ []
   take_one [] i x e = absurd (cc e)
   take_one (y ∷ xs) zero x e = ap (λ z. z ∷ []) (some_is y x e)
@@ -32,7 +32,7 @@ module _ {T : Type 0} where
   take_one (y ∷ xs) (suc i) x e = let one : suc i + 1 ≡ suc (i + 1) = omega arith in rw one (ap (λ l. y ∷ l) (take_one xs i x e))
 
 module _ {T : Type 0} where
-  -- what is read at a place of a list does not hang on what is read past its end
+  -- a read within a list does not depend on the default
   pub read_any : (xs : List T) (i : ℕ) (x d : T) → i < length xs → slice_index_or xs i x ≡ x → slice_index_or xs i d ≡ x
   read_any [] i x d lt e = absurd (omega arith)
   read_any (y ∷ xs) zero x d lt e = e
@@ -48,7 +48,7 @@ module _ {T : Type 0} where
   get_some (y ∷ xs) zero d lt = refl
   get_some (y ∷ xs) (suc i) d lt = get_some xs i d (omega arith)
 
--- what stands at a place of a list of pairs, from its second side
+-- the pair at an index of a list, by its second component
 pub record Both {K T : Type 0} (pairs : List (K × T)) (i : ℕ) (t : T) : Type 0 where
   pub first : K
   pub is : slice_get pairs i ≡ Some (first, t)

@@ -1,4 +1,4 @@
--- The key of least penalties among those that were looked at.
+-- The key of least penalties among those compared so far.
 use Rattle.std.proofs.Common.{◌≡◌, ◌∙◌, ◌⊎◌, ◌<◌, ◌≤◌, ◌+◌, ℕ, List, Some, length, slice_get, refl, ap, subst, inl, inr, arith}
 use Rattle.std.proofs.lemmas.Bool.{cases_eq}
 use Rattle.std.proofs.lemmas.Option.{slice_get_within}
@@ -22,7 +22,8 @@ less_no_more one two three (inr a) (inr b) = inr (a.0 ∙ b.0, below a.1 b.1)
     below (inr c) (inr d) = let x = c.1 in let y = d.1 in inr (c.0 ∙ d.0, omega (arith, x, y))
 
 module _ {Key : Type 0} (growth second_growth : Key → Key → ℕ) (keys : List Key) (key : Key) where
-  -- of the first n keys none has lesser penalties than the one at this place, which has these
+  -- none of the first n keys has lesser penalties than the one at index `best`, whose penalties are
+  -- `least`
   pub record IsBestOf (best : ℕ) (least : Penalties) (n : ℕ) : Type 0 where
     pub held : Key
     pub is : slice_get keys best ≡ Some held

@@ -31,7 +31,7 @@ no_bit : count_ones 0 ≡ 0
 unfolding lib.Count.ones
 no_bit = refl
 
--- one bit more of a mask
+-- one more bit of a mask
 ones_more : (mask n : ℕ) → count_ones (mask % 2 ^ (n + 1)) ≡ count_ones (mask / 2 ^ n % 2) + count_ones (mask % 2 ^ n)
 ones_more mask n =
     let some = pow_pos n in
@@ -65,7 +65,7 @@ pub record IsSharedUpTo {T : Type 0} (mask n : ℕ) (first left right : List T) 
   pub many : length right ≡ count_ones (mask % 2 ^ n)
 
 module _ {T : Type 0} (mask : ℕ) where
-  -- one element more, of this place
+  -- one more element, of index `n`
   last_goes : {place n : ℕ} {first left right : List T} (x : T) → place + length first ≡ n → IsBitSet mask n → GoBySides mask place first left right → GoBySides mask place (first ++ x ∷ []) left (right ++ x ∷ [])
   last_goes {place = place} x at set none = let here : place + 0 ≡ place = omega arith in goes (subst (λ k. IsBitSet mask k) (sym at ∙ here) set) none
   last_goes {place = place} x at set (goes {whole = whole} bit rest) = let next : place + 1 + length whole ≡ place + suc (length whole) = omega arith in goes bit (last_goes x (next ∙ at) set rest)
@@ -104,7 +104,7 @@ module _ {T : Type 0} (mask : ℕ) where
       let many = s.many in
       record { sides = last_stays x (omega (arith, long)) unset s.sides; long = omega (arith, longer, long); many = omega (arith, counted, many) }
 
-  -- neither part has more than there were
+  -- neither part is longer than the list
   pub right_fits : (n : ℕ) (first left right : List T) → IsSharedUpTo mask n first left right → length right ≤ n
   right_fits n first left right s = let sizes = parted_sizes (parted_by_sides s.sides) in let long = s.long in omega (arith, sizes, long)
 
@@ -117,7 +117,7 @@ module _ {T : Type 0} (mask : ℕ) where
 -- ---- a list of keys and a list of children
 
 module _ {K : Type 0} (mask : ℕ) where
-  -- what stands at a place of both lists
+  -- the pair at an index of both lists
   zipped_at : (keys : List K) (children : List Handle) (i : ℕ) (key : K) (d : Handle) → i < length children → slice_get keys i ≡ Some key → slice_get (zip keys children) i ≡ Some (key, slice_index_or children i d)
   zipped_at [] children i key d lt e = absurd (cc e)
   zipped_at (k ∷ keys) [] i key d lt e = absurd (omega arith)
@@ -162,10 +162,10 @@ zip_parts [] = refl
 zip_parts (entry ∷ entries) = ap (λ rest. entry ∷ rest) (zip_parts entries)
 
 module _ {Key Item : Type 0} where
-  -- an inner node's keys and children are what it has
+  -- an inner node's keys and children are its entries
   pub whole_inner : (body : PlainBody Key Item) (entries : List (Key × Handle)) (keys : List Key) (children : List Handle) → body ≡ Inner entries → keys ≡ map (λ entry. entry.0) (entries_of body) → children ≡ children_of body → Inner (zip keys children) ≡ body
   whole_inner body entries keys children inner keys_are children_are = rw (keys_are, children_are, inner) (ap Inner (zip_parts entries))
 
--- an inner node's entries are parted as the class picks by their keys
+-- an inner node's entries are shared out as the class picks by their keys
 pub picked_inner : {Key Item : Type 0} (key_of : Item → Key) (picks : List Key → ℕ → Type 0) (mask : ℕ) (keys : List Key) (children : List Handle) (left right : List (Key × Handle)) → length children ≡ length keys → picks keys mask → IsShared mask (zip keys children) left right → IsPickedOut key_of picks (Inner (zip keys children)) (Inner left) (Inner right)
 picked_inner {Key = Key} key_of picks mask keys children left right same picked shared = of_entries (subst (λ (ks : List Key). picks ks mask) (sym (zip_keys keys children same)) picked) shared

@@ -1,4 +1,4 @@
--- How what a walk reads of the nodes is what its steps need.
+-- What a walk reads of the nodes is what its steps need.
 use Rattle.std.proofs.Common.{◌≡◌, ℕ, List, Contains, slice_get, slice_index_or, map, Some, sym, subst, ap, ◌∙◌}
 use Rattle.std.proofs.lemmas.Option.{get_or_from_slice_get}
 use Rattle.node_arena.specs.Slots.{Slots, value_at}
@@ -11,7 +11,7 @@ use Rattle.tree_nodes.proofs.ListEnds.{place_in, both_at, some_one}
 use Rattle.tree_nodes.specs.Standings.{ChildrenDiffer, IsCoveredBy}
 
 module _ {Key : Type 0} where
-  -- the child at a place stands in the entries with the key that is read at that place
+  -- a child and the key read at its index are an entry
   pub named_with : (entries : List (Key × Handle)) (keys : List Key) (children : List Handle) (place : ℕ) (key : Key) (child : Handle)
       → keys ≡ map (λ (entry : Key × Handle). entry.0) entries → children ≡ map (λ (entry : Key × Handle). entry.1) entries
       → slice_get children place ≡ Some child → key ≡ slice_index_or keys place key
@@ -30,7 +30,7 @@ module _ (C : Class) (nodes : Slots (Node C)) (parent child : Handle) (key : C.K
       let found = place_in (children_of node.body) child (map_in (λ (e : C.Key × Handle). e.1) (entries_of node.body) (covered.entry_key, child) entry) in
       nowhere found.0 found.1
 
-  -- where one entry names the node, no other does
+  -- where an entry names the node, that entry's key covers
   pub one_covers : ChildrenDiffer nodes → (old : C.Key) → Contains (entries_of node.body) (old, child) → IsCoveredBy C nodes parent child key → C.Covers old key
   one_covers differ old named covered =
       let same : covered.node ≡ node = some_one covered.is is in

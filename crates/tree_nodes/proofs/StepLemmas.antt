@@ -1,4 +1,4 @@
--- What one step of a search has done, from what its parts have done.
+-- One step of a search, from its parts.
 use Rattle.std.proofs.Common.{◌≡◌, ℕ, ◌+◌, ◌++◌, filter, Option, Some, None, refl, sym, ap, subst, ◌∙◌, inl, inr}
 use Rattle.std.specs.Option.{option_map}
 use Rattle.node_arena.specs.Slots.{Slots, value_at}
@@ -16,7 +16,7 @@ module _ (C : Class) (query : C.Query) (counter : ℕ) (running : RunningSearche
   abbrev pub joined : ℕ → Node C → Node C
   joined number n = record n { attached = filter (does_run running) (with_number number n.attached) }
 
-  -- the node stands
+  -- the node is there
   pub visited_some : (old mid stepped new : PlainProgress C.Item) (last : IsLast mid.stack (x, memo)) (node : Node C) (n : ℕ) → n ≡ mid.number → SameButRoom old mid → IsChanged nodes after x (joined n) → value_at after x ≡ Some node → stepped ≡ record mid { stack = last.0; steps = mid.steps + 1 } → HasSeen C query counter memo node stepped new → HasVisited C query counter running nodes after old new
   visited_some old mid stepped new last node n same room given there stepped_is saw = by (value_at nodes x) refl
     where

@@ -12,7 +12,7 @@ use Rattle.tree_theory.specs.Nodes.PlainBody.{Leaf, Inner}
 use Rattle.tree_nodes.specs.Unions.{IsUnionFor}
 
 module _ (C : Class) where
-  -- with a key that is among the keys, before any of them was looked at
+  -- the union so far: it covers each key seen, and is covered by whatever covers all keys
   pub record IsUnionUpTo (keys seen : List C.Key) (union : C.Key) : Type 0 where
     pub covers : (key : C.Key) → Contains seen key → C.Covers union key
     pub least : (cover : C.Key) → ((key : C.Key) → Contains keys key → C.Covers cover key) → C.Covers cover union

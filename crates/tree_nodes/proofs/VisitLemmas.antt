@@ -1,4 +1,4 @@
--- What the loops of a visit have come to.
+-- The loops of a visit, and what they add up to.
 use Rattle.std.proofs.Common.{◌≡◌, ℕ, ◌≤◌, Bool, true, false, Option, Some, None, if◌then◌else◌, List, [], ◌∷◌, ◌++◌, length, sym, ap, ◌∙◌, arith, append_assoc, append-nil, length-append}
 use Rattle.std.proofs.lemmas.List.{map-append}
 use Rattle.node_arena.specs.declared.handle.Handle.{Handle}
@@ -68,7 +68,7 @@ module _ (C : Class) (query : C.Query) (counter : ℕ) where
         is = before.is;
       }
 
-  -- the node has been seen whole
+  -- the whole node has been seen
   pub seen_all : (memo : ℕ) (node : Node C) (old a b new : PlainProgress C.Item) → a ≡ record old { stack = old.stack ++ followed node memo } → HasChildren C query counter (entries_of node.body) a b → HasMatching C query (pairs_of node.body) b new → length (pairs_of node.body) ≤ NODE_SIZE → HasSeen C query counter memo node old new
   seen_all memo node old a b new right children matching most =
       record {
@@ -85,7 +85,7 @@ module _ (C : Class) (query : C.Query) (counter : ℕ) where
             );
       }
 
--- one right node at most
+-- at most one right node is followed
 pub followed_few : {Key Item : Type 0} (node : PlainNode Key Item) (memo : ℕ) → length (followed node memo) ≤ 1
 followed_few node memo = by (is_followed node.place node.seq memo) node.right
   where

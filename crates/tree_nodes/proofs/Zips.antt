@@ -37,7 +37,7 @@ module _ {K T : Type 0} where
   zip_keys (x ∷ ks) [] n = absurd (omega arith)
   zip_keys (x ∷ ks) (y ∷ ts) n = ap (λ l. x ∷ l) (zip_keys ks ts (omega arith))
 
-  -- with one more of each there is still room for a full node
+  -- one more key and child still fit a node
   pub pushed_aligned : {ks : List K} {ts : List T} {key_places child_places more_keys more_children : ℕ} (k : K) (t : T) → AreAligned ks ts key_places child_places → length ks < NODE_SIZE → key_places ≤ more_keys → child_places ≤ more_children → AreAligned (ks ++ k ∷ []) (ts ++ t ∷ []) more_keys more_children
   pushed_aligned {ks = ks} {ts = ts} k t aligned lt keys children =
       let long_keys = length-append ks (k ∷ []) in

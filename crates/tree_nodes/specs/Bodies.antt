@@ -1,4 +1,4 @@
--- What a node has, as plain data.
+-- The contents of a node, as plain data.
 use Rattle.std.specs.Prelude.{◌≡◌, ℕ, List}
 use Rattle.node_arena.specs.declared.handle.Handle.{Handle}
 use Rattle.tree_nodes.specs.declared.node.Body.{Body}

@@ -1,4 +1,5 @@
--- What a walk reads before it goes down: which searches a wider key leads on, and the right node of a marked node.
+-- What a walk reads before it descends: the searches that a wider key leads on, and the right node
+-- of a marked node.
 use Rattle.std.specs.Prelude.{◌≡◌, ℕ, List, Contains, Option, None, Some, if◌then◌else◌}
 use Rattle.node_arena.specs.declared.handle.Handle.{Handle}
 use Rattle.predicate_locks.specs.Searches.{Searches, search_at}
@@ -7,20 +8,20 @@ use Rattle.tree_theory.specs.KeyClasses.{Class}
 use Rattle.tree_theory.specs.Nodes.{PlainNode, is_marked}
 
 module _ (C : Class) (s : Searches C.Query) (old : C.Key) where
-  -- a search runs that this key does not lead on
+  -- a running search that the old key does not lead on
   pub record IsNotLed (number : ℕ) : Type 0 where
     pub search : RunningSearch C.Query
     pub runs : search_at s number ≡ Some search
     pub inconsistent : C.Consistent old search.query → ⊥
 
-  -- a search runs and is attached, and this wider key leads it on
+  -- an attached running search that the wider key leads on
   pub record IsLedOn (wider : C.Key) (attached : List ℕ) (number : ℕ) : Type 0 where
     pub search : RunningSearch C.Query
     pub runs : search_at s number ≡ Some search
     pub is_attached : Contains attached number
     pub consistent : C.Consistent wider search.query
 
-  -- the attached searches that run and that a wider key leads on, but not the old one: those alone, and all of them
+  -- all attached running searches that the wider key leads on, but not the old one, and no others
   pub record AreLed (wider : C.Key) (attached led : List ℕ) : Type 0 where
     pub listed : (number : ℕ) → Contains led number → IsNotLed number
     pub led_on : (number : ℕ) → Contains led number → IsLedOn wider attached number

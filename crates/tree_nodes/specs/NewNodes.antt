@@ -1,4 +1,5 @@
--- The nodes that a new tree, a split and the growth of the root make, and how one is put in over its children.
+-- The nodes that a new tree, a split and the root's growth make, and how one is put into the arena
+-- over its children.
 use Rattle.std.specs.Prelude.{◌≡◌, ◌≢◌, ℕ, ◌+◌, ◌≤◌, false, true, List, [], Contains, None, Some}
 use Rattle.std.specs.Option.{option_map}
 use Rattle.node_arena.specs.Slots.{Slots, SameCounts, value_at, taken_count, slot_count}
@@ -8,7 +9,7 @@ use Rattle.tree_theory.specs.Nodes.PlainBody.{Leaf}
 use Rattle.tree_theory.specs.declared.place.Place.TheVariants.{Root, Linked, Unlinked}
 
 module _ {Key Item : Type 0} where
-  -- the root of a tree that has nothing yet
+  -- the root of a new tree
   abbrev pub first_leaf : ℕ → PlainNode Key Item
   first_leaf seq =
       record {
@@ -24,11 +25,11 @@ module _ {Key Item : Type 0} where
   abbrev pub right_of : PlainNode Key Item → Handle → PlainBody Key Item → PlainNode Key Item
   right_of node left body = record node { body = body; place = Unlinked left }
 
-  -- what is left of a node under this parent that has split
+  -- the left node of a split, under this parent, with this body
   abbrev pub left_of : PlainNode Key Item → Handle → Handle → PlainBody Key Item → PlainNode Key Item
   left_of node parent right body = record node { body = body; right = Some right; place = Linked parent true }
 
-  -- a new node under the root, with this body
+  -- a new node under the growing root, with this body
   abbrev pub below : PlainNode Key Item → Handle → ℕ → PlainBody Key Item → PlainNode Key Item
   below root at seq body =
       record {
@@ -40,14 +41,15 @@ module _ {Key Item : Type 0} where
         attached = root.attached;
       }
 
-  -- these nodes stand under another parent, as far as they were linked. Nothing else changes
+  -- these nodes have another parent, if they were linked; nothing else changes
   pub record HasAdopted (old new : Slots (PlainNode Key Item)) (children : List Handle) (parent : Handle) : Type 0 where
     pub adopted : (h : Handle) → Contains children h → value_at new h ≡ option_map (under parent) (value_at old h)
     pub others : (h : Handle) → (Contains children h → ⊥) → value_at new h ≡ value_at old h
     pub counts : SameCounts old new
     pub places : new.places ≡ old.places
 
-  -- a new node stands over these children. Nothing else changes
+  -- a new node is at a handle that named none, and its linked children are under it; nothing else
+  -- changes
   pub record IsPutOver (old new : Slots (PlainNode Key Item)) (node : PlainNode Key Item) (children : List Handle) (at : Handle) : Type 0 where
     pub fresh : value_at old at ≡ None
     pub here : (Contains children at → ⊥) → value_at new at ≡ Some node
@@ -55,7 +57,7 @@ module _ {Key Item : Type 0} where
     pub adopted : (h : Handle) → h ≢ at → Contains children h → value_at new h ≡ option_map (under at) (value_at old h)
     pub others : (h : Handle) → h ≢ at → (Contains children h → ⊥) → value_at new h ≡ value_at old h
 
-  -- so many slots more are taken
+  -- `more` more slots are taken
   pub record MoreTaken (old new : Slots (PlainNode Key Item)) (more : ℕ) : Type 0 where
     pub taken : taken_count new ≡ taken_count old + more
     pub slots_kept : slot_count old ≤ slot_count new

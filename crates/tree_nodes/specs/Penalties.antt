@@ -1,4 +1,4 @@
--- How much keys grow, by three measures of falling weight.
+-- How much keys grow, by three measures, the weightiest first.
 use Rattle.std.specs.Prelude.{◌≡◌, ◌⊎◌, ◌<◌, ◌≤◌, ℕ, List, Some, length, slice_get}
 use Rattle.tree_nodes.specs.declared.penalties.Penalties.{Penalties}
 
@@ -15,7 +15,7 @@ module _ {Key : Type 0} (growth second_growth : Key → Key → ℕ) where
   abbrev pub penalties_of : Key → Key → Penalties
   penalties_of held key = record { growth = growth held key; second = second_growth held key; excess = growth key held }
 
-  -- of all these keys none has lesser penalties for an item's key than the one at this place
+  -- no key has lesser penalties for an item's key than the one at index `best`
   pub record IsBest (keys : List Key) (key : Key) (best : ℕ) : Type 0 where
     pub within : best < length keys
     pub least : (held other : Key) (place : ℕ) → slice_get keys best ≡ Some held → slice_get keys place ≡ Some other → IsNoMore (penalties_of held key) (penalties_of other key)

@@ -1,10 +1,10 @@
--- How far a search has come.
+-- The progress of a search.
 use Rattle.std.specs.Prelude.{◌≡◌, ◌+◌, ◌≤◌, ℕ, Bool, true, false, [], ◌∷◌, ◌++◌, List, length}
 use Rattle.node_arena.specs.declared.handle.Handle.{Handle}
 use Rattle.tree_theory.specs.declared.TheConstants.{NODE_SIZE}
 
--- how far a search has come: its steps, the nodes that it has yet to visit, what it has found, and how many
--- of both there is memory for, those it has included
+-- the progress of a search: its steps, its stack of nodes to visit with their memos, the pairs that
+-- it has found, and the capacities of the two lists
 pub record PlainProgress (Item : Type 0) : Type 0 where
   pub number : ℕ
   pub steps : ℕ
@@ -26,7 +26,7 @@ module _ {Item : Type 0} where
   abbrev pub SameButRoom : PlainProgress Item → PlainProgress Item → Type 0
   SameButRoom old new = new ≡ record old { stack_places = new.stack_places; found_places = new.found_places }
 
-  -- one visit more takes no memory
+  -- both lists have room for all that one visit may add
   pub record HasVisitRoom (p : PlainProgress Item) : Type 0 where
     pub stack : length p.stack + NODE_SIZE + 1 ≤ p.stack_places
     pub found : length p.found + NODE_SIZE ≤ p.found_places

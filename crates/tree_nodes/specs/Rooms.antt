@@ -1,13 +1,13 @@
--- The places that a node's lists have from the start.
+-- The room that a node's lists have from the start.
 use Rattle.std.specs.Prelude.{◌≡◌, ◌≤◌, ℕ, List, length}
 use Rattle.tree_theory.specs.declared.TheConstants.{NODE_SIZE}
 
--- a list has no more than a full node, for which there are places
+-- a list is no longer than in a full node, and has room for that many
 pub record FitsNode {T : Type 0} (items : List T) (places : ℕ) : Type 0 where
   pub most : length items ≤ NODE_SIZE
   pub room : NODE_SIZE ≤ places
 
--- each key has a child
+-- keys and children are equally many, and both lists fit a node
 pub record AreAligned {K T : Type 0} (keys : List K) (children : List T) (key_places child_places : ℕ) : Type 0 where
   pub same : length children ≡ length keys
   pub keys_fit : FitsNode keys key_places

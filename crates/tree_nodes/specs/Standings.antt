@@ -1,4 +1,4 @@
--- How a node stands to a walk that comes to it.
+-- Where a walk is, as seen from its node.
 use Rattle.std.specs.Prelude.{◌≡◌, ◌≢◌, ◌⊎◌, ℕ, AllPairs, Bool, true, Contains, Some}
 use Rattle.node_arena.specs.Slots.{Slots, value_at}
 use Rattle.node_arena.specs.declared.handle.Handle.{Handle}
@@ -7,7 +7,7 @@ use Rattle.tree_theory.specs.Nodes.{PlainNode, Node, entries_of}
 use Rattle.tree_theory.specs.declared.place.Place.TheVariants.{Root, Linked, Unlinked, Retired}
 
 module _ {Key Item : Type 0} (nodes : Slots (PlainNode Key Item)) where
-  -- nothing stands there but what is retired
+  -- the handle names no node, or a retired one
   abbrev pub IsNowhere : Handle → Type 0
   IsNowhere at = (node : PlainNode Key Item) → value_at nodes at ≡ Some node → (stamp : ℕ) × (node.place ≡ Retired stamp)
 
@@ -21,7 +21,7 @@ module _ {Key Item : Type 0} (nodes : Slots (PlainNode Key Item)) where
   abbrev pub ChildrenDiffer : Type 0
   ChildrenDiffer = (at : Handle) (node : PlainNode Key Item) → value_at nodes at ≡ Some node → AllPairs (λ one other. one.1 ≢ other.1) (entries_of node.body)
 
--- a node to the right of this one, with no entry of its own
+-- a right node of `left` without an entry
 pub record IsUnlinked {Key Item : Type 0} (nodes : Slots (PlainNode Key Item)) (at left : Handle) : Type 0 where
   pub node : PlainNode Key Item
   pub is : value_at nodes at ≡ Some node
@@ -42,7 +42,7 @@ module _ (C : Class) where
     pub is : value_at nodes at ≡ Some node
     pub stands : (node.place ≡ Root) ⊎ ((parent : Handle) × (marked : Bool) × (node.place ≡ Linked parent marked) × IsCoveredBy nodes parent at key)
 
-  -- a node below this parent, whose entry does not cover the key
+  -- a linked node under this parent whose entry does not cover the key
   pub record IsAside (nodes : Slots (Node C)) (at parent : Handle) (key : C.Key) : Type 0 where
     pub node : Node C
     pub is : value_at nodes at ≡ Some node

@@ -7,6 +7,6 @@ pub record IsUnionOf (C : Class) (keys : List C.Key) (union : C.Key) : Type 0 wh
   pub covers : (key : C.Key) → Contains keys key → C.Covers union key
   pub least : (cover : C.Key) → ((key : C.Key) → Contains keys key → C.Covers cover key) → C.Covers cover union
 
--- the union of these keys, or the old key where there is none
+-- the union of these keys, or the old key where there are none
 abbrev pub IsUnionFor : (C : Class) → List C.Key → C.Key → C.Key → Type 0
 IsUnionFor C keys old union = ((keys ≢ []) × IsUnionOf C keys union) ⊎ ((keys ≡ []) × (union ≡ old))

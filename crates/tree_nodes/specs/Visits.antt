@@ -12,21 +12,21 @@ use Rattle.tree_theory.specs.declared.TheConstants.{NODE_SIZE}
 use Rattle.tree_theory.specs.Nodes.{Node, entries_of, pairs_of, followed, pushed}
 
 module _ (C : Class) (query : C.Query) where
-  -- the children of the consistent ones among these entries are on the stack
+  -- the children of these entries that are consistent are pushed on the stack
   pub record HasChildren (counter : ℕ) (entries : List (C.Key × Handle)) (old new : PlainProgress C.Item) : Type 0 where
     pub taken : List (C.Key × Handle)
     pub consistent : Picked (λ entry. C.Consistent entry.0 query) entries taken
     pub few : length taken ≤ length entries
     pub is : new ≡ record old { stack = old.stack ++ pushed counter taken }
 
-  -- the matching ones among these pairs are found
+  -- those of these pairs that match are added to the found ones
   pub record HasMatching (pairs : List (ℕ × C.Item)) (old new : PlainProgress C.Item) : Type 0 where
     pub taken : List (ℕ × C.Item)
     pub matching : Picked (λ pair. C.Matches pair.1 query) pairs taken
     pub few : length taken ≤ length pairs
     pub is : new ≡ record old { found = old.found ++ taken }
 
-  -- a search has seen what this node has
+  -- a search has seen the contents of this node
   pub record HasSeen (counter memo : ℕ) (node : Node C) (old new : PlainProgress C.Item) : Type 0 where
     pub entries : List (C.Key × Handle)
     pub consistent : Picked (λ entry. C.Consistent entry.0 query) (entries_of node.body) entries
@@ -35,7 +35,7 @@ module _ (C : Class) (query : C.Query) where
     pub few : length pairs ≤ NODE_SIZE
     pub is : new ≡ record old { stack = old.stack ++ followed node memo ++ pushed counter entries; found = old.found ++ pairs }
 
-  -- the search has seen the node at x, which is this one, and is attached to it
+  -- the search has seen the node at x and is attached to it
   pub record HasSeenAt (counter : ℕ) (running : Searches C.Query) (nodes nodes_after : Slots (Node C)) (x : Handle) (memo : ℕ) (rest : List (Handle × ℕ)) (old new : PlainProgress C.Item) : Type 0 where
     pub node : Node C
     pub is : value_at nodes x ≡ Some node

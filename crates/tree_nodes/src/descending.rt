@@ -1,4 +1,5 @@
-//! What a walk reads before it goes down: the searches that a wider key leads to a child, and the child's right node.
+//! What a walk reads before it descends: the searches that a wider key leads to a child, and the
+//! child's right node.
 
 ghost use Rattle.std.specs.Prelude.{◌≡◌, ◌≤◌, false, IsTrue, length};
 ghost use Rattle.node_arena.specs.Slots.{value_at};
@@ -30,7 +31,7 @@ pub fn led_searches<C: KeyClass, A: Allocator>(
     )
 }
 
-// Whether the wider key leads a search with this query on, and the old one does not.
+/// Whether the wider key leads a search with this query on, and the old one does not.
 fn is_led<C: KeyClass>(old: C::Key, wider: C::Key, query: C::Query) -> bool
     ensures led { IsTrue result → C.may_match old query → ⊥ }
     ensures wider { IsTrue result → C.may_match wider query }
@@ -39,7 +40,8 @@ fn is_led<C: KeyClass>(old: C::Key, wider: C::Key, query: C::Query) -> bool
     C::consistent(wider, query) && !C::consistent(old, query)
 }
 
-/// The right node of a marked node.
+/// The right node of a marked node; `None` where the handle names no node or one that is not
+/// marked.
 pub fn marked_right<K: Copy, I: Copy, A: Allocator>(
     nodes: &Nodes<K, I, A>,
     at: Handle,
@@ -58,7 +60,7 @@ pub fn marked_right<K: Copy, I: Copy, A: Allocator>(
     }
 }
 
-// Whether a node at this place is marked.
+/// Whether a node at this place is marked.
 fn is_marked(place: Place) -> bool
     ensures { result ≡ has_mark place }
 {

@@ -1,4 +1,5 @@
-//! What a node has: the entries of an inner node, or the pairs of a leaf. Each list has the places of a full node from the start, so that it never grows.
+//! The entries of an inner node, and the pairs of a leaf. Each list has room for a full node from
+//! the start, so it never grows.
 
 ghost use Rattle.std.specs.Prelude.{◌≡◌, ◌∷◌, ◌++◌, ◌<◌, ◌≤◌, [], ℕ, Some, IfOk, filter, length, map, slice_get, slice_set, remove, vec_capacity};
 ghost use Rattle.node_arena.specs.declared.handle.Handle.{Handle};
@@ -11,7 +12,8 @@ use std::marker::Model;
 use tree_answers::Keeper;
 use tree_theory::NODE_SIZE;
 
-/// The entries of an inner node: a key for each child. Keys and children stand in two lists, so that a search goes over the keys alone.
+/// The entries of an inner node: a key for each child. Keys and children are two lists, so that a
+/// search reads the keys alone.
 #[derive(Drop)]
 pub struct Entries<K, A: Allocator> {
     keys: Vec<K, A>,
@@ -31,7 +33,7 @@ impl<K, A: Allocator> Model for Entries<K, A> {
 }
 
 impl<K: Copy, A: Allocator> Entries<K, A> {
-    /// No entry, and the places of a full node.
+    /// No entries, with room for a full node.
     pub fn with_places(alloc: A) -> Result<Self, Refused>
     where
         A: Copy,
@@ -83,7 +85,7 @@ impl<K: Copy, A: Allocator> Entries<K, A> {
         self.keys[place] = key;
     }
 
-    /// Takes an entry out.
+    /// Removes an entry.
     pub(crate) fn remove(&mut self, place: usize)
         requires { place < length self.old }
         ensures { self.new ≡ remove self.old place }
@@ -111,7 +113,7 @@ impl<I, A: Allocator> Model for Pairs<I, A> {
 }
 
 impl<I: Copy, A: Allocator> Pairs<I, A> {
-    /// No pair, and the places of a full leaf.
+    /// No pairs, with room for a full leaf.
     pub(crate) fn with_places(alloc: A) -> Result<Self, Refused>
         ensures { IfOk result (λ made. made ≡ []) }
     {
@@ -143,7 +145,7 @@ impl<I: Copy, A: Allocator> Pairs<I, A> {
         self.pairs.push_reserved((key, item));
     }
 
-    /// Lets the pairs go that are not kept.
+    /// Removes the pairs that the keeper does not keep.
     pub(crate) fn keep<K: Keeper<I>>(&mut self, keeper: &K)
         ensures { self.new ≡ filter (λ pair. K.kept keeper.now pair.0 pair.1) self.old }
     {
@@ -151,7 +153,7 @@ impl<I: Copy, A: Allocator> Pairs<I, A> {
     }
 }
 
-// Takes out what is not kept.
+/// Removes the pairs that the keeper does not keep.
 fn sift<I: Copy, K: Keeper<I>, A: Allocator>(pairs: &mut Vec<(u64, I), A>, keeper: &K)
     ensures kept { pairs.new.items ≡ filter (λ pair. K.kept keeper.now pair.0 pair.1) pairs.old.items }
     ensures fewer { length pairs.new.items ≤ length pairs.old.items }

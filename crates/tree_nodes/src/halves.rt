@@ -1,4 +1,4 @@
-//! The two parts of what a full node has.
+//! How the contents of a full node are shared out to two.
 
 ghost use Rattle.std.specs.Prelude.{◌≡◌, ◌≤◌, [], IfOk, length, map, zip};
 ghost use Rattle.tree_nodes.specs.Bodies.{plain_body};
@@ -15,16 +15,17 @@ use node_arena::Handle;
 use std::alloc::Allocator;
 use tree_theory::{KeyClass, NODE_SIZE, has_bit};
 
-/// The two parts of what a full node has, each in lists of its own.
+/// The two parts of a full node's contents, each in lists of its own.
 #[derive(Drop)]
 pub struct Halves<K, I, A: Allocator> {
-    /// What stays.
+    /// The part that stays.
     pub left: Body<K, I, A>,
-    /// What goes right.
+    /// The part that goes right.
     pub right: Body<K, I, A>,
 }
 
-/// Shares out what a full node has: the part that the class picks goes right.
+/// Shares out a full node's contents: the part that the class picks goes right. Fails only where an
+/// allocation is refused.
 pub fn shared_out<C: KeyClass, A: Allocator + Copy>(
     node: &TreeNode<C::Key, C::Item, A>,
     alloc: A,
@@ -40,7 +41,7 @@ pub fn shared_out<C: KeyClass, A: Allocator + Copy>(
     }
 }
 
-// The parts of a full leaf's pairs.
+/// The parts of a full leaf's pairs.
 fn halves_of_pairs<C: KeyClass, A: Allocator + Copy>(
     pairs: &[(u64, C::Item)],
     alloc: A,
@@ -59,7 +60,7 @@ fn halves_of_pairs<C: KeyClass, A: Allocator + Copy>(
     })
 }
 
-// The parts of a full inner node's entries, whose keys and children these are.
+/// The two parts of a full inner node's entries, given as keys and children.
 fn halves_of_entries<C: KeyClass, A: Allocator + Copy>(
     keys: &[C::Key],
     children: &[Handle],
@@ -79,7 +80,7 @@ fn halves_of_entries<C: KeyClass, A: Allocator + Copy>(
     })
 }
 
-// The keys of these items.
+/// The keys of these items.
 fn keys_of<C: KeyClass, A: Allocator>(
     pairs: &[(u64, C::Item)],
     alloc: A,
@@ -94,7 +95,7 @@ fn keys_of<C: KeyClass, A: Allocator>(
     Ok(keys)
 }
 
-// Shares pairs out to two lists that have none yet: those whose bit is set go right.
+/// Shares pairs out to two empty lists: those whose bit in the mask is set go right.
 fn share_pairs<I: Copy, A: Allocator>(
     pairs: &[(u64, I)],
     mask: u16,
@@ -115,7 +116,7 @@ fn share_pairs<I: Copy, A: Allocator>(
     }
 }
 
-// The same of entries, whose keys and children these are.
+/// As `share_pairs`, for entries, given as keys and children.
 fn share_entries<K: Copy, A: Allocator>(
     keys: &[K],
     children: &[Handle],

@@ -1,4 +1,4 @@
-//! The keys that entries for nodes are to have.
+//! The keys of entries.
 
 ghost use Rattle.std.specs.Prelude.{map};
 ghost use Rattle.tree_nodes.specs.Unions.{IsUnionFor};
@@ -9,7 +9,8 @@ use crate::node::TreeNode;
 use std::alloc::Allocator;
 use tree_theory::KeyClass;
 
-/// The key for a node's entry: the union of all that the node has, and the old key where it has nothing.
+/// The key for a node's entry: the union of all that the node has, or the old key where the node is
+/// empty.
 pub fn key_for<C: KeyClass, A: Allocator>(
     node: &TreeNode<C::Key, C::Item, A>,
     old: C::Key,
@@ -23,7 +24,7 @@ pub fn key_for<C: KeyClass, A: Allocator>(
     }
 }
 
-// The union of these keys, and the old one where there is none.
+/// The union of these keys, or the old key where there are none.
 fn union_of<C: KeyClass>(keys: &[C::Key], old: C::Key) -> C::Key
     ensures { IsUnionFor (class_of C.covered C.may_match C.is_match C.key_with C.united) keys.now old result }
 {
@@ -37,7 +38,7 @@ fn union_of<C: KeyClass>(keys: &[C::Key], old: C::Key) -> C::Key
     union
 }
 
-// The union of the keys of these items, and the old key where there is none.
+/// The union of the keys of these pairs' items, or the old key where there are none.
 fn union_of_items<C: KeyClass>(pairs: &[(u64, C::Item)], old: C::Key) -> C::Key
     ensures { IsUnionFor (class_of C.covered C.may_match C.is_match C.key_with C.united) (map (λ pair. C.key_with pair.1) pairs.now) old result }
 {

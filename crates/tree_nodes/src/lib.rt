@@ -1,4 +1,5 @@
-//! A node of the search tree, and changes of one node: what a node has, how a full one is shared out, what a walk reads of it and what a search sees of it.
+//! A node of the search tree, and changes of one node: its parts, how a full one is shared out,
+//! what a walk reads of it, and what a search sees of it.
 #![tactic(auto)]
 
 mod descending;

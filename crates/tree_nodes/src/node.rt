@@ -21,7 +21,7 @@ use std::marker::Model;
 use tree_answers::Keeper;
 use tree_theory::{NODE_SIZE, Place};
 
-/// What a node has.
+/// The contents of a node.
 #[derive(Drop)]
 pub enum Body<K, I, A: Allocator> {
     Pairs(Pairs<I, A>),
@@ -33,11 +33,11 @@ pub enum Body<K, I, A: Allocator> {
 pub struct TreeNode<K, I, A: Allocator> {
     level: u8,
     body: Body<K, I, A>,
-    // The sequence number.
+    /// The sequence number.
     seq: u64,
     right: Option<Handle>,
     place: Place,
-    // The searches that are done with the node: they have seen it, or have passed it over.
+    /// The searches that are done with the node: they have seen it, or have passed it over.
     attached: Attached<A>,
 }
 
@@ -59,7 +59,7 @@ impl<K, I, A: Allocator> Model for TreeNode<K, I, A> {
 }
 
 impl<K: Copy, I: Copy, A: Allocator> TreeNode<K, I, A> {
-    /// The root of a tree that has nothing yet.
+    /// The root of a new tree: an empty leaf.
     pub fn first(alloc: A, seq: u64) -> Result<Self, Refused>
     where
         A: Copy,
@@ -76,7 +76,7 @@ impl<K: Copy, I: Copy, A: Allocator> TreeNode<K, I, A> {
         })
     }
 
-    /// How far above the leaves it stands.
+    /// Its level; a leaf's is 0.
     pub fn level(&self) -> u8
         ensures { result ≡ self.now.level }
     {
@@ -97,7 +97,7 @@ impl<K: Copy, I: Copy, A: Allocator> TreeNode<K, I, A> {
         self.right
     }
 
-    /// Where it stands.
+    /// Its place in the tree.
     pub fn place(&self) -> Place
         ensures { result ≡ self.now.place }
     {
@@ -133,7 +133,7 @@ impl<K: Copy, I: Copy, A: Allocator> TreeNode<K, I, A> {
         }
     }
 
-    /// Whether it has as many as go in.
+    /// Whether it has `NODE_SIZE` pairs or entries.
     pub fn is_full(&self) -> bool
         ensures full { IsTrue result → size_of self.now.body ≡ NODE_SIZE }
         ensures room { result ≡ false → size_of self.now.body < NODE_SIZE }
@@ -181,14 +181,14 @@ impl<K: Copy, I: Copy, A: Allocator> TreeNode<K, I, A> {
         self.seq = seq;
     }
 
-    /// Puts it elsewhere.
+    /// Gives it another place.
     pub(crate) fn set_place(&mut self, place: Place)
         ensures { self.new ≡ record self.old { place = place } }
     {
         self.place = place;
     }
 
-    /// Keeps this part of what it had, and is the marked left one of two nodes, under this parent.
+    /// Becomes the marked left one of two nodes under this parent: keeps this part of its contents.
     pub(crate) fn become_left(&mut self, parent: Handle, right: Handle, body: Body<K, I, A>)
         ensures { self.new ≡ left_of self.old parent right (plain_body body) }
     {
@@ -200,7 +200,7 @@ impl<K: Copy, I: Copy, A: Allocator> TreeNode<K, I, A> {
         };
     }
 
-    /// Stands one level higher, and has these entries in place of what it had.
+    /// Rises by one level, and has these entries in place of its contents.
     pub(crate) fn rise(&mut self, entries: Entries<K, A>)
         requires { self.old.level < TOP_LEVEL }
         ensures { self.new ≡ record self.old { level = self.old.level + 1; body = Inner entries } }
@@ -209,14 +209,15 @@ impl<K: Copy, I: Copy, A: Allocator> TreeNode<K, I, A> {
         self.body = Body::Entries(entries);
     }
 
-    /// Stands under another parent, where it is linked.
+    /// Gives it another parent if it is linked; any other place stays.
     pub(crate) fn set_parent(&mut self, parent: Handle)
         ensures { self.new ≡ under parent self.old }
     {
         self.place = place_below(self.place, parent);
     }
 
-    /// A new node with this part of what it has, to its right. No entry names that one yet.
+    /// A new right node with this part of its contents, and its level, number, rightlink and
+    /// attached searches. No entry names the new node yet.
     pub fn right_half(&self, at: Handle, body: Body<K, I, A>) -> Result<Self, Refused>
     where
         A: Copy,
@@ -233,7 +234,8 @@ impl<K: Copy, I: Copy, A: Allocator> TreeNode<K, I, A> {
         })
     }
 
-    /// A new node with this part of what it has, which is to stand under it, with a number of its own and no rightlink.
+    /// A new node to be linked below this one, with this part of its contents and its level and
+    /// attached searches, the number `seq` and no rightlink.
     pub fn lower_half(&self, at: Handle, seq: u64, body: Body<K, I, A>) -> Result<Self, Refused>
     where
         A: Copy,
@@ -289,7 +291,7 @@ impl<K: Copy, I: Copy, A: Allocator> TreeNode<K, I, A> {
         }
     }
 
-    /// Takes an entry out.
+    /// Removes an entry.
     pub(crate) fn remove_entry(&mut self, place: usize)
         requires inner { IsInner self.old.body }
         requires place { place < size_of self.old.body }
@@ -301,7 +303,7 @@ impl<K: Copy, I: Copy, A: Allocator> TreeNode<K, I, A> {
         }
     }
 
-    /// Lets the pairs of a leaf go that are not kept.
+    /// Removes the pairs of a leaf that the keeper does not keep.
     pub(crate) fn keep<T: Keeper<I>>(&mut self, keeper: &T)
         requires { IsLeaf self.old.body }
         ensures { self.new ≡ record self.old { body = Leaf (filter (λ pair. T.kept keeper.now pair.0 pair.1) (pairs_of self.old.body)) } }
@@ -312,7 +314,8 @@ impl<K: Copy, I: Copy, A: Allocator> TreeNode<K, I, A> {
         }
     }
 
-    /// Attaches a search. Numbers that do not run are let go. Where there is no memory nothing changes.
+    /// Attaches a search, and removes numbers that do not run. Nothing changes where an allocation
+    /// is refused.
     pub(crate) fn attach<Q: Copy, B: Allocator>(
         &mut self,
         running: &Running<Q, B>,
@@ -332,7 +335,8 @@ impl<K: Copy, I: Copy, A: Allocator> TreeNode<K, I, A> {
         }
     }
 
-    /// Its attached searches with each of these more, and without the numbers that do not run: a list of its own, for `set_attached`.
+    /// The list for `set_attached`: its attached searches with these added, without the numbers
+    /// that do not run.
     pub(crate) fn joined<Q: Copy, B: Allocator>(
         &self,
         running: &Running<Q, B>,
@@ -353,7 +357,7 @@ impl<K: Copy, I: Copy, A: Allocator> TreeNode<K, I, A> {
         }
     }
 
-    /// Has the searches of this list attached, and no others.
+    /// Replaces its attached searches by this list.
     pub(crate) fn set_attached(&mut self, list: Attached<A>)
         ensures { self.new ≡ record self.old { attached = list.numbers } }
     {
@@ -361,7 +365,7 @@ impl<K: Copy, I: Copy, A: Allocator> TreeNode<K, I, A> {
     }
 }
 
-// The place under another parent, where it is linked.
+/// The place with another parent if it is linked; any other place is the same.
 fn place_below(place: Place, parent: Handle) -> Place
     ensures { result ≡ place_under parent place }
 {
@@ -373,7 +377,7 @@ fn place_below(place: Place, parent: Handle) -> Place
     }
 }
 
-// The same attached numbers once more.
+/// A copy of the attached numbers.
 fn same_numbers<A: Allocator + Copy>(attached: &Attached<A>) -> Result<Attached<A>, Refused>
     ensures { IfOk result (λ made. made.numbers ≡ attached.now.numbers) }
 {

@@ -1,11 +1,13 @@
-//! The entry that an item's key is to go below.
+//! The choice of the entry that a walk descends by.
 
 ghost use Rattle.std.specs.Prelude.{◌≡◌, ◌<◌, false, IsTrue, length};
 ghost use Rattle.tree_nodes.specs.Penalties.{IsLess, IsNoMore, IsBest, penalties_of};
 
 use tree_theory::KeyClass;
 
-/// By how much an entry's key would grow by an item's key, and by how much that one by the entry's: measures of falling weight.
+/// The penalties of an entry for an item, compared in this order: how much the entry's key would
+/// grow by the item's key, the same by the class's second measure, and how much the item's key
+/// would grow by the entry's.
 #[derive(Clone, Copy)]
 pub(crate) struct Penalties {
     growth: u64,
@@ -13,7 +15,7 @@ pub(crate) struct Penalties {
     excess: u64,
 }
 
-/// The place of the entry that an item's key is to go below: one of least penalties.
+/// The index of an entry of least penalties for an item's key.
 pub fn best_entry<C: KeyClass>(keys: &[C::Key], key: C::Key) -> usize
     requires { 0 < length keys.now }
     ensures { IsBest C.growth C.second_growth keys.now key result }
@@ -30,7 +32,7 @@ pub fn best_entry<C: KeyClass>(keys: &[C::Key], key: C::Key) -> usize
     best
 }
 
-// The penalties of an entry with this key for an item's key.
+/// The penalties of an entry with this key for an item's key.
 fn measured<C: KeyClass>(held: C::Key, key: C::Key) -> Penalties
     ensures { result ≡ penalties_of C.growth C.second_growth held key }
 {
@@ -41,7 +43,7 @@ fn measured<C: KeyClass>(held: C::Key, key: C::Key) -> Penalties
     }
 }
 
-// Whether one is less than the other in the first measure in which they differ.
+/// Whether one is less than the other in the first measure in which they differ.
 fn is_less(one: Penalties, other: Penalties) -> bool
     ensures less { IsTrue result → IsLess one other }
     ensures no_more { result ≡ false → IsNoMore other one }

@@ -1,4 +1,4 @@
-//! Where a node stands under its parent.
+//! A node's parent, and its index there.
 
 ghost use Rattle.std.specs.Prelude.{◌≡◌, ℕ, Some, IfSome, IfNone, slice_get};
 ghost use Rattle.node_arena.specs.declared.handle.Handle.{Handle};
@@ -6,7 +6,8 @@ ghost use Rattle.node_arena.specs.declared.handle.Handle.{Handle};
 use node_arena::Handle;
 use tree_theory::Place;
 
-/// The parent of a node at this place, where it is marked or not as told.
+/// The parent of a linked node that is marked if `wanted`, and else not; `None` for any other
+/// place.
 pub fn parent_of(place: Place, wanted: bool) -> Option<Handle>
     ensures some { IfSome result (λ parent. place ≡ Place.Linked parent wanted) }
     ensures none { IfNone result ((parent : Handle) → place ≡ Place.Linked parent wanted → ⊥) }
@@ -17,7 +18,7 @@ pub fn parent_of(place: Place, wanted: bool) -> Option<Handle>
     }
 }
 
-/// Where a child stands among others.
+/// The index of a child among others; `None` where it is not among them.
 pub fn place_among(children: &[Handle], child: Handle) -> Option<usize>
     ensures some { IfSome result (λ place. slice_get children.now place ≡ Some child) }
     ensures none { IfNone result ((place : ℕ) → slice_get children.now place ≡ Some child → ⊥) }

@@ -1,4 +1,4 @@
-//! How far a search has come.
+//! The progress of a search.
 
 ghost use Rattle.std.specs.Prelude.{◌≡◌, ◌≢◌, ◌∷◌, ◌++◌, ◌+◌, ◌<◌, [], ℕ, List, IfOk, OnOk, length};
 ghost use Rattle.predicate_locks.specs.Searches.{last_number};
@@ -11,7 +11,8 @@ use std::alloc::Allocator;
 use std::marker::Model;
 use tree_theory::NODE_SIZE;
 
-/// How far a search has come: its steps, the nodes that it has yet to visit, each with a memo of the counter, and what it has found.
+/// The progress of a search: its steps, its stack of nodes to visit, each with a memo of the
+/// counter, and the pairs that it has found.
 #[derive(Drop)]
 pub struct Progress<I, A: Allocator> {
     number: u64,
@@ -37,7 +38,7 @@ impl<I, A: Allocator> Model for Progress<I, A> {
 }
 
 impl<I: Copy, A: Allocator> Progress<I, A> {
-    /// A search that begins with the root before it.
+    /// The progress of a new search: only the root is on its stack.
     pub fn at_root(alloc: A, number: u64, root: Handle, counter: u64) -> Result<Self, Refused>
     where
         A: Copy,
@@ -74,14 +75,15 @@ impl<I: Copy, A: Allocator> Progress<I, A> {
         self.stack.is_empty()
     }
 
-    /// What it has found.
+    /// The pairs that it has found.
     pub fn found(&self) -> &[(u64, I)]
         ensures { result.now ≡ self.now.found }
     {
         &self.found
     }
 
-    /// Makes room for what one visit may add. Where there is no memory nothing changes but the room.
+    /// Makes room for all that one visit may add. Where an allocation is refused, only spare
+    /// capacity may have grown.
     pub fn make_room(&mut self) -> Result<(), Refused>
         ensures ok { OnOk result (HasVisitRoom self.new) }
         ensures same { SameButRoom self.old self.new }
@@ -116,7 +118,7 @@ impl<I: Copy, A: Allocator> Progress<I, A> {
         self.stack.push_reserved((node, memo));
     }
 
-    /// Adds a pair to what is found, for which there is room.
+    /// Adds a found pair; there must be room.
     pub fn add(&mut self, key: u64, item: I)
         requires { length self.old.found < self.old.found_places }
         ensures { self.new ≡ record self.old { found = self.old.found ++ (key, item) ∷ [] } }

@@ -9,7 +9,7 @@ use crate::setters::{Nodes, adopt};
 use node_arena::{Arena, Handle};
 use std::alloc::Allocator;
 
-/// Puts a node in over these children, where there is room for one node more.
+/// Puts a new node into the arena, and its linked children under it. A slot must be reserved.
 pub fn put_over<K: Copy, I: Copy, A: Allocator>(
     nodes: &mut Nodes<K, I, A>,
     node: TreeNode<K, I, A>,
@@ -25,7 +25,7 @@ pub fn put_over<K: Copy, I: Copy, A: Allocator>(
     at
 }
 
-// Puts a node in, for which there is room.
+/// Puts a node into the arena; a slot must be reserved.
 fn put_in<T: Drop, A: Allocator>(nodes: &mut Arena<T, A>, node: T) -> Handle
     requires { HasRoomFor nodes.old 1 }
     ensures given { IsGiven nodes.old nodes.new result node }

@@ -1,4 +1,4 @@
-//! What was refused where there was no memory for the numbers of searches.
+//! Faults of `predicate_locks` that are refused allocations.
 
 ghost use Rattle.std.specs.Prelude.{◌≡◌};
 ghost use Rattle.memory.specs.Refused.{refused};
@@ -6,7 +6,7 @@ ghost use Rattle.memory.specs.Refused.{refused};
 use memory::Refused;
 use predicate_locks::LockFault;
 
-/// What was refused where `predicate_locks` found no memory, which is all that it refuses here.
+/// The refused allocation in a fault of `predicate_locks`. No other of its faults comes here.
 pub fn refusal_in(fault: LockFault) -> Refused
     requires { fault ≡ LockFault.Memory refused }
 {

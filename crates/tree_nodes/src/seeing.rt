@@ -1,4 +1,4 @@
-//! What one step of a search sees.
+//! One step of a search: what it sees of a node.
 
 ghost use Rattle.std.specs.Prelude.{◌≡◌, ◌≢◌, ◌++◌, ◌+◌, ◌<◌, ◌≤◌, [], OnOk, OnErr, length};
 ghost use Rattle.predicate_locks.specs.Searches.{last_number};
@@ -17,7 +17,9 @@ use predicate_locks::Running;
 use std::alloc::Allocator;
 use tree_theory::{KeyClass, Place, has_bit};
 
-/// One step of a search: it takes the last node from its stack, and sees what that has. Where there is no memory nothing changes but the room.
+/// Makes one step of a search: removes the last node from its stack, attaches the search to it, and
+/// sees its contents. A node that is gone is skipped. Where an allocation is refused, no node
+/// changes, and of the progress only spare capacity.
 pub fn visit_last<C: KeyClass, A: Allocator + Copy>(
     nodes: &mut Nodes<C::Key, C::Item, A>,
     running: &Running<C::Query, A>,
@@ -41,7 +43,8 @@ pub fn visit_last<C: KeyClass, A: Allocator + Copy>(
     Ok(())
 }
 
-// What a node shows to a search that comes to it with this memo: where it goes on to, its consistent children, and its pairs that match.
+/// A search with this memo sees a node: it adds the right node (if it follows) and the children of
+/// consistent entries to its stack, and the matching pairs to what it has found.
 fn see<C: KeyClass, A: Allocator>(
     progress: &mut Progress<C::Item, A>,
     node: &TreeNode<C::Key, C::Item, A>,
@@ -57,7 +60,7 @@ fn see<C: KeyClass, A: Allocator>(
     add_matching::<C, A>(progress, node, query);
 }
 
-// Puts the right node on the stack, where a search with this memo goes on to it.
+/// Puts the right node on the stack if a search with this memo follows to it.
 fn go_right<K: Copy, I: Copy, A: Allocator>(
     progress: &mut Progress<I, A>,
     node: &TreeNode<K, I, A>,
@@ -73,14 +76,14 @@ fn go_right<K: Copy, I: Copy, A: Allocator>(
     }
 }
 
-// Whether a search that comes to a node with this memo goes on to its right node.
+/// Whether a search with this memo follows from a node to its right node.
 fn is_followed(place: Place, seq: u64, memo: u64) -> bool
     ensures { result ≡ follows place seq memo }
 {
     matches!(place, Place::Linked { marked: true, .. }) || memo < seq
 }
 
-// Puts the children of consistent entries on the stack.
+/// Puts the children of consistent entries on the stack.
 fn push_children<C: KeyClass, A: Allocator>(
     progress: &mut Progress<C::Item, A>,
     node: &TreeNode<C::Key, C::Item, A>,
@@ -98,7 +101,7 @@ fn push_children<C: KeyClass, A: Allocator>(
     }
 }
 
-// Adds the pairs that match to what is found.
+/// Adds the matching pairs to what the search has found.
 fn add_matching<C: KeyClass, A: Allocator>(
     progress: &mut Progress<C::Item, A>,
     node: &TreeNode<C::Key, C::Item, A>,

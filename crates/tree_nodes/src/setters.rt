@@ -1,4 +1,4 @@
-//! Changes of one node of the tree's arena. Where no node stands at the handle nothing happens.
+//! Changes of one node in the tree's arena. Nothing happens where the handle names no node.
 
 ghost use Rattle.std.specs.Prelude.{◌≡◌, ◌∷◌, ◌++◌, ◌+◌, ◌<◌, ◌≤◌, [], Some, IfOk, OnOk, OnErr, filter, length, slice_get, slice_set, remove};
 ghost use Rattle.node_arena.specs.declared.handle.Handle.{Handle};
@@ -33,7 +33,7 @@ pub fn set_seq<K: Copy, I: Copy, A: Allocator>(nodes: &mut Nodes<K, I, A>, at: H
     }
 }
 
-/// Puts a node elsewhere.
+/// Gives a node another place.
 pub fn set_place<K: Copy, I: Copy, A: Allocator>(
     nodes: &mut Nodes<K, I, A>,
     at: Handle,
@@ -94,7 +94,7 @@ pub fn set_key<K: Copy, I: Copy, A: Allocator>(
     }
 }
 
-/// Takes an entry out of an inner node.
+/// Removes an entry of an inner node.
 pub fn remove_entry<K: Copy, I: Copy, A: Allocator>(
     nodes: &mut Nodes<K, I, A>,
     at: Handle,
@@ -109,7 +109,7 @@ pub fn remove_entry<K: Copy, I: Copy, A: Allocator>(
     }
 }
 
-/// Lets the pairs of a leaf go that are not kept.
+/// Removes the pairs of a leaf that the keeper does not keep.
 pub fn keep<K: Copy, I: Copy, T: Keeper<I>, A: Allocator>(
     nodes: &mut Nodes<K, I, A>,
     at: Handle,
@@ -123,7 +123,8 @@ pub fn keep<K: Copy, I: Copy, T: Keeper<I>, A: Allocator>(
     }
 }
 
-/// Attaches a search to a node, and lets numbers go that do not run. Where there is no memory nothing changes.
+/// Attaches a search to a node, and removes numbers that do not run. No node changes where an
+/// allocation is refused.
 pub fn attach<K: Copy, I: Copy, Q: Copy, A: Allocator + Copy>(
     nodes: &mut Nodes<K, I, A>,
     running: &Running<Q, A>,
@@ -139,7 +140,8 @@ pub fn attach<K: Copy, I: Copy, Q: Copy, A: Allocator + Copy>(
     }
 }
 
-/// The attached searches of a node with each of these more, and without the numbers that do not run: a list of its own, for `set_attached`.
+/// The list for `set_attached`: the attached searches of a node with these added, without the
+/// numbers that do not run. Empty where the handle names no node.
 pub fn joined<K: Copy, I: Copy, Q: Copy, A: Allocator + Copy>(
     alloc: A,
     nodes: &Nodes<K, I, A>,
@@ -156,7 +158,7 @@ pub fn joined<K: Copy, I: Copy, Q: Copy, A: Allocator + Copy>(
     }
 }
 
-/// Gives a node the searches of this list attached, and no others.
+/// Replaces the attached searches of a node by this list.
 pub fn set_attached<K: Copy, I: Copy, A: Allocator>(
     nodes: &mut Nodes<K, I, A>,
     at: Handle,
@@ -169,7 +171,8 @@ pub fn set_attached<K: Copy, I: Copy, A: Allocator>(
     }
 }
 
-/// Makes a node the left one of two: it keeps this part of what it had, and leads to its right node.
+/// Makes a node the marked left one of two: it keeps this part of its contents, and its rightlink
+/// leads to `right`.
 pub fn leave_left<K: Copy, I: Copy, A: Allocator>(
     nodes: &mut Nodes<K, I, A>,
     at: Handle,
@@ -198,7 +201,7 @@ pub fn rise<K: Copy, I: Copy, A: Allocator>(
     }
 }
 
-/// Puts a node under another parent, where it is linked.
+/// Gives a node another parent if it is linked.
 pub fn set_parent<K: Copy, I: Copy, A: Allocator>(
     nodes: &mut Nodes<K, I, A>,
     at: Handle,
@@ -212,7 +215,7 @@ pub fn set_parent<K: Copy, I: Copy, A: Allocator>(
     }
 }
 
-/// Puts each of these nodes under another parent, where it is linked.
+/// Gives each of these nodes another parent if it is linked.
 pub fn adopt<K: Copy, I: Copy, A: Allocator>(
     nodes: &mut Nodes<K, I, A>,
     children: &[Handle],

@@ -1,4 +1,4 @@
-//! Where a walk stands, and what lies before it. Nothing here changes anything.
+//! Where a walk is, as seen from its node. Nothing here changes anything.
 
 ghost use Rattle.std.specs.Prelude.{◌≡◌, false, IsTrue};
 ghost use Rattle.node_arena.specs.declared.handle.Handle.{Handle};
@@ -11,10 +11,10 @@ use node_arena::Handle;
 use std::alloc::Allocator;
 use tree_theory::{KeyClass, Place};
 
-/// Where a walk stands.
+/// Where a walk is.
 #[derive(Clone, Copy)]
 pub enum Standing {
-    /// At no node of the tree.
+    /// At a handle that names no node, or a retired one.
     Nowhere,
     /// At a right node that has no entry yet, to the right of this one.
     Unlinked(Handle),
@@ -24,7 +24,7 @@ pub enum Standing {
     Here,
 }
 
-/// How the node at this handle stands to a walk whose item has this key.
+/// Where a walk is whose handle is `at` and whose item has this key.
 pub fn standing_at<C: KeyClass, A: Allocator>(
     nodes: &Nodes<C::Key, C::Item, A>,
     at: Handle,
@@ -52,7 +52,7 @@ pub fn standing_at<C: KeyClass, A: Allocator>(
     }
 }
 
-// Whether an entry of the parent names the child, and its key covers this one.
+/// Whether an entry of the parent names the child, and its key covers this one.
 fn is_covered<C: KeyClass, A: Allocator>(
     nodes: &Nodes<C::Key, C::Item, A>,
     parent: Handle,

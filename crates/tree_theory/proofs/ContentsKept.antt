@@ -33,7 +33,7 @@ inner_pairs : {Key Item : Type 0} (body : PlainBody Key Item) (entries : List (K
 inner_pairs body entries e = sym (ap pairs_of e)
 
 module _ {C : Class} where
-  -- at this handle both trees have a node, or none has, and the pairs are the same
+  -- at this handle both trees have a node with the same pairs, or neither has a node
   pub record SameAt (t u : Tree C) (h : Handle) : Type 0 where
     pub pairs : pairs_at (u.look h) ≡ pairs_at (t.look h)
     pub to : IsSome (t.look h) → IsSome (u.look h)
@@ -62,7 +62,7 @@ module _ {C : Class} where
   pub contents_turned : {t : Tree C} {xs ys : List (ℕ × C.Item)} → IsContents t xs → IsPermutation xs ys → IsContents t ys
   contents_turned c p = record { handles = c.handles; listing = c.listing; same = then_to c.same p }
 
-  -- a tree has one list of contents, order aside
+  -- a tree has one list of contents, up to order
   pub contents_unique : (t : Tree C) (xs ys : List (ℕ × C.Item)) → IsContents t xs → IsContents t ys → IsPermutation xs ys
   contents_unique t xs ys one other =
       let handles = same_handles (λ h. pairs_at (t.look h)) one.handles other.handles one.listing.distinct other.listing.distinct
@@ -70,7 +70,7 @@ module _ {C : Class} where
       (λ h has. (one.listing.listed h).1 ((other.listing.listed h).0 has)) in
       then_to (turned_round one.same) (then_to handles other.same)
 
-  -- which has what the nodes have
+  -- and the contents have exactly the pairs of the nodes
   some_pair : (t : Tree C) (h : Handle) (o : Option (Node C)) (pair : ℕ × C.Item) → t.look h ≡ o → Contains (pairs_at o) pair → InContents t pair
   some_pair t h None pair e has = absurd (nothing_in pair has)
   some_pair t h (Some node) pair e has = record { handle = h; node = node; is = e; pair_in = has }
@@ -150,7 +150,7 @@ module _ {C : Class} where
         ]
       ]
 
-  -- The first tree, and a node that goes.
+  -- The first tree, and the removal of a node.
 
   pub contents_started : {u : Tree C} → IsStarted u → IsContents u []
   contents_started {u = u} change =
@@ -245,7 +245,7 @@ module _ {C : Class} where
         none_kept = change.kept.none_left;
       }
 
-  -- what a cleaned leaf leaves of the contents
+  -- the contents after a leaf is cleaned
   pub contents_sifted : {t u : Tree C} {Kept : ℕ × C.Item → Type 0} {h : Handle} {before : List (ℕ × C.Item)} → Shape t → IsCleaned t u Kept h → IsContents t before → (after : List (ℕ × C.Item)) × IsContents u after × LosesPairs Kept before after
   contents_sifted shape change c =
       let a = around change.nodes c in

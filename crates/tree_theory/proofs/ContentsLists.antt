@@ -1,4 +1,4 @@
--- Lists in another order, and what is put together from the elements of a list that has each once.
+-- Permutations, and `flat_map` over a list that has each handle once.
 use Rattle.std.proofs.Common.{◌≡◌, ◌≢◌, ◌⊎◌, List, [], ◌∷◌, ◌++◌, append_assoc, Contains, AllPairs, flat_map, refl, sym, ap, subst, ◌∙◌, inl, inr}
 use Rattle.std.specs.List.Sorted.{IsPermutation}
 use Rattle.std.proofs.lemmas.List.Elements.{Contains-append_cases, Contains-append_left, Contains-append_right}
@@ -25,27 +25,27 @@ module _ {T : Type 0} where
   pub behind_all : (zs : List T) {xs ys : List T} → IsPermutation xs ys → IsPermutation (zs ++ xs) (zs ++ ys)
   behind_all zs {xs = xs} {ys = ys} p = IsPermutation-append_right zs xs ys p
 
-  -- two parts change places, before a third and behind a first
+  -- two of three parts change places
   pub exchanged : (a b c : List T) → IsPermutation (a ++ (b ++ c)) (b ++ (a ++ c))
   exchanged a b c = then_to (as_it_is (sym (append_assoc a b c))) (then_to (before_all c (IsPermutation-append_comm a b)) (as_it_is (append_assoc b a c)))
 
   pub exchanged_last : (a b c : List T) → IsPermutation ((a ++ b) ++ c) ((a ++ c) ++ b)
   exchanged_last a b c = then_to (as_it_is (append_assoc a b c)) (then_to (behind_all a (IsPermutation-append_comm b c)) (as_it_is (sym (append_assoc a c b))))
 
-  -- the parts of a list, one behind the other
+  -- the parts of a list, one after the other
   pub parts_together : {whole one other : List T} → Parted whole one other → IsPermutation whole (one ++ other)
   parts_together none = IsPermutation-refl []
   parts_together (to_one {x = x} {whole = whole} {one = one} {other = other} p) = IsPermutation-cons x whole (one ++ other) (parts_together p)
   parts_together (to_other {x = x} {whole = whole} {one = one} {other = other} p) =
       then_to (IsPermutation-cons x whole (one ++ other) (parts_together p)) (turned_round (IsPermutation-middle one x other))
 
-  -- what is put together is the same where each part is
+  -- `flat_map` is the same where each part is
   pub same_parts : (f g : Handle → List T) (handles : List Handle) → ((h : Handle) → Contains handles h → f h ≡ g h) → flat_map f handles ≡ flat_map g handles
   same_parts f g [] each = refl
   same_parts f g (h ∷ handles) each =
       ap (λ part. part ++ flat_map f handles) (each h (first_in h handles)) ∙ ap (λ rest. g h ++ rest) (same_parts f g handles (λ x has. each x (later_in h handles x has)))
 
-  -- it has what some part has
+  -- `flat_map` has the elements of each part, and no others
   pub put_in : (f : Handle → List T) (handles : List Handle) (h : Handle) (x : T) → Contains handles h → Contains (f h) x → Contains (flat_map f handles) x
   put_in f [] h x has inside = absurd (nothing_in h has)
   put_in f (y ∷ handles) h x has inside = elim (in_cases y handles h has) [
@@ -100,7 +100,7 @@ module _ (T : Type 0) where
   ]
 
 module _ {T : Type 0} where
-  -- two lists that have the same handles, each once, put the same together
+  -- `flat_map` over two lists of the same handles, each once, differs only in order
   pub same_handles : (f : Handle → List T) (ones others : List Handle) → AllPairs (λ one other. one ≢ other) ones → AllPairs (λ one other. one ≢ other) others → ((h : Handle) → Contains ones h → Contains others h) → ((h : Handle) → Contains others h → Contains ones h) → IsPermutation (flat_map f ones) (flat_map f others)
   same_handles f [] [] distinct also to from = IsPermutation-refl []
   same_handles f [] (y ∷ ys) distinct also to from = absurd (nothing_in y (from y (first_in y ys)))

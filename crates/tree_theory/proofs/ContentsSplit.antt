@@ -1,4 +1,4 @@
--- The contents where a node splits or the root grows.
+-- The contents stay where a node splits or the root grows.
 use Rattle.std.proofs.Common.{◌≡◌, ◌≢◌, ◌⊎◌, ◌↔◌, ℕ, List, [], ◌∷◌, ◌++◌, append_assoc, Contains, AllPairs, flat_map, IsSome, sym, ap, subst, ◌∙◌, inl, inr}
 use Rattle.std.specs.List.Sorted.{IsPermutation}
 use Rattle.node_arena.specs.declared.handle.Handle.{Handle}
@@ -11,7 +11,7 @@ use Rattle.tree_theory.proofs.ContentsLists.{as_it_is, turned_round, then_to, be
 use Rattle.tree_theory.proofs.ListLemmas.{handle_cases, child_cases, first_in, later_in, in_cases}
 use Rattle.tree_theory.proofs.ShapeLists.{pairs_with}
 
--- a new handle before a list of those that stand
+-- a new handle in front of a list of old ones
 fresh_before : (standing : Handle → Type 0) (new : Handle) (handles : List Handle) → (standing new → ⊥) → ((h : Handle) → Contains handles h → standing h) → AllPairs (λ one other. one ≢ other) handles → AllPairs (λ one other. one ≢ other) (new ∷ handles)
 fresh_before standing new handles absent listed distinct =
     pairs_with (λ one other. one ≢ other) new handles (λ h has e. absent (subst standing (sym e) (listed h has))) distinct

@@ -1,4 +1,4 @@
--- Steps along rightlinks, and what they lead to.
+-- Steps along rightlinks, and where they lead.
 use Rattle.std.proofs.Common.{◌≡◌, ◌⊎◌, ℕ, ◌<◌, ◌||◌, Bool, true, false, nat_lt, [], Contains, IsTrue, refl, subst, inl, inr}
 use Rattle.std.proofs.lemmas.Bool.{lt-ltb, ltb-true}
 use Rattle.node_arena.specs.declared.handle.Handle.{Handle}
@@ -9,7 +9,7 @@ use Rattle.tree_theory.specs.Walks.Leads.{here, along}
 use Rattle.tree_theory.specs.declared.place.Place.{Place}
 use Rattle.tree_theory.proofs.ListLemmas.{nothing_in}
 
--- a node is followed where it is marked, or where its number is above the memo
+-- a search follows to the right from a marked node, and from one whose number is above the memo
 pub followed_marked : (place : Place) (seq memo : ℕ) → IsTrue (is_marked place) → IsTrue (is_followed place seq memo)
 followed_marked place seq memo marked = rw marked refl
 
@@ -32,7 +32,7 @@ module _ {C : Class} where
   leads_trans here after = after
   leads_trans (along step rest) after = along step (leads_trans rest after)
 
-  -- where each step of one tree is led over in another, so is each way
+  -- if each step of one tree leads to the same node in another, so does each way
   pub leads_map : {t u : Tree C} {memo : ℕ} {z x : Handle} → ((a b : Handle) → Step t memo a b → Leads u memo b a) → Leads t memo z x → Leads u memo z x
   leads_map each here = here
   leads_map each (along {x = x} {y = y} step rest) = leads_trans (each x y step) (leads_map each rest)

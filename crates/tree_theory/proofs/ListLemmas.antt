@@ -1,4 +1,4 @@
--- What is in a list.
+-- Membership in lists.
 use Rattle.std.proofs.Common.{◌≡◌, ◌≢◌, ◌⊎◌, ℕ, zero, suc, ◌<◌, List, [], ◌∷◌, ◌++◌, map, length, Contains, slice_index_or, slice_get, slice_set, remove, take, drop, Some, refl, sym, ap, subst, ◌∙◌, inl, inr, arith}
 use Rattle.std.proofs.lemmas.Bool.{cases_eq}
 use Rattle.std.proofs.lemmas.Grind.{get_or-set_at}
@@ -32,11 +32,11 @@ module _ {T : Type 0} where
     | inr e ↦ absurd (nothing_in x e)
   ]
 
-  -- what a list has at an index is in it
+  -- an element at an index is in the list
   pub got_in : (xs : List T) (i : ℕ) (x : T) → slice_get xs i ≡ Some x → Contains xs x
   got_in xs i x e = (i, slice_get_within xs i x e, get_or_from_slice_get xs i x x e)
 
-  -- with one element set, and with one taken out
+  -- with one element replaced, and with one removed
   pub set_cases : (xs : List T) (i : ℕ) (y x : T) → Contains (slice_set xs i y) x → (y ≡ x) ⊎ Contains xs x
   set_cases xs i y x h = elim (cases_eq h.0 i) [
     | inl same ↦
@@ -98,7 +98,7 @@ module _ {T : Type 0} where
   pub picked_from : {P : T → Type 0} {whole picked : List T} (x : T) → Picked P whole picked → Contains picked x → Contains whole x × P x
   picked_from x p h = (one_in x p.parted h, p.each x h)
 
-  -- where a loop goes on: the next element joins one part or the other
+  -- in a loop: the next element joins one part or the other
   pub parted_to_one : {whole one other : List T} (x : T) → Parted whole one other → Parted (whole ++ x ∷ []) (one ++ x ∷ []) other
   parted_to_one x none = to_one none
   parted_to_one x (to_one p) = to_one (parted_to_one x p)
@@ -109,7 +109,7 @@ module _ {T : Type 0} where
   parted_to_other x (to_one p) = to_one (parted_to_other x p)
   parted_to_other x (to_other p) = to_other (parted_to_other x p)
 
-  -- it has P and is picked, or it does not have it and is left
+  -- the next element has P and is picked, or has not and is left
   pub picked_with : {P : T → Type 0} {whole picked : List T} (x : T) → Picked P whole picked → P x → Picked P (whole ++ x ∷ []) (picked ++ x ∷ [])
   picked_with {P = P} {whole = whole} {picked = picked} x p has =
       record {
@@ -137,7 +137,7 @@ module _ {T : Type 0} where
   pub picked_none : {P : T → Type 0} → Picked P [] []
   picked_none = record { left = []; parted = none; each = λ x has. absurd (nothing_in x has); none_left = λ x has. absurd (nothing_in x has) }
 
-  -- whatever was picked, is picked by being among it
+  -- the picked elements are picked by membership among them
   pub picked_itself : {P : T → Type 0} {whole picked : List T} → Picked P whole picked → Picked (Contains picked) whole picked
   picked_itself p = record { left = p.left; parted = p.parted; each = λ x has. has; none_left = λ x left has. p.none_left x left (p.each x has) }
 
@@ -164,7 +164,7 @@ module _ {S T : Type 0} (f : S → T) where
         record { from = found.from; is_in = later_in x xs found.from found.is_in; is = found.is }
   ]
 
--- two handles are one, or they differ
+-- two handles are equal, or they differ
 pub handle_cases : (a b : Handle) → (a ≡ b) ⊎ (a ≢ b)
 handle_cases a b = elim (cases_eq a.slot b.slot) [
   | inr apart ↦ inr (λ e. apart (ap (λ h. h.slot) e))

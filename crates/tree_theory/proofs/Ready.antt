@@ -24,7 +24,7 @@ pub no_pair : {Key Item : Type 0} (body : PlainBody Key Item) (pair : ℕ × Ite
 no_pair body pair empty h = nothing_in pair (subst (λ b. Contains (pairs_of b) pair) empty h)
 
 module _ {C : Class} where
-  -- the numbers of a node that is done have the search
+  -- a node that a search is done with has the search attached
   pub attached_of : {t : Tree C} {s : ℕ} {h : Handle} → Done t s h → (node : Node C) → t.look h ≡ Some node → Contains node.attached s
   attached_of {t = t} {s = s} done node is = let same : done.node ≡ node = cc (done.is, is) in subst (λ n. Contains n.attached s) same done.attached
 
@@ -34,12 +34,12 @@ module _ {C : Class} where
         let done = owed_is_done s runs t.root empty (searches.search_root s runs running) in
         subst (Done t s) (sym (shape.root_only h node is place)) done
 
-    -- the right node of a marked node that is done
+    -- the search is done with the right node of a marked node that it is done with
     right_done : (l : Handle) (left : Node C) → t.look l ≡ Some left → (parent : Handle) → left.place ≡ Linked parent true → (r : Handle) → left.right ≡ Some r → Done t s l → Done t s r
     right_done l left is parent place r right done =
         owed_is_done s runs r empty (searches.search_mark s runs running l left is (attached_of done left is) (marked_at left.place parent place) r right)
 
-    -- a node is done whose entry has a consistent key
+    -- the search is done with a node whose entry is consistent
     pub ready_done : (d : ℕ) (h : Handle) (node : Node C) (p : Handle) (above : Parent t h node p) (top : Node C) → t.look h ≡ Some node → t.look t.root ≡ Some top → top.level ≤ node.level + d → C.Consistent above.key runs.query → Done t s h
     ready_done zero h node p above top is is_top high consistent = elim (handle_cases p t.root) [
       | inl at_root ↦
@@ -70,11 +70,11 @@ module _ {C : Class} where
             right_done l left.node left.is left.parent left.place p left.right (higher l left.node left.parent next left.is (omega arith) (laws.monotone next.key above.key runs.query covers consistent))
         parent_done higher (Retired stamp) place = absurd (no_entry above.node.body (above.key, h) (shape.retired_empty p above.node above.is stamp place) above.entry)
 
-    -- the same with no number for the levels between
+    -- the same, without counting levels
     pub entry_done : (h : Handle) (node : Node C) (p : Handle) (above : Parent t h node p) → t.look h ≡ Some node → C.Consistent above.key runs.query → Done t s h
     entry_done h node p above is consistent = ready_done shape.root_place.node.level h node p above shape.root_place.node is shape.root_place.is (omega arith) consistent
 
-    -- a leaf with a match is done
+    -- the search is done with a leaf that has a match
     pub ready_leaf : (h : Handle) (node : Node C) → t.look h ≡ Some node → (pair : ℕ × C.Item) → Contains (pairs_of node.body) pair → C.Matches pair.1 runs.query → Done t s h
     ready_leaf h node is pair has matches = go node.place refl
       where
@@ -91,11 +91,11 @@ module _ {C : Class} where
             right_done l left.node left.is left.parent left.place h left.right (entry_done l left.node left.parent next left.is (laws.monotone next.key (C.key_of pair.1) runs.query covers (laws.sound pair.1 runs.query matches)))
         go (Retired stamp) place = absurd (no_pair node.body pair (shape.retired_empty h node is stamp place) has)
 
-    -- such a search has found whatever matches
+    -- so it has found every match
     pub ready_complete : (h : Handle) (node : Node C) → t.look h ≡ Some node → (pair : ℕ × C.Item) → Contains (pairs_of node.body) pair → C.Matches pair.1 runs.query → Contains runs.found pair
     ready_complete h node is pair has matches = searches.search_found s runs running h node is (attached_of (ready_leaf h node is pair has matches) node is) pair has matches
 
-    -- a leaf that may take an item that matches is done
+    -- the search is done with a leaf that may take a matching item
     pub taker_done : (h : Handle) (node : Node C) → t.look h ≡ Some node → (item : C.Item) → MayTake t h node (C.key_of item) → C.Matches item runs.query → Done t s h
     taker_done h node is item (inl place) matches = root_done h node is place
     taker_done h node is item (inr entry) matches =
@@ -105,12 +105,12 @@ module _ {C : Class} where
         let above : Parent t h node entry.parent = record { node = entry.parent_node; is = entry.is; key = entry.entry_key; entry = entry.entry; level = level } in
         entry_done h node entry.parent above is (laws.monotone entry.entry_key (C.key_of item) runs.query entry.covers (laws.sound item runs.query matches))
 
-    -- nothing that it looks for is placed behind it
+    -- so no step places a pair that it looks for
     pub none_placed : {u : Tree C} (h : Handle) (pair : ℕ × C.Item) → IsPlaced t u h pair → C.Matches pair.1 runs.query → ⊥
     none_placed h pair placed matches =
         placed.none_matches s runs running (attached_of (taker_done h placed.node placed.nodes.before pair.1 placed.may_take matches) placed.node placed.nodes.before) matches
 
-  -- what the invariant gives
+  -- the promises of the invariant
   pub misses_nothing : (laws : Laws C) (t : Tree C) → Invariant t → MissesNothing t
   misses_nothing laws t inv s runs ready pair found matches =
       ready_complete laws inv.shape inv.searches s runs ready.running ready.stack found.handle found.node found.is pair found.pair_in matches

@@ -1,4 +1,4 @@
--- One node is replaced, and what a change keeps of what is done and owed.
+-- One node is replaced: what stays done and owed.
 use Rattle.std.proofs.Common.{◌≡◌, ◌≢◌, ◌⊎◌, ℕ, Contains, Some, inl, inr}
 use Rattle.node_arena.specs.declared.handle.Handle.{Handle}
 use Rattle.tree_theory.specs.Changes.{OneNode, SameNodes, Numbers}
@@ -10,7 +10,7 @@ use Rattle.tree_theory.proofs.ListLemmas.{handle_cases}
 use Rattle.tree_theory.proofs.Leads.{leads_map}
 
 module _ {C : Class} where
-  -- where a node of the new tree is from, and where one of the old tree goes
+  -- the old node of each new one, and the new node of each old one
   pub node_from : {t u : Tree C} {h : Handle} {old new : Node C} → OneNode t u h old new → (x : Handle) (n : Node C) → u.look x ≡ Some n → ((x ≡ h) × (new ≡ n)) ⊎ (t.look x ≡ Some n)
   node_from {t = t} {u = u} {h = h} {old = old} {new = new} r x n is = go (handle_cases x h)
     where
@@ -25,7 +25,8 @@ module _ {C : Class} where
       go (inl e) = inl (e, cc (r.before, is))
       go (inr ne) = inr (cc (r.others x ne, is))
 
-  -- What was done to a running search stays done, and each step that its memos take is still led over.
+  -- A running search stays done with its nodes, and wherever a step with one of its memos led,
+  -- steps still lead there.
   pub record Keeps (t u : Tree C) : Type 0 where
     pub done : (s : ℕ) (runs : Search C) → t.searches s ≡ Some runs → (h : Handle) → Done t s h → Done u s h
     pub steps : (s : ℕ) (runs : Search C) → t.searches s ≡ Some runs → (from : Handle) (memo : ℕ) → Contains runs.stack (from, memo) → (a b : Handle) → Step t memo a b → Leads u memo b a
@@ -40,7 +41,7 @@ module _ {C : Class} where
         leads = leads_map (k.steps s runs is stacked.from stacked.memo stacked.on_stack) stacked.leads;
       })
 
-  -- a step over a node that keeps its place, number and rightlink
+  -- a step from a node that keeps its place, number and rightlink
   pub step_kept : {t u : Tree C} {h : Handle} {old new : Node C} → OneNode t u h old new → new.place ≡ old.place → new.seq ≡ old.seq → new.right ≡ old.right → (memo : ℕ) (a b : Handle) → Step t memo a b → Leads u memo b a
   step_kept {t = t} {u = u} {h = h} {old = old} {new = new} r place seq right memo a b step = go (node_to r a step.node step.is)
     where

@@ -1,4 +1,4 @@
--- What running searches see at one node, and what a step keeps of it.
+-- What a running search has seen at one node, and what a step keeps of it.
 use Rattle.std.proofs.Common.{◌≡◌, ◌⊎◌, ℕ, ◌<◌, ◌≤◌, Bool, List, Contains, Option, Some, IsTrue, sym, subst, inl, inr, arith}
 use Rattle.node_arena.specs.declared.handle.Handle.{Handle}
 use Rattle.tree_theory.specs.Changes.{SameClock, Ticked, SameSearches, OneNode, Numbers, Copied}
@@ -10,7 +10,7 @@ use Rattle.tree_theory.specs.declared.place.Place.{Place}
 use Rattle.tree_theory.specs.declared.place.Place.TheVariants.{Root, Linked, Unlinked, Retired}
 use Rattle.tree_theory.proofs.Replaced.{Keeps, owed_kept, node_from, one_node_keeps}
 
--- a place that is another one is not retired
+-- a place of another kind is not retired
 pub root_not_retired : (place : Place) (stamp : ℕ) → place ≡ Root → place ≡ Retired stamp → ⊥
 root_not_retired place stamp is retired = absurd (cc)
 
@@ -21,7 +21,7 @@ pub unlinked_not_retired : (place : Place) (l : Handle) (stamp : ℕ) → place 
 unlinked_not_retired place l stamp is retired = absurd (cc)
 
 module _ {C : Class} where
-  -- a node stands there that is not retired
+  -- the handle names a node that is not retired
   pub record Lives (t : Tree C) (h : Handle) : Type 0 where
     pub node : Node C
     pub is : t.look h ≡ Some node
@@ -41,21 +41,22 @@ module _ {C : Class} where
       let same : beside.right ≡ r = cc (beside.is_right, right) in
       subst (Lives t) same (record { node = beside.node; is = beside.is; place = λ stamp. unlinked_not_retired beside.node.place l stamp beside.place })
 
-  -- what holds of a search that runs
+  -- the clauses on a running search
   pub record Runs (u : Tree C) (s : ℕ) (now : Search C) : Type 0 where
     pub root : Owed u s now u.root
     pub given : s < u.next
     pub memo_counter : (h : Handle) (memo : ℕ) → Contains now.stack (h, memo) → memo ≤ u.counter
     pub memo_begun : (h : Handle) (memo : ℕ) → Contains now.stack (h, memo) → now.begun ≤ memo
 
-  -- what a search has seen or will come to that is attached to a node with this body, place and rightlink
+  -- what a search has seen or will come to, if it is attached to a node with this body, place and
+  -- rightlink
   pub record SeenBy (u : Tree C) (body : Body C) (place : Place) (right : Option Handle) (s : ℕ) : Type 0 where
     pub child : (now : Search C) → u.searches s ≡ Some now → (key : C.Key) (c : Handle) → Contains (entries_of body) (key, c) → C.Consistent key now.query → Owed u s now c
     pub mark : (now : Search C) → u.searches s ≡ Some now → IsTrue (is_marked place) → (r : Handle) → right ≡ Some r → Owed u s now r
     pub found : (now : Search C) → u.searches s ≡ Some now → (pair : ℕ × C.Item) → Contains (pairs_of body) pair → C.Matches pair.1 now.query → Contains now.found pair
     pub given : s < u.next
 
-  -- what holds of a node
+  -- the clauses on the searches of a node
   pub record Seen (u : Tree C) (n : Node C) : Type 0 where
     pub by : (s : ℕ) → Contains n.attached s → SeenBy u n.body n.place n.right s
     pub seq : n.seq ≤ u.counter
@@ -99,8 +100,8 @@ module _ {C : Class} where
         next = let same = clock.next in omega arith;
       }
 
-  -- A running search of the new tree ran in the old one, with the same query; what was owed to it still is,
-  -- where a node stands that is not retired, and it has lost nothing that it found.
+  -- A running search of the new tree ran in the old one, with the same query. Every node that is
+  -- not retired and was owed to it still is, and it has kept all found pairs.
   pub record Stays (t u : Tree C) (s : ℕ) (now : Search C) : Type 0 where
     pub old : Search C
     pub was : t.searches s ≡ Some old
@@ -129,7 +130,7 @@ module _ {C : Class} where
   pub all_stay : {t u : Tree C} → Keeps t u → Searches t → After t u → SameSearches t u → (s : ℕ) (now : Search C) → u.searches s ≡ Some now → Stays t u s now
   all_stay keeps searches clock same s now is = stays_kept keeps searches clock s now (cc (same.search s, is))
 
-  -- what held of a search and a node of the old tree holds in the new one
+  -- the clauses on a search and on a node of the old tree hold in the new one
   pub runs_kept : {t u : Tree C} → Shape t → Searches t → After t u → (s : ℕ) (now : Search C) → Stays t u s now → Runs u s now
   runs_kept {t = t} {u = u} shape searches clock s now stays =
       record {
@@ -163,11 +164,11 @@ module _ {C : Class} where
             given = let rises = clock.next in omega arith;
           }
 
-  -- where all running searches stay, the nodes are left to be looked at
+  -- where all running searches stay, only the nodes remain to be checked
   pub kept_searches : {t u : Tree C} → Shape t → Searches t → After t u → ((s : ℕ) (now : Search C) → u.searches s ≡ Some now → Stays t u s now) → ((h : Handle) (n : Node C) → u.look h ≡ Some n → Seen u n) → Searches u
   kept_searches shape searches clock stay seen = searches_of (λ s now is. runs_kept shape searches clock s now (stay s now is)) seen
 
-  -- with no more entries and pairs, the same rightlink, and not newly marked
+  -- for a body with no more entries and pairs, the same rightlink, and no new mark
   pub seen_by_fewer : {u : Tree C} {s : ℕ} (one other : Body C) (place at : Place) (right : Option Handle) → SeenBy u one place right s → ((key : C.Key) (c : Handle) → Contains (entries_of other) (key, c) → Contains (entries_of one) (key, c)) → ((pair : ℕ × C.Item) → Contains (pairs_of other) pair → Contains (pairs_of one) pair) → (IsTrue (is_marked at) → IsTrue (is_marked place)) → SeenBy u other at right s
   seen_by_fewer one other place at right seen entries pairs marked =
       record {

@@ -1,4 +1,5 @@
--- Several nodes change at once: where each one goes, and what running searches still see of it.
+-- Several nodes change at once: what becomes of each, and what running searches have still seen of
+-- it.
 use Rattle.std.proofs.Common.{◌≡◌, ℕ, ◌≤◌, Contains, Option, Some, None, IsTrue, refl}
 use Rattle.std.specs.Option.{option_map}
 use Rattle.node_arena.specs.declared.handle.Handle.{Handle}
@@ -12,7 +13,7 @@ use Rattle.tree_theory.specs.declared.place.Place.TheVariants.{Root, Linked, Unl
 use Rattle.tree_theory.proofs.Replaced.{Keeps}
 use Rattle.tree_theory.proofs.SearchKept.{Seen, SeenBy}
 
--- under another parent a node is as much marked and retired as before
+-- another parent changes neither mark nor retirement
 pub under_marked : (p : Handle) (place : Place) → is_marked (place_under p place) ≡ is_marked place
 under_marked p Root = refl
 under_marked p (Linked q marked) = refl
@@ -26,7 +27,7 @@ under_retired p (Unlinked l) stamp e = e
 under_retired p (Retired other) stamp e = e
 
 module _ {Key Item : Type 0} where
-  -- what an optional node was before this change of it
+  -- the node of which this is the changed one, if there was one
   pub record Before (change : PlainNode Key Item → PlainNode Key Item) (was : Option (PlainNode Key Item)) (now : PlainNode Key Item) : Type 0 where
     pub old : PlainNode Key Item
     pub is : was ≡ Some old
@@ -66,7 +67,8 @@ module _ {C : Class} where
             given = before.given;
           }
 
-  -- Where an old node goes: it keeps its searches, and each step over it is led over at the memos that there are.
+  -- What becomes of an old node: it keeps its attached searches, and wherever a step from it led,
+  -- at a memo up to the counter, steps still lead there.
   pub record Goes (t u : Tree C) (x : Handle) (old : Node C) : Type 0 where
     pub node : Node C
     pub is : u.look x ≡ Some node

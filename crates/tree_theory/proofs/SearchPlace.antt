@@ -1,4 +1,4 @@
--- Pairs come and go, and searches join: what all of them have seen or will come to is kept.
+-- Placing, cleaning, joining and enlarging keep the clauses on searches.
 use Rattle.std.proofs.Common.{◌≡◌, ℕ, [], ◌∷◌, ◌++◌, Contains, slice_set, Some, sym, subst, inl, inr}
 use Rattle.std.proofs.lemmas.List.Elements.{Contains-append_cases}
 use Rattle.node_arena.specs.declared.handle.Handle.{Handle}

@@ -1,4 +1,4 @@
--- Leaves are retired and freed, and the first tree: what all searches have seen or will come to is kept.
+-- Retiring a leaf and freeing a node keep the clauses on searches, and the first tree meets them.
 use Rattle.std.proofs.Common.{◌≡◌, ◌≢◌, ◌⊎◌, ℕ, ◌+◌, ◌<◌, false, List, [], Contains, remove, Some, None, IsTrue, refl, sym, subst, ◌∙◌, inl, inr, arith}
 use Rattle.std.proofs.lemmas.Bool.{ltb-true}
 use Rattle.node_arena.specs.declared.handle.Handle.{Handle}
@@ -103,7 +103,7 @@ module _ {C : Class} where
       stays_there : (x : Handle) (n : Node C) → t.look x ≡ Some n → x ≢ h → u.look x ≡ Some n
       stays_there x n is apart = change.others x apart ∙ is
 
-      -- no running search goes on from the node: its number is below the stamp, and all memos are not
+      -- no running search follows from the node: its number is below the stamp, and no memo is
       followed_not : (s : ℕ) (now : Search C) → t.searches s ≡ Some now → (x : Handle) (memo : ℕ) → Contains now.stack (x, memo) → IsTrue (is_followed change.node.place change.node.seq memo) → ⊥
       followed_not s now was x memo on_stack follows =
           let by_number : IsTrue (is_followed (Retired change.stamp) change.node.seq memo) = subst (λ place. IsTrue (is_followed place change.node.seq memo)) change.place follows in
@@ -119,7 +119,7 @@ module _ {C : Class} where
           absurd (followed_not s now was from memo on_stack (subst (λ n. IsTrue (is_followed n.place n.seq memo)) same step.follows))
       steps s now was from memo on_stack a b step (inr apart) = along {y = b} (record { node = step.node; is = stays_there a step.node step.is apart; follows = step.follows; right = step.right }) here
 
-      -- nothing is owed at the node itself, since it is retired
+      -- the node itself is retired, so it need not be owed
       lives_apart : (x : Handle) → Lives t x → x ≢ h
       lives_apart x lives = λ e.
           let same : change.node ≡ lives.node = cc (lives.is, change.before, e) in

@@ -1,4 +1,4 @@
--- Nodes split, the root grows, and right nodes get their entries: what all searches have seen or will come to is kept.
+-- Splits, growth of the root and installs keep the clauses on searches.
 use Rattle.std.proofs.Common.{◌≡◌, ◌≢◌, ◌⊎◌, ℕ, ◌+◌, ◌≤◌, true, false, List, [], ◌∷◌, ◌++◌, Contains, slice_set, Option, Some, None, IsTrue, refl, sym, ap, subst, ◌∙◌, inl, inr, arith}
 use Rattle.std.specs.Option.{option_map}
 use Rattle.std.proofs.lemmas.List.Elements.{Contains-append_cases}
@@ -19,14 +19,14 @@ use Rattle.tree_theory.proofs.SearchKept.{Seen, SeenBy, After, same_after, ticke
 use Rattle.tree_theory.proofs.SearchMoved.{moved_itself, moved_under, seen_moved, Goes, goes_moved, goes_keeps, before_of}
 
 module _ {C : Class} where
-  -- an old number of a copied list
+  -- a number of a copied list is an old one
   pub copied_from : {t : Tree C} {old new : List ℕ} → Copied t old new → (s : ℕ) → Contains new s → Contains old s
   copied_from numbers s has = elim (numbers.only s has) [
     | inl was ↦ was
     | inr none ↦ absurd none
   ]
 
-  -- an unmarked node with a part of what another one has
+  -- a search that has seen a node has seen an unmarked one with a part of its contents
   pub seen_by_part : {u : Tree C} {s : ℕ} (whole part : Body C) (place at : Place) (right : Option Handle) → SeenBy u whole place right s → ((entry : C.Key × Handle) → Contains (entries_of part) entry → Contains (entries_of whole) entry) → ((pair : ℕ × C.Item) → Contains (pairs_of part) pair → Contains (pairs_of whole) pair) → is_marked at ≡ false → (beside : Option Handle) → SeenBy u part at beside s
   seen_by_part whole part place at right seen entries pairs unmarked beside =
       record {
@@ -48,7 +48,7 @@ module _ {C : Class} where
       right : Node C
       right = record change.node { body = change.moved; place = Unlinked h; attached = change.attached }
 
-      -- over the mark, and then over the old rightlink
+      -- across the mark to the new node, then along the old rightlink
       leads : (memo : ℕ) → IsTrue (is_followed change.node.place change.node.seq memo) → (y : Handle) → change.node.right ≡ Some y → Leads u memo y h
       leads memo follows y beside =
           let before : IsTrue (is_followed (Linked change.parent false) change.node.seq memo) = subst (λ place. IsTrue (is_followed place change.node.seq memo)) change.place follows in
@@ -146,7 +146,7 @@ module _ {C : Class} where
       before : Seen u change.node
       before = kept t.root change.node change.before
 
-      -- whoever has seen the root has seen its two new children
+      -- a search that has seen the root is done with its two new children
       top_by : (s : ℕ) → Contains change.node.attached s → SeenBy u (Inner entries) change.node.place change.node.right s
       top_by s has =
           let seen = before.by s has in
@@ -228,7 +228,7 @@ module _ {C : Class} where
       marked : IsTrue (is_marked change.left.place)
       marked = rw change.place refl
 
-      -- the right node was unlinked, so it was followed by its number alone
+      -- the right node was unlinked, so it was followed only by its number
       right_place : change.right.place ≡ Unlinked l
       right_place =
           let beside = shape.mark_right l change.left change.left_before marked in
@@ -293,7 +293,7 @@ module _ {C : Class} where
       right_covered : C.Covers change.old change.right_key
       right_covered = key_covered laws change.right.body change.old change.right_key (shape.cover_marked p change.node change.parent_before change.old l old_entry change.left change.left_before marked r change.right change.is_right change.right_before) change.for_right
 
-      -- whoever was owed the left node is owed the right one
+      -- a search to which the left node is owed is owed the right one
       owed_right : (s : ℕ) (now : Search C) → t.searches s ≡ Some now → Owed t s now l → Owed t s now r
       owed_right s now was (inl done) =
           let same : done.node ≡ change.left = cc (done.is, change.left_before) in

@@ -1,4 +1,4 @@
--- Searches begin, end, and visit a node: what all of them have seen or will come to is kept.
+-- The opening, the end and a visit of a search keep the clauses on searches.
 use Rattle.std.proofs.Common.{◌≡◌, ◌≢◌, ◌⊎◌, ℕ, ◌≤◌, Bool, true, false, List, [], ◌∷◌, ◌++◌, Contains, Option, Some, None, IsTrue, if◌then◌else◌, sym, ap, subst, inl, inr, arith}
 use Rattle.std.proofs.lemmas.Bool.{cases_eq}
 use Rattle.std.proofs.lemmas.List.Elements.{Contains-append_cases, Contains-append_left, Contains-append_right}
@@ -93,7 +93,7 @@ module _ {C : Class} where
       in_rest : (from : Handle) (m : ℕ) → Contains change.rest (from, m) → Contains change.search.stack (from, m)
       in_rest from m has = subst (λ l. Contains l (from, m)) (sym change.popped) (Contains-append_left change.rest ((x, memo) ∷ []) (from, m) has)
 
-      -- a way from a handle that is gone is none
+      -- a handle that is gone leads to no node that is left
       from_gone : (h : Handle) → Lives t h → Leads t memo h x → ⊥
       from_gone h lives leads = elim (leads_pop leads) [
         | inl e ↦ absurd (cc (lives.is, e, change.gone))
@@ -172,7 +172,7 @@ module _ {C : Class} where
       done : Done u s x
       done = record { node = record change.node { attached = change.attached }; is = change.nodes.after; attached = change.joins }
 
-      -- what a way from the node leads to
+      -- where steps from the node lead
       from_node : (h : Handle) → Leads t memo h x → Owed u s after h
       from_node h leads = elim (leads_pop leads) [
         | inl e ↦ inl (subst (Done u s) e done)
@@ -244,7 +244,7 @@ module _ {C : Class} where
       stay : (y : ℕ) (now : Search C) → u.searches y ≡ Some now → Stays t u y now
       stay y now is = stay_cases y now is (cases_eq y s)
 
-      -- what it sees of the node, where it runs
+      -- what the search has seen of the node, if it runs
       seen : SeenBy u change.node.body change.node.place change.node.right s
       seen =
           record {

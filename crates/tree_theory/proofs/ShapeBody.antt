@@ -1,4 +1,5 @@
--- A node's body changes: pairs are placed or taken out, or an entry gets a wider key.
+-- A change of a node's body keeps the shape: pairs are placed or removed, or an entry gets a wider
+-- key.
 use Rattle.std.proofs.Common.{◌≡◌, ◌≢◌, ◌⊎◌, ℕ, ◌<◌, ◌≤◌, Bool, [], Contains, Some, IsTrue, refl, sym, ap, subst, ◌∙◌, inl, inr, arith}
 use Rattle.node_arena.specs.declared.handle.Handle.{Handle}
 use Rattle.tree_theory.specs.Changes.{OneNode, MayTake, StandsBehind}
@@ -27,7 +28,7 @@ module _ {C : Class} where
     pub retired : (stamp : ℕ) → old.place ≡ Retired stamp → new.body ≡ Leaf []
     pub covered : (key : C.Key) → StandsBehind t h key → CoversBody C key old.body → CoversBody C key new.body
 
-  -- what the old tree has where the new one has this node
+  -- the old node of a new one
   record Was (t : Tree C) (h : Handle) (old new : Node C) (x : Handle) (now : Node C) : Type 0 where
     node : Node C
     is : t.look x ≡ Some node
@@ -36,7 +37,7 @@ module _ {C : Class} where
     place : node.place ≡ now.place
     body : (node.body ≡ now.body) ⊎ ((x ≡ h) × (node.body ≡ old.body) × (now.body ≡ new.body))
 
-  -- and the other way round
+  -- the new node of an old one
   record Stays (u : Tree C) (x : Handle) (was : Node C) : Type 0 where
     node : Node C
     is : u.look x ≡ Some node
@@ -203,7 +204,7 @@ module _ {C : Class} where
           cover_marked = body_cover_marked;
         }
 
-  -- A node that may take a key is covered by no entry but its own, which covers the key.
+  -- The only entry over a node that may take a key is its own, and it covers the key.
 
   pub stands_place : {t : Tree C} {h : Handle} {key : C.Key} → Shape t → (behind : StandsBehind t h key) → (node : Node C) → t.look h ≡ Some node → ((marked : Bool) × (node.place ≡ Linked behind.parent marked)) ⊎ (node.place ≡ Unlinked behind.child)
   stands_place {t = t} {h = h} {key = key} shape behind node is = elim behind.behind [

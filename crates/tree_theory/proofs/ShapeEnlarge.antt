@@ -1,4 +1,4 @@
--- An entry gets a wider key.
+-- Widening an entry's key keeps the shape.
 use Rattle.std.proofs.Common.{◌≡◌, ◌≤◌, [], length, Contains, slice_set, refl, sym, ap, subst, inl, inr, arith}
 use Rattle.std.proofs.lemmas.List.{length-set}
 use Rattle.std.proofs.lemmas.Option.{slice_get_within}

@@ -1,4 +1,4 @@
--- A retired node is taken away.
+-- Removing a retired node keeps the shape.
 use Rattle.std.proofs.Common.{◌≡◌, ℕ, Bool, [], Contains, Some, IsTrue, sym, ap, ◌∙◌, inl, inr}
 use Rattle.node_arena.specs.declared.handle.Handle.{Handle}
 use Rattle.tree_theory.specs.Changes.{IsFreed}

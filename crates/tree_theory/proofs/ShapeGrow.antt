@@ -1,4 +1,4 @@
--- The root grows.
+-- Growth of the root keeps the shape, and the first tree has it.
 use Rattle.std.proofs.Common.{◌≡◌, ◌≢◌, ◌⊎◌, ℕ, ◌+◌, ◌<◌, ◌≤◌, Bool, true, false, [], ◌∷◌, Contains, Some, None, IsTrue, refl, sym, ap, subst, ◌∙◌, inl, inr, arith}
 use Rattle.std.specs.Option.{option_map}
 use Rattle.node_arena.specs.declared.handle.Handle.{Handle}
@@ -33,7 +33,8 @@ module _ {C : Class} where
     abbrev Two : Handle → Type 0
     Two x = Contains (children_of change.two) x
 
-    -- a node that is neither the root nor new, before and after: it hangs under a, under b, or as before
+    -- a node that is neither the root nor new, before and after: its parent is now a or b, or its
+    -- place stays
     record Twin (x : Handle) (old now : Node C) : Type 0 where
       was : t.look x ≡ Some old
       is : u.look x ≡ Some now
@@ -62,7 +63,7 @@ module _ {C : Class} where
         let other = entry_of_child change.two x two in
         parts_differ change.halves.entries (shape.children_differ t.root change.node change.before) mine.0 other.0 x mine.1 other.1
 
-    -- what an entry names is not the root
+    -- an entry's child is not the root
     named_not_root : (p : Handle) (n : Node C) → t.look p ≡ Some n → (key : C.Key) (c : Handle) → Contains (entries_of n.body) (key, c) → c ≢ t.root
     named_not_root p n is key c has same =
         let child = shape.entry_down p n is key c has in
@@ -219,7 +220,7 @@ module _ {C : Class} where
         let same : t.root ≡ q = cc in
         subst (Parent u b second) same (record { node = top; is = change.root_now; key = change.two_key; entry = later_in (change.one_key, a) ((change.two_key, b) ∷ []) (change.two_key, b) (first_in (change.two_key, b) []); level = refl })
 
-    -- a child that went is one level below a and b
+    -- a child that moved is one level below a and b
     child_level : (key : C.Key) (x : Handle) (old now : Node C) → Twin x old now → Contains (entries_of change.node.body) (key, x) → change.node.level ≡ now.level + 1
     child_level key x old now twin has =
         let child = shape.entry_down t.root change.node change.before key x has in
@@ -272,7 +273,7 @@ module _ {C : Class} where
         let whole = shape.children_differ t.root change.node change.before in
         each_node (λ x n. Differ (entries_of n.body)) top_differ (one_pairs (λ one other. one.1 ≢ other.1) change.halves.entries whole) (one_pairs (λ one other. one.1 ≢ other.1) (turned change.halves.entries) whole) (λ x old now apart twin. subst (λ body. Differ (entries_of body)) twin.body (shape.children_differ x old twin.was))
 
-    -- a node that is not at the root's place is not the root
+    -- a node with a place other than `Root` is not the root
     not_root : (x : Handle) (n : Node C) → t.look x ≡ Some n → (n.place ≡ Root → ⊥) → x ≢ t.root
     not_root x n is other e =
         let one : change.node ≡ n = cc (change.before, is, e) in
@@ -341,13 +342,13 @@ module _ {C : Class} where
     grown_retired_empty =
         each_node (λ x n. (stamp : ℕ) → n.place ≡ Retired stamp → n.body ≡ Leaf []) (λ stamp e. let root = change.place in absurd (cc)) (λ stamp e. absurd (cc)) (λ stamp e. absurd (cc)) (λ x old now apart twin stamp place. sym twin.body ∙ shape.retired_empty x old twin.was stamp (retired_was twin.to_a stamp (retired_was twin.to_b stamp place)))
 
-    -- what an old entry names was there
+    -- an old entry's child was there before
     named : (p : Handle) (parent : Node C) → t.look p ≡ Some parent → (key : C.Key) (c : Handle) (node : Node C) → u.look c ≡ Some node → Contains (entries_of parent.body) (key, c) → (old : Node C) × Twin c old node
     named p parent is key c node is_now has =
         let child = shape.entry_down p parent is key c has in
         twin_from c node (named_not_root p parent is key c has) (not_first c child.node child.is) (not_second c child.node child.is) is_now
 
-    -- an old entry covers its child still
+    -- an old entry still covers its child
     child_covered : (p : Handle) (parent : Node C) → t.look p ≡ Some parent → (key : C.Key) (c : Handle) (node : Node C) → u.look c ≡ Some node → Contains (entries_of parent.body) (key, c) → CoversBody C key node.body
     child_covered p parent is key c node is_now has =
         let child = named p parent is key c node is_now has in

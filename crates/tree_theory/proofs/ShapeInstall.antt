@@ -1,4 +1,4 @@
--- A right node gets its entry.
+-- An install keeps the shape.
 use Rattle.std.proofs.Common.{◌≡◌, ◌≢◌, ◌⊎◌, ℕ, ◌+◌, ◌<◌, ◌≤◌, Bool, true, false, List, [], ◌∷◌, ◌++◌, length, Contains, Some, IsTrue, slice_set, refl, sym, ap, subst, ◌∙◌, inl, inr, arith}
 use Rattle.std.proofs.lemmas.List.{length-append, length-set}
 use Rattle.std.proofs.lemmas.List.Elements.{Contains-append_cases, Contains-append_left, Contains-append_right}
@@ -15,7 +15,7 @@ use Rattle.tree_theory.proofs.ListLemmas.{handle_cases, nothing_in, first_in, in
 use Rattle.tree_theory.proofs.ShapeKept.{mark_at, entry_at, covers_at}
 use Rattle.tree_theory.proofs.ShapeLists.{Differ, rekeyed_in, rekeyed_to, rekeyed_from, rekeyed_differ, added_differ}
 
--- a node's place before and after: l is marked no more, r is linked, and others stay
+-- a node's place before and after: l loses its mark, r is linked, and other places stay
 data Settles (p l r x : Handle) (old now : Place) : Type 0 where
   settles_same : old ≡ now → x ≢ l → x ≢ r → Settles p l r x old now
   settles_left : x ≡ l → old ≡ Linked p true → now ≡ Linked p false → Settles p l r x old now
@@ -28,12 +28,12 @@ settles_marked {p = p} {now = now} (settles_left e was is) marked = let no : fal
 settles_marked {p = p} {now = now} (settles_right e was is) marked = let no : false ≡ true = mark_at now (Linked p false) is marked in absurd (cc)
 
 module _ {C : Class} where
-  -- a key that covers a body covers the key that is made for it
+  -- an entry's old key covers the new one that is made for it
   pub key_for_below : Laws C → (body : Body C) (old key : C.Key) → IsKeyFor C body old key → CoversBody C old body → C.Covers old key
   key_for_below laws body old key (inl filled) covers = filled.1.least old covers
   key_for_below laws body old key (inr empty) covers = subst (C.Covers old) (sym empty.1) (laws.reflexive old)
 
-  -- which covers the body
+  -- and the new key covers the body
   pub key_for_covers : (body : Body C) (old key : C.Key) → IsKeyFor C body old key → CoversBody C key body
   key_for_covers body old key (inl filled) = filled.1.covers
   key_for_covers (Leaf pairs) old key (inr empty) =
@@ -48,7 +48,7 @@ module _ {C : Class} where
     left_entry : Contains (entries_of change.node.body) (change.old, l)
     left_entry = had_entries (change.old, l) (got_in change.entries change.index (change.old, l) change.entry)
 
-    -- l stands under p, and r beside l
+    -- l is marked under p, and r is unlinked to its right
     is_marked_left : IsTrue (is_marked change.left.place)
     is_marked_left = mark_at (Linked p true) change.left.place (sym change.place) refl
 
@@ -117,11 +117,11 @@ module _ {C : Class} where
     abbrev filled_up : List (C.Key × Handle)
     filled_up = rekeyed ++ (change.right_key, r) ∷ []
 
-    -- where an entry of the new tree is from
+    -- the origin of an entry of the new tree
     abbrev Entry : Handle → Node C → C.Key → Handle → Type 0
     Entry x was key c = Contains (entries_of was.body) (key, c) ⊎ ((x ≡ p) × (((key ≡ change.left_key) × (c ≡ l)) ⊎ ((key ≡ change.right_key) × (c ≡ r))))
 
-    -- what the old tree has where the new one has this node
+    -- the old node of a new one
     record Was (x : Handle) (now : Node C) : Type 0 where
       node : Node C
       is : t.look x ≡ Some node
@@ -135,7 +135,7 @@ module _ {C : Class} where
       size : size_of now.body ≤ NODE_SIZE
       empty : node.body ≡ Leaf [] → now.body ≡ Leaf []
 
-    -- and the other way round
+    -- the new node of an old one
     record Stays (x : Handle) (was : Node C) : Type 0 where
       node : Node C
       is : u.look x ≡ Some node
@@ -310,7 +310,7 @@ module _ {C : Class} where
       ]
     ]
 
-    -- the root, and unlinked nodes but r, keep their place
+    -- the root keeps its place, and so do unlinked nodes other than r
     root_stays : (x : Handle) (old now : Place) → Settles p l r x old now → old ≡ Root → now ≡ Root
     root_stays x old now (settles_same e a b) root = sym e ∙ root
     root_stays x old now (settles_left e was is) root = absurd (cc)
@@ -342,7 +342,7 @@ module _ {C : Class} where
         let now = stays_at t.root was.node was.is in
         record { node = now.node; is = cc (change.clock.root, now.is); place = root_stays t.root was.node.place now.node.place now.place was.place }
 
-    -- an entry's child stands under its node
+    -- an entry's child is linked under its node
     old_down : (x : Handle) (node was : Node C) (key : C.Key) (c : Handle) → t.look x ≡ Some was → was.level ≡ node.level → Contains (entries_of was.body) (key, c) → Child u x node c
     old_down x node was key c is level has =
         let child = shape.entry_down x was is key c has in

@@ -1,4 +1,4 @@
--- Where bodies, places, levels and rightlinks stay, so does the shape.
+-- Bodies, places, levels and rightlinks determine the shape: where they stay, it stays.
 use Rattle.std.proofs.Common.{◌≡◌, ◌≢◌, ℕ, ◌≤◌, Bool, Contains, AllPairs, Some, IsTrue, refl, sym, subst, ◌∙◌, inl, inr, arith}
 use Rattle.node_arena.specs.declared.handle.Handle.{Handle}
 use Rattle.tree_theory.specs.Changes.{OneNode, SameNodes, IsOpened, IsClosed, IsVisited, IsVisitedGone, IsJoined}
@@ -17,7 +17,7 @@ pub entry_at : {Key Item : Type 0} (a b : PlainBody Key Item) (entry : Key × Ha
 entry_at a b entry e has = subst (λ body. Contains (entries_of body) entry) e has
 
 module _ {C : Class} where
-  -- the tree has a node there with the same level, body, rightlink and place
+  -- the tree has a node at this handle with the same level, body, rightlink and place
   pub record Alike (t : Tree C) (h : Handle) (like : Node C) : Type 0 where
     pub node : Node C
     pub is : t.look h ≡ Some node

@@ -43,7 +43,7 @@ module _ {K : Type 0} where
   abbrev pub Differ : List (K × Handle) → Type 0
   Differ entries = AllPairs (λ one other. one.1 ≢ other.1) entries
 
-  -- so the entry of a child has one key
+  -- so a child has one key
   pub one_key : (entries : List (K × Handle)) (a b : K) (c : Handle) → Differ entries → Contains entries (a, c) → Contains entries (b, c) → a ≡ b
   one_key [] a b c differ one other = absurd (nothing_in (a, c) one)
   one_key (x ∷ xs) a b c differ one other = elim (in_cases x xs (a, c) one) [
@@ -92,7 +92,7 @@ module _ {K : Type 0} where
         let size = length-set entries index (new, c) in
         differ i j d lt (omega arith) (sym (rekeyed_child i d) ∙ (e ∙ rekeyed_child j d))
 
-    -- the child of each entry has an entry
+    -- each child still has an entry
     pub rekeyed_to : (key : K) (x : Handle) → Contains entries (key, x) → (now : K) × Contains (slice_set entries index (new, c)) (now, x)
     rekeyed_to key x h =
         let size = length-set entries index (new, c) in
@@ -103,14 +103,14 @@ module _ {K : Type 0} where
         let has : Contains (slice_set entries index (new, c)) entry = (h.0, long, get_or_default (slice_set entries index (new, c)) h.0 entry (key, x) long) in
         (entry.0, subst (λ child. Contains (slice_set entries index (new, c)) (entry.0, child)) named has)
 
-    -- each entry is the changed one, or was there
+    -- each entry is the changed one, or an old one
     pub rekeyed_from : (key : K) (x : Handle) → Contains (slice_set entries index (new, c)) (key, x) → ((key ≡ new) × (x ≡ c)) ⊎ Contains entries (key, x)
     rekeyed_from key x h = elim (set_cases entries index (new, c) (key, x) h) [
       | inl e ↦ inl (sym (ap (λ entry. entry.0) e), sym (ap (λ entry. entry.1) e))
       | inr stays ↦ inr stays
     ]
 
-  -- an entry is taken out
+  -- an entry is removed
   pub removed_not_in : (entries : List (K × Handle)) (index : ℕ) (old key : K) (c : Handle) → slice_get entries index ≡ Some (old, c) → Differ entries → Contains (remove entries index) (key, c) → ⊥
   removed_not_in [] index old key c at differ h = absurd (cc)
   removed_not_in (x ∷ xs) zero old key c at differ h =
@@ -134,7 +134,7 @@ module _ {K : Type 0} where
     | inr later ↦ later_in y (remove xs index) (key, x) (removed_to xs index old key c x at apart later)
   ]
 
-  -- an entry of another child is put behind
+  -- an entry of another child is added at the end
   pub added_differ : (entries : List (K × Handle)) (key : K) (c : Handle) → Differ entries → ((other : K) → Contains entries (other, c) → ⊥) → Differ (entries ++ (key, c) ∷ [])
   added_differ entries key c differ absent =
       all_pairs_push (λ one other. one.1 ≢ other.1) entries (key, c) differ (λ k d lt e.

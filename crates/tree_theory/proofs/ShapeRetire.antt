@@ -1,4 +1,4 @@
--- An empty leaf is taken out of its parent.
+-- Retiring an empty leaf keeps the shape.
 use Rattle.std.proofs.Common.{◌≡◌, ◌≢◌, ◌⊎◌, ℕ, ◌+◌, ◌<◌, ◌≤◌, Bool, true, false, [], length, Contains, Some, IsTrue, remove, refl, sym, ap, subst, ◌∙◌, inl, inr, arith}
 use Rattle.std.proofs.lemmas.List.Edits.{length-remove}
 use Rattle.std.proofs.lemmas.List.Quantifiers.{all_pairs_remove}
@@ -29,7 +29,7 @@ module _ {C : Class} where
     entries_differ : Differ change.entries
     entries_differ = subst (λ body. Differ (entries_of body)) change.body (shape.children_differ p change.node change.parent_before)
 
-    -- what the old tree has where the new one has this node
+    -- the old node of a new one
     record Was (x : Handle) (now : Node C) : Type 0 where
       node : Node C
       is : t.look x ≡ Some node
@@ -43,7 +43,7 @@ module _ {C : Class} where
       size : size_of now.body ≤ NODE_SIZE
       empty : node.body ≡ Leaf [] → now.body ≡ Leaf []
 
-    -- and the other way round
+    -- the new node of an old one
     record Stays (x : Handle) (was : Node C) : Type 0 where
       node : Node C
       is : u.look x ≡ Some node
@@ -157,7 +157,7 @@ module _ {C : Class} where
       | inr other ↦ record { node = n; is = cc (change.others x apart other, is); level = refl; right = refl; place = refl; entries = λ key c apart has. has }
     ]
 
-    -- a node with another place than the leaf is another node
+    -- a node with a place other than the leaf's is not the leaf
     not_leaf : (x : Handle) (n : Node C) → t.look x ≡ Some n → (n.place ≡ Linked p false → ⊥) → x ≢ l
     not_leaf x n is apart at =
         let one : change.leaf ≡ n = cc (change.leaf_before, is, at) in

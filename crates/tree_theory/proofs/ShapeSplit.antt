@@ -1,4 +1,4 @@
--- A node splits.
+-- A split keeps the shape.
 use Rattle.std.proofs.Common.{◌≡◌, ◌≢◌, ℕ, ◌+◌, ◌<◌, ◌≤◌, Bool, true, false, [], length, Contains, Some, IsTrue, refl, sym, ap, subst, ◌∙◌, inl, inr, arith}
 use Rattle.std.specs.Option.{option_map}
 use Rattle.node_arena.specs.declared.handle.Handle.{Handle}
@@ -14,7 +14,7 @@ use Rattle.tree_theory.proofs.ListLemmas.{handle_cases, child_cases, one_in, oth
 use Rattle.tree_theory.proofs.ShapeKept.{mark_at, entry_at, covers_at}
 use Rattle.tree_theory.proofs.ShapeLists.{Differ, one_pairs, turned, parted_sizes, parts_differ}
 
--- a node's place before and after: it went from h to r, or it stays
+-- a node's place before and after: its parent was h and is r, or its place stays
 pub data Hangs (h r : Handle) (moved : Type 0) (old now : Place) : Type 0 where
   hangs_same : (moved → ⊥) → old ≡ now → Hangs h r moved old now
   hangs_moved : (marked : Bool) → moved → old ≡ Linked h marked → now ≡ Linked r marked → Hangs h r moved old now
@@ -44,12 +44,12 @@ module _ {h r : Handle} {moved : Type 0} {old now : Place} where
   retired_was (hangs_same a e) stamp retired = e ∙ retired
   retired_was (hangs_moved mark a was is) stamp retired = absurd (cc)
 
-  -- under a parent that is not h it stays
+  -- under a parent other than h the place stays
   pub linked_stays : Hangs h r moved old now → (p : Handle) (marked : Bool) → p ≢ h → old ≡ Linked p marked → now ≡ Linked p marked
   linked_stays (hangs_same a e) p marked apart linked = sym e ∙ linked
   linked_stays (hangs_moved mark a was is) p marked apart linked = absurd (apart (cc))
 
-  -- where the mark stays, but for the parent
+  -- the mark stays, whatever the parent
   pub mark_stays : Hangs h r moved old now → (p : Handle) (marked : Bool) → old ≡ Linked p marked → (q : Handle) × (now ≡ Linked q marked)
   mark_stays (hangs_same a e) p marked linked = (p, sym e ∙ linked)
   mark_stays (hangs_moved mark a was is) p marked linked = let same : mark ≡ marked = cc in (r, subst (λ marked. now ≡ Linked r marked) same is)
@@ -78,7 +78,7 @@ halved_sizes {whole = whole} {one = one} {other = other} halves =
 pub not_empty : {Key Item : Type 0} (body : PlainBody Key Item) → 0 < size_of body → body ≡ Inner [] → ⊥
 not_empty body filled empty = let none : size_of body ≡ 0 = ap size_of empty in absurd (omega arith)
 
--- a child that is named by no entry is none
+-- an entry's child is one of the children
 pub child_in : {Key Item : Type 0} (body : PlainBody Key Item) (key : Key) (c : Handle) → Contains (entries_of body) (key, c) → Contains (children_of body) c
 child_in body key c has = map_in (λ entry. entry.1) (entries_of body) (key, c) has
 
@@ -239,7 +239,7 @@ module _ {C : Class} where
     split_entry_down =
         each_node (λ x n. (key : C.Key) (c : Handle) → Contains (entries_of n.body) (key, c) → Child u x n c) left_down right_down (λ x old now a b twin. other_down x old now a twin)
 
-    -- h has its parent's entry still
+    -- h still has its parent's entry
     left_up : (q : Handle) (marked : Bool) → Linked change.parent true ≡ Linked q marked → Parent u h left q
     left_up q marked place =
         let parent = shape.entry_up h change.node change.before change.parent false change.place in
@@ -353,7 +353,7 @@ module _ {C : Class} where
     split_retired_empty =
         each_node (λ x n. (stamp : ℕ) → n.place ≡ Retired stamp → n.body ≡ Leaf []) (λ stamp e. absurd (cc)) (λ stamp e. absurd (cc)) (λ x old now a b twin stamp place. sym twin.body ∙ shape.retired_empty x old twin.was stamp (retired_was twin.place stamp place))
 
-    -- an old entry covers its child still
+    -- an old entry still covers its child
     child_covered : (p : Handle) (parent : Node C) → t.look p ≡ Some parent → (key : C.Key) (c : Handle) (node : Node C) → u.look c ≡ Some node → Contains (entries_of parent.body) (key, c) → CoversBody C key node.body
     child_covered p parent is key =
         each_node (λ c n. Contains (entries_of parent.body) (key, c) → CoversBody C key n.body) (λ has. covers_one change.halves key (shape.cover p parent is key h has change.node change.before)) (λ has. let child = shape.entry_down p parent is key r has in absurd (stands_not_right r child.node child.is refl)) (λ c old now a b twin has. covers_at old.body now.body key twin.body (shape.cover p parent is key c has old twin.was))

@@ -11,7 +11,7 @@ use Rattle.tree_theory.specs.Walks.{Done}
 use Rattle.tree_theory.specs.declared.TheConstants.{NODE_SIZE, TOP_LEVEL}
 use Rattle.tree_theory.specs.declared.place.Place.TheVariants.{Root, Linked, Unlinked, Retired}
 
--- two bodies share what a body has, and neither is empty
+-- two bodies share out the contents of one, and neither is empty
 pub record IsHalved {Key Item : Type 0} (whole one other : PlainBody Key Item) : Type 0 where
   pub pairs : Parted (pairs_of whole) (pairs_of one) (pairs_of other)
   pub entries : Parted (entries_of whole) (entries_of one) (entries_of other)
@@ -36,7 +36,7 @@ module _ {C : Class} where
     pub counter : u.counter ≡ t.counter
     pub next : u.next ≡ t.next
 
-  -- the counter alone rises by one
+  -- the counter rises by one; root and next number are the same
   pub record Ticked (t u : Tree C) : Type 0 where
     pub root : u.root ≡ t.root
     pub counter : u.counter ≡ t.counter + 1
@@ -60,9 +60,10 @@ module _ {C : Class} where
     pub after : u.searches s ≡ Some new
     pub others : (x : ℕ) → x ≢ s → u.searches x ≡ t.searches x
 
-  -- Numbers that are attached. Those under which no search runs any more may be left out at any time.
+  -- Attached numbers. Those under which no search runs any more may be left out at any time.
 
-  -- a list that stands for the old one: it has each number of it that runs, and no others but those of Also
+  -- a new list of attached numbers: it has each running number of the old list, and besides the old
+  -- ones only numbers of Also
   pub record Numbers (t : Tree C) (Also : ℕ → Type 0) (old new : List ℕ) : Type 0 where
     pub keeps : (s : ℕ) (search : Search C) → t.searches s ≡ Some search → Contains old s → Contains new s
     pub only : (s : ℕ) → Contains new s → Contains old s ⊎ Also s
@@ -72,7 +73,7 @@ module _ {C : Class} where
 
   -- Searches.
 
-  -- a search begins under the next number, with the root before it
+  -- a search opens under the next number, with the root on its stack
   pub record IsOpened (t u : Tree C) (query : C.Query) : Type 0 where
     pub nodes : SameNodes t u
     pub root : u.root ≡ t.root
@@ -132,7 +133,7 @@ module _ {C : Class} where
   abbrev pub MayTake : Tree C → Handle → Node C → C.Key → Type 0
   MayTake t h node key = (node.place ≡ Root) ⊎ CoveringEntry t h node key
 
-  -- a leaf with room takes a pair that no attached search matches
+  -- a leaf with room gets a pair that no attached running search looks for
   pub record IsPlaced (t u : Tree C) (h : Handle) (pair : ℕ × C.Item) : Type 0 where
     pub node : Node C
     pub pairs : List (ℕ × C.Item)
@@ -144,8 +145,8 @@ module _ {C : Class} where
     pub searches : SameSearches t u
     pub clock : SameClock t u
 
-  -- the node h stands behind an entry with this key: the entry names h, or h is the right node of the marked
-  -- node that the entry names
+  -- the node h is behind an entry with this key: the entry names h, or names the marked node whose
+  -- right node is h
   pub record StandsBehind (t : Tree C) (h : Handle) (key : C.Key) : Type 0 where
     pub parent : Handle
     pub node : Node C
@@ -154,7 +155,8 @@ module _ {C : Class} where
     pub entry : Contains (entries_of node.body) (key, child)
     pub behind : (child ≡ h) ⊎ ((left : Node C) × (t.look child ≡ Some left) × IsTrue (is_marked left.place) × (left.right ≡ Some h))
 
-  -- a running search has nothing to look for in h, which is this node, nor to the right of it
+  -- the running search s has nothing to look for in h, where h is the node `node`; if h is marked,
+  -- s is done with its right node
   pub record MayJoin (t : Tree C) (h : Handle) (node : Node C) (s : ℕ) : Type 0 where
     pub search : Search C
     pub running : t.searches s ≡ Some search
@@ -172,8 +174,8 @@ module _ {C : Class} where
     pub searches : SameSearches t u
     pub clock : SameClock t u
 
-  -- the key of an entry of p becomes its union with another key. Each search that is done with p and that the
-  -- union is consistent with is done with the child, or was led to it by the old key
+  -- The key of an entry of p becomes its union with another key. Each search that is done with p
+  -- and consistent with the union was consistent with the old key, or is done with the child.
   pub record IsEnlarged (t u : Tree C) (p : Handle) (key : C.Key) : Type 0 where
     pub node : Node C
     pub entries : List (C.Key × Handle)
@@ -190,8 +192,9 @@ module _ {C : Class} where
 
   -- Splits.
 
-  -- a linked node h splits: its new right node r takes a part, the number, the rightlink and the attached
-  -- searches, and is not linked yet; h is marked. Children that moved stand under r
+  -- A linked node h splits and is marked. Its new right node r gets a part of its contents, and its
+  -- number, rightlink and attached searches; it has no entry yet. The children that moved are under
+  -- r.
   pub record IsSplit (t u : Tree C) (h r : Handle) : Type 0 where
     pub node : Node C
     pub parent : Handle
@@ -210,7 +213,7 @@ module _ {C : Class} where
     pub searches : SameSearches t u
     pub clock : SameClock t u
 
-  -- a new node that stands under the root with a part of what the root had
+  -- a new node under the root, with a part of the root's contents
   abbrev pub grown : Tree C → Node C → Body C → List ℕ → Node C
   grown t root body attached =
       record {
@@ -222,7 +225,8 @@ module _ {C : Class} where
         attached = attached;
       }
 
-  -- the root grows: two new nodes a and b take what it had, and it has their entries, one level higher
+  -- the root grows: two new nodes a and b share its contents, and it has their entries, one level
+  -- higher
   pub record IsGrown (t u : Tree C) (a b : Handle) : Type 0 where
     pub node : Node C
     pub place : node.place ≡ Root
@@ -291,7 +295,8 @@ module _ {C : Class} where
     pub searches : SameSearches t u
     pub clock : SameClock t u
 
-  -- an empty unmarked leaf l that is not the only child of its parent p is taken out of p
+  -- an empty unmarked leaf l that is not the only child of its parent p is retired: p loses its
+  -- entry
   pub record IsRetired (t u : Tree C) (l p : Handle) : Type 0 where
     pub leaf : Node C
     pub empty : leaf.body ≡ Leaf []
@@ -311,7 +316,7 @@ module _ {C : Class} where
     pub searches : SameSearches t u
     pub clock : Ticked t u
 
-  -- a retired node h is gone, where every running search began at its stamp or later
+  -- a retired node h is removed; every running search began at its stamp or later
   pub record IsFreed (t u : Tree C) (h : Handle) : Type 0 where
     pub node : Node C
     pub stamp : ℕ

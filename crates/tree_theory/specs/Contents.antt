@@ -33,7 +33,8 @@ module _ {C : Class} where
     pub listing : IsListing t handles
     pub same : IsPermutation (contents_of t handles) contents
 
--- order aside, one list is the other without some pairs, no more than a node has and none of them in Kept
+-- up to order, `after` is `before` without some pairs: at most as many as a node has, all outside
+-- of Kept
 pub record LosesPairs {Item : Type 0} (Kept : ℕ × Item → Type 0) (before after : List (ℕ × Item)) : Type 0 where
   pub lost : List (ℕ × Item)
   pub same : IsPermutation before (after ++ lost)

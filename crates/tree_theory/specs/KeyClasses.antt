@@ -1,7 +1,7 @@
 -- A class of keys: what the search tree knows of keys, queries and items.
 
--- a key covers another, may have matches of a query, and an item matches a query; an item's key, and the
--- union of two keys
+-- a key covers another; a key's items may match a query; an item matches a query; the key of an
+-- item; the union of two keys
 pub record Class : Type 1 where
   pub Key : Type 0
   pub Query : Type 0
@@ -12,7 +12,7 @@ pub record Class : Type 1 where
   pub key_of : Item → Key
   pub united : Key → Key → Key
 
--- what holds of every class
+-- the laws that every class meets
 pub record Laws (C : Class) : Type 0 where
   pub reflexive : (key : C.Key) → C.Covers key key
   pub transitive : (a b c : C.Key) → C.Covers a b → C.Covers b c → C.Covers a c

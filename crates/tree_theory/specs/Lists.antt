@@ -2,7 +2,7 @@
 use Rattle.std.specs.Prelude.{List, [], ◌∷◌, Contains}
 
 module _ {T : Type 0} where
-  -- the first list is the two others, whose elements stand in its order
+  -- the first list is made of the two others, and each keeps its order
   pub data Parted : List T → List T → List T → Type 0 where
     none : Parted [] [] []
     to_one : {x : T} {whole one other : List T} → Parted whole one other → Parted (x ∷ whole) (x ∷ one) other

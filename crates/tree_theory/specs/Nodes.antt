@@ -12,12 +12,12 @@ is_marked (Linked parent marked) = marked
 is_marked (Unlinked left) = false
 is_marked (Retired stamp) = false
 
--- whoever remembers the counter from the memo on follows the rightlink of a node at this place with this
--- number: what it looks for may have moved to the right since
+-- A search with this memo follows the rightlink of a node at this place with this number: what it
+-- looks for may have moved to the right since.
 abbrev pub is_followed : Place → ℕ → ℕ → Bool
 is_followed place seq memo = is_marked place || nat_lt memo seq
 
--- the place under this parent, where it was under another one
+-- the place with this parent if it is linked; any other place is the same
 abbrev pub place_under : Handle → Place → Place
 place_under parent Root = Root
 place_under parent (Linked other marked) = Linked parent marked
@@ -39,8 +39,9 @@ module _ (Key Item : Type 0) where
     Leaf : List (ℕ × Item) → PlainBody
     Inner : List (Key × Handle) → PlainBody
 
-  -- `seq` is the node's sequence number, `right` its rightlink, `attached` has the numbers of the searches
-  -- that are done with the node, since they have seen it or have passed it over, in any order
+  -- `seq` is the node's sequence number and `right` its rightlink; `attached` has, in any order,
+  -- the numbers of the searches that are done with the node, since they have seen it or have passed
+  -- it over
   pub record PlainNode : Type 0 where
     pub level : ℕ
     pub body : PlainBody
@@ -49,15 +50,16 @@ module _ (Key Item : Type 0) where
     pub place : Place
     pub attached : List ℕ
 
--- a search: what it looks for, the counter as it began, the nodes that it has yet to visit, each with a memo
--- of the counter, and what it has found
+-- a search: its query, the counter when it began, its stack of nodes to visit, each with a memo of
+-- the counter, and the pairs that it has found
 pub record PlainSearch (Query Item : Type 0) : Type 0 where
   pub query : Query
   pub begun : ℕ
   pub stack : List (Handle × ℕ)
   pub found : List (ℕ × Item)
 
--- Bodies, nodes and searches know the types of their class alone, so that code can have them as values.
+-- Bodies, nodes and searches have the types of their class as parameters, not the class, so that
+-- code can have them as values.
 abbrev pub Body : Class → Type 0
 Body C = PlainBody C.Key C.Item
 
@@ -67,7 +69,8 @@ Node C = PlainNode C.Key C.Item
 abbrev pub Search : Class → Type 0
 Search C = PlainSearch C.Query C.Item
 
--- `next` is the number of the next search. A number with a search is one that runs
+-- `next` is the number of the next search. A search runs under each number for which `searches` has
+-- one.
 pub record Tree (C : Class) : Type 0 where
   pub look : Handle → Option (Node C)
   pub root : Handle
@@ -97,16 +100,16 @@ module _ {Key Item : Type 0} where
   abbrev pub under : Handle → PlainNode Key Item → PlainNode Key Item
   under parent node = record node { place = place_under parent node.place }
 
-  -- where a visit of the node with this memo goes on to the right
+  -- the right node that a visit with this memo follows to, if it does
   abbrev pub followed : PlainNode Key Item → ℕ → List (Handle × ℕ)
   followed node memo = if is_followed node.place node.seq memo then onward node.right memo else []
 
--- a search that begins: it has the root before it
+-- a new search: the root is on its stack
 abbrev pub opened : {C : Class} → Tree C → C.Query → Search C
 opened t query = record { query = query; begun = t.counter; stack = (t.root, t.counter) ∷ []; found = [] }
 
--- the search after a visit of this node: `rest` of its stack is left, these entries are consistent and these
--- pairs match
+-- the search after a visit of this node: `rest` is left of its stack, these entries are consistent
+-- and these pairs match
 abbrev pub visited : {Key Query Item : Type 0} → ℕ → ℕ → PlainNode Key Item → List (Handle × ℕ) → List (Key × Handle) → List (ℕ × Item) → PlainSearch Query Item → PlainSearch Query Item
 visited counter memo node rest entries pairs search =
     record search {

@@ -16,6 +16,6 @@ module _ {C : Class} where
   abbrev pub MissesNothing : Tree C → Type 0
   MissesNothing t = (s : ℕ) (search : Search C) → IsReady t s search → (pair : ℕ × C.Item) → InContents t pair → C.Matches pair.1 search.query → Contains search.found pair
 
-  -- no pair is placed that a search which is ready looks for
+  -- no step places a pair that a ready search looks for
   abbrev pub PlacesBehindNone : Tree C → Type 0
   PlacesBehindNone t = (u : Tree C) (h : Handle) (pair : ℕ × C.Item) → IsPlaced t u h pair → (s : ℕ) (search : Search C) → IsReady t s search → C.Matches pair.1 search.query → ⊥

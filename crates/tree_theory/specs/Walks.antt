@@ -1,31 +1,31 @@
--- Where a search gets to along rightlinks, and what is done or owed to it.
+-- Where a search gets along rightlinks, and which nodes it is done with or owed.
 use Rattle.std.specs.Prelude.{◌≡◌, ◌⊎◌, ℕ, List, Contains, Some, IsTrue}
 use Rattle.node_arena.specs.declared.handle.Handle.{Handle}
 use Rattle.tree_theory.specs.KeyClasses.{Class}
 use Rattle.tree_theory.specs.Nodes.{Node, Search, Tree, is_followed}
 
 module _ {C : Class} where
-  -- whoever comes to x with this memo goes on to its right node y
+  -- a search that comes to x with this memo follows to its right node y
   pub record Step (t : Tree C) (memo : ℕ) (x y : Handle) : Type 0 where
     pub node : Node C
     pub is : t.look x ≡ Some node
     pub follows : IsTrue (is_followed node.place node.seq memo)
     pub right : node.right ≡ Some y
 
-  -- such steps lead from a handle to the last one
+  -- such steps lead from a handle to `last`
   pub data Leads (t : Tree C) (memo : ℕ) (last : Handle) : Handle → Type 0 where
     here : Leads t memo last last
     along : {x y : Handle} → Step t memo x y → Leads t memo last y → Leads t memo last x
 
-  -- some entry of the stack leads to the handle
+  -- from some handle on the stack, steps with its memo lead to `last`
   pub record StackLeads (t : Tree C) (stack : List (Handle × ℕ)) (last : Handle) : Type 0 where
     pub from : Handle
     pub memo : ℕ
     pub on_stack : Contains stack (from, memo)
     pub leads : Leads t memo last from
 
-  -- the search with this number is attached to the node: it is done with it, since it has seen what the node has, or
-  -- has nothing to look for there that it has not found or will come to
+  -- the search with this number is attached to the node, so it is done with it: it has seen the
+  -- node's contents, or has found, or will come to, whatever it looks for there
   pub record Done (t : Tree C) (s : ℕ) (h : Handle) : Type 0 where
     pub node : Node C
     pub is : t.look h ≡ Some node

@@ -3,17 +3,21 @@
 ghost use Rattle.std.specs.Prelude.{◌≡◌, ◌↔◌, List, ℕ, ◌<◌, ◌≤◌, Some, IsTrue, IsBitSet, length, count_ones, slice_get};
 ghost use Rattle.tree_theory.specs.declared.TheConstants.{NODE_SIZE};
 
-/// What a search tree knows of its keys: an item's key, what a query may match behind a key, and the union of keys. A class is a type with no values of its own.
+/// What a search tree knows of its keys: the key of an item, whether items behind a key may match a
+/// query, and the union of keys. A class is a type that needs no values.
 ///
-/// `covered`, `may_match` and `is_match` are the facts that the tests `covers`, `consistent` and `matches` decide, and `picks` tells which masks may name the keys of a full node that go right where it is parted. The laws are said of all values of the types, save that `whole_key` covers those keys that are some value in hand, which `is_key` tells.
+/// `covers`, `consistent` and `matches` decide the facts `covered`, `may_match` and `is_match`.
+/// `picks` says which masks `pick_split` may return. The laws hold for all values of the types,
+/// except `whole_covers`: it holds for the keys that meet `is_key`, as every key in hand does
+/// (`known_key`).
 pub trait KeyClass {
-    /// Stands for all items below a node, as a frame.
+    /// A key stands for all items below a node, as a frame does.
     type Key: Copy;
 
-    /// What a search looks for, as a shape.
+    /// A query says what a search looks for, as a shape does.
     type Query: Copy;
 
-    /// What the tree holds under a number, as a shape.
+    /// An item is what the tree holds under a number, such as a shape.
     type Item: Copy;
 
     ghost is_key: { Self.Key → Type 0 };
@@ -36,15 +40,15 @@ pub trait KeyClass {
 
     ghost picks: { List Self.Key → ℕ → Type 0 };
 
-    /// Does nothing: each key in hand is one.
+    /// Fact for the checker, no effect: every key in hand meets `is_key`.
     fn known_key(key: Self::Key)
         ensures { is_key key };
 
-    /// The least key with the item behind it.
+    /// The key of an item: the least key that stands for it.
     fn key_of(item: Self::Item) -> Self::Key
         ensures { result ≡ key_with item };
 
-    /// Whether the outer key stands for whatever the inner one stands for.
+    /// Whether the outer key covers the inner one: it stands for whatever the inner one stands for.
     fn covers(outer: Self::Key, inner: Self::Key) -> bool
         ensures { IsTrue result ↔ covered outer inner };
 
@@ -52,33 +56,37 @@ pub trait KeyClass {
     fn union(one: Self::Key, other: Self::Key) -> Self::Key
         ensures { result ≡ united one other };
 
-    /// The key of everything.
+    /// The key that covers every key in hand.
     fn whole() -> Self::Key
         ensures { result ≡ whole_key };
 
-    /// Whether an item that matches the query may stand behind the key.
+    /// Whether an item behind the key may match the query.
     fn consistent(key: Self::Key, query: Self::Query) -> bool
         ensures { IsTrue result ↔ may_match key query };
 
-    /// The same of each key of a node: bit i is set exactly where key i is consistent, and no other bit is.
+    /// `consistent` for each key of a node: bit i is set exactly if key i is consistent, and bits
+    /// beyond the keys are clear.
     fn consistent_mask(keys: &[Self::Key], query: Self::Query) -> u16
         requires { length keys.now ≤ NODE_SIZE }
         ensures each { (i : ℕ) (key : Self.Key) → slice_get keys.now i ≡ Some key → (IsBitSet result i ↔ may_match key query) }
         ensures no_other { (i : ℕ) → IsBitSet result i → i < length keys.now };
 
-    /// Whether the item is one that the query looks for.
+    /// Whether the item matches the query.
     fn matches(item: Self::Item, query: Self::Query) -> bool
         ensures { IsTrue result ↔ is_match item query };
 
-    /// How much a key grows where it takes in the other one. A tree prefers entries of least penalty.
+    /// How much a key grows when it is united with the other one. A walk descends by an entry of
+    /// least penalty.
     fn penalty(key: Self::Key, other: Self::Key) -> u64
         ensures { result ≡ growth key other };
 
-    /// Tells entries of equal penalty apart: the lesser is preferred. A class with nothing to tell them apart by answers 0.
+    /// Breaks ties between entries of equal penalty: the lesser one is taken. A class without such
+    /// a measure returns 0.
     fn second_penalty(key: Self::Key, other: Self::Key) -> u64
         ensures { result ≡ second_growth key other };
 
-    /// Which of a full node's keys go to the right part of it: bit i for key i.
+    /// Which keys of a full node go to the right part in a split: bit i for key i. At least 4 keys
+    /// go, and at least 4 stay.
     fn pick_split(keys: &[Self::Key]) -> u16
         requires { length keys.now ≡ NODE_SIZE }
         ensures picked { picks keys.now result }

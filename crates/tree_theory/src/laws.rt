@@ -1,4 +1,4 @@
-//! The theorems. A function here does nothing: it is its contract.
+//! The theorems on searches. The functions do nothing; their contracts state the theorems.
 
 ghost use Rattle.node_arena.specs.declared.handle.Handle.{Handle};
 ghost use Rattle.std.specs.Prelude.{◌≡◌, ℕ, List, Contains};
@@ -11,7 +11,8 @@ ghost use Rattle.tree_theory.specs.Runs.{IsStep, IsReached};
 
 use crate::key_class::KeyClass;
 
-/// In every tree that meets the invariant, a search that has nothing left to visit has found whatever it looks for, and nothing that it looks for is placed.
+/// In every tree that meets the invariant, a search with an empty stack has found every pair that
+/// it looks for, and no step places a pair that it looks for.
 pub fn ready_searches_miss_nothing<C: KeyClass>()
     ensures complete { (t : Tree (class_of C.covered C.may_match C.is_match C.key_with C.united)) → Invariant t → MissesNothing t }
     ensures none_placed { (t : Tree (class_of C.covered C.may_match C.is_match C.key_with C.united)) → Invariant t → PlacesBehindNone t }
@@ -23,14 +24,16 @@ pub fn steps_keep_the_invariant<C: KeyClass>()
     ensures steps { (t u : Tree (class_of C.covered C.may_match C.is_match C.key_with C.united)) → Invariant t → IsStep t u → Invariant u }
 {}
 
-/// Whatever steps lead to a tree from a first one, in any order: it meets the invariant, a search that has nothing left to visit has found whatever it looks for, and nothing that it looks for is placed.
+/// After any steps from a first tree, in any order, the tree meets the invariant, a search with an
+/// empty stack has found every pair that it looks for, and no step places a pair that it looks for.
 pub fn runs_miss_nothing<C: KeyClass>()
     ensures invariant { (t : Tree (class_of C.covered C.may_match C.is_match C.key_with C.united)) → IsReached t → Invariant t }
     ensures complete { (t : Tree (class_of C.covered C.may_match C.is_match C.key_with C.united)) → IsReached t → MissesNothing t }
     ensures none_placed { (t : Tree (class_of C.covered C.may_match C.is_match C.key_with C.united)) → IsReached t → PlacesBehindNone t }
 {}
 
-/// Each step keeps what the running searches have seen or will come to, and it holds of the first tree. Of a cleaning, `kept` has the pairs that the leaf keeps.
+/// Each step keeps the clauses on searches, and the first tree meets them: what each running search
+/// has seen or will come to. Of a cleaning, `kept` has the pairs that the leaf keeps.
 pub fn steps_keep_the_searches<C: KeyClass>()
     ensures opened { (t u : Tree (class_of C.covered C.may_match C.is_match C.key_with C.united)) (query : C.Query) → Shape t → Searches t → IsOpened t u query → Searches u }
     ensures closed { (t u : Tree (class_of C.covered C.may_match C.is_match C.key_with C.united)) (s : ℕ) → Shape t → Searches t → IsClosed t u s → Searches u }

@@ -1,4 +1,4 @@
-//! What the steps do to the tree's contents. A function here does nothing: it is its contract.
+//! The theorem on the tree's contents. The function does nothing; its contract states the theorem.
 
 ghost use Rattle.node_arena.specs.declared.handle.Handle.{Handle};
 ghost use Rattle.std.specs.Prelude.{◌↔◌, ℕ, List, [], ◌∷◌, ◌++◌, Contains, IsPermutation};
@@ -10,7 +10,9 @@ ghost use Rattle.tree_theory.specs.Nodes.{Tree};
 
 use crate::key_class::KeyClass;
 
-/// A tree's contents are one list, order aside, of just the pairs that its nodes have. A placing adds its pair once; a cleaning takes away pairs that are not in `kept`, and no other; the other steps change nothing of them.
+/// A tree's contents are one list, in any order, of exactly the pairs that its nodes have. A
+/// placing adds its pair once. A cleaning removes pairs that are not in `kept`, and no others. The
+/// other steps keep the contents.
 pub fn steps_and_contents<C: KeyClass>()
     ensures unique { (t : Tree (class_of C.covered C.may_match C.is_match C.key_with C.united)) (xs ys : List (ℕ × C.Item)) → IsContents t xs → IsContents t ys → IsPermutation xs ys }
     ensures of_nodes { (t : Tree (class_of C.covered C.may_match C.is_match C.key_with C.united)) (xs : List (ℕ × C.Item)) → IsContents t xs → (pair : ℕ × C.Item) → (Contains xs pair ↔ InContents t pair) }

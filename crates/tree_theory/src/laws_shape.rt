@@ -1,4 +1,4 @@
-//! What the steps keep of the tree's shape. A function here does nothing: it is its contract.
+//! The theorem on the tree's shape. The function does nothing; its contract states the theorem.
 
 ghost use Rattle.node_arena.specs.declared.handle.Handle.{Handle};
 ghost use Rattle.std.specs.Prelude.{ℕ, List, Contains};
@@ -9,7 +9,8 @@ ghost use Rattle.tree_theory.specs.Nodes.{Tree};
 
 use crate::key_class::KeyClass;
 
-/// Each step keeps places, sizes, levels and covering keys, and the first tree has them. Of a cleaning, `kept` has the pairs that the leaf keeps.
+/// Each step keeps the clauses on places, sizes, levels and covering keys, and the first tree meets
+/// them. Of a cleaning, `kept` has the pairs that the leaf keeps.
 pub fn steps_keep_the_shape<C: KeyClass>()
     ensures opened { (t u : Tree (class_of C.covered C.may_match C.is_match C.key_with C.united)) (query : C.Query) → Shape t → IsOpened t u query → Shape u }
     ensures closed { (t u : Tree (class_of C.covered C.may_match C.is_match C.key_with C.united)) (s : ℕ) → Shape t → IsClosed t u s → Shape u }

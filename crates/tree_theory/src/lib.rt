@@ -1,4 +1,6 @@
-//! The theory of the search tree: what a tree of nodes keeps under any interleaving of its steps, and why no search misses anything. What runs of it: the plain data, the trait of the keys, and the bits of masks.
+//! The theory of the search tree: the invariant that every step keeps, in any order of steps, and
+//! why no search misses anything. Also the little that runs: the place of a node, the trait of the
+//! keys, and the bits of masks.
 #![tactic(auto)]
 
 mod key_class;
