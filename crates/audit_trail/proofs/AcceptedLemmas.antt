@@ -1,4 +1,4 @@
--- What is accepted can be applied.
+-- An accepted list can be applied.
 use Rattle.std.proofs.Common.{◌≡◌, ◌≢◌, ℕ, ◌+◌, List, [], ◌∷◌, ◌++◌, Option, None, Some, IsSome, MatchOption, refl, sym}
 use Rattle.std.specs.Option.{option_or}
 use Rattle.features.specs.declared.actors.Subject.{Subject}
@@ -20,7 +20,7 @@ not_in_use : (present : Option Feature) → in_use present ≡ None → present 
 not_in_use None e = refl
 not_in_use (Some feature) e = absurd cc
 
--- a change against which nothing stands can be made
+-- a change without an objection can be made
 can_change : (document : DocumentData) (features : List Feature) (subject : Subject) (change : Change) → Objects document subject change (feature_with (change_id change) features) None → CanChange change features
 can_change document features subject (Add id class shape) h = not_in_use (feature_with id features) (nothing_later h.0 (in_use (feature_with id features)) h.2)
 can_change document features subject (Reshape id seen shape) h = there (feature_with id features) h
@@ -44,7 +44,7 @@ can_apply_from number document features subject (change ∷ changes) distinct h 
     let next = accepted_next number h.0 h.2 in
     (can_change document features subject change (rw next.0 at h.1), distinct.0, can_apply_from (number + 1) document features subject changes distinct.1 next.1)
 
--- what is accepted can be applied
+-- an accepted list can be applied
 pub can_apply : (document : DocumentData) (features : List Feature) (subject : Subject) (changes : List Change) → AreDistinct changes → JudgedFrom 1 document features subject changes Accepted → CanApply changes features
 can_apply document features subject changes = can_apply_from 1 document features subject changes
 
@@ -52,7 +52,7 @@ unnamed_push : (id : ℕ) (changes : List Change) (change : Change) → IsUnname
 unnamed_push id [] change unnamed other = (other, tt)
 unnamed_push id (first ∷ changes) change unnamed other = (unnamed.0, unnamed_push id changes change unnamed.1 other)
 
--- a change of a feature that none names keeps the features apart
+-- distinct changes stay distinct when a change of another feature is appended
 pub distinct_push : (changes : List Change) (change : Change) → AreDistinct changes → IsUnnamed (change_id change) changes → AreDistinct (changes ++ change ∷ [])
 distinct_push [] change distinct unnamed = (tt, tt)
 distinct_push (first ∷ changes) change distinct unnamed =

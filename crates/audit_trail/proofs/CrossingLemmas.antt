@@ -1,4 +1,4 @@
--- Records and trails may cross threads as their allocator may.
+-- Records and trails are `Send` and `Sync` if their allocator is.
 use denote.Builtin.{u64}
 use denote.Enum.Declared.{shape}
 use denote.Param.Send.{IsSend, IsSync, Frees, enum_send, enum_sync}

@@ -1,4 +1,4 @@
--- Comparing records of one seat is comparing what they tell.
+-- Records of one seat are equal exactly if their deeds are.
 use Rattle.std.proofs.Common.{◌≡◌, ◌↔◌, Bool, ◌&&◌, IsTrue, sym, ap, ◌∙◌}
 use Rattle.std.proofs.lemmas.Bool.Decides.{Decides-at, Decides-eqb}
 use Rattle.audit_trail.specs.Records.{RecordData}

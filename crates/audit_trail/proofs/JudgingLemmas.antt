@@ -1,4 +1,4 @@
--- Lists of changes are judged in one way; what is accepted can be applied; denials are founded.
+-- A list of changes has one judgement, and denials are founded.
 use Rattle.std.proofs.Common.{◌≡◌, ℕ, ◌+◌, ◌==◌, Bool, true, false, if◌then◌else◌, List, [], ◌∷◌, Option, None, Some, MatchOption, refl, sym, ap, subst, ◌∙◌}
 use Rattle.std.specs.Option.{option_or}
 use Rattle.features.specs.declared.actors.Subject.{Subject}
@@ -18,12 +18,12 @@ use Rattle.audit_trail.specs.declared.causes.Objection.{Objection}
 use Rattle.audit_trail.specs.declared.causes.Judgement.{Judgement}
 use Rattle.audit_trail.specs.Judging.{denial, DenialOf, in_use, stale, refused_for, Objects, JudgedFrom, IsFounded, IsFoundedJudgement}
 
--- a question is denied in one way
+-- a question has one denial, or none
 DenialOf-one : (document : DocumentData) (question : Question) (a b : Option Objection) → DenialOf document question a → DenialOf document question b → a ≡ b
 DenialOf-one document question a b first second =
     first.2 ∙ ap (denial question) (Rules-one document question first.0 second.0 first.1 second.1) ∙ sym second.2
 
--- one thing stands against a change first
+-- a change has one first objection
 pub Objects-one : (document : DocumentData) (subject : Subject) (change : Change) (present : Option Feature) (a b : Option Objection) → Objects document subject change present a → Objects document subject change present b → a ≡ b
 Objects-one document subject (Add id class shape) present a b first second =
     first.2 ∙ ap (λ (denied : Option Objection). option_or denied (in_use present)) (DenialOf-one document _ first.0 second.0 first.1 second.1) ∙ sym second.2
@@ -44,7 +44,7 @@ same_end number a b next None (Some y) e h k = absurd cc
 same_end number a b next (Some x) None e h k = absurd cc
 same_end number a b next (Some x) (Some y) e h k = let same : x ≡ y = cc in h ∙ ap (refused_for number) same ∙ sym k
 
--- a list of changes is judged in one way
+-- a list of changes has one judgement
 pub JudgedFrom-one : (number : ℕ) (document : DocumentData) (features : List Feature) (subject : Subject) (changes : List Change) (a b : Judgement)
     → JudgedFrom number document features subject changes a → JudgedFrom number document features subject changes b → a ≡ b
 JudgedFrom-one number document features subject [] a b first second = first ∙ sym second
@@ -52,7 +52,7 @@ JudgedFrom-one number document features subject (change ∷ changes) a b first s
     same_end number a b (λ h k. JudgedFrom-one (number + 1) document features subject changes a b h k) first.0 second.0
     (Objects-one document subject change (feature_with (change_id change) features) first.0 second.0 first.1 second.1) first.2 second.2
 
--- what stands against a change is founded
+-- an objection that is a denial has a question that the document denies
 abbrev pub IsFoundedObjection : DocumentData → Option Objection → Type 0
 IsFoundedObjection document None = Unit {0}
 IsFoundedObjection document (Some o) = IsFounded document o.cause o.question
@@ -97,7 +97,7 @@ founded_end : {P : Type 0} (document : DocumentData) (number : ℕ) (judgement :
 founded_end document number judgement next None founded h = next h
 founded_end document number judgement next (Some o) founded h = subst (IsFoundedJudgement document) (sym h) founded
 
--- a denial comes with the question that the document denies
+-- a denial comes with a question that the document denies
 pub JudgedFrom_founded : (number : ℕ) (document : DocumentData) (features : List Feature) (subject : Subject) (changes : List Change) (judgement : Judgement)
     → JudgedFrom number document features subject changes judgement → IsFoundedJudgement document judgement
 JudgedFrom_founded number document features subject [] judgement h = subst (IsFoundedJudgement document) (sym h) tt

@@ -1,4 +1,4 @@
--- Listings: as far as a loop has come, and what is in one.
+-- Listings: the loop's invariant, and what a listing has.
 use Rattle.std.proofs.Common.{◌≡◌, ℕ, List, [], ◌∷◌, ◌++◌, refl, sym, ap, subst, ◌∙◌, append_assoc, append-nil, inl, inr}
 use Rattle.plane.specs.declared.point.Point.{Point}
 use Rattle.features.specs.declared.actors.Subject.{Subject}
@@ -8,7 +8,7 @@ use Rattle.policy_documents.specs.Documents.{DocumentData}
 use Rattle.audit_trail.specs.Listing.{IsShown, IsListed, AreShown}
 
 module _ (document : DocumentData) (subject : Subject) (window : List Point) where
-  -- whatever is listed of the features that are left completes this front
+  -- `front`, followed by any listing of the features left, is a listing of all features
   abbrev pub Lists : List Feature → List Feature → List Feature → Type 0
   Lists features left front = (rest : List Feature) → IsListed document subject window left rest → IsListed document subject window features (front ++ rest)
 
@@ -42,7 +42,7 @@ module _ (document : DocumentData) (subject : Subject) (window : List Point) whe
       subst (λ (xs : List Feature). IsSortedById xs) (sym h.1.1) (listed_below feature.id features h.1.0 h.1.2 sorted.0, listed_sorted features h.1.0 h.1.2 sorted.1)
   listed_sorted (feature ∷ features) rows (inr h) sorted = listed_sorted features rows h.1 sorted.1
 
-  -- there is one listing
+  -- the features have one listing
   pub listed_once : (features rows others : List Feature) → IsListed document subject window features rows → IsListed document subject window features others → rows ≡ others
   listed_once [] rows others first second = first ∙ sym second
   listed_once (feature ∷ features) rows others (inl first) (inl second) =

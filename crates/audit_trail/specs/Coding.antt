@@ -1,4 +1,5 @@
--- How a proof tells two records apart: a document in one is stored as its zones and the list of its parts.
+-- Codes by which proofs tell records and trails apart: a document is stored as its zones and the
+-- list of its parts.
 use Rattle.std.specs.Prelude.{◌≡◌, ℕ, List, [], ◌∷◌, map, refl}
 use Rattle.std.proofs.Common.{ap, ◌∙◌}
 use Rattle.plane.specs.declared.point.Point.{Point}

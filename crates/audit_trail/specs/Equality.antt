@@ -1,4 +1,4 @@
--- When two causes, refusals, deeds, records are one: the tests, and that each of them decides `≡`.
+-- When two causes, refusals, deeds or records are equal: Boolean tests that decide `≡`.
 use Rattle.std.specs.Prelude.{◌≡◌, ℕ, ◌==◌, Bool, true, false, ◌&&◌, nat_eq, List, Option, None, Some}
 use Rattle.std.specs.Bool.{Decides}
 use Rattle.std.specs.Cmp.{first_so, second_so}
@@ -95,7 +95,7 @@ same_refusal-told a b e =
 abbrev pub same_numbers : List ℕ → List ℕ → Bool
 same_numbers = pointwise nat_eq
 
--- a subject with a window, the ids of rows with their versions, and another such pair
+-- the same subject and window
 abbrev pub same_search : Subject → List Point → Subject → List Point → Bool
 same_search s w t x = same_subject s t && same_shape w x
 
@@ -105,7 +105,7 @@ same_rows ids versions others more = same_numbers ids others && same_numbers ver
 abbrev pub same_answer : Subject → List Point → List ℕ → List ℕ → Subject → List Point → List ℕ → List ℕ → Bool
 same_answer s w ids versions t x others more = same_search s w t x && same_rows ids versions others more
 
--- two lists of changes of a subject
+-- the same subject and equal changes
 abbrev pub same_list : Subject → List Change → Subject → List Change → Bool
 same_list s changes t others = same_subject s t && same_changes changes others
 
@@ -183,7 +183,7 @@ same_deed-told (governed m d) (turned_away t others q) e = absurd (false≢true 
 same_deed-told (governed m d) (governed n f) e =
     λ i. governed ((Decides-eqb m n).0 (first_so (m == n) (same_decider d f) e) i) ((same_decider_decides d f).0 (second_so (m == n) (same_decider d f) e) i)
 
--- the same deed, done for the same seat
+-- the same seat and equal deeds
 abbrev pub same_record : RecordData → RecordData → Bool
 same_record a b = a.seat == b.seat && same_deed a.deed b.deed
 

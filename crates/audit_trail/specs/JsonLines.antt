@@ -18,7 +18,7 @@ use Rattle.audit_trail.specs.Records.{DeedData, answered, applied, turned_away, 
 abbrev pub Fields : Type 0
 Fields = List (List ℕ × Data)
 
--- members with these fields put to them; an object has its keys in order, in whatever order they are put
+-- the members after these fields are put; the keys stay sorted, whatever the order of the fields
 abbrev pub with_fields : Members → Fields → Members
 with_fields ms [] = ms
 with_fields ms (field ∷ fields) = with_fields (put field.0 field.1 ms) fields
@@ -30,7 +30,7 @@ object_of fields = object (with_fields no_members fields)
 abbrev pub numeral : ℕ → Data
 numeral n = number (unsigned n)
 
--- a change has what it does, its id, and its class, its shape, the version that the editor has seen, where it has them
+-- a change has what it does, its id, and, if it has them, class, shape and the version seen
 abbrev pub change_fields : Change → Fields
 change_fields (Add id class shape) =
     (codes "what", string (codes "add")) ∷ (codes "id", numeral id) ∷ (codes "class", string class) ∷ (codes "shape", string (printed shape)) ∷ []
@@ -48,19 +48,19 @@ changes_data changes = array (items_of (map change_data changes))
 abbrev pub numbers_data : List ℕ → Data
 numbers_data ns = array (items_of (map numeral ns))
 
--- a rule's number, or that there is none
+-- a rule's number, or null without one
 abbrev pub rule_data : Option ℕ → Data
 rule_data None = null
 rule_data (Some rule) = numeral rule
 
--- a denial has its rule, and a stale version the present one
+-- a denial has its rule, and a stale change the present version
 abbrev pub cause_fields : Cause → Fields
 cause_fields (Denied rule) = (codes "cause", string (codes "denied")) ∷ (codes "rule", rule_data rule) ∷ []
 cause_fields Exists = (codes "cause", string (codes "exists")) ∷ []
 cause_fields Absent = (codes "cause", string (codes "absent")) ∷ []
 cause_fields (Stale current) = (codes "cause", string (codes "stale")) ∷ (codes "current", numeral current) ∷ []
 
--- the versions of an answer's rows are not told
+-- an answer has no versions of its rows
 abbrev pub answer_fields : Subject → List Point → List ℕ → Fields
 answer_fields subject window ids =
     (codes "kind", string (codes "answered")) ∷ (codes "subject", string subject.name) ∷ (codes "window", string (printed window)) ∷ (codes "ids", numbers_data ids) ∷ []
@@ -74,23 +74,23 @@ deed_fields (turned_away subject changes refusal) =
 deed_fields (governed edition decider) =
     (codes "kind", string (codes "governed")) ∷ (codes "edition", numeral edition) ∷ (codes "document", document_data decider.document) ∷ []
 
--- the JSON of a record, with its number
+-- a record with its number
 abbrev pub line_fields : ℕ → RecordData → Fields
 line_fields n r = (codes "number", numeral n) ∷ (codes "seat", numeral r.seat) ∷ deed_fields r.deed
 
 abbrev pub line_of : ℕ → RecordData → Data
 line_of n r = object_of (line_fields n r)
 
--- its text: JSON without spaces, the keys of each object in order
+-- the text of a record: JSON without spaces, the keys of each object sorted
 abbrev pub line_text : ℕ → RecordData → List ℕ
 line_text n r = compact_text (line_of n r)
 
--- the lines of records that are numbered on from a number
+-- the lines of these records, numbered from `n` on
 abbrev pub lines_from : ℕ → List RecordData → List (List ℕ)
 lines_from n [] = []
 lines_from n (r ∷ rs) = line_text n r ∷ lines_from (n + 1) rs
 
--- a document that a deed puts in force is one
+-- if the deed puts a document in force, it is a valid document
 abbrev pub IsDocumented : DeedData → Type 0
 IsDocumented (answered subject window ids versions) = Unit {0}
 IsDocumented (applied subject version changes) = Unit {0}

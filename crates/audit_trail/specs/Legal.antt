@@ -1,4 +1,4 @@
--- What records make of a state, and which trails are legal.
+-- How records change a state, and which trails are legal.
 use Rattle.std.specs.Prelude.{◌≡◌, ℕ, ◌+◌, ◌-◌, ◌==◌, IsTrue, List, [], ◌∷◌, map, slice_get, Option, None, Some, if◌then◌else◌}
 use Rattle.features.specs.declared.actors.Subject.{Subject}
 use Rattle.features.specs.declared.rows.Feature.{Feature}
@@ -9,7 +9,7 @@ use Rattle.audit_trail.specs.Judging.{Judged}
 use Rattle.audit_trail.specs.Listing.{Listed}
 use Rattle.audit_trail.specs.Records.{PlainState, DeedData, answered, applied, turned_away, governed, RecordData}
 
--- the state after a deed: answers and refusals change nothing
+-- the state after a deed: only applied lists and documents put in force change it
 abbrev pub after_deed : DeedData → PlainState → PlainState
 after_deed (answered subject window ids versions) state = state
 after_deed (applied subject version changes) state =
@@ -17,20 +17,20 @@ after_deed (applied subject version changes) state =
 after_deed (turned_away subject changes refusal) state = state
 after_deed (governed edition decider) state = record state { decider = record { document = decider.document; edition = edition } }
 
--- the state that these records make of a base
+-- the state that these records lead to from a base
 abbrev pub replay : PlainState → List RecordData → PlainState
 replay base [] = base
 replay base (r ∷ rs) = replay (after_deed r.deed base) rs
 
--- the subject of a seat, of those that were given; they are numbered from 1
+-- the subject of a seat; seats are numbered from 1
 abbrev pub subject_of : ℕ → List Subject → Option Subject
 subject_of seat seats = if seat == 0 then None else slice_get seats (seat - 1)
 
--- a seat was given to this subject
+-- the seat is this subject's
 abbrev pub IsSeated : ℕ → List Subject → Subject → Type 0
 IsSeated seat seats subject = subject_of seat seats ≡ Some subject
 
--- a deed may stand in a trail, done for this seat at this state
+-- at this state, a legal trail may have this deed next, for this seat
 abbrev pub IsLegalDeed : List Subject → PlainState → ℕ → DeedData → Type 0
 IsLegalDeed seats state seat (answered subject window ids versions) =
     IsSeated seat seats subject
@@ -43,7 +43,7 @@ IsLegalDeed seats state seat (governed edition decider) =
     ((subject : Subject) × IsSeated seat seats subject × IsTrue subject.steward)
     × (edition ≡ state.decider.edition + 1) × (decider.edition ≡ edition)
 
--- each record of a trail is legal at the replay of those before it
+-- each record is legal at the replay of the records before it
 abbrev pub IsLegal : List Subject → PlainState → List RecordData → Type 0
 IsLegal seats base [] = Unit {0}
 IsLegal seats base (r ∷ rs) = IsLegalDeed seats base r.seat r.deed × IsLegal seats (after_deed r.deed base) rs

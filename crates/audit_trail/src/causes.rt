@@ -1,28 +1,30 @@
-//! Why a list of changes is turned away.
+//! Why a list of changes is rejected.
 
 use combining::Question;
 
 /// Why a change fails.
 #[derive(Clone, Copy, Debug, PartialEq, Eq)]
 pub enum Cause {
-    /// The policy in force denies it: by its first deciding rule, or without one, since none applied or by default.
+    /// The policy in force denies it: by its first deciding rule, or, with `None`, because no rule
+    /// applied or by default.
     Denied(Option<u32>),
-    /// A feature of the id is there already.
+    /// A feature already has the id.
     Exists,
-    /// There is no feature of the id.
+    /// No feature has the id.
     Absent,
-    /// The feature's version is this one, and not the one that the editor has seen.
+    /// The feature has this version, and the editor has seen another one.
     Stale(u64),
 }
 
-/// Why a list of changes is turned away: the number of its first failing change, counted from 1, and why that fails.
+/// Why a list of changes is rejected: the number of its first failing change, counted from 1, and
+/// that change's cause.
 #[derive(Clone, Copy, Debug, PartialEq, Eq)]
 pub struct Refusal {
     pub change: u64,
     pub cause: Cause,
 }
 
-/// What stands against a change: the cause, and for a denial the question that was denied.
+/// Why a change fails: the cause, and for a denial the question that was denied.
 #[derive(Clone, Copy, Debug, PartialEq, Eq)]
 pub(crate) struct Objection {
     pub cause: Cause,
@@ -33,6 +35,6 @@ pub(crate) struct Objection {
 #[derive(Clone, Copy, Debug, PartialEq, Eq)]
 pub enum Judgement {
     Accepted,
-    /// The list is turned away. For a denial the question that was denied stands with it.
+    /// The list is rejected. The question that was denied is present exactly for a denial.
     Refused(Refusal, Option<Question>),
 }

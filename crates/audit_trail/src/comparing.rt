@@ -20,7 +20,7 @@ impl<A: Allocator> PartialEq for Record<A> {
 
     ghost laws = { partial_equiv_from_equiv (decided same_record same_record_decides) };
 
-    /// Whether the two tell the same of the same seat.
+    /// Whether the two have the same seat and equal deeds.
     fn eq(&self, other: &Self) -> bool
         ensures tested { result ≡ same_record self.now other.now }
         ensures exact { IsTrue result ↔ (self.now ≡ other.now) }
@@ -36,7 +36,7 @@ impl<A: Allocator> Eq for Record<A> {
     ghost laws = { decided same_record same_record_decides };
 }
 
-/// Whether two deeds are one.
+/// Whether two deeds are equal.
 fn same_deed<A: Allocator>(first: &Deed<A>, second: &Deed<A>) -> bool
     ensures { result ≡ same_deed (deed_view first.now) (deed_view second.now) }
 {
@@ -61,7 +61,7 @@ fn same_deed<A: Allocator>(first: &Deed<A>, second: &Deed<A>) -> bool
     }
 }
 
-/// Whether a deed is this answer to a search.
+/// Whether `deed` is this answer to a search.
 fn is_answer<A: Allocator>(
     deed: &Deed<A>,
     subject: &Subject,
@@ -84,7 +84,7 @@ fn is_answer<A: Allocator>(
     }
 }
 
-/// Whether a deed is that this list was applied as this version.
+/// Whether `deed` applies this list as this version.
 fn is_applied_list<A: Allocator>(
     deed: &Deed<A>,
     subject: &Subject,
@@ -103,7 +103,7 @@ fn is_applied_list<A: Allocator>(
     }
 }
 
-/// Whether a deed is that this list was turned away for this.
+/// Whether `deed` rejects this list with this refusal.
 fn is_refused_list<A: Allocator>(
     deed: &Deed<A>,
     subject: &Subject,
@@ -122,7 +122,7 @@ fn is_refused_list<A: Allocator>(
     }
 }
 
-/// Whether a deed is that this decider's document was put in force as this edition.
+/// Whether `deed` puts this decider's document in force as this edition.
 fn is_governing<A: Allocator>(deed: &Deed<A>, edition: u64, decider: &Decider) -> bool
     ensures { result ≡ same_deed (governed edition decider.now) (deed_view deed.now) }
 {
@@ -135,35 +135,35 @@ fn is_governing<A: Allocator>(deed: &Deed<A>, edition: u64, decider: &Decider) -
     }
 }
 
-/// Whether two searches are one.
+/// Whether two searches have the same subject and window.
 fn same_search(subject: &Subject, window: &Shape, other: &Subject, place: &Shape) -> bool
     ensures { result ≡ same_search subject.now window.now other.now place.now }
 {
     subject == other && window == place
 }
 
-/// Whether the rows of two answers are one.
+/// Whether two answers have the same rows: equal ids and equal versions.
 fn same_rows(ids: &[u64], versions: &[u64], others: &[u64], more: &[u64]) -> bool
     ensures { result ≡ same_rows ids.now versions.now others.now more.now }
 {
     *ids == *others && *versions == *more
 }
 
-/// Whether two lists of changes of a subject are one.
+/// Whether two lists have the same subject and equal changes.
 fn same_list(subject: &Subject, changes: &[Change], other: &Subject, others: &[Change]) -> bool
     ensures { result ≡ same_list subject.now changes.now other.now others.now }
 {
     subject == other && same_changes(changes, others)
 }
 
-/// Whether two refusals are one.
+/// Whether two refusals are equal.
 fn same_refusal(first: &Refusal, second: &Refusal) -> bool
     ensures { result ≡ same_refusal first.now second.now }
 {
     first.change == second.change && same_cause(&first.cause, &second.cause)
 }
 
-/// Whether two causes are one.
+/// Whether two causes are equal.
 fn same_cause(first: &Cause, second: &Cause) -> bool
     ensures { result ≡ same_cause first.now second.now }
 {
@@ -187,7 +187,7 @@ fn same_cause(first: &Cause, second: &Cause) -> bool
     }
 }
 
-/// Whether two rules, or that there is none, are one.
+/// Whether both are the same rule, or both are `None`.
 fn same_rule(rule: &Option<u32>, other: &Option<u32>) -> bool
     ensures { result ≡ same_rule rule.now other.now }
 {

@@ -24,8 +24,9 @@ use std::sync::Arc;
 use wkt::print_shape;
 
 impl<A: Allocator> Trail<A> {
-    /// The record of a number as JSON (RFC 8259) without spaces and without a line end, the keys of each object in
-    /// order. `NoRecord` exactly where the trail has none of this number, else `Memory` where a growth is refused.
+    /// The record with this number as JSON (RFC 8259): no spaces, no line end, the keys of each
+    /// object sorted. `NoRecord` exactly if the trail has no such record; otherwise the only error
+    /// is `Memory`.
     pub fn json_line(&self, heap: Global, number: u32) -> Result<String, TrailFault>
         ensures { MatchOption (record_at number self.now)
             (result ≡ Err TrailFault.NoRecord)
@@ -39,8 +40,8 @@ impl<A: Allocator> Trail<A> {
 }
 
 impl<A: Allocator + Copy> Trail<A> {
-    /// All records as `json_line` gives them, by rising number. They are kept by the trail's allocator; `heap` holds what
-    /// JSON needs on the way.
+    /// All records as `json_line` gives them, by rising number. The trail's allocator holds the
+    /// lines; `heap` holds the JSON values they are made from.
     pub fn lines(&self, heap: Global) -> Result<Vec<String<A>, A>, Refused>
         ensures { IfOk result (λ lines. map string_bytes lines.items ≡ lines_from self.now.first self.now.records) }
     {
@@ -48,7 +49,7 @@ impl<A: Allocator + Copy> Trail<A> {
     }
 }
 
-/// These records as lines of JSON, numbered on from the first one's number.
+/// These records as lines of JSON. The first one has the number `first`.
 fn lines_of<A: Allocator + Copy>(
     alloc: A,
     heap: Global,
@@ -89,7 +90,7 @@ fn line_value<A: Allocator>(heap: Global, number: u32, entry: &Record<A>) -> Res
     Ok(Value::Object(members))
 }
 
-/// Puts what a deed tells.
+/// Puts the fields of a deed.
 fn put_deed<A: Allocator>(
     members: &mut Map<String, Value>,
     heap: Global,
@@ -119,7 +120,7 @@ fn put_deed<A: Allocator>(
     }
 }
 
-/// Puts what a search was answered: the ids of the rows, and not their versions.
+/// Puts the answer to a search: the ids of the rows, without their versions.
 fn put_answer(
     members: &mut Map<String, Value>,
     heap: Global,
@@ -135,7 +136,7 @@ fn put_answer(
     put_member(members, heap, "ids", numbers_value(heap, ids)?)
 }
 
-/// Puts which list was applied, and as which version.
+/// Puts the list that was applied, and its version.
 fn put_applied_list(
     members: &mut Map<String, Value>,
     heap: Global,
@@ -151,7 +152,7 @@ fn put_applied_list(
     put_member(members, heap, "changes", changes_value(heap, changes)?)
 }
 
-/// Puts which list was turned away, and why.
+/// Puts the list that was rejected, and why.
 fn put_refused_list(
     members: &mut Map<String, Value>,
     heap: Global,
@@ -167,7 +168,7 @@ fn put_refused_list(
     put_refusal(members, heap, refusal)
 }
 
-/// Puts which document was put in force, and as which edition.
+/// Puts the document that was put in force, and its edition.
 fn put_governing(
     members: &mut Map<String, Value>,
     heap: Global,
@@ -183,7 +184,7 @@ fn put_governing(
     put_member(members, heap, "document", document)
 }
 
-/// Puts which change fails, and why.
+/// Puts the number of the failing change, and its cause.
 fn put_refusal(
     members: &mut Map<String, Value>,
     heap: Global,
@@ -195,7 +196,7 @@ fn put_refusal(
     put_cause(members, heap, &refusal.cause)
 }
 
-/// Puts why a change fails.
+/// Puts the cause of a failing change.
 fn put_cause(members: &mut Map<String, Value>, heap: Global, cause: &Cause) -> Result<(), Refused>
     ensures { OnOk result (members_view members.new.entries ≡ with_fields (members_view members.old.entries) (cause_fields cause.now)) }
 {
@@ -213,7 +214,7 @@ fn put_cause(members: &mut Map<String, Value>, heap: Global, cause: &Cause) -> R
     }
 }
 
-/// A rule's number, or that there is none.
+/// A rule's number, or `null` without one.
 fn rule_value(rule: &Option<u32>) -> Value
     ensures { view result ≡ rule_data rule.now }
 {

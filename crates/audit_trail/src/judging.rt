@@ -13,8 +13,8 @@ use features::{Action, Change, Feature, Meter, Name, Store, Subject};
 use plane::Shape;
 use std::alloc::Allocator;
 
-/// What becomes of a list of changes: the first that fails, with its first cause. Each is judged on the store as it is.
-/// It takes no memory.
+/// Judges a list of changes: `Accepted`, or `Refused` for the first change that fails, with its
+/// first cause. Each change is judged on the store as it is before the list. Allocates nothing.
 pub fn judge<A: Allocator>(
     decider: &Decider,
     store: &Store<A>,
@@ -38,7 +38,7 @@ pub fn judge<A: Allocator>(
     Judgement::Accepted
 }
 
-/// What stands against a change.
+/// The first objection to a change.
 fn objection_to<A: Allocator>(
     decider: &Decider,
     store: &Store<A>,
@@ -54,7 +54,7 @@ fn objection_to<A: Allocator>(
     }
 }
 
-/// What stands against a change of an id that no feature has.
+/// The first objection to a change of an id that no feature has.
 fn objection_where_absent(
     decider: &Decider,
     subject: &Subject,
@@ -72,7 +72,7 @@ fn objection_where_absent(
     }
 }
 
-/// What stands against a change of the id of this feature.
+/// The first objection to a change of this feature's id.
 fn objection_where_present(
     decider: &Decider,
     subject: &Subject,
@@ -125,7 +125,7 @@ fn question_on(subject: &Subject, action: Action, feature: &Feature, shape: &Sha
     }
 }
 
-/// The denial of a question, if it is denied.
+/// The objection to a change if the decider denies this question.
 fn denial(decider: &Decider, question: &Question) -> Option<Objection>
     ensures { DenialOf decider.now.document question.now result }
 {
@@ -140,7 +140,7 @@ fn denial(decider: &Decider, question: &Question) -> Option<Objection>
     })
 }
 
-/// A feature of the id is there already.
+/// The objection that a feature already has the id.
 fn in_use() -> Objection
     ensures { result ≡ record { cause = Cause.Exists; question = None } }
 {
@@ -150,7 +150,7 @@ fn in_use() -> Objection
     }
 }
 
-/// There is no feature of the id.
+/// The objection that no feature has the id.
 fn absent() -> Objection
     ensures { result ≡ record { cause = Cause.Absent; question = None } }
 {
@@ -160,7 +160,7 @@ fn absent() -> Objection
     }
 }
 
-/// The editor has seen another version of the feature than the present one.
+/// The objection that `seen` is not the feature's present version, if it is not.
 fn stale(seen: u64, feature: &Feature) -> Option<Objection>
     ensures { result ≡ stale seen feature.now }
 {

@@ -1,4 +1,4 @@
-//! Laws of the definitions. The functions do nothing: each is its contract.
+//! Laws of the definitions. The functions have empty bodies: each is its contract.
 
 ghost use Rattle.std.specs.Prelude.{◌≡◌, ℕ, ◌++◌, ◌↔◌, List};
 ghost use Rattle.plane.specs.declared.point.Point.{Point};
@@ -12,8 +12,8 @@ ghost use Rattle.audit_trail.specs.Records.{PlainState, RecordData};
 use crate::causes::Judgement;
 use features::{Change, Feature, Subject};
 
-/// At a state one list of rows is listed for a subject and a window, and a list of changes is judged in one way. A denial
-/// comes with a question that the document denies, by the rule that it names or without one.
+/// At one state, a subject and a window have one listing, and a list of changes has one judgement.
+/// A denial comes with a question that the document denies, by the rule it names or without a rule.
 pub fn answers_are_one()
     ensures rows { (state : PlainState) (subject : Subject) (window : List Point) (rows others : List Feature) →
         Listed state subject window rows → Listed state subject window others → rows ≡ others }
@@ -23,9 +23,9 @@ pub fn answers_are_one()
         Judged state subject changes judgement → IsFoundedJudgement state.decider.document judgement }
 {}
 
-/// A trail is legal from a base exactly where its first part is, and its rest is legal from that part's replay. The rest's
-/// replay from there is the whole's, and the calls of a seat in the whole are those in the first part, and then those in
-/// the rest.
+/// A trail is legal from a base exactly if its first part is, and the rest is legal from the replay
+/// of that part. Replaying the rest from there gives the replay of the whole. The calls of a seat
+/// in the whole are those in the first part followed by those in the rest.
 pub fn trails_join()
     ensures legal { (seats : List Subject) (base : PlainState) (first rest : List RecordData) →
         IsLegal seats base (first ++ rest) ↔ (IsLegal seats base first × IsLegal seats (replay base first) rest) }
@@ -35,7 +35,7 @@ pub fn trails_join()
         calls_of seat (first ++ rest) ≡ calls_of seat first ++ calls_of seat rest }
 {}
 
-/// Each row that is listed is shown, and rows of features that are sorted by id are sorted by id, so that each stands once.
+/// Each listed row is shown. If the features are sorted by id, so are the rows, without repeats.
 pub fn listings_are_shown_and_sorted()
     ensures shown { (state : PlainState) (subject : Subject) (window : List Point) (rows : List Feature) →
         Listed state subject window rows → AreShown state.decider.document subject window rows }

@@ -1,4 +1,4 @@
-//! The audit trail: what every seat was answered, what it changed, and the rules by which a trail is legal.
+//! The audit trail: what each seat was answered and what it changed, and when a trail is legal.
 #![tactic(auto)]
 
 mod causes;

@@ -13,20 +13,20 @@ use std::sync::Arc;
 /// What was answered to a seat, or done for it.
 #[derive(Debug, Drop)]
 pub enum Deed<A: Allocator> {
-    /// A search was answered with the features of these ids, each in this version.
+    /// A search was answered with the features of these ids, in these versions.
     Answered {
         subject: Subject,
         window: Shape,
         ids: Vec<u64, A>,
         versions: Vec<u64, A>,
     },
-    /// A list of changes was applied, under this version.
+    /// A list of changes was applied as this version.
     Applied {
         subject: Subject,
         version: u64,
         changes: Vec<Change, A>,
     },
-    /// A list of changes was turned away.
+    /// A list of changes was rejected.
     Refused {
         subject: Subject,
         changes: Vec<Change, A>,

@@ -1,4 +1,4 @@
-//! Trails: records in a row, each with a number.
+//! Trails: numbered records, in order.
 
 ghost use Rattle.std.specs.Prelude.{◌≡◌, ◌+◌, ◌<◌, ◌≤◌, ◌↔◌, ◌++◌, [], ◌∷◌, length, Err, IsSome, IfOk, IfErr, OnOk, OnErr, IsTrue, option_map};
 ghost use Rattle.std.specs.Arc.{arc_value};
@@ -12,27 +12,28 @@ use std::fmt;
 use std::marker::Model;
 use std::sync::Arc;
 
-/// How many records a trail has at most.
+/// The most records that a trail can have.
 pub const RECORD_LIMIT: u32 = 1_048_576;
 
-/// The greatest number that a trail's first record may have, so that each number fits.
+/// The greatest number that a trail's first record may have. From there on, the numbers of all
+/// `RECORD_LIMIT` records still fit a `u32`.
 pub const FIRST_LIMIT: u32 = 4_293_918_720;
 
-/// Why a trail does not take a record, or gives none.
+/// Why a trail takes no record, or has none to give.
 #[derive(Debug, Drop, PartialEq, Eq)]
 pub enum TrailFault {
-    /// It has as many records as a trail has at most.
+    /// The trail has `RECORD_LIMIT` records.
     Full,
-    /// A growth was refused.
+    /// Out of memory.
     Memory(Refused),
-    /// It has no record of this number.
+    /// The trail has no record with this number.
     NoRecord,
 }
 
 impl TrailFault {
     ghost use Rattle.audit_trail.specs.FaultCodes.{trail_code};
 
-    /// The code by which users know the fault.
+    /// The fault's code, as users see it.
     pub fn code(&self) -> &'static str
         ensures { result.now ≡ trail_code self.now }
     {
@@ -66,8 +67,8 @@ impl fmt::Display for TrailFault {
     }
 }
 
-/// Records in the order in which they were put, numbered on from the first one's number. A contract sees that number,
-/// the records' plain data, and for how many more there is room already.
+/// Records in the order in which they were put, with rising numbers. A contract sees the first
+/// number, the records' plain data, and `room`: how many more records fit without a growth.
 #[derive(Debug, Drop)]
 pub struct Trail<A: Allocator> {
     pub(crate) records: Vec<Arc<Record<A>, A>, A>,
@@ -108,7 +109,7 @@ impl<A: Allocator> Trail<A> {
         self.records.is_empty()
     }
 
-    /// The number of the first record, or that the first one will have.
+    /// The number of the first record; in an empty trail, the number that it will have.
     pub fn first(&self) -> u32
         ensures value { result ≡ self.now.first }
         ensures bound { result ≤ FIRST_LIMIT }
@@ -116,7 +117,7 @@ impl<A: Allocator> Trail<A> {
         self.first
     }
 
-    /// The record of a number.
+    /// The record with this number.
     pub fn get(&self, number: u32) -> Option<&Arc<Record<A>, A>>
         ensures value { option_map (λ r. arc_value r.now) result ≡ record_at number self.now }
         ensures found { IsSome result ↔ (self.now.first ≤ number) × (number < self.now.first + length self.now.records) }
@@ -129,7 +130,7 @@ impl<A: Allocator> Trail<A> {
 }
 
 impl<A: Allocator + Copy> Trail<A> {
-    /// A trail with no record, whose first one will have the number 1. It takes no memory.
+    /// An empty trail, whose first record will have the number 1. Allocates nothing.
     pub fn new(alloc: A) -> Self
         ensures first { result.first ≡ 1 }
         ensures none { result.records ≡ [] }
@@ -137,7 +138,7 @@ impl<A: Allocator + Copy> Trail<A> {
         Trail::starting_at(alloc, 1)
     }
 
-    /// A trail with no record, whose first one will have this number. It takes no memory.
+    /// An empty trail, whose first record will have the number `first`. Allocates nothing.
     pub fn starting_at(alloc: A, first: u32) -> Self
         requires { first ≤ FIRST_LIMIT }
         ensures first { result.first ≡ first }
@@ -150,7 +151,8 @@ impl<A: Allocator + Copy> Trail<A> {
         }
     }
 
-    /// Makes a record ready to be put at the end of a trail that has fewer records than it may have, and the room for it.
+    /// Prepares a record for `put` and makes room for it. On an error the record is dropped. The
+    /// records of the trail are unchanged in both cases.
     pub fn prepare(&mut self, entry: Record<A>) -> Result<Arc<Record<A>, A>, Refused>
         requires { length self.old.records < RECORD_LIMIT }
         ensures first { self.new.first ≡ self.old.first }
@@ -162,7 +164,7 @@ impl<A: Allocator + Copy> Trail<A> {
         Ok(shared(self.alloc, entry)?)
     }
 
-    /// Puts a record at the end, for which there is room.
+    /// Puts a record at the end, into the room that `prepare` made.
     pub fn put(&mut self, entry: Arc<Record<A>, A>)
         requires room { 1 ≤ self.old.room }
         requires limit { length self.old.records < RECORD_LIMIT }
@@ -172,8 +174,9 @@ impl<A: Allocator + Copy> Trail<A> {
         self.records.push_reserved(entry);
     }
 
-    /// Adds a record at the end, and answers its number; else hands it back, with the trail as it was. `Full` exactly
-    /// where the trail has as many records as it may have, else `Memory` where a growth is refused.
+    /// Adds a record at the end and returns its number. On an error it returns the record, and the
+    /// trail's records are unchanged: `Full` exactly if the trail has `RECORD_LIMIT` records,
+    /// otherwise `Memory`.
     pub fn push(&mut self, entry: Record<A>) -> Result<u32, (Record<A>, TrailFault)>
         ensures first { self.new.first ≡ self.old.first }
         ensures ok { OnOk result (self.new.records ≡ self.old.records ++ entry ∷ []) }

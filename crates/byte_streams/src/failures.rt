@@ -1,40 +1,42 @@
-/// A read failed. Only this crate makes one, and only where a reader has answered an error, so a fault that carries
-/// one was not invented.
+//! The failures of readers, writers and files.
+
+/// A read failed. Only this crate makes one, and only after a reader returned an error, so that no
+/// fault that carries one is invented.
 #[derive(Debug, Drop, PartialEq, Eq)]
 pub struct ReadFailed {
     seal: (),
 }
 
 impl ReadFailed {
-    /// Is called only where a reader has answered an error.
+    /// Called only after a reader returned an error.
     pub(crate) fn seen() -> Self {
         ReadFailed { seal: () }
     }
 }
 
-/// A write failed, or a flush. Only this crate makes one, and only where a writer has answered an error, has taken
-/// nothing of some bytes, or where a text could not be shown.
+/// A write or a flush failed. Only this crate makes one, and only after a writer returned an error,
+/// took none of the bytes or not all in 2^64 - 1 calls, or after a value could not be shown.
 #[derive(Debug, Drop, PartialEq, Eq)]
 pub struct WriteFailed {
     seal: (),
 }
 
 impl WriteFailed {
-    /// Is called only where a writer has not taken what it was given.
+    /// Called only after a writer did not take what it was given, or did not flush.
     pub(crate) fn seen() -> Self {
         WriteFailed { seal: () }
     }
 }
 
-/// A file was not opened. Only this crate makes one, and only where the host has answered an error, or that the file is
-/// a folder.
+/// A file was not opened. Only this crate makes one, and only after the host returned an error, or
+/// the file turned out to be a folder.
 #[derive(Debug, Drop, PartialEq, Eq)]
 pub struct NotOpened {
     seal: (),
 }
 
 impl NotOpened {
-    /// Is called only where the host has not opened a file.
+    /// Called only after the host did not open a file.
     pub(crate) fn seen() -> Self {
         NotOpened { seal: () }
     }

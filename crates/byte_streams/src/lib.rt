@@ -1,4 +1,5 @@
-//! Readers, writers and files as the program uses them, with one answer for each that only a real failure makes.
+//! Readers, writers and files as the program uses them. For each there is one failure value, which
+//! only a real failure makes.
 #![tactic(auto)]
 
 mod failures;

@@ -1,4 +1,4 @@
-//! Bytes from a reader.
+//! Reads bytes from a reader.
 
 ghost use Rattle.std.specs.Prelude.{◌≡◌, ◌<◌, ◌+◌};
 ghost use Rattle.std.specs.Io.KnownBytes.{ReadConsumes};
@@ -7,8 +7,9 @@ ghost use Rattle.std.specs.Io.{ReadsAtMost};
 use crate::failures::ReadFailed;
 use std::io::Read;
 
-/// One call of the reader, and how many bytes it gave: none only where its input is at its end, or the buffer is empty.
-/// `ReadFailed` where the reader answers an error, and then no known byte is taken.
+/// Calls the reader once, and returns how many bytes it gave: 0 only at the end of its input, or
+/// for an empty buffer. `ReadFailed` if the reader returns an error; the known rest of its input is
+/// then unchanged.
 pub fn read_some<R: Read>(reader: &mut R, buffer: &mut [u8]) -> Result<usize, ReadFailed>
     ensures bound { ReadsAtMost result buffer.new }
     ensures bytes { ReadConsumes (R.remaining reader.old) (R.remaining reader.new) result buffer.new }
@@ -19,22 +20,22 @@ pub fn read_some<R: Read>(reader: &mut R, buffer: &mut [u8]) -> Result<usize, Re
     }
 }
 
-/// How many reads were made. Only this crate counts, and only where a reader was called, so a count that is given up with
-/// was not invented.
+/// How many reads were made. Only this crate counts them, and only by calling a reader, so that no
+/// count in a fault is invented.
 #[derive(Debug, Drop, PartialEq, Eq)]
 pub struct Turns {
     made: u32,
 }
 
 impl Turns {
-    /// No read was made.
+    /// No reads.
     pub fn none() -> Self
         ensures { result.made ≡ 0 }
     {
         Turns { made: 0 }
     }
 
-    /// One more read, by one call of the reader, as `read_some` makes it. It counts, also where it fails.
+    /// One more read, as `read_some` makes it. A read that fails counts too.
     pub fn read_some<R: Read>(
         &mut self,
         reader: &mut R,

@@ -1,4 +1,4 @@
-//! Bytes to a writer.
+//! Writes bytes to a writer.
 
 ghost use Rattle.std.specs.Prelude.{◌≡◌, OnOk, IfSome};
 ghost use Rattle.std.specs.Io.Buffered.{writer_inner};
@@ -10,14 +10,15 @@ use std::alloc::Allocator;
 use std::fmt::Display;
 use std::io::{BufWriter, ErrorKind, Write};
 
-/// A writer was flushed. Only `flush` makes one, and only where the writer's own flush has answered that it is done, so an
-/// answer that carries one was not given before its last flush.
+/// A writer was flushed. Only `flush` makes one, and only after the writer's own flush succeeded,
+/// so that no result that carries one is returned without a flush.
 #[derive(Debug, Drop, PartialEq, Eq)]
 pub struct Flushed {
     seal: (),
 }
 
-/// One call of the writer, and how many of the bytes it took: none where it was interrupted.
+/// Calls the writer once, and returns how many of the bytes it took: 0 if the call was interrupted.
+/// `WriteFailed` if the writer returns an error, or takes no byte.
 fn write_some<W: Write>(bytes: &[u8], writer: &mut W) -> Result<usize, WriteFailed>
     ensures { WriteTook result (W.contents writer.old) (W.contents writer.new) bytes.now }
 {
@@ -29,9 +30,10 @@ fn write_some<W: Write>(bytes: &[u8], writer: &mut W) -> Result<usize, WriteFail
     }
 }
 
-/// Writes all these bytes, by as many calls as the writer wants; one that is interrupted is made again. It is
-/// `Write::write_all`, and says beside what the writer took where a call fails: the bytes' front. `WriteFailed` where the
-/// writer answers an error, takes no more, or has not taken all in 2^64 - 1 calls.
+/// Writes all these bytes, in as many calls as the writer needs; an interrupted call is repeated.
+/// Does what `Write::write_all` does, and also states what the writer took if a call fails: the
+/// front of the bytes. `WriteFailed` if the writer returns an error, takes no byte, or has not
+/// taken all bytes in 2^64 - 1 calls.
 pub fn write_whole<W: Write>(bytes: &[u8], writer: &mut W) -> Result<(), WriteFailed>
     ensures { Took result (W.contents writer.old) (W.contents writer.new) bytes.now }
 {
@@ -46,7 +48,7 @@ pub fn write_whole<W: Write>(bytes: &[u8], writer: &mut W) -> Result<(), WriteFa
     Err(WriteFailed::seen())
 }
 
-/// Flushes the writer. `WriteFailed` where it answers an error.
+/// Flushes the writer. `WriteFailed` if it returns an error.
 pub fn flush<W: Write>(writer: &mut W) -> Result<Flushed, WriteFailed>
     ensures { Keeps (W.contents writer.old) (W.contents writer.new) }
 {
@@ -56,8 +58,8 @@ pub fn flush<W: Write>(writer: &mut W) -> Result<Flushed, WriteFailed>
     }
 }
 
-/// The writer behind a buffer, behind a run that ended by a fault. What is left in the buffer is let go and not written,
-/// as the drop of a `BufWriter` would try once more.
+/// The writer in a `BufWriter`, after a run that ended with a fault. The bytes in the buffer are
+/// dropped; dropping the `BufWriter` would try to write them once more.
 pub fn let_go<W: Write + Drop, A: Allocator>(writer: BufWriter<W, A>) -> W
     ensures { result ≡ writer_inner writer }
 {
@@ -65,7 +67,8 @@ pub fn let_go<W: Write + Drop, A: Allocator>(writer: BufWriter<W, A>) -> W
     inner
 }
 
-/// Writes how a value is shown. `WriteFailed` where the writer answers an error, or the value cannot be shown.
+/// Writes a value as `Display` shows it. `WriteFailed` if the writer returns an error, or the value
+/// cannot be shown.
 pub fn write_shown<T: Display, W: Write>(shown: &T, writer: &mut W) -> Result<(), WriteFailed>
     ensures { OnOk result (IfSome (T.output shown.now) (Appends (W.contents writer.old) (W.contents writer.new))) }
 {

@@ -1,4 +1,4 @@
--- What an algorithm makes of a tally is its case over all decisions.
+-- An algorithm decides the same over a tally as over all decisions.
 use Rattle.std.proofs.Common.{◌≡◌, List, refl}
 use Rattle.policy_documents.specs.declared.algorithms.Algorithm.{Algorithm}
 use Rattle.policy_documents.specs.declared.algorithms.Algorithm.TheVariants.{DenyOverrides, PermitOverrides, DenyUnlessPermit, PermitUnlessDeny, FirstApplicable}

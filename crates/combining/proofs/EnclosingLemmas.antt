@@ -1,4 +1,4 @@
--- What is around the rules of a set or a policy.
+-- The sets and policies around a rule.
 use Rattle.std.proofs.Common.{◌≡◌, Bool, true, false, ◌&&◌, List, [], ◌∷◌, ◌++◌, refl, sym, ap, ◌∙◌, if◌then◌else◌}
 use Rattle.std.specs.List.{list_all}
 use Rattle.policy_documents.specs.declared.algorithms.Algorithm.{Algorithm}
@@ -6,7 +6,7 @@ use Rattle.combining.specs.declared.decisions.Decision.{Decision}
 use Rattle.combining.specs.Decisions.{is_not_applicable}
 use Rattle.combining.specs.Deciding.{Enclosing}
 
--- a set or a policy with these decisions before
+-- a set or a policy with these decisions of earlier children
 abbrev pub around : Algorithm → Decision → List Decision → Enclosing
 around a d earlier = record { combine = a; decision = d; earlier = earlier }
 

@@ -8,7 +8,7 @@ mark b = b
 abbrev pub unmarked : {X : Type 0} → X → Bool
 unmarked x = false
 
--- two lists of marks with the first true one at one place
+-- two lists of equal length whose first true marks, if any, are at the same index
 pub data SameFirst : List Bool → List Bool → Type 0 where
   none : SameFirst [] []
   here : {bs cs : List Bool} → length bs ≡ length cs → SameFirst (true ∷ bs) (true ∷ cs)
@@ -27,7 +27,7 @@ SameFirst-append _ _ ds es none t = t
 SameFirst-append _ _ ds es (here {bs = bs} {cs = cs} e) t = here (longer bs cs ds es e (SameFirst-length ds es t))
 SameFirst-append _ _ ds es (later s) t = later (SameFirst-append _ _ ds es s t)
 
--- behind a true one nothing counts
+-- marks after the first true one do not matter
 pub SameFirst-found : (bs cs ds es : List Bool) → SameFirst bs cs → list_any mark bs ≡ true → length ds ≡ length es → SameFirst (bs ++ ds) (cs ++ es)
 SameFirst-found _ _ ds es none found e = absurd (true≢false (sym found))
 SameFirst-found _ _ ds es (here {bs = bs} {cs = cs} h) found e = here (longer bs cs ds es h e)
@@ -49,7 +49,7 @@ any_right [] cs found = found
 any_right (true ∷ bs) cs found = refl
 any_right (false ∷ bs) cs found = any_right bs cs found
 
--- the tests of changed things
+-- tests of mapped elements
 pub map-changed : {X Y : Type 0} (test : Y → Bool) (other : X → Bool) (f : X → Y) → ((x : X) → test (f x) ≡ other x) → (xs : List X) → map test (map f xs) ≡ map other xs
 map-changed test other f same [] = refl
 map-changed test other f same (x ∷ xs) = λ i. same x i ∷ map-changed test other f same xs i

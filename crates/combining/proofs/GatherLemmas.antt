@@ -1,4 +1,4 @@
--- What is gathered of the parts of a set or a policy, one after another.
+-- What is gathered of the parts of a set or a policy, one by one.
 use Rattle.std.proofs.Common.{◌≡◌, ℕ, zero, suc, ◌+◌, ◌<◌, ◌≤◌, Bool, true, false, ◌&&◌, cond, List, [], ◌∷◌, ◌++◌, length, get_or, take, map, refl, sym, ap, ◌∙◌, subst, arith, append_assoc, length-append, Option, Some, None, if◌then◌else◌}
 use Rattle.std.specs.List.{list_all, position_from}
 use Rattle.std.specs.Option.{option_or}
@@ -24,7 +24,7 @@ use Rattle.combining.proofs.EnclosingLemmas.{around, list_all-push, choice_push}
 use Rattle.combining.proofs.PlacedLemmas.{sizes_of, length-placed_parts, parts_of-map, sizes_of-parts_of}
 use Rattle.combining.proofs.DecisionLemmas.{settled-tally_of}
 
--- the first that passes of two lists
+-- the first element of two lists that passes a test
 position_go : {K : Type 0} (b : Bool) (test : K → Bool) (n : ℕ) (xs ys : List K) →
     position_from test (n + 1) (xs ++ ys) ≡ option_or (position_from test (n + 1) xs) (position_from test (n + 1 + length xs) ys) → n + 1 + length xs ≡ n + suc (length xs) →
     cond b (Some n) (position_from test (n + 1) (xs ++ ys)) ≡ option_or (cond b (Some n) (position_from test (n + 1) xs)) (position_from test (n + suc (length xs)) ys)
@@ -36,7 +36,7 @@ pub position_from-append : {K : Type 0} (test : K → Bool) (n : ℕ) (xs ys : L
 position_from-append test n [] ys = ap (λ k. position_from test k ys) (omega arith)
 position_from-append test n (x ∷ xs) ys = position_go (test x) test n xs ys (position_from-append test (n + 1) xs ys) (omega arith)
 
--- none passes
+-- if no element passes, none is found
 pub position_from-none : {K : Type 0} (test : K → Bool) → ((x : K) → test x ≡ false) → (n : ℕ) (xs : List K) → position_from test n xs ≡ None
 position_from-none test out n [] = refl
 position_from-none test out n (x ∷ xs) = ap (λ b. cond b (Some n) (position_from test (n + 1) xs)) (out x) ∙ position_from-none test out (n + 1) xs
@@ -50,7 +50,7 @@ and_false true = refl
 and_false false = refl
 
 module _ (q : Question) (met : List (List ℕ)) where
-  -- no rule makes a question not applicable
+  -- no rule makes the decision NotApplicable
   pub none_unmakes : (n : ℕ) (ps : List Placed) → position_from (is_deciding q met NotApplicable) n ps ≡ None
   none_unmakes n ps = position_from-none (is_deciding q met NotApplicable) out n ps
     where
@@ -61,7 +61,7 @@ module _ (q : Question) (met : List (List ℕ)) where
       out : (p : Placed) → is_deciding q met NotApplicable p ≡ false
       out p = by_effect p.rule.effect (list_all (is_open NotApplicable) p.enclosing) (rule_applies q met p.rule)
 
-  -- the first rule within what is open or shut
+  -- the first rule within a set or a policy that is open, or is not
   pub position_from-within : (d : Decision) (e : Enclosing) (b : Bool) → is_open d e ≡ b → (n : ℕ) (ps : List Placed) →
       position_from (is_deciding q met d) n (map (within e) ps) ≡ (if b then position_from (is_deciding q met d) n ps else None)
   position_from-within d e true is n [] = refl
@@ -71,7 +71,7 @@ module _ (q : Question) (met : List (List ℕ)) where
   position_from-within d e false is n (p ∷ ps) =
       (λ i. cond (is i && list_all (is_open d) p.enclosing && (rule_applies q met p.rule && is_decision d (effect_decision p.rule.effect))) (Some n) (position_from-within d e false is (n + 1) ps i))
 
-  -- in a set or a policy with another decision no rule makes this one
+  -- in a set or a policy with another decision no rule makes d
   pub position_from-shut : (d : Decision) (a : Algorithm) (e : Decision) → is_decision d e ≡ false → (n : ℕ) (earlier : List Decision) (parts : List (Decision × List Placed)) →
       position_from (is_deciding q met d) n (placed_within q met a e earlier parts) ≡ None
   position_from-shut d a e other n earlier [] = refl
@@ -80,7 +80,7 @@ module _ (q : Question) (met : List (List ℕ)) where
       ∙ (λ i. option_or (position_from-within d (around a e earlier) false (ap (λ b. b && (if is_first_applicable a then list_all is_not_applicable earlier else true)) other) n part.1 i)
       (position_from-shut d a e other (n + length (map (within (around a e earlier)) part.1)) (earlier ++ part.0 ∷ []) parts i))
 
-  -- no rule of a part makes another decision than the part has
+  -- no rule of a part makes a decision other than the part's
   pub OwnDecision : Decision × List Placed → Type 0
   OwnDecision part = (d : Decision) → is_decision d part.0 ≡ false → (n : ℕ) → position_from (is_deciding q met d) n part.1 ≡ None
 
@@ -97,7 +97,7 @@ module _ (q : Question) (met : List (List ℕ)) where
       by_test true other = other
       by_test false other = refl
 
-  -- a rule by itself
+  -- the verdict of a rule that applies, and of one that does not
   pub rule_applied : (n : ℕ) (rule : RuleData) → true ≡ rule_applies q met rule → part_verdict q met n (rule_part q met rule) ≡ record { decision = effect_decision rule.effect; rule = Some n }
   rule_applied n rule applies = rw (sym applies) (by_effect rule.effect)
     where
@@ -133,7 +133,7 @@ module _ (q : Question) (met : List (List ℕ)) where
   same_decision NotApplicable Permit e = absurd (false≢true e)
   same_decision NotApplicable Deny e = absurd (false≢true e)
 
-  -- nothing before was applicable, where that is asked
+  -- under first-applicable, no part before was applicable
   abbrev pub counting : Algorithm → List (Decision × List Placed) → Bool
   counting a parts = if is_first_applicable a then list_all is_not_applicable (decisions parts) else true
 
@@ -171,7 +171,7 @@ module _ (q : Question) (met : List (List ℕ)) where
   abbrev gathered : Tally → Bool → Option ℕ → Option ℕ → Gathered
   gathered t c p d = record { tally = t; counts = c; permitting = p; denying = d }
 
-  -- what is gathered with one part more
+  -- what is gathered with one more part
   pub gathered-push : (a : Algorithm) (n : ℕ) (parts : List (Decision × List Placed)) (part : Decision × List Placed) → OwnDecision part →
       with_verdict a (gathered_of q met a n parts) (part_verdict q met (n + sizes_of parts) part) ≡ gathered_of q met a n (parts ++ part ∷ [])
   gathered-push a n parts part own =
@@ -183,7 +183,7 @@ module _ (q : Question) (met : List (List ℕ)) where
       λ i. gathered (tallied i) (counted i) (first_making-push a n parts part Permit (is_permit part.0) own refl (permit_test part.0) i)
       (first_making-push a n parts part Deny (is_deny part.0) own refl (deny_test part.0) i)
 
-  -- the same, where the parts are those of other things
+  -- the same, for the parts of a list of other elements
   pub gathered-more : {X : Type 0} (part : X → Decision × List Placed) → ((x : X) → OwnDecision (part x)) → (a : Algorithm) (n : ℕ) (xs : List X) (i : ℕ) (x : X) (g : Gathered) (v : Verdict) →
       i < length xs → x ≡ get_or xs i x → g ≡ gathered_of q met a n (map part (take i xs)) → v ≡ part_verdict q met (n + sizes_of (map part (take i xs))) (part x) →
       with_verdict a g v ≡ gathered_of q met a n (map part (take (i + 1) xs))
@@ -212,7 +212,7 @@ module _ (q : Question) (met : List (List ℕ)) where
   decisions-children no_children = refl
   decisions-children (child node rest) = ap (λ ds. decision_of q met node ∷ ds) (decisions-children rest)
 
-  -- what is made of the children of a set, and of the rules of a policy, whose target holds
+  -- the verdict of a set, and of a policy, whose target holds
   pub settled-set : (n : ℕ) (head : Head) (children : Children) → true ≡ target_holds q met head.target →
       settled_verdict head.combine (gathered_of q met head.combine n (parts_of q met children)) ≡ part_verdict q met n (node_part q met (set head children))
   settled-set n head children holds =
@@ -226,7 +226,7 @@ module _ (q : Question) (met : List (List ℕ)) where
   left-node : (n : ℕ) (node : NodeData) → decision_of q met node ≡ NotApplicable → part_verdict q met n (node_part q met node) ≡ verdict NotApplicable None
   left-node n node is = ap (λ d. verdict d (position_from (is_deciding q met d) n (placed_rules q met node))) is ∙ ap (verdict NotApplicable) (none_unmakes n (placed_rules q met node))
 
-  -- where the target does not hold
+  -- the verdict of a set, and of a policy, whose target does not hold
   pub left-set : (n : ℕ) (head : Head) (children : Children) → false ≡ target_holds q met head.target →
       part_verdict q met n (node_part q met (set head children)) ≡ record { decision = NotApplicable; rule = None }
   left-set n head children other = left-node n (set head children) (rw (sym other) refl)
@@ -239,7 +239,7 @@ module _ (q : Question) (met : List (List ℕ)) where
   sizes_of-rules [] = refl
   sizes_of-rules (r ∷ rs) = ap (λ n. 1 + n) (sizes_of-rules rs) ∙ omega arith
 
--- how many rules stand below nodes
+-- how many rules are below nodes
 module _ {X : Type 0} (view : X → NodeData) where
   abbrev pub total : List X → ℕ
   total xs = length (rules_of_all (children_of (map view xs)))

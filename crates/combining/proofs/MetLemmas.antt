@@ -1,4 +1,4 @@
--- One zone more.
+-- The zones met, with one more zone.
 use Rattle.std.proofs.Common.{◌≡◌, ℕ, zero, suc, ◌+◌, ◌≤◌, List, [], ◌∷◌, ◌++◌, length, take, slice_get, Some, None, ap, ◌∙◌, arith}
 use Rattle.std.proofs.lemmas.List.{take_more}
 use Rattle.std.proofs.lemmas.Option.{slice_get_within, get_or_from_slice_get}
@@ -19,7 +19,7 @@ AreMet-apart shape _ _ zone none there = apart zone there none
 AreMet-apart shape _ _ zone (meets first m rest) there = meets first m (AreMet-apart shape _ _ zone rest there)
 AreMet-apart shape _ _ zone (apart first m rest) there = apart first m (AreMet-apart shape _ _ zone rest there)
 
--- where a place of a list has an element, one more can be taken
+-- if a list has an element at an index, one more element can be taken
 pub take-slice_get : {X : Type 0} (xs : List X) (i : ℕ) (x : X) → slice_get xs i ≡ Some x → take (i + 1) xs ≡ take i xs ++ x ∷ []
 take-slice_get xs i x e = take_more xs i x (slice_get_within xs i x e) ∙ ap (λ y. take i xs ++ y ∷ []) (get_or_from_slice_get xs i x x e)
 

@@ -1,4 +1,4 @@
--- The rule of a number is the same one on both sides: where it is decided by, and where it is named.
+-- A number means the same rule where a document is evaluated and where it names its rules.
 use Rattle.std.proofs.Common.{◌≡◌, ℕ, zero, suc, ◌+◌, Bool, true, false, cond, List, [], ◌∷◌, ◌++◌, map, Some, refl, sym, ap, ◌∙◌, arith}
 use Rattle.std.specs.Prelude.{slice_get, option_map}
 use Rattle.std.specs.List.{position_from}
@@ -11,7 +11,7 @@ use Rattle.combining.specs.Decisions.{decision_of}
 use Rattle.combining.specs.Deciding.{Placed, Enclosing, within, is_deciding, placed_within, placed_rules, parts_of, rule_part, first_deciding, IsMadeBy}
 use Rattle.combining.proofs.EnclosingLemmas.{around}
 
--- what a list has at the place that was found
+-- the list has this element at the index that was found, and it passes the test
 record Found {X : Type 0} (test : X → Bool) (k : ℕ) (xs : List X) (n : ℕ) : Type 0 where
   index : ℕ
   item : X
@@ -64,7 +64,7 @@ module _ (q : Question) (met : List (List ℕ)) where
       ap (λ rs. option_map (λ rule. rule.name) (slice_get rs index)) (sym (rules-placed root))
       ∙ ap (option_map (λ rule. rule.name)) (slice_get-mapped rule_in (placed_rules q met root) index p told)
 
-  -- the number of a verdict
+  -- the number in a verdict
   pub made_by : (root : NodeData) (number : ℕ) → first_deciding q met root ≡ Some number → IsMadeBy q met root number
   made_by root number told =
       let f = found_at (is_deciding q met (decision_of q met root)) 1 (placed_rules q met root) number told in

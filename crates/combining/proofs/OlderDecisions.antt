@@ -1,4 +1,4 @@
--- Decisions of documents that use three algorithms.
+-- Decisions of documents that use only the three older algorithms.
 use Rattle.std.proofs.Common.{◌≡◌, ℕ, Bool, true, false, ◌&&◌, List, [], ◌∷◌, map, refl, sym, ap, ◌∙◌, true≢false, if◌then◌else◌}
 use Rattle.std.specs.List.{list_any}
 use Rattle.policy_documents.specs.Documents.{NodeData, set, policy, Children, no_children, child}
@@ -57,7 +57,7 @@ same_decision NotApplicable Permit same = absurd cc
 same_decision NotApplicable Deny same = absurd cc
 same_decision NotApplicable NotApplicable same = refl
 
--- a Permit or a Deny that is chosen by a test
+-- a Permit or a Deny chosen by a test
 pub chosen : (b : Bool) (x d : Decision) → is_not_applicable d ≡ false → (if b then x else NotApplicable) ≡ d → x ≡ d
 chosen true x d applicable e = e
 chosen false x d applicable e = absurd (true≢false (ap is_not_applicable e ∙ applicable))
@@ -74,7 +74,7 @@ is_deny-is (Permit ∷ ds) = is_deny-is ds
 is_deny-is (Deny ∷ ds) = refl
 is_deny-is (NotApplicable ∷ ds) = is_deny-is ds
 
--- a Permit or a Deny that an overriding algorithm gives is that of a child
+-- a Permit or a Deny of an overriding algorithm is one of its children's decisions
 overriding : (a b : Decision) (x y z : Bool) (d : Decision) → is_not_applicable d ≡ false → (if x then a else if y then b else NotApplicable) ≡ d →
     (a ≡ d → x ≡ z) → (b ≡ d → y ≡ z) → z ≡ true
 overriding a b true y z d applicable is first second = sym (first is)
@@ -87,7 +87,7 @@ by_permit ds d is = is_permit-is ds ∙ ap (λ e. list_any (is_decision e) ds) i
 by_deny : (ds : List Decision) (d : Decision) → Deny ≡ d → list_any is_deny ds ≡ list_any (is_decision d) ds
 by_deny ds d is = is_deny-is ds ∙ ap (λ e. list_any (is_decision e) ds) is
 
--- a Permit or a Deny that one of the overriding algorithms gives is the decision of a child
+-- a Permit or a Deny of deny-overrides or permit-overrides is the decision of a child
 pub combined-among : (a : Algorithm) (ds : List Decision) (d : Decision) → is_older a ≡ true → is_first_applicable a ≡ false → is_not_applicable d ≡ false →
     combined a ds ≡ d → list_any (is_decision d) ds ≡ true
 combined-among DenyOverrides ds d older not_first applicable is = overriding Deny Permit _ _ _ d applicable is (by_deny ds d) (by_permit ds d)

@@ -1,4 +1,4 @@
--- The rules that made a decision, in a document that uses three algorithms.
+-- The rules that made a decision, in a document that uses only the three older algorithms.
 use Rattle.std.proofs.Common.{◌≡◌, ℕ, Bool, true, false, ◌&&◌, List, [], ◌∷◌, ◌++◌, length, map, refl, sym, ap, ◌∙◌, true≢false, if◌then◌else◌, arith, length-append}
 use Rattle.std.specs.List.{list_all, list_any}
 use Rattle.std.proofs.lemmas.List.{length-map, map-append}
@@ -13,7 +13,7 @@ use Rattle.combining.proofs.PlacedLemmas.{sizes_of, length-placed_parts}
 use Rattle.combining.proofs.FirstMarks.{mark, unmarked, SameFirst, SameFirst-length, SameFirst-unmarked, map-changed, map-unmarked}
 use Rattle.combining.proofs.OlderDecisions.{is_decision-refl}
 
--- the marks of the rules that made the decision d, in both senses
+-- the marks of the rules that made the decision d, by both definitions
 module _ (q : Question) (met : List (List ℕ)) (d : Decision) where
   abbrev pub marks : List Placed → List Bool
   marks ps = map (is_deciding q met d) ps
@@ -25,7 +25,7 @@ module _ (q : Question) (met : List (List ℕ)) (d : Decision) where
   abbrev pub placed_marks : Algorithm → Decision → List Decision → List (Decision × List Placed) → List Bool
   placed_marks a e earlier parts = marks (placed_within q met a e earlier parts)
 
-  -- the first rules are one, and a part with that decision has such a rule
+  -- both definitions mark the same rule first, and a part with the decision d has such a rule
   pub record Made (e : Decision) (ps : List Placed) (older : List OlderPlaced) : Type 0 where
     pub same : SameFirst (marks ps) (older_marks older)
     pub found : e ≡ d → list_any mark (marks ps) ≡ true
@@ -43,7 +43,7 @@ module _ (q : Question) (met : List (List ℕ)) (d : Decision) where
       let behind : sizes_of parts ≡ length others = all_made-length parts others rest in
       omega (arith, length-map ps (is_deciding q met d), length-map older (is_older_deciding q met d), length-append older others)
 
-  -- what is around rules lets their marks stay or takes them all away
+  -- what is around rules keeps their marks, or removes all of them
   within_marks : (e : Enclosing) (b : Bool) → is_open d e ≡ b → (ps : List Placed) → marks (map (within e) ps) ≡ map (λ p. b && is_deciding q met d p) ps
   within_marks e b is ps = map-changed (is_deciding q met d) _ (within e)
       (λ p. and_and (is_open d e) _ _ ∙ ap (λ c. c && is_deciding q met d p) is) ps
@@ -52,7 +52,7 @@ module _ (q : Question) (met : List (List ℕ)) (d : Decision) where
   older_within_marks e b is ps = map-changed (is_older_deciding q met d) _ (older_within e)
       (λ p. and_and (is_decision d e) _ _ ∙ ap (λ c. c && is_older_deciding q met d p) is) ps
 
-  -- the marks of one part and those behind it
+  -- the marks of one part, followed by those of the parts after it
   pub marks-part : (a : Algorithm) (e : Decision) (earlier : List Decision) (part : Decision × List Placed) (parts : List (Decision × List Placed)) →
       is_open d (around a e earlier) ≡ true →
       placed_marks a e earlier (part ∷ parts) ≡ marks part.1 ++ placed_marks a e (earlier ++ part.0 ∷ []) parts

@@ -1,4 +1,4 @@
--- The rules that made the decision of a set or a policy, by each of three algorithms.
+-- The rules that made the decision of a set or a policy, for each of the three older algorithms.
 use Rattle.std.proofs.Common.{◌≡◌, ℕ, Bool, true, false, ◌&&◌, ◌||◌, List, [], ◌∷◌, ◌++◌, map, refl, sym, ap, ◌∙◌, true≢false, if◌then◌else◌}
 use Rattle.std.specs.List.{list_all, list_any}
 use Rattle.std.proofs.lemmas.List.{length-map, map-append}
@@ -33,7 +33,7 @@ module _ (q : Question) (met : List (List ℕ)) (d : Decision) (applicable : is_
       rw (marks-part q met d a e earlier (f, ps) parts (overriding-open a e overrides same earlier), map-append (is_older_deciding q met d) older others)
       (SameFirst-append _ _ _ _ made.same (overriding-same a e overrides same (earlier ++ f ∷ []) parts others rest))
 
-  -- one with the decision d has such a rule
+  -- if one of the parts has the decision d, such a rule is found among them
   found-among : (b : Bool) (f : Decision) (ds : List Decision) (bs cs : List Bool) → is_decision d f ≡ b → (f ≡ d → list_any mark bs ≡ true) →
       (list_any (is_decision d) ds ≡ true → list_any mark cs ≡ true) → list_any (is_decision d) (f ∷ ds) ≡ true → list_any mark (bs ++ cs) ≡ true
   found-among true f ds bs cs is first behind some = any_left bs cs (first (same_decision d f is))
@@ -55,7 +55,7 @@ module _ (q : Question) (met : List (List ℕ)) (d : Decision) (applicable : is_
     found = λ is. overriding-found a e overrides same [] parts older all (combined-among a (decisions_in parts) d is_one overrides applicable (decided is));
   }
 
-  -- under first-applicable the parts count as far as the first applicable one, which has such a rule
+  -- under first-applicable the parts count up to the first applicable one, which has such a rule
   first-open : (e : Decision) → is_decision d e ≡ true → (earlier : List Decision) → list_all is_not_applicable earlier ≡ true → is_open d (around FirstApplicable e earlier) ≡ true
   first-open e same earlier still = λ i. same i && still i
 
@@ -98,7 +98,7 @@ module _ (q : Question) (met : List (List ℕ)) (d : Decision) (applicable : is_
       let told = first-made e same [] refl parts older all (decided (same_decision d e same)) in
       record { same = rw (older_within_marks q met d e true same older) told.same; found = λ is. told.found }
 
-  -- a set or a policy with the decision d, or another one
+  -- a set or a policy that has the decision d, and one that has another
   made-by : (b : Bool) (a : Algorithm) (e : Decision) (parts : List (Decision × List Placed)) (older : List OlderPlaced) → is_older a ≡ true →
       (e ≡ d → combined a (decisions_in parts) ≡ d) → AllMade q met d parts older → is_decision d e ≡ b →
       Made q met d e (placed_within q met a e [] parts) (map (older_within e) older)

@@ -1,4 +1,4 @@
--- The first deciding rule of a document that uses three algorithms.
+-- The first deciding rule of a document that uses only the three older algorithms.
 use Rattle.std.proofs.Common.{◌≡◌, ℕ, Bool, true, false, ◌&&◌, ◌||◌, List, [], ◌∷◌, map, is_some, refl, sym, ap, subst, ◌∙◌, true≢false, if◌then◌else◌}
 use Rattle.std.specs.List.{list_any, position_from}
 use Rattle.policy_documents.specs.Documents.{RuleData, NodeData, set, policy, Children, no_children, child}
@@ -30,7 +30,7 @@ module _ (q : Question) (met : List (List ℕ)) where
     one_mark true = here refl
     one_mark false = later none
 
-    -- a rule that decides d applies, and has that effect
+    -- a rule that decides d applies and has that effect
     effect_made : (b : Bool) (f : Effect) → (if b then effect_decision f else NotApplicable) ≡ d → list_any mark ((b && is_decision d (effect_decision f)) ∷ []) ≡ true
     effect_made true f is = ap (λ e. is_decision d e || false) is ∙ ap (λ b. b || false) (is_decision-refl d)
     effect_made false f is = absurd (true≢false (ap is_not_applicable is ∙ applicable))
@@ -86,7 +86,7 @@ module _ (q : Question) (met : List (List ℕ)) where
       same_first (is_not_applicable (decision_of q met root)) (decision_of q met root) root older refl
       ∙ ap (λ d. position_from (is_older_deciding q met d) 1 (older_rules q met root)) (decision_of-older q met root older)
 
-  -- a rule made each Permit and each Deny
+  -- each Permit and each Deny was made by a rule
   pub first_deciding-some : (root : NodeData) → uses_older root ≡ true → is_not_applicable (decision_of q met root) ≡ false → is_some (first_deciding q met root) ≡ true
   first_deciding-some root older applicable =
       position_from-marked (is_deciding q met (decision_of q met root)) 1 (placed_rules q met root) ((node_made (decision_of q met root) applicable root older).found refl)

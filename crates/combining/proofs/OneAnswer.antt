@@ -1,4 +1,4 @@
--- A document gives one verdict to a question.
+-- A document has one verdict on a question.
 use Rattle.std.proofs.Common.{◌≡◌, ℕ, List, ◌∷◌, refl, sym, ap, ◌∙◌}
 use Rattle.plane.specs.declared.point.Point.{Point}
 use Rattle.policy_documents.specs.Documents.{DocumentData}

@@ -1,4 +1,4 @@
--- A tally with one decision more.
+-- A tally with one more decision.
 use Rattle.std.proofs.Common.{◌≡◌, ℕ, ◌+◌, ◌<◌, Bool, true, false, ◌||◌, List, [], ◌∷◌, ◌++◌, length, get_or, take, refl, sym, ap, ◌∙◌}
 use Rattle.std.specs.List.{list_any}
 use Rattle.std.proofs.lemmas.List.{take_more}
@@ -38,6 +38,6 @@ pub tally_of-push : (ds : List Decision) (d : Decision) → tally_of (ds ++ d �
 unfolding tally
 tally_of-push ds d = same_tally _ _ _ _ _ _ (list_any-push is_permit ds d) (list_any-push is_deny ds d) (first_applicable-push ds d)
 
--- one decision more of a list
+-- one more decision of a list
 pub tally_of-take : (ds : List Decision) (i : ℕ) (d : Decision) → i < length ds → with_decision (tally_of (take i ds)) (get_or ds i d) ≡ tally_of (take (i + 1) ds)
 tally_of-take ds i d in_range = sym (ap tally_of (take_more ds i d in_range) ∙ tally_of-push (take i ds) (get_or ds i d))

@@ -10,8 +10,8 @@ use Rattle.combining.specs.declared.decisions.Verdict.{Verdict}
 use Rattle.combining.specs.Holding.{AreMet, rule_applies}
 use Rattle.combining.specs.Decisions.{is_permit, is_deny, is_not_applicable, effect_decision, rule_decision, decision_of}
 
--- a set or a policy around a rule: its algorithm, its decision, and the decisions of its children that stand before the
--- one to which the rule belongs
+-- a set or a policy around a rule: its algorithm, its decision, and the decisions of its children
+-- before the one that has the rule
 pub record Enclosing : Type 0 where
   pub combine : Algorithm
   pub decision : Decision
@@ -32,7 +32,8 @@ is_first_applicable DenyUnlessPermit = false
 is_first_applicable PermitUnlessDeny = false
 is_first_applicable FirstApplicable = true
 
--- what stands within it counts for a decision: it has that decision, and under first-applicable no child before was applicable
+-- rules below it can make the decision d: it has that decision, and under first-applicable no
+-- earlier child was applicable
 abbrev pub is_open : Decision → Enclosing → Bool
 is_open d e = is_decision d e.decision && (if is_first_applicable e.combine then list_all is_not_applicable e.earlier else true)
 
@@ -40,7 +41,7 @@ abbrev pub within : Enclosing → Placed → Placed
 within e p = record p { enclosing = e ∷ p.enclosing }
 
 module _ (q : Question) (met : List (List ℕ)) where
-  -- the rules of the parts of a set or a policy, which stand behind children with these decisions
+  -- the rules of the parts of a node, if the children before have the decisions `earlier`
   abbrev pub placed_within : Algorithm → Decision → List Decision → List (Decision × List Placed) → List Placed
   placed_within a d earlier [] = []
   placed_within a d earlier (part ∷ parts) =
@@ -49,7 +50,7 @@ module _ (q : Question) (met : List (List ℕ)) where
   abbrev pub rule_part : RuleData → Decision × List Placed
   rule_part rule = (rule_decision q met rule, record { rule = rule; enclosing = [] } ∷ [])
 
-  -- the rules below a node in document order, with what is around them
+  -- the rules below a node in document order, each with what is around it
   abbrev mutual
     pub placed_rules : NodeData → List Placed
     placed_rules (set head children) = placed_within head.combine (decision_of q met (set head children)) [] (parts_of children)
@@ -59,7 +60,8 @@ module _ (q : Question) (met : List (List ℕ)) where
     parts_of no_children = []
     parts_of (child node rest) = (decision_of q met node, placed_rules node) ∷ parts_of rest
 
-  -- the rule is one of those that made the decision d: it applies, has that effect, and all that is around it counts
+  -- the rule is one of those that made the decision d: it applies, has that effect, and all around
+  -- it is open for d
   abbrev pub is_deciding : Decision → Placed → Bool
   is_deciding d p = list_all (is_open d) p.enclosing && (rule_applies q met p.rule && is_decision d (effect_decision p.rule.effect))
 
@@ -70,7 +72,7 @@ module _ (q : Question) (met : List (List ℕ)) where
   abbrev pub verdict_of : NodeData → Verdict
   verdict_of root = record { decision = decision_of q met root; rule = first_deciding root }
 
--- the rule of this number, counted from 1, made the decision, and the document names it so
+-- the rule of this number, counted from 1, made the decision, and `rule_named` finds it
 pub record IsMadeBy (q : Question) (met : List (List ℕ)) (root : NodeData) (number : ℕ) : Type 0 where
   pub index : ℕ
   pub placed : Placed
@@ -79,7 +81,7 @@ pub record IsMadeBy (q : Question) (met : List (List ℕ)) (root : NodeData) (nu
   pub deciding : is_deciding q met (decision_of q met root) placed ≡ true
   pub named : rule_named number root ≡ Some placed.rule.name
 
--- what a document answers to a question
+-- the document's verdict on a question
 pub record Answers (document : DocumentData) (q : Question) (verdict : Verdict) : Type 0 where
   pub met : List (List ℕ)
   pub are_met : AreMet q.shape document.zones met

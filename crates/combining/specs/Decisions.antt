@@ -1,4 +1,4 @@
--- Decisions, after XACML 3.0, appendix C: each algorithm's case goes over the whole list of the children's decisions.
+-- Decisions, after XACML 3.0, appendix C: each algorithm takes the children's decisions as a list.
 use Rattle.std.specs.Prelude.{ℕ, Bool, true, false, not, List, [], ◌∷◌, map, if◌then◌else◌}
 use Rattle.std.specs.List.{list_any}
 use Rattle.policy_documents.specs.Documents.{RuleData, NodeData, set, policy, Children, no_children, child}
@@ -26,7 +26,7 @@ is_not_applicable Permit = false
 is_not_applicable Deny = false
 is_not_applicable NotApplicable = true
 
--- that of the first child that is applicable
+-- the decision of the first child that is applicable
 abbrev pub first_applicable : List Decision → Decision
 first_applicable [] = NotApplicable
 first_applicable (NotApplicable ∷ rest) = first_applicable rest
@@ -41,7 +41,7 @@ combined DenyUnlessPermit ds = if list_any is_permit ds then Permit else Deny
 combined PermitUnlessDeny ds = if list_any is_deny ds then Deny else Permit
 combined FirstApplicable ds = first_applicable ds
 
--- a child with this decision settles what the algorithm makes of all, where no child before it did
+-- a child with this decision settles the algorithm's decision, if no child before it did
 abbrev pub is_settled : Algorithm → Decision → Bool
 is_settled DenyOverrides d = is_deny d
 is_settled PermitOverrides d = is_permit d
@@ -55,11 +55,11 @@ effect_decision effects.Deny = Deny
 
 -- the decisions for a question whose shape meets the zones of these names
 module _ (q : Question) (met : List (List ℕ)) where
-  -- a rule gives its effect where it applies
+  -- a rule that applies decides its effect
   abbrev pub rule_decision : RuleData → Decision
   rule_decision rule = if rule_applies q met rule then effect_decision rule.effect else NotApplicable
 
-  -- a set or a policy combines its children where its target holds
+  -- a set or a policy combines its children if its target holds
   abbrev mutual
     pub decision_of : NodeData → Decision
     decision_of (set head children) = if target_holds q met head.target then combined head.combine (decisions_of children) else NotApplicable

@@ -1,4 +1,5 @@
--- What is kept of the children of a set or a policy while they are decided. Of this crate's public clauses those of `Gathered` and `rule_count` cite it.
+-- What is kept of the children of a set or a policy while they are evaluated. Of the public
+-- contracts, those of `Gathered` and `rule_count` use it.
 use Rattle.std.specs.Prelude.{ℕ, Bool, true, ◌&&◌, List, [], map, Option, None, if◌then◌else◌}
 use Rattle.std.specs.List.{list_all, position_from}
 use Rattle.std.specs.Option.{option_or}
@@ -17,14 +18,14 @@ use Rattle.combining.specs.Tallies.{tally_of, with_decision, settled}
 abbrev pub last_number : ℕ
 last_number = 4294967295
 
--- what follows a child with this decision stays open
+-- rules after a child with this decision still count
 abbrev pub stays_open : Algorithm → Decision → Bool
 stays_open a d = if is_first_applicable a then is_not_applicable d else true
 
 abbrev pub nothing_gathered : Gathered
 nothing_gathered = record { tally = tally_of []; counts = true; permitting = None; denying = None }
 
--- one child more
+-- one more child
 abbrev pub with_verdict : Algorithm → Gathered → Verdict → Gathered
 with_verdict a g v = record {
   tally = with_decision g.tally v.decision;
@@ -39,7 +40,7 @@ rule_for g Permit = g.permitting
 rule_for g Deny = g.denying
 rule_for g NotApplicable = None
 
--- what an algorithm makes of what was gathered
+-- the verdict of an algorithm on what was gathered
 abbrev pub settled_verdict : Algorithm → Gathered → Verdict
 settled_verdict a g = record { decision = settled a g.tally; rule = rule_for g (settled a g.tally) }
 
@@ -48,15 +49,15 @@ module _ (q : Question) (met : List (List ℕ)) where
   abbrev pub node_part : NodeData → Decision × List Placed
   node_part node = (decision_of q met node, placed_rules q met node)
 
-  -- the decision of a part, and the first rule that made it, where the part's first rule has this number
+  -- the decision of a part and the first rule that made it, if the part's rules start at number `n`
   abbrev pub part_verdict : ℕ → Decision × List Placed → Verdict
   part_verdict n part = record { decision = part.0; rule = position_from (is_deciding q met part.0) n part.1 }
 
-  -- the first rule of these parts that makes a decision, in a set or a policy that has it
+  -- the first rule of these parts that makes the decision d, in a node with that decision
   abbrev pub first_making : Algorithm → ℕ → List (Decision × List Placed) → Decision → Option ℕ
   first_making a n parts d = position_from (is_deciding q met d) n (placed_within q met a d [] parts)
 
-  -- what is gathered of these parts, where their first rule has this number
+  -- what is gathered of these parts, if their first rule has the number `n`
   abbrev pub gathered_of : Algorithm → ℕ → List (Decision × List Placed) → Gathered
   gathered_of a n parts = record {
     tally = tally_of (map (λ part. part.0) parts);

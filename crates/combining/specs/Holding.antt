@@ -1,5 +1,6 @@
--- When a match, an atom, a target, a rule hold for a question. Whether two shapes meet is a fact of geometry, and no
--- test in specs: so these tests take the names of the zones that the question's shape meets, and `AreMet` says which these are.
+-- When a match, an atom, a target or a rule holds for a question. `Meet` is a statement of
+-- geometry, no Boolean test, so these tests take the names of the zones that the question's shape
+-- meets; `AreMet` says which these are.
 use Rattle.std.specs.Prelude.{ℕ, Bool, not, ◌&&◌, List, [], ◌∷◌}
 use Rattle.std.specs.List.{list_all, list_any}
 use Rattle.plane.specs.Rows.{Meet}
@@ -16,7 +17,7 @@ use Rattle.policy_documents.specs.declared.matches.Atom.TheVariants as atoms
 use Rattle.policy_documents.specs.declared.zones.Zone.{Zone}
 use Rattle.combining.specs.declared.questions.Question.{Question}
 
--- the names of those of the zones that meet the shape, in their order
+-- the names of the zones that the shape meets, in the order of the zones
 pub data AreMet (shape : List Point) : List Zone → List (List ℕ) → Type 0 where
   none : AreMet shape [] []
   meets : (zone : Zone) → {zones : List Zone} → {names : List (List ℕ)} → Meet shape zone.shape → AreMet shape zones names → AreMet shape (zone ∷ zones) (zone.name ∷ names)
@@ -39,7 +40,7 @@ abbrev pub atom_holds : Question → List (List ℕ) → Atom → Bool
 atom_holds q met (atoms.Is term) = term_holds q met term
 atom_holds q met (atoms.Not term) = not (term_holds q met term)
 
--- each part of a target has an alternative all of whose matches hold
+-- each part of a target has an alternative whose matches all hold
 abbrev pub target_holds : Question → List (List ℕ) → List (List (List Match)) → Bool
 target_holds q met target = list_all (list_any (list_all (match_holds q met))) target
 

@@ -1,4 +1,5 @@
--- What is kept of the decisions of a node's children. Clauses of private functions cite it, and those of `Gathered` by `Gathering`.
+-- What is kept of the decisions of a node's children. Contracts of private functions use it, and
+-- through `Gathering` those of `Gathered`.
 use Rattle.std.specs.Prelude.{◌||◌, List, if◌then◌else◌}
 use Rattle.std.specs.List.{list_any}
 use Rattle.policy_documents.specs.declared.algorithms.Algorithm.{Algorithm}
@@ -11,7 +12,7 @@ use Rattle.combining.specs.Decisions.{is_permit, is_deny, first_applicable}
 abbrev pub tally_of : List Decision → Tally
 tally_of ds = record { permits = list_any is_permit ds; denies = list_any is_deny ds; first = first_applicable ds }
 
--- a decision, or the other one where it is NotApplicable
+-- the first of two decisions that is not NotApplicable
 abbrev pub or_else : Decision → Decision → Decision
 or_else NotApplicable d = d
 or_else Permit d = Permit

@@ -1,6 +1,7 @@
--- Decisions and deciding rules by three algorithms: deny-overrides, permit-overrides and first-applicable (XACML 3.0, C.2,
--- C.4 and C.8). These are the definitions from before deny-unless-permit and permit-unless-deny were taken into the
--- language; a law of `src/laws.rt` ties them to those of `Decisions` and `Deciding`.
+-- Decisions and deciding rules with three algorithms: deny-overrides, permit-overrides and
+-- first-applicable (XACML 3.0, C.2, C.4 and C.8). These definitions are older than
+-- deny-unless-permit and permit-unless-deny; a law in `src/laws.rt` relates them to `Decisions` and
+-- `Deciding`.
 use Rattle.std.specs.Prelude.{ℕ, Bool, true, false, ◌&&◌, List, [], ◌∷◌, ◌++◌, map, Option, if◌then◌else◌}
 use Rattle.std.specs.List.{list_all, list_any, position_from}
 use Rattle.policy_documents.specs.Documents.{RuleData, NodeData, set, policy, Children, no_children, child}
@@ -31,8 +32,8 @@ abbrev mutual
   all_use_older no_children = true
   all_use_older (child node rest) = uses_older node && all_use_older rest
 
--- the decision of one of the three over its children: XACML 3.0, C.2, C.4 and C.8. The two others have no case here: what
--- stands there only makes the function total, and nothing asks for it.
+-- the decision of one of the three over its children: XACML 3.0, C.2, C.4 and C.8. For the two
+-- others it is NotApplicable, only to make the function total; nothing uses that.
 abbrev pub older_combined : Algorithm → List Decision → Decision
 older_combined DenyOverrides ds = if list_any is_deny ds then Deny else if list_any is_permit ds then Permit else NotApplicable
 older_combined PermitOverrides ds = if list_any is_permit ds then Permit else if list_any is_deny ds then Deny else NotApplicable
@@ -45,7 +46,7 @@ pub record OlderPlaced : Type 0 where
   pub rule : RuleData
   pub enclosing : List Decision
 
--- what stands in a set or a policy with this decision
+-- a rule that is placed in one more set or policy, with the decision d
 abbrev pub older_within : Decision → OlderPlaced → OlderPlaced
 older_within d p = record p { enclosing = d ∷ p.enclosing }
 
@@ -54,7 +55,7 @@ abbrev pub older_bare : RuleData → OlderPlaced
 older_bare rule = record { rule = rule; enclosing = [] }
 
 module _ (q : Question) (met : List (List ℕ)) where
-  -- a set or a policy combines its children where its target holds
+  -- a set or a policy combines its children if its target holds
   abbrev mutual
     pub older_decision : NodeData → Decision
     older_decision (set head children) = if target_holds q met head.target then older_combined head.combine (older_decisions children) else NotApplicable
@@ -74,8 +75,8 @@ module _ (q : Question) (met : List (List ℕ)) where
     older_rules_of_all no_children = []
     older_rules_of_all (child node rest) = older_rules node ++ older_rules_of_all rest
 
-  -- the rule is one of those that made the decision d: it applies, has that effect, and all that is around it has that
-  -- decision, in whatever order the children stand
+  -- the rule is one of those that made the decision d: it applies, has that effect, and every set
+  -- and policy around it has that decision; the order of the children does not matter
   abbrev pub is_older_deciding : Decision → OlderPlaced → Bool
   is_older_deciding d p = list_all (is_decision d) p.enclosing && (rule_applies q met p.rule && is_decision d (effect_decision p.rule.effect))
 

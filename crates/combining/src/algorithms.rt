@@ -6,7 +6,7 @@ ghost use Rattle.combining.specs.Decisions.{combined, is_settled, is_not_applica
 use crate::decisions::Decision;
 use policy_documents::Algorithm;
 
-/// What is kept of the decisions of a node's children, so that none of them has to be stored.
+/// What is kept of the decisions of a node's children, instead of storing each of them.
 #[derive(Clone, Copy, Debug)]
 pub(crate) struct Tally {
     permits: bool,
@@ -27,7 +27,7 @@ impl Tally {
         }
     }
 
-    /// The tally with one decision more.
+    /// The tally with one more decision.
     pub fn with(self, decision: Decision) -> Tally
         ensures { result ≡ with_decision self decision }
     {
@@ -94,8 +94,8 @@ pub fn combine(algorithm: Algorithm, decisions: &[Decision]) -> Decision
     tally.settle(algorithm)
 }
 
-/// Whether a child with this decision settles what the algorithm makes of all children: where no child before it did,
-/// their decision is this one, whatever those behind it decide.
+/// Whether a child with this decision settles the algorithm: if no child before it did, the
+/// algorithm's decision is this one, whatever the children after it decide.
 pub fn settled(algorithm: Algorithm, decision: Decision) -> bool
     ensures { result ≡ is_settled algorithm decision }
 {

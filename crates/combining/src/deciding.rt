@@ -1,4 +1,4 @@
-//! Decisions, and the rules that made them, by recursion over a document.
+//! Evaluates a document by recursion to a decision and the rule that made it.
 
 ghost use Rattle.std.specs.Prelude.{◌≡◌, ◌+◌, ◌≤◌, length, map};
 ghost use Rattle.combining.specs.Decisions.{effect_decision};
@@ -20,7 +20,7 @@ const NOT_APPLICABLE: Verdict = Verdict {
     rule: None,
 };
 
-/// The decision that a rule with this effect makes where it applies.
+/// The decision of a rule with this effect, if the rule applies.
 pub fn effect_decision(effect: Effect) -> Decision
     ensures { result ≡ effect_decision effect }
 {
@@ -30,7 +30,7 @@ pub fn effect_decision(effect: Effect) -> Decision
     }
 }
 
-/// What the rule of this number decides: its effect, where it applies.
+/// The verdict of the rule with this number: its effect if it applies.
 #[tactic(auto, using(crate::proofs::GatherLemmas::rule_applied, crate::proofs::GatherLemmas::rule_left))]
 fn decide_rule<A: Allocator>(
     question: &Question,
@@ -49,7 +49,7 @@ fn decide_rule<A: Allocator>(
     }
 }
 
-/// The rules of a policy, decided one after another. The first has the number `next`.
+/// Gathers the verdicts of a policy's rules, the first of which has the number `next`.
 fn gather_rules<A: Allocator>(
     question: &Question,
     met: &[Name],
@@ -70,7 +70,8 @@ fn gather_rules<A: Allocator>(
     gathered
 }
 
-/// What a set or a policy decides, and the first rule that made the decision. Its first rule has the number `next`.
+/// What a set or a policy decides, and the first rule that made the decision. The first rule below
+/// it has the number `next`.
 #[cycle(decide)]
 pub(crate) fn decide_node<A: Allocator>(
     question: &Question,
@@ -107,7 +108,7 @@ pub(crate) fn decide_node<A: Allocator>(
     }
 }
 
-/// The children of a set, decided one after another. The first rule below them has the number `next`.
+/// Gathers the verdicts of a set's children. The first rule below them has the number `next`.
 #[cycle(decide)]
 fn gather_nodes<A: Allocator>(
     question: &Question,
@@ -129,7 +130,7 @@ fn gather_nodes<A: Allocator>(
     gathered
 }
 
-/// How many rules stand below a node.
+/// How many rules are below a node.
 #[cycle(count)]
 pub fn rule_count<A: Allocator>(node: &Node<A>) -> u32
     requires { length (rules_of (node_view node.now)) ≤ last_number }
@@ -141,7 +142,7 @@ pub fn rule_count<A: Allocator>(node: &Node<A>) -> u32
     }
 }
 
-/// How many rules stand below these nodes.
+/// How many rules are below these nodes.
 #[cycle(count)]
 fn rule_count_of_all<A: Allocator>(nodes: &[Node<A>]) -> u32
     requires { length (rules_of_all (children_of (map node_view nodes.now))) ≤ last_number }

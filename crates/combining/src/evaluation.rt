@@ -9,10 +9,11 @@ use crate::zones::met_zones;
 use policy_documents::Document;
 use std::alloc::Allocator;
 
-/// What the document decides for a question: its root's decision, after XACML 3.0, section 7 and appendix C, with the
-/// number of the first rule, in document order, that made it. A rule made it where the rule applies, has that effect,
-/// and stands in sets and policies that all have that decision, under first-applicable behind none that was
-/// applicable. No rule made a Permit or a Deny that an algorithm gives by default. It takes no memory.
+/// The decision of the document's root for a question, after XACML 3.0, section 7 and appendix C,
+/// with the number of the first rule, in document order, that made it. A rule made the decision if
+/// it applies and has that effect, all sets and policies around it have that decision, and within
+/// first-applicable no earlier child was applicable. `rule` is `None` for NotApplicable, and for a
+/// Permit or a Deny that an algorithm gives by default. Allocates nothing.
 pub fn evaluate<A: Allocator>(document: &Document<A>, question: &Question) -> Verdict
     ensures { Answers document.now question.now result }
 {

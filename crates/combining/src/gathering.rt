@@ -1,4 +1,4 @@
-//! What is kept of the children of a set or a policy while they are decided one after another.
+//! What is kept of the children of a set or a policy while they are evaluated one by one.
 
 ghost use Rattle.std.specs.Prelude.{◌≡◌, ◌&&◌, []};
 ghost use Rattle.combining.specs.Gathering.{with_verdict, settled_verdict, stays_open, nothing_gathered};
@@ -8,7 +8,8 @@ use crate::algorithms::Tally;
 use crate::decisions::{Decision, Verdict};
 use policy_documents::Algorithm;
 
-/// The decisions of some children, and the first rules below them that made a Permit and a Deny.
+/// What is known of some children: the tally of their decisions, and the first rules below them
+/// that made a Permit and a Deny.
 #[derive(Clone, Copy, Debug)]
 pub struct Gathered {
     tally: Tally,
@@ -17,8 +18,8 @@ pub struct Gathered {
     denying: Option<u32>,
 }
 
-/// Whether rules still count behind a child with this decision: under first-applicable only where the child is not
-/// applicable.
+/// Whether rules after a child with this decision still count. Under first-applicable they do only
+/// if no child so far was applicable.
 fn still_counts(counts: bool, algorithm: Algorithm, decision: Decision) -> bool
     ensures { result ≡ (counts && stays_open algorithm decision) }
 {
@@ -30,7 +31,7 @@ fn still_counts(counts: bool, algorithm: Algorithm, decision: Decision) -> bool
 }
 
 impl Gathered {
-    /// What is kept of no children.
+    /// What is known of no children.
     pub fn new() -> Gathered
         ensures { result ≡ nothing_gathered }
     {
@@ -42,7 +43,7 @@ impl Gathered {
         }
     }
 
-    /// What is kept with one child more.
+    /// The same with one more child.
     pub fn with(self, algorithm: Algorithm, child: Verdict) -> Gathered
         ensures { result ≡ with_verdict algorithm self child }
     {
@@ -57,7 +58,7 @@ impl Gathered {
         gathered
     }
 
-    /// Whether no child behind can change what the algorithm makes of the children, nor the rule that made it.
+    /// Whether no later child can change the decision, nor the rule that made it.
     pub fn is_finished(self, algorithm: Algorithm) -> bool
         ensures { result ≡ is_finished algorithm self }
     {

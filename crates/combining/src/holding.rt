@@ -10,14 +10,14 @@ use features::Name;
 use policy_documents::{AllOf, AnyOf, Atom, Conditions, Match, Rule, Target, Term};
 use std::alloc::Allocator;
 
-/// Whether the name is one of these.
+/// Whether the zone of this name is met.
 fn is_met(met: &[Name], name: Name) -> bool
     ensures { result ≡ list_any (same_name name) met.now }
 {
     met.iter().any(|zone| name == *zone)
 }
 
-/// Whether a match holds, where the question's shape meets the zones of these names.
+/// Whether a match holds; `met` are the names of the zones that the question's shape meets.
 fn match_holds(question: &Question, met: &[Name], test: &Match) -> bool
     ensures { result ≡ match_holds question.now met.now test.now }
 {
@@ -66,8 +66,8 @@ fn some_hold<A: Allocator>(question: &Question, met: &[Name], part: &AnyOf<A>) -
         .any(|matches| all_hold(question, met, matches))
 }
 
-/// Whether a target holds, where the question's shape meets the zones of these names: each of its parts has an
-/// alternative all of whose matches hold.
+/// Whether a target holds: each of its parts has an alternative whose matches all hold. `met` are
+/// the names of the zones that the question's shape meets.
 pub fn target_holds<A: Allocator>(question: &Question, met: &[Name], target: &Target<A>) -> bool
     ensures { result ≡ target_holds question.now met.now target.now }
 {
@@ -77,7 +77,8 @@ pub fn target_holds<A: Allocator>(question: &Question, met: &[Name], target: &Ta
         .all(|part| some_hold(question, met, part))
 }
 
-/// Whether all these conditions hold, where the question's shape meets the zones of these names.
+/// Whether all these conditions hold; `met` are the names of the zones that the question's shape
+/// meets.
 pub fn conditions_hold<A: Allocator>(
     question: &Question,
     met: &[Name],

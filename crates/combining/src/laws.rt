@@ -1,4 +1,4 @@
-//! Laws of the definitions that documents are decided by. The functions do nothing: each is its contract.
+//! Laws of the definitions that documents are decided by. Each function is its contract.
 
 ghost use Rattle.std.specs.Prelude.{◌≡◌, ℕ, true, false, List, ◌∷◌, ◌++◌, map, Some, is_some};
 ghost use Rattle.std.specs.List.{list_any};
@@ -14,8 +14,9 @@ ghost use Rattle.combining.specs.ThreeAlgorithms.{uses_older, older_decision, ol
 use crate::decisions::{Decision, Verdict};
 use crate::questions::Question;
 
-/// A document that uses neither deny-unless-permit nor permit-unless-deny is decided, and names its first deciding
-/// rule, as the definitions say that have three algorithms. It gives no Permit and no Deny by default: a rule made it.
+/// For a document that uses neither deny-unless-permit nor permit-unless-deny, the decision and the
+/// first deciding rule are those of the older definitions, which have three algorithms. Each Permit
+/// and each Deny of such a document is made by a rule; none is given by default.
 pub fn older_documents_decide_as_before()
     ensures decision { (question : Question) (met : List (List ℕ)) (root : NodeData) → uses_older root ≡ true →
         decision_of question met root ≡ older_decision question met root }
@@ -25,21 +26,22 @@ pub fn older_documents_decide_as_before()
         is_not_applicable (decision_of question met root) ≡ false → is_some (first_deciding question met root) ≡ true }
 {}
 
-/// A shape meets the zones of one list of names, and so a document gives one verdict.
+/// A shape meets the zones of one list of names, and a document has one verdict on a question.
 pub fn answers_are_one()
     ensures met { (shape : List Point) (zones : List Zone) (a b : List (List ℕ)) → AreMet shape zones a → AreMet shape zones b → a ≡ b }
     ensures verdict { (document : DocumentData) (question : Question) (a b : Verdict) → Answers document question a → Answers document question b → a ≡ b }
 {}
 
-/// Rules are numbered alike where a document is decided and where it names its rules: in document order, from 1. The
-/// number that a verdict has is that of a rule which made the decision, and the document names that rule by it.
+/// Evaluating a document and naming its rules number the rules alike: in document order, from 1.
+/// The number in a verdict is that of a rule that made the decision, and the document names that
+/// rule by this number.
 pub fn verdicts_number_as_documents_name()
     ensures order { (question : Question) (met : List (List ℕ)) (root : NodeData) → map (λ placed. placed.rule) (placed_rules question met root) ≡ rules_of root }
     ensures named { (question : Question) (met : List (List ℕ)) (root : NodeData) (number : ℕ) → first_deciding question met root ≡ Some number →
         IsMadeBy question met root number }
 {}
 
-/// The first child that settles an algorithm's decision decides for all children.
+/// The first child that settles an algorithm decides for all children.
 pub fn settled_children_decide()
     ensures { (algorithm : Algorithm) (before : List Decision) (decision : Decision) (after : List Decision) →
         list_any (is_settled algorithm) before ≡ false → is_settled algorithm decision ≡ true → combined algorithm (before ++ decision ∷ after) ≡ decision }

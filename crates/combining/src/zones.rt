@@ -10,7 +10,7 @@ use policy_documents::{Document, ZONE_LIMIT, Zone};
 use std::alloc::Allocator;
 use std::marker::Model;
 
-/// The names of the zones that a shape meets. A contract sees their list.
+/// The names of the zones that a shape meets. A contract sees the list.
 #[derive(Drop)]
 pub struct MetZones {
     names: [Name; ZONE_LIMIT],
@@ -30,7 +30,7 @@ impl Model for MetZones {
 }
 
 impl MetZones {
-    /// No zones. The places are filled with some name, since names have no empty one.
+    /// No zones. `filler` is any name; it fills the unused array cells.
     fn new(filler: Name) -> MetZones
         ensures { result ≡ [] }
     {
@@ -56,7 +56,7 @@ impl MetZones {
     }
 }
 
-/// Adds the zone where the shape meets it.
+/// Adds the zone if the shape meets it.
 fn add_if_met(met: &mut MetZones, shape: &Shape, zone: Zone)
     requires { length met.old < ZONE_LIMIT }
     ensures met { (zones : List Zone) → AreMet shape.now zones met.old → AreMet shape.now (zones ++ zone ∷ []) met.new }
@@ -67,7 +67,8 @@ fn add_if_met(met: &mut MetZones, shape: &Shape, zone: Zone)
     }
 }
 
-/// The zones of a document that the shape meets, each tested once. `filler` is any name.
+/// The names of the document's zones that the shape meets. Each zone is tested once; `filler` is
+/// any name.
 pub fn met_zones<A: Allocator>(document: &Document<A>, shape: &Shape, filler: Name) -> MetZones
     requires { length document.now.zones ≤ ZONE_LIMIT }
     ensures { AreMet shape.now document.now.zones result }

@@ -27,7 +27,7 @@ use Rattle.decision.specs.Compiled.{Appends, StandsFor, AllStandFor, placeholder
 use Rattle.combining.proofs.GatherLemmas.{OwnDecision, gathered-more, rule_applied, rule_left, none_unmakes, settled-set, settled-policy, left-set, left-policy}
 use Rattle.combining.proofs.PlacedLemmas.{sizes_of, parts_of-map}
 
--- two rows of branches, one behind the other
+-- the branches of one list followed by those of another
 join : Branches → Branches → Branches
 join no_branches others = others
 join (leaf number effect target when row) others = leaf number effect target when (join row others)
@@ -87,7 +87,7 @@ left_out a g =
     (ap (λ b. g.counts && b) (stays a) ∙ and_true g.counts) (unchosen _ _ _ (and_false g.counts)) (unchosen _ _ _ (and_false g.counts))
 
 module _ (A : Type 0) (known : Known) where
-  -- what is never applicable is left out
+  -- what is never applicable can be left out
   appends_none : (n : ℕ) (part : Question → List (List ℕ) → Decision × List Placed) (old : List (Step A)) →
       ((q : Question) (met : List (List ℕ)) → Fits known q → part_verdict q met n (part q met) ≡ not_applicable) → Appends A known (λ q met. StandsFor q met n (part q met)) old old
   appends_none n part old never = record {
@@ -114,7 +114,7 @@ module _ (A : Type 0) (known : Known) where
   by_test q met n rule true applies = sym (rule_applied q met n rule applies)
   by_test q met n rule false other = sym (rule_left q met n rule other)
 
-  -- a rule of which something is left
+  -- a rule whose reduced target and conditions are kept
   pub rule-kept : (n : ℕ) (rule : RuleData) (target : List (List (List Match))) (when : List Atom) (old new : List (Step A)) →
       ((q : Question) (met : List (List ℕ)) → Fits known q → target_holds q met rule.target ≡ target_holds q met target) →
       ((q : Question) (met : List (List ℕ)) → Fits known q → list_all (atom_holds q met) rule.when ≡ list_all (atom_holds q met) when) →
@@ -133,11 +133,11 @@ module _ (A : Type 0) (known : Known) where
   nothing-gathered q met PermitUnlessDeny n = refl
   nothing-gathered q met FirstApplicable n = refl
 
-  -- no parts
+  -- no parts are compiled to no branches
   pub all-none : (n : ℕ) (old : List (Step A)) → Appends A known (λ q met. AllStandFor q met n []) old old
   all-none n old = record { row = no_branches; appended = sym (append-nil old); meant = λ q met fits a. nothing-gathered q met a n }
 
-  -- one part more
+  -- one more part
   pub all-more : {X : Type 0} (part : Question → List (List ℕ) → X → Decision × List Placed) → ((q : Question) (met : List (List ℕ)) (x : X) → OwnDecision q met (part q met x)) →
       (n : ℕ) (xs : List X) (i : ℕ) (x : X) (number : ℕ) (old mid new : List (Step A)) → i < length xs → x ≡ get_or xs i x →
       ((q : Question) (met : List (List ℕ)) → number ≡ n + sizes_of (map (part q met) (take i xs))) →
@@ -162,13 +162,13 @@ module _ (A : Type 0) (known : Known) where
       let counted : length mid - length old - 1 ≡ length behind = ap (λ list. length list - length old - 1) regrouped ∙ omega (arith, length-append old (placeholder A combine ∷ behind)) in
       (λ i. slice_set (regrouped i) (length old) (steps.Node combine target (counted i))) ∙ set_at old (placeholder A combine) behind (steps.Node combine target (length behind)) (length old) refl
 
-  -- a set or a policy whose target never holds
+  -- a set or a policy whose target never holds can be left out
   pub node-never : (n : ℕ) (node : NodeData) (target : List (List (List Match))) (old : List (Step A)) →
       ((q : Question) (met : List (List ℕ)) → false ≡ target_holds q met target → part_verdict q met n (node_part q met node) ≡ not_applicable) →
       ((q : Question) (met : List (List ℕ)) → Fits known q → target_holds q met target ≡ false) → Appends A known (λ q met. StandsFor q met n (node_part q met node)) old old
   node-never n node target old dropped never = appends_none n (λ q met. node_part q met node) old (λ q met fits. dropped q met (sym (never q met fits)))
 
-  -- a set or a policy around what stands below it
+  -- a set or a policy with a reduced target, and the steps below it
   pub node-kept : (n : ℕ) (node : NodeData) (combine : Algorithm) (target left : List (List (List Match))) (parts : Question → List (List ℕ) → List (Decision × List Placed)) (old mid new : List (Step A)) →
       ((q : Question) (met : List (List ℕ)) → true ≡ target_holds q met target → settled_verdict combine (gathered_of q met combine n (parts q met)) ≡ part_verdict q met n (node_part q met node)) →
       ((q : Question) (met : List (List ℕ)) → false ≡ target_holds q met target → part_verdict q met n (node_part q met node) ≡ not_applicable) →
@@ -193,7 +193,7 @@ module _ (A : Type 0) (known : Known) where
   abbrev pub HoldAlike : List (List (List Match)) → List (List (List Match)) → Type 0
   HoldAlike target left = (q : Question) (met : List (List ℕ)) → Fits known q → target_holds q met target ≡ target_holds q met left
 
-  -- a set, and a policy
+  -- the two facts for sets, and for policies
   pub set-never : {X : Type 0} (view : X → NodeData) (n : ℕ) (head : Head) (xs : List X) (old : List (Step A)) → NeverHolds head.target →
       Appends A known (λ q met. StandsFor q met n (node_part q met (set head (children_of (map view xs))))) old old
   set-never view n head xs old never = node-never n (set head (children_of (map view xs))) head.target old (λ q met other. left-set q met n head (children_of (map view xs)) other) never
@@ -217,7 +217,7 @@ module _ (A : Type 0) (known : Known) where
       node-kept n (policy head rules) head.combine head.target left (λ q met. map (rule_part q met) rules) old mid new
       (λ q met holds. settled-policy q met n head rules holds) (λ q met other. left-policy q met n head rules other) same inner is
 
--- one branch by itself
+-- first-applicable over one branch gives that branch's verdict
 sole : (d : Decision) (rule : Option ℕ) → (d ≡ NotApplicable → rule ≡ None) → settled_verdict FirstApplicable (with_verdict FirstApplicable nothing_gathered (verdict d rule)) ≡ verdict d rule
 unfolding verdict
 sole Permit rule none = refl

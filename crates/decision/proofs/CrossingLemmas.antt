@@ -1,4 +1,4 @@
--- A decider may go to another thread, and threads may share one.
+-- A decider is `Send` and `Sync`, and so is a shared one.
 use denote.Param.Send.{IsSend, IsSync}
 use Rattle.std.specs.contracts.alloc.Global as Global
 use Rattle.std.specs.contracts.impls.GlobalAllocator.TheImpl.{ghosts}

@@ -1,4 +1,4 @@
--- Once a node is finished, the children behind change nothing.
+-- Once a node is finished, the children after it change nothing.
 use Rattle.std.proofs.Common.{◌≡◌, ℕ, Bool, true, false, ◌&&◌, List, refl, ap, ◌∙◌, Option, Some, None, is_some, cond, if◌then◌else◌}
 use Rattle.std.proofs.lemmas.Bool.{false≢true}
 use Rattle.policy_documents.specs.declared.algorithms.Algorithm.{Algorithm}
@@ -16,7 +16,7 @@ use Rattle.decision.specs.Plans.{Branches, no_branches, leaf, fork, gathered_fro
 abbrev pub gathered : Bool → Bool → Decision → Bool → Option ℕ → Option ℕ → Gathered
 gathered p d f c permitting denying = record { tally = record { permits = p; denies = d; first = f }; counts = c; permitting = permitting; denying = denying }
 
--- one child more leaves what is finished
+-- one more child leaves it finished, with the same verdict
 abbrev Stays : Algorithm → Gathered → Verdict → Type 0
 Stays a g v = (is_finished a (with_verdict a g v) ≡ true) × (settled_verdict a (with_verdict a g v) ≡ settled_verdict a g)
 
@@ -58,7 +58,7 @@ finished-stays PermitOverrides g v e = (by_permit g.tally.permits g.tally.denies
 finished-stays DenyUnlessPermit g v e = (by_permit g.tally.permits g.tally.denies g.tally.first g.counts g.permitting g.denying v g.tally.permits g.permitting e).1
 finished-stays FirstApplicable g v e = by_first g.tally.permits g.tally.denies g.tally.first g.counts g.permitting g.denying v g.counts g.tally.first e
 
--- whatever stands behind
+-- nor do any branches after it
 pub finished-settled : (q : Question) (met : List (List ℕ)) (a : Algorithm) (g : Gathered) (row : Branches) → is_finished a g ≡ true →
     settled_verdict a (gathered_from q met a g row) ≡ settled_verdict a g
 finished-settled q met a g no_branches e = refl

@@ -1,4 +1,4 @@
--- What is known of a question tells of its matches, and what is left of a list of tests.
+-- What is known of a question decides some of its matches and reduces a list of tests.
 use Rattle.std.proofs.Common.{◌≡◌, ℕ, ◌+◌, ◌<◌, ◌≤◌, Bool, true, false, not, ◌&&◌, ◌||◌, List, [], ◌∷◌, ◌++◌, length, get_or, take, Option, Some, None, option_map, refl, sym, ap, ◌∙◌, arith}
 use Rattle.std.proofs.lemmas.List.{take_all}
 use Rattle.std.specs.List.{list_all, list_any}
@@ -54,7 +54,7 @@ or_false true = refl
 or_false false = refl
 
 module _ {X : Type 0} (known : Known) (test : Test X) where
-  -- the test tells this of x, whatever the question
+  -- x has this result for every question that fits
   abbrev pub Told : X → Bool → Type 0
   Told x b = (q : Question) (met : List (List ℕ)) → Fits known q → test q met x ≡ b
 
@@ -97,7 +97,7 @@ module _ {X : Type 0} (known : Known) (test : Test X) where
   none-any q met [] e = refl
   none-any q met (x ∷ xs) e = absurd (omega (arith, e))
 
-  -- the whole list was gone through
+  -- the loop is past the whole list
   pub all-end : (xs whole kept left : List X) (i : ℕ) → length xs ≤ i → xs ≡ whole → left ≡ kept → SameAll (take i xs) kept → SameAll whole left
   all-end xs whole kept left i past is left_is same q met fits =
       ap (list_all (test q met)) (sym is ∙ sym (take_all i xs past)) ∙ same q met fits ∙ ap (list_all (test q met)) (sym left_is)
@@ -106,7 +106,7 @@ module _ {X : Type 0} (known : Known) (test : Test X) where
   any-end xs whole kept left i past is left_is same q met fits =
       ap (list_any (test q met)) (sym is ∙ sym (take_all i xs past)) ∙ same q met fits ∙ ap (list_any (test q met)) (sym left_is)
 
-  -- and nothing was kept of it
+  -- the same, if nothing of the list was kept
   pub all-always : (xs whole kept : List X) (i : ℕ) → length xs ≤ i → xs ≡ whole → length kept ≡ 0 → SameAll (take i xs) kept → (q : Question) (met : List (List ℕ)) → Fits known q →
       list_all (test q met) whole ≡ true
   all-always xs whole kept i past is none same q met fits = all-end xs whole kept kept i past is refl same q met fits ∙ none-all q met kept none

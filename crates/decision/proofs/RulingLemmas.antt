@@ -1,4 +1,4 @@
--- A document gives one ruling to a question.
+-- A document has one ruling on a question.
 use Rattle.std.proofs.Common.{◌≡◌, ap, sym, ◌∙◌}
 use Rattle.policy_documents.specs.Documents.{DocumentData}
 use Rattle.combining.specs.declared.questions.Question.{Question}

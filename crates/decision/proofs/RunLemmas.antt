@@ -12,7 +12,7 @@ use Rattle.decision.specs.Plans.{Branches, no_branches, leaf, fork, flat, IsFlat
 use Rattle.decision.proofs.FinishLemmas.{finished-settled}
 
 module _ (A : Type 0) (q : Question) (met : List (List ℕ)) where
-  -- the first step of some branches, what stands below it and what behind
+  -- the first step of some branches, with the branches below it and those after it
   pub record Opened (row : Branches) (step : Step A) (behind : List (Step A)) : Type 0 where
     pub below : Branches
     pub others : Branches
@@ -44,13 +44,13 @@ module _ (A : Type 0) (q : Question) (met : List (List ℕ)) where
         gathers = λ a g. refl;
       })
 
-  -- what is left of some branches, after something of them was gathered
+  -- what is left of some branches, after g was gathered from those before
   pub record Left (a : Algorithm) (row : Branches) (rest : List (Step A)) (g : Gathered) : Type 0 where
     pub left : Branches
     pub is : rest ≡ flat A left
     pub same : gathered_from q met a nothing_gathered row ≡ gathered_from q met a g left
 
-  -- one step more
+  -- one more step
   pub left-more : (a : Algorithm) (row : Branches) (rest : List (Step A)) (g : Gathered) (step : Step A) (behind below others : List (Step A)) (next : Gathered) → Left a row rest g →
       rest ≡ step ∷ behind → below ≡ take (count_below A step) behind → others ≡ drop (count_below A step) behind →
       ((below_row : Branches) → below ≡ flat A below_row → next ≡ with_verdict a g (step_verdict q met A step below_row)) → Left a row others next
@@ -73,7 +73,7 @@ module _ (A : Type 0) (q : Question) (met : List (List ℕ)) where
       gathers_none (leaf number effect target when others) e = absurd (omega (arith, e))
       gathers_none (fork combine target below others) e = absurd (omega (arith, e))
 
-  -- what stands below the first step that is left fits behind it, and is a plan's list
+  -- the steps below the first one that is left fit into the list after it, which is a plan's list
   pub fits-left : (a : Algorithm) (row : Branches) (rest : List (Step A)) (g : Gathered) (step : Step A) (behind : List (Step A)) → Left a row rest g → rest ≡ step ∷ behind →
       count_below A step ≤ length behind
   fits-left a row rest g step behind l is = (opened l.left step behind (sym l.is ∙ is)).fits

@@ -1,4 +1,4 @@
--- Tests of all, or of some, of a list, with one element more.
+-- Tests of all, or of any, elements of a list, with one more element.
 use Rattle.std.proofs.Common.{◌≡◌, ℕ, zero, suc, ◌+◌, ◌<◌, Bool, true, false, ◌&&◌, ◌||◌, List, [], ◌∷◌, ◌++◌, length, get_or, take, refl, sym, ap, ◌∙◌, arith}
 use Rattle.std.specs.List.{list_all, list_any}
 use Rattle.std.proofs.lemmas.List.{take_more}
@@ -39,7 +39,7 @@ module _ {X : Type 0} (test : X → Bool) where
   pub any-more : (xs : List X) (i : ℕ) (x : X) → i < length xs → x ≡ get_or xs i x → list_any test (take (i + 1) xs) ≡ (list_any test (take i xs) || test x)
   any-more xs i x in_range at = ap (list_any test) (take_more xs i x in_range ∙ ap (λ y. take i xs ++ y ∷ []) (sym at)) ∙ any-push (take i xs) x
 
-  -- one element decides
+  -- one element decides: a failing one for all, a passing one for any
   all-at : (xs : List X) (i : ℕ) (d : X) → i < length xs → test (get_or xs i d) ≡ false → list_all test xs ≡ false
   all-at [] i d in_range out = absurd (omega arith)
   all-at (y ∷ ys) zero d in_range out = ap (λ b. b && list_all test ys) out

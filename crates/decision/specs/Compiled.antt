@@ -1,4 +1,5 @@
--- What is appended for the parts of a document while it is compiled. Clauses of private functions alone cite it.
+-- What is appended for the parts of a document while it is compiled. Only contracts of private
+-- functions use it.
 use Rattle.std.specs.Prelude.{◌≡◌, ℕ, ◌-◌, List, [], ◌++◌, length}
 use Rattle.std.specs.Prelude.{slice_set}
 use Rattle.policy_documents.specs.declared.algorithms.Algorithm.{Algorithm}
@@ -14,25 +15,25 @@ use Rattle.combining.specs.Gathering.{with_verdict, nothing_gathered, part_verdi
 use Rattle.decision.specs.Known.{Fits}
 use Rattle.decision.specs.Plans.{Branches, flat, gathered_from}
 
--- the new list is the old one with branches behind it of which this is true, for each question of which this is known
+-- the new list is the old one, then branches that mean this for each question that fits `known`
 pub record Appends (A : Type 0) (known : Known) (means : Question → List (List ℕ) → Branches → Type 0) (old new : List (Step A)) : Type 0 where
   pub row : Branches
   pub appended : new ≡ old ++ flat A row
   pub meant : (q : Question) (met : List (List ℕ)) → Fits known q → means q met row
 
 module _ (q : Question) (met : List (List ℕ)) where
-  -- these branches do what a part of a set or a policy does, where the part's first rule has this number
+  -- these branches decide as a part of a node does, if the part's first rule has the number `n`
   abbrev pub StandsFor : ℕ → Decision × List Placed → Branches → Type 0
   StandsFor n part row = (a : Algorithm) (g : Gathered) → gathered_from q met a g row ≡ with_verdict a g (part_verdict q met n part)
 
-  -- these branches do what all these parts do
+  -- these branches decide as all these parts do, if the first rule of the parts has the number `n`
   abbrev pub AllStandFor : ℕ → List (Decision × List Placed) → Branches → Type 0
   AllStandFor n parts row = (a : Algorithm) → gathered_from q met a nothing_gathered row ≡ gathered_of q met a n parts
 
--- what holds a node's place until what is below it stands
+-- what holds a node's place until the steps below it are known
 abbrev pub placeholder : (A : Type 0) → Algorithm → Step A
 placeholder A combine = steps.Node combine [] 0
 
--- a node in the place that was held for it
+-- the list with its placeholder replaced by a node that has all steps after it below it
 abbrev pub closed : (A : Type 0) → ℕ → Algorithm → List (List (List Match)) → List (Step A) → List (Step A)
 closed A place combine target list = slice_set list place (steps.Node combine target (length list - place - 1))

@@ -1,4 +1,4 @@
--- What contracts see of a decision point: a document and its edition.
+-- What contracts see of a decider: a document and its edition.
 use Rattle.std.specs.Prelude.{◌≡◌, ℕ, List}
 use Rattle.std.proofs.Common.{ap}
 use Rattle.policy_documents.specs.Documents.{DocumentData}
@@ -10,7 +10,8 @@ pub record DeciderData : Type 0 where
   pub document : DocumentData
   pub edition : ℕ
 
--- how a proof tells two of them apart: the document is stored as its zones and the list of its parts
+-- codes by which proofs tell two deciders apart: the document is stored as its zones and the list
+-- of its parts
 abbrev pub Stored : Type 0
 Stored = (List Zone × List Part) × ℕ
 

@@ -1,4 +1,4 @@
--- When two deciders are one: the test, and that it decides `≡`.
+-- When two deciders are equal: a Boolean test, and that it decides `≡`.
 use Rattle.std.specs.Prelude.{◌≡◌, ◌==◌, Bool, true, ◌&&◌}
 use Rattle.std.specs.Bool.{Decides}
 use Rattle.std.specs.Cmp.{first_so, second_so}

@@ -1,4 +1,4 @@
--- What contracts see of a folded document: the decider, the subject and the action.
+-- What contracts see of a folded decider: the decider, the subject and the action.
 use Rattle.std.specs.Prelude.{◌≡◌, ℕ, List}
 use Rattle.std.proofs.Common.{ap}
 use Rattle.plane.specs.declared.point.Point.{Point}
@@ -13,11 +13,11 @@ pub record FoldedData : Type 0 where
   pub subject : Subject
   pub action : Action
 
--- the question that is asked of a folded document
+-- the question that a folded decider is asked
 abbrev pub asked : FoldedData → List ℕ → List ℕ → List Point → Question
 asked f owner class shape = record { subject = f.subject; action = f.action; owner = owner; class = class; shape = shape }
 
--- how a proof tells two of them apart
+-- codes by which proofs tell two of them apart
 abbrev pub Stored : Type 0
 Stored = deciders.Stored × (Subject × Action)
 

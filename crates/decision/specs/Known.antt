@@ -1,4 +1,4 @@
--- What is known of a question before it is asked, and what that leaves of a test.
+-- What is known of a question before it is asked, and how that reduces a test.
 use Rattle.std.specs.Prelude.{◌≡◌, ℕ, Bool, true, false, not, List, Option, None, Some, option_map}
 use Rattle.std.specs.List.{list_all, list_any}
 use Rattle.policy_documents.specs.declared.matches.Match.{Match}
@@ -15,12 +15,12 @@ use Rattle.decision.specs.declared.known.Kept.{Kept}
 use Rattle.decision.specs.declared.known.Kept.TheVariants.{Always, Never, Asks}
 use Rattle.combining.specs.Holding.{match_holds, atom_holds}
 
--- the question is one of those of which this is known
+-- what is known is true of this question
 abbrev pub Fits : Known → Question → Type 0
 Fits Nothing q = Unit {0}
 Fits (Asked subject action) q = (q.subject ≡ subject) × (q.action ≡ action)
 
--- whether a match holds, where what is known tells: role and office are the subject's
+-- whether a match holds, if that is known: role and office are the subject's
 abbrev pub told_match : Known → Match → Option Bool
 told_match Nothing m = None
 told_match (Asked subject action) (matches.Role name) = Some (same_name subject.role name)
@@ -30,7 +30,7 @@ told_match (Asked subject action) (matches.Owner name) = None
 told_match (Asked subject action) (matches.Zone name) = None
 told_match (Asked subject action) (matches.Action wanted) = Some (same_action action wanted)
 
--- the same of a condition. Whether a feature is the subject's own is not known before the feature is.
+-- the same of a condition; whether a feature is the subject's own is never known in advance
 abbrev pub told_atom : Known → Atom → Option Bool
 told_atom known (atoms.Is (terms.Match m)) = told_match known m
 told_atom known (atoms.Not (terms.Match m)) = option_map not (told_match known m)
@@ -50,13 +50,13 @@ some_hold q met part = list_any (list_all (match_holds q met)) part
 abbrev pub conditions_hold : Test (List Atom)
 conditions_hold q met when = list_all (atom_holds q met) when
 
--- what is left of the test x tells as much as x, for each question of which this is known
+-- the reduced test agrees with x for each question that fits
 abbrev pub Keeps : {X : Type 0} → Known → Test X → X → Kept X → Type 0
 Keeps known test x Always = (q : Question) (met : List (List ℕ)) → Fits known q → test q met x ≡ true
 Keeps known test x Never = (q : Question) (met : List (List ℕ)) → Fits known q → test q met x ≡ false
 Keeps known test x (Asks left) = (q : Question) (met : List (List ℕ)) → Fits known q → test q met x ≡ test q met left
 
--- the same, where what always holds is left as an empty test
+-- the same, with an empty test in place of one that always holds
 abbrev pub Leaves : {X : Type 0} → Known → Test X → X → Option X → Type 0
 Leaves known test x None = (q : Question) (met : List (List ℕ)) → Fits known q → test q met x ≡ false
 Leaves known test x (Some left) = (q : Question) (met : List (List ℕ)) → Fits known q → test q met x ≡ test q met left

@@ -1,5 +1,5 @@
--- What a document is compiled to: its rules, with their numbers, and its sets and policies, in one flat list. Of a set or a
--- policy the list says how many steps stand below it, so that they can be passed over.
+-- What a document is compiled to: its numbered rules, its sets and its policies, in one flat list.
+-- A set or a policy has the number of steps below it, so that they can be skipped.
 use Rattle.std.specs.Prelude.{◌≡◌, ℕ, ◌&&◌, List, [], ◌∷◌, ◌++◌, length, None, Some, if◌then◌else◌}
 use Rattle.std.specs.List.{list_all}
 use Rattle.policy_documents.specs.Documents.{NodeData}
@@ -19,13 +19,13 @@ use Rattle.combining.specs.Decisions.{effect_decision}
 use Rattle.combining.specs.Deciding.{verdict_of}
 use Rattle.combining.specs.Gathering.{with_verdict, settled_verdict, nothing_gathered}
 
--- what stands side by side: rules under their numbers, and sets and policies with what stands below them
+-- siblings: rules with their numbers, and sets and policies with what is below them
 pub data Branches : Type 0 where
   no_branches : Branches
   leaf : ℕ → Effect → List (List (List Match)) → List Atom → Branches → Branches
   fork : Algorithm → List (List (List Match)) → Branches → Branches → Branches
 
--- the same as one list
+-- siblings as one flat list
 abbrev pub flat : (A : Type 0) → Branches → List (Step A)
 flat A no_branches = []
 flat A (leaf number effect target when others) = steps.Rule number effect target when ∷ flat A others
@@ -34,7 +34,7 @@ flat A (fork combine target below others) = steps.Node combine target (length (f
 abbrev pub IsFlat : (A : Type 0) → List (Step A) → Type 0
 IsFlat A list = (row : Branches) × (list ≡ flat A row)
 
--- how many steps stand below a step
+-- how many steps are below a step
 abbrev pub count_below : (A : Type 0) → Step A → ℕ
 count_below A (steps.Rule number effect target when) = 0
 count_below A (steps.Node combine target below) = below
@@ -47,7 +47,7 @@ module _ (q : Question) (met : List (List ℕ)) where
   leaf_verdict number effect target when =
       if target_holds q met target && list_all (atom_holds q met) when then record { decision = effect_decision effect; rule = Some number } else not_applicable
 
-  -- what is gathered of what stands side by side, after something was gathered
+  -- what is gathered of siblings, starting from g
   abbrev pub gathered_from : Algorithm → Gathered → Branches → Gathered
   gathered_from a g no_branches = g
   gathered_from a g (leaf number effect target when others) = gathered_from a (with_verdict a g (leaf_verdict number effect target when)) others
@@ -57,13 +57,13 @@ module _ (q : Question) (met : List (List ℕ)) where
   abbrev pub branches_verdict : Algorithm → Branches → Verdict
   branches_verdict a row = settled_verdict a (gathered_from a nothing_gathered row)
 
-  -- what a step decides, with these below it
+  -- what a step decides, with these branches below it
   abbrev pub step_verdict : (A : Type 0) → Step A → Branches → Verdict
   step_verdict A (steps.Rule number effect target when) below = leaf_verdict number effect target when
   step_verdict A (steps.Node combine target count) below = if target_holds q met target then branches_verdict combine below else not_applicable
 
--- the list decides this question as the tree with this root does. At the top there is one branch at most, so any algorithm
--- would do there.
+-- the list decides this question as the tree with this root does. At the top there is at most one
+-- branch, and any algorithm would give the same.
 pub record Decides (A : Type 0) (list : List (Step A)) (root : NodeData) (q : Question) : Type 0 where
   pub row : Branches
   pub is : list ≡ flat A row

@@ -1,4 +1,4 @@
-//! How a document is compiled to steps.
+//! Compiles a document to a flat list of steps.
 
 ghost use Rattle.std.specs.Prelude.{◌≡◌, ℕ, ◌+◌, ◌<◌, ◌≤◌, List, ◌∷◌, ◌++◌, [], OnOk, IfOk, length, map};
 ghost use Rattle.combining.specs.Deciding.{rule_part};
@@ -15,7 +15,8 @@ use memory::{GrowVec, Refused};
 use policy_documents::{Algorithm, Node, Rule, Target};
 use std::alloc::Allocator;
 
-/// Appends the step of a rule, unless it applies to no question of which this is known. The only error is want of memory.
+/// Appends the step of a rule, unless the rule applies to no question that fits `known`. Fails only
+/// when out of memory.
 fn compile_rule<A: Allocator, B: Allocator + Copy>(
     alloc: B,
     known: &Known,
@@ -40,7 +41,7 @@ fn compile_rule<A: Allocator, B: Allocator + Copy>(
     Ok(())
 }
 
-/// Appends the steps of a policy's rules, the first of which has the number `next`. The only error is want of memory.
+/// Appends the steps of a policy's rules, numbered from `next` on. Fails only when out of memory.
 fn compile_rules<A: Allocator, B: Allocator + Copy>(
     alloc: B,
     known: &Known,
@@ -59,7 +60,8 @@ fn compile_rules<A: Allocator, B: Allocator + Copy>(
     Ok(())
 }
 
-/// Holds a place for a set or a policy, whose steps come behind it. The only error is want of memory.
+/// Appends a placeholder for a set or a policy and returns its index; the steps below the node come
+/// after it. Fails only when out of memory.
 fn open_node<B: Allocator + Copy>(
     alloc: B,
     combine: Algorithm,
@@ -76,7 +78,7 @@ fn open_node<B: Allocator + Copy>(
     Ok(place)
 }
 
-/// Puts a set or a policy into its place, with the steps behind it below it.
+/// Replaces the placeholder at `place` by a set or a policy that has all steps after it below it.
 fn close_node<B: Allocator + Copy>(
     steps: &mut Vec<Step<B>, B>,
     place: usize,
@@ -94,8 +96,9 @@ fn close_node<B: Allocator + Copy>(
     };
 }
 
-/// Appends the steps of a policy, whatever its name, unless its target holds for no question of which this is known. Its
-/// first rule has the number `next`. The only error is want of memory.
+/// Appends the steps of a policy, unless its target holds for no question that fits `known`. The
+/// policy's first rule has the number `next`. The contract holds for any name of the policy. Fails
+/// only when out of memory.
 fn compile_policy<A: Allocator, B: Allocator + Copy>(
     alloc: B,
     known: &Known,
@@ -117,8 +120,8 @@ fn compile_policy<A: Allocator, B: Allocator + Copy>(
     Ok(())
 }
 
-/// Appends the steps of a set or a policy, unless its target holds for no question of which this is known. Its first rule
-/// has the number `next`. The only error is want of memory.
+/// Appends the steps of a set or a policy, unless its target holds for no question that fits
+/// `known`. The first rule below it has the number `next`. Fails only when out of memory.
 #[cycle(compile)]
 pub(crate) fn compile_node<A: Allocator, B: Allocator + Copy>(
     alloc: B,
@@ -146,8 +149,9 @@ pub(crate) fn compile_node<A: Allocator, B: Allocator + Copy>(
     }
 }
 
-/// Appends the steps of a set, whatever its name, unless its target holds for no question of which this is known. The first
-/// rule below it has the number `next`. The only error is want of memory.
+/// Appends the steps of a set, unless its target holds for no question that fits `known`. The first
+/// rule below it has the number `next`. The contract holds for any name of the set. Fails only when
+/// out of memory.
 #[cycle(compile)]
 fn compile_set<A: Allocator, B: Allocator + Copy>(
     alloc: B,
@@ -170,8 +174,8 @@ fn compile_set<A: Allocator, B: Allocator + Copy>(
     Ok(())
 }
 
-/// Appends the steps of a set's children. The first rule below them has the number `next`. The only error is want of
-/// memory.
+/// Appends the steps of a set's children. The first rule below them has the number `next`. Fails
+/// only when out of memory.
 #[cycle(compile)]
 fn compile_nodes<A: Allocator, B: Allocator + Copy>(
     alloc: B,

@@ -15,8 +15,8 @@ use policy_documents::{Document, Node};
 use std::alloc::Global;
 use std::marker::Model;
 
-/// A policy document under its edition and compiled for deciding. It is made once and only read from then on, so many
-/// may share it. A contract sees the document's plain data and the edition.
+/// A policy document with its edition, compiled for deciding. It never changes after it is made, so
+/// it can be shared. A contract sees the document's plain data and the edition.
 #[derive(Debug, Drop)]
 pub struct Decider {
     document: Document<Global>,
@@ -48,7 +48,7 @@ fn heap_of(document: &Document<Global>) -> Global {
     }
 }
 
-/// How a verdict rules: only a Permit lets pass.
+/// The ruling for a verdict: only a Permit lets pass.
 pub(crate) fn ruling(verdict: Verdict) -> Ruling
     ensures { result ≡ ruling_by verdict.decision verdict.rule }
 {
@@ -63,7 +63,7 @@ pub(crate) fn ruling(verdict: Verdict) -> Ruling
 }
 
 impl Decider {
-    /// The decision point of a document under an edition. Where a growth is refused, the document is handed back.
+    /// A decider for a document under an edition. If out of memory, the error holds the document.
     pub fn new(
         document: Document<Global>,
         edition: u64,
@@ -84,15 +84,15 @@ impl Decider {
         }
     }
 
-    /// How the document rules. It takes no memory.
+    /// How the document rules on a question. Allocates nothing.
     pub fn decide(&self, question: &Question) -> Ruling
         ensures { Rules self.now.document question.now result }
     {
         ruling(self.plan.verdict(&self.document, question))
     }
 
-    /// The document folded for what this subject asks to do: what of it the subject and the action tell is decided. The
-    /// only error is want of memory.
+    /// Specializes the decider for one subject and one action: all that these two determine is
+    /// decided in advance. Fails only when out of memory.
     pub fn fold(&self, subject: &Subject, action: &Action) -> Result<Folded<'_>, Refused>
         ensures { IfOk result (λ folded. folded ≡ record { decider = self.now; subject = subject.now; action = action.now }) }
     {
@@ -104,14 +104,14 @@ impl Decider {
         Ok(Folded::new(self, *subject, *action, plan))
     }
 
-    /// The name of the document's rule of this number. Rules are numbered from 1, in document order.
+    /// The name of the document's rule with this number, counted from 1 in document order.
     pub fn rule_name(&self, number: u32) -> Option<Name>
         ensures { result ≡ rule_named number self.now.document.root }
     {
         self.document.rule_name(number)
     }
 
-    /// The document that rules.
+    /// The document that this decider decides by.
     pub fn document(&self) -> &Document<Global>
         ensures { result.now ≡ self.now.document }
     {
@@ -134,7 +134,7 @@ impl PartialEq for Decider {
 
     ghost laws = { partial_equiv_from_equiv (decided same_decider same_decider_decides) };
 
-    /// Whether the two have one document, under one edition.
+    /// Whether the two have equal documents and editions.
     fn eq(&self, other: &Self) -> bool
         ensures tested { result ≡ same_decider self.now other.now }
         ensures exact { IsTrue result ↔ (self.now ≡ other.now) }

@@ -15,9 +15,9 @@ use plane::Shape;
 use std::alloc::Global;
 use std::marker::Model;
 
-/// A decider's document, folded for what one subject asks to do: matches of role, office and action are decided, and
-/// rules, sets and policies that then cannot apply are left out. Rules keep their numbers. A contract sees the decider,
-/// the subject and the action.
+/// A decider folded for one subject and one action: matches of role, office and action are decided
+/// in advance, and rules, sets and policies that cannot apply are left out. Rules keep their
+/// numbers. A contract sees the decider, the subject and the action.
 #[derive(Debug, Drop)]
 pub struct Folded<'a> {
     decider: &'a Decider,
@@ -43,7 +43,7 @@ impl<'a> Model for Folded<'a> {
 }
 
 impl<'a> Folded<'a> {
-    /// A decider with a plan of its document for what this subject asks to do.
+    /// The decider with a plan for questions of this subject and action.
     pub(crate) fn new(
         decider: &'a Decider,
         subject: Subject,
@@ -61,8 +61,8 @@ impl<'a> Folded<'a> {
         }
     }
 
-    /// How the document rules where the subject asks this of a feature of this office and class, at this shape: as
-    /// `Decider::decide` does. It takes no memory.
+    /// How the document rules if the subject asks for the action on a feature of this office and
+    /// class, at this shape. Agrees with `Decider::decide`. Allocates nothing.
     pub fn decide(&self, owner: Name, class: Name, shape: Shape) -> Ruling
         ensures { Rules self.now.decider.document (asked self.now owner class shape) result }
     {

@@ -1,4 +1,4 @@
-//! What is left to ask of a question, where its subject and its action may be known.
+//! Reduces tests by what is known of a question in advance: its subject and action, or nothing.
 
 ghost use Rattle.std.specs.Prelude.{◌≡◌, IfOk};
 ghost use Rattle.combining.specs.Holding.{target_holds};
@@ -9,25 +9,25 @@ use memory::{GrowVec, Refused};
 use policy_documents::{AllOf, AnyOf, Atom, Conditions, Match, Target, Term};
 use std::alloc::Allocator;
 
-/// What is known of a question.
+/// What is known of a question in advance.
 #[derive(Clone, Copy)]
 pub(crate) enum Known {
     Nothing,
     Asked { subject: Subject, action: Action },
 }
 
-/// What is left of a test.
+/// A test, reduced by what is known.
 #[derive(Drop)]
 pub(crate) enum Kept<T> {
-    /// It holds for each question.
+    /// It holds for each question that fits.
     Always,
-    /// It holds for no question.
+    /// It holds for no question that fits.
     Never,
-    /// This has to be asked.
+    /// This test is left to evaluate.
     Asks(T),
 }
 
-/// Whether a match holds, where what is known tells.
+/// Whether a match holds; `None` if that is not known yet.
 fn known_match(known: &Known, test: &Match) -> Option<bool>
     ensures { result ≡ told_match known.now test.now }
 {
@@ -42,8 +42,8 @@ fn known_match(known: &Known, test: &Match) -> Option<bool>
     }
 }
 
-/// Whether a condition holds, where what is known tells. Whether a feature is the subject's own is not known before the
-/// feature is.
+/// Whether a condition holds; `None` if that is not known yet. Whether a feature is the subject's
+/// own is never known in advance.
 fn known_atom(known: &Known, atom: &Atom) -> Option<bool>
     ensures { result ≡ told_atom known.now atom.now }
 {
@@ -57,7 +57,7 @@ fn known_atom(known: &Known, atom: &Atom) -> Option<bool>
     }
 }
 
-/// What is left of matches all of which have to hold. The only error is want of memory.
+/// Reduces matches that all have to hold. Fails only when out of memory.
 fn keep_all_of<A: Allocator, B: Allocator + Copy>(
     alloc: B,
     known: &Known,
@@ -80,7 +80,7 @@ fn keep_all_of<A: Allocator, B: Allocator + Copy>(
     Ok(Kept::Asks(AllOf::from_vec(kept)))
 }
 
-/// What is left of alternatives of which one has to hold. The only error is want of memory.
+/// Reduces alternatives, at least one of which has to hold. Fails only when out of memory.
 fn keep_any_of<A: Allocator, B: Allocator + Copy>(
     alloc: B,
     known: &Known,
@@ -103,7 +103,7 @@ fn keep_any_of<A: Allocator, B: Allocator + Copy>(
     Ok(Kept::Asks(AnyOf::from_vec(kept)))
 }
 
-/// What is left of a target, or None where it holds for no question. The only error is want of memory.
+/// Reduces a target; `None` if it holds for no question that fits. Fails only when out of memory.
 pub(crate) fn keep_target<A: Allocator, B: Allocator + Copy>(
     alloc: B,
     known: &Known,
@@ -123,7 +123,8 @@ pub(crate) fn keep_target<A: Allocator, B: Allocator + Copy>(
     Ok(Some(Target::from_vec(kept)))
 }
 
-/// What is left of conditions, or None where they hold for no question. The only error is want of memory.
+/// Reduces conditions; `None` if they hold for no question that fits. Fails only when out of
+/// memory.
 pub(crate) fn keep_conditions<A: Allocator, B: Allocator + Copy>(
     alloc: B,
     known: &Known,

@@ -1,4 +1,4 @@
-//! A law of the definition by which documents rule. The function does nothing: it is its contract.
+//! A law of the definition of rulings. The function has an empty body: it is its contract.
 
 ghost use Rattle.std.specs.Prelude.{◌≡◌};
 ghost use Rattle.policy_documents.specs.Documents.{DocumentData};
@@ -7,7 +7,7 @@ ghost use Rattle.decision.specs.Rulings.{Rules};
 
 use crate::rulings::Ruling;
 
-/// A document gives one ruling to a question.
+/// A document has one ruling on a question.
 pub fn rulings_are_one()
     ensures { (document : DocumentData) (question : Question) (a b : Ruling) → Rules document question a → Rules document question b → a ≡ b }
 {}

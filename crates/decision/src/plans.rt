@@ -16,8 +16,8 @@ use policy_documents::{Algorithm, Document};
 use std::alloc::Allocator;
 use std::marker::Model;
 
-/// A document compiled for questions of which something may be known: its rules, with their numbers, its sets and its
-/// policies in one flat list, in document order. A contract sees the list.
+/// A document compiled to one flat list, for questions that may be known in part: its numbered
+/// rules, its sets and its policies, in document order. A contract sees the list.
 #[derive(Debug, Drop)]
 pub(crate) struct Plan<A: Allocator> {
     steps: Vec<Step<A>, A>,
@@ -33,7 +33,7 @@ impl<A: Allocator> Model for Plan<A> {
 }
 
 impl<A: Allocator + Copy> Plan<A> {
-    /// The plan of a document. What is known of a question is decided in it. The only error is want of memory.
+    /// Compiles a document for questions that fit `known`. Fails only when out of memory.
     pub fn new<D: Allocator>(
         alloc: A,
         known: &Known,
@@ -48,7 +48,7 @@ impl<A: Allocator + Copy> Plan<A> {
 }
 
 impl<A: Allocator> Plan<A> {
-    /// What the document decides, of which this is the plan. It takes no memory.
+    /// What `document` decides; this has to be its plan. Allocates nothing.
     pub fn verdict<D: Allocator>(&self, document: &Document<D>, question: &Question) -> Verdict
         requires { Decides A self.now document.now.root question.now }
         ensures { Answers document.now question.now result }

@@ -1,4 +1,4 @@
-//! Decisions, and the rules that made them, over a plan's flat list of steps.
+//! Evaluates a plan's flat list of steps to a decision and the rule that made it.
 
 ghost use Rattle.std.specs.Prelude.{◌≡◌};
 ghost use Rattle.decision.specs.Plans.{Branches, flat, IsFlat, branches_verdict, step_verdict};
@@ -16,8 +16,7 @@ const NOT_APPLICABLE: Verdict = Verdict {
     rule: None,
 };
 
-/// What an algorithm makes of these steps, and the first rule that made it. The steps that are left when that is known
-/// are not looked at.
+/// The verdict of an algorithm on these steps. Stops as soon as decision and rule are known.
 #[cycle(run)]
 pub(crate) fn run_steps<A: Allocator>(
     question: &Question,
@@ -42,7 +41,7 @@ pub(crate) fn run_steps<A: Allocator>(
     gathered.settle(combine)
 }
 
-/// What one step decides, and the first rule that made it. These steps stand below it.
+/// The verdict of `step`; `below` are the steps below it.
 #[cycle(run)]
 fn run_step<A: Allocator>(
     question: &Question,

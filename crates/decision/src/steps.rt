@@ -6,17 +6,17 @@ ghost use Rattle.decision.specs.Plans.{count_below};
 use policy_documents::{Algorithm, Conditions, Effect, Target};
 use std::alloc::Allocator;
 
-/// A rule, or a set or a policy in front of what stands below it.
+/// One step of a plan. A set or a policy comes before the steps below it.
 #[derive(Debug, Drop)]
 pub(crate) enum Step<A: Allocator> {
-    /// A rule, under its number in document order, counted from 1.
+    /// A rule with its number in document order, counted from 1.
     Rule {
         number: u32,
         effect: Effect,
         target: Target<A>,
         when: Conditions<A>,
     },
-    /// A set or a policy. So many of the steps behind it stand below it.
+    /// A set or a policy. The next `below` steps are below it.
     Node {
         combine: Algorithm,
         target: Target<A>,
@@ -25,7 +25,7 @@ pub(crate) enum Step<A: Allocator> {
 }
 
 impl<A: Allocator> Step<A> {
-    /// How many of the steps behind this one stand below it.
+    /// How many of the steps after this one are below it.
     pub fn count_below(&self) -> usize
         ensures { result ≡ count_below _ self.now }
     {

@@ -1,4 +1,4 @@
--- Lists of changes, one change at a time.
+-- Lists of changes, change by change.
 use Rattle.std.proofs.Common.{◌≡◌, ◌≢◌, ℕ, ◌+◌, ◌<◌, ◌≤◌, Result, Ok, Err, List, [], ◌∷◌, length, ◌∙◌, ap, arith}
 use Rattle.features.specs.declared.rows.Feature.{Feature}
 use Rattle.features.specs.declared.rows.Change.{Change}
@@ -13,7 +13,7 @@ use Rattle.features.specs.declared.stores.StoreFault.TheVariants.{Full, Memory}
 use Rattle.std.specs.Result.{IsErrAnd}
 use Rattle.features.proofs.RowLemmas.{feature_with-with_row, feature_with-with_shape, feature_with-without, length-with_row, length-with_shape, length-without}
 
--- a change of one feature leaves what is found under another id
+-- a change of one feature leaves every other feature unchanged
 pub found_still : (version : ℕ) (office : List ℕ) (first : Change) (id : ℕ) (rows : List Feature) → id ≢ change_id first → feature_with id (after_change version office first rows) ≡ feature_with id rows
 found_still version office (Add other class shape) id rows differ = feature_with-with_row id _ rows (λ same. differ (omega arith))
 found_still version office (Reshape other known shape) id rows differ = feature_with-with_shape other version shape id rows (λ same. differ (omega arith))
@@ -30,7 +30,7 @@ can_apply_rest version office first [] rows unnamed can = tt
 can_apply_rest version office first (change ∷ changes) rows unnamed can =
     (can_change_still version office first change rows unnamed.0 can.0, can.1, can_apply_rest version office first changes rows unnamed.1 can.2)
 
--- each added feature counts, and each deleted one counts no more
+-- each addition adds one to the count, and each deletion removes one
 pub length_after : (version : ℕ) (office : List ℕ) (changes : List Change) (rows : List Feature) → CanApply changes rows → length (after version office changes rows) + deletions changes ≡ length rows + additions changes
 length_after version office [] rows can = omega arith
 length_after version office (change ∷ changes) rows can = go change (length_after version office changes (after_change version office change rows) (can_apply_rest version office change changes rows can.1 can.2)) can.0
@@ -41,7 +41,7 @@ length_after version office (change ∷ changes) rows can = go change (length_af
     go (Reshape id known shape) rest can = omega (arith, rest, length-with_shape id version shape rows)
     go (Delete id known) rest can = omega (arith, rest, length-without id rows can)
 
--- no more are deleted than there are
+-- no more features are deleted than there are
 pub deletions_within : (version : ℕ) (office : List ℕ) (changes : List Change) (rows : List Feature) → CanApply changes rows → deletions changes ≤ length rows
 deletions_within version office [] rows can = omega arith
 deletions_within version office (Add id class shape ∷ changes) rows can = deletions_within version office changes rows can.2
@@ -61,7 +61,7 @@ deletions_few (Add id class shape ∷ changes) = omega (arith, deletions_few cha
 deletions_few (Reshape id known shape ∷ changes) = omega (arith, deletions_few changes)
 deletions_few (Delete id known ∷ changes) = omega (arith, deletions_few changes)
 
--- the additions of the first change count beside those of the others
+-- the additions of a list are those of its first change and those of the others
 pub additions_first : (change : Change) (changes : List Change) → additions (change ∷ changes) ≡ additions changes + additions (change ∷ [])
 additions_first (Add id class shape) changes = omega arith
 additions_first (Reshape id known shape) changes = omega arith
@@ -75,7 +75,7 @@ room_for_less n m table le room = record {
   numbers = omega (arith, le, room.numbers);
 }
 
--- what the counts of a list tell of how many features stand after it
+-- what the counts say about the number of features after a list
 module _ (limit version : ℕ) (office : List ℕ) (changes : List Change) (rows : List Feature) (len added deleted : ℕ) (can : CanApply changes rows)
     (len_is : len ≡ length rows) (added_is : added ≡ additions changes) (deleted_is : deleted ≡ deletions changes) where
   pub more_stand : limit + deleted < len + added → limit < length (after version office changes rows)

@@ -1,4 +1,4 @@
--- A name in its padded row.
+-- A name in its padded array.
 use Rattle.std.proofs.Common.{◌≡◌, ℕ, ◌≤◌, ◌-◌, List, ◌++◌, length, take, arith, refl, sym, subst, length-append, IsTrue}
 use Rattle.std.proofs.lemmas.List.{take_at, drop_at, length-replicate}
 use Rattle.std.proofs.lemmas.Bool.Decides.{nat_tests}

@@ -1,4 +1,4 @@
--- What a search finds in a rising list of ids.
+-- Binary search in a rising list of ids.
 use Rattle.std.proofs.Common.{◌≡◌, ◌≢◌, ℕ, zero, suc, ◌<◌, ◌≤◌, List, [], ◌∷◌, length, get_or, Result, Ok, Err, inl, inr, sym, arith}
 use Rattle.std.specs.List.Sorted.{IsSearchInRange, IsBinarySearchResult, IsNonDecreasingBy}
 use Rattle.std.specs.Ordering.{nat_cmp, ordering_index}
@@ -7,7 +7,7 @@ use Rattle.std.proofs.lemmas.Bool.{cases_lt}
 use Rattle.std.proofs.lemmas.Bool.Decides.{nat_tests}
 use Rattle.features.specs.Places.{IsLess, AreRising, IsAt, IsGapFor, IsPlaceOf}
 
--- an id that is less than all is less than each
+-- an id that is less than a list is less than each of its ids
 pub less_at : (id : ℕ) (ids : List ℕ) (j d : ℕ) → IsLess id ids → j < length ids → id < get_or ids j d
 less_at id [] j d less lt = absurd (omega arith)
 less_at id (other ∷ ids) zero d less lt = less.0
@@ -19,7 +19,7 @@ strictly_rising_at (id ∷ ids) i zero d rising less lt = absurd (omega arith)
 strictly_rising_at (id ∷ ids) zero (suc j) d rising less lt = less_at id ids j d rising.0 (omega arith)
 strictly_rising_at (id ∷ ids) (suc i) (suc j) d rising less lt = strictly_rising_at ids i j d rising.1 (omega arith) (omega arith)
 
--- no id stands at two places
+-- no id is at two indices
 pub differ_at : (ids : List ℕ) (i j d : ℕ) → AreRising ids → i < length ids → j < length ids → i ≢ j → get_or ids i d ≢ get_or ids j d
 differ_at ids i j d rising i_in j_in apart same = elim (cases_lt i j) [
   | inl lt ↦ (let up = strictly_rising_at ids i j d rising lt j_in in omega (arith, up, same))
@@ -33,7 +33,7 @@ rising_at (id ∷ ids) zero (suc j) d rising le lt = omega (arith, less_at id id
 rising_at (id ∷ ids) (suc i) zero d rising le lt = absurd (omega arith)
 rising_at (id ∷ ids) (suc i) (suc j) d rising le lt = rising_at ids i j d rising.1 (omega arith) (omega arith)
 
--- a binary search ends at the place of the id
+-- a binary search ends at the index of the id, or at its gap
 pub searched : (id : ℕ) (ids : List ℕ) → AreRising ids → (r : Result ℕ ℕ) → IsSearchInRange r (length ids) → IsBinarySearchResult (λ x. nat_cmp x id) ids r → IsPlaceOf id ids r
 searched id ids rising (Ok at) in_range equal = record { in_range = in_range; has_id = λ d. ranked _ id _ (sym (equal d)) }
 searched id ids rising (Err at) in_range parted =

@@ -1,4 +1,4 @@
--- What the changes of one feature make of a list sorted by id.
+-- The effect of one change on a list sorted by id.
 use Rattle.std.proofs.Common.{◌≡◌, ◌≢◌, ℕ, zero, suc, ◌+◌, ◌<◌, eqb, ltb, List, [], ◌∷◌, length, set, get_or, Option, Some, None, if◌then◌else◌, Bool, true, false, refl, ap, arith}
 use Rattle.std.specs.Option.{IsSome}
 use Rattle.std.specs.List.{insert, remove}
@@ -20,7 +20,7 @@ pub ids_rising : (rows : List Feature) → IsSortedById rows → AreRising (ids_
 ids_rising [] sorted = tt
 ids_rising (row ∷ rows) sorted = (less_than_ids row.id rows sorted.0, ids_rising rows sorted.1)
 
--- an id that stands behind is not the first one's
+-- an id that comes later is not the first one's
 first_differs : (id : ℕ) (row : Feature) (rows : List Feature) (i : ℕ) → IsSortedById (row ∷ rows) → IsAt id (ids_of rows) i → row.id < id
 first_differs id row rows i sorted at = omega (arith, less_at row.id (ids_of rows) i 0 (less_than_ids row.id rows sorted.0) at.in_range, at.has_id 0)
 
@@ -41,14 +41,14 @@ pub not_both : (o : Option Feature) → o ≡ None → IsSome o → ⊥
 not_both None none some = false≢true some
 not_both (Some row) none some = absurd cc
 
--- an insertion at its gap puts a feature in at its place
+-- inserting at the gap adds a feature in order
 pub insert_at_gap : (new : Feature) (rows : List Feature) (i : ℕ) → IsGapFor new.id (ids_of rows) i → insert rows i new ≡ with_row new rows
 insert_at_gap new [] zero gap = refl
 insert_at_gap new [] (suc i) gap = absurd (omega (arith, gap.in_range))
 insert_at_gap new (row ∷ rows) zero gap = grind (arith, nat_tests, gap.greater_after zero 0 (omega arith) (omega arith))
 insert_at_gap new (row ∷ rows) (suc i) gap = grind (arith, nat_tests, gap.smaller_before zero 0 (omega arith), insert_at_gap new rows i (gap_tail new.id row.id (ids_of rows) i gap))
 
--- a removal at its place takes a feature out
+-- removing at its index removes a feature
 pub remove_at : (id : ℕ) (rows : List Feature) (i : ℕ) → IsSortedById rows → IsAt id (ids_of rows) i → remove rows i ≡ without id rows
 remove_at id [] i sorted at = absurd (omega (arith, at.in_range))
 remove_at id (row ∷ rows) zero sorted at = grind (arith, nat_tests, at.has_id 0)
@@ -59,7 +59,7 @@ remove_at id (row ∷ rows) (suc i) sorted at =
 abbrev pub reshaped : ℕ → List Point → Feature → Feature
 reshaped version shape row = record row { version = version; shape = shape }
 
--- a write at its place reshapes a feature
+-- writing at its index reshapes a feature
 pub set_at : (id version : ℕ) (shape : List Point) (rows : List Feature) (i : ℕ) (d : Feature) → IsSortedById rows → IsAt id (ids_of rows) i → set rows i (reshaped version shape (get_or rows i d)) ≡ with_shape id version shape rows
 set_at id version shape [] i d sorted at = absurd (omega (arith, at.in_range))
 set_at id version shape (row ∷ rows) zero d sorted at = grind (arith, nat_tests, at.has_id 0)
@@ -79,7 +79,7 @@ below_trans : (a b : ℕ) (rows : List Feature) → a < b → IsBelowAll b rows 
 below_trans a b [] lt below = tt
 below_trans a b (row ∷ rows) lt below = (omega (arith, below.0), below_trans a b rows lt below.1)
 
--- a feature that was not there leaves the list sorted
+-- adding a feature that was absent keeps the list sorted
 pub sorted_with_row : (new : Feature) (rows : List Feature) → IsSortedById rows → feature_with new.id rows ≡ None → IsSortedById (with_row new rows)
 sorted_with_row new [] sorted absent = (tt, tt)
 sorted_with_row new (row ∷ rows) sorted absent = go (ltb new.id row.id) (eqb row.id new.id) refl refl absent (sorted_with_row new rows sorted.1)
@@ -94,7 +94,7 @@ sorted_with_row new (row ∷ rows) sorted absent = go (ltb new.id row.id) (eqb r
         let lt : row.id < new.id = grind (arith, nat_tests) in
         (below_with_row row.id new rows lt sorted.0, rest absent)
 
--- the other features stay
+-- the other features are unchanged
 pub feature_with-with_row : (id : ℕ) (new : Feature) (rows : List Feature) → new.id ≢ id → feature_with id (with_row new rows) ≡ feature_with id rows
 feature_with-with_row id new [] other = grind (arith, nat_tests, other)
 feature_with-with_row id new (row ∷ rows) other = go (ltb new.id row.id) (feature_with-with_row id new rows other)

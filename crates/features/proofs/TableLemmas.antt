@@ -1,4 +1,4 @@
--- Features in their places, and what a table's changes make of them.
+-- Features at their places, and the effect of changes to a table.
 use Rattle.std.proofs.Common.{◌≡◌, ◌≢◌, ℕ, zero, suc, ◌+◌, ◌-◌, ◌^◌, ◌<◌, ◌≤◌, eqb, ◌&&◌, List, [], ◌∷◌, ◌++◌, length, map, set, take, drop, get_or, None, Bool, true, false, refl, inl, inr, sym, ap, subst, ◌∙◌, arith, length-append, Some}
 use Rattle.std.specs.List.{All, insert, remove}
 use Rattle.std.proofs.lemmas.List.{get_or-map, get_or-set_same, get_or-set_other, length-set, length-map, ext_get_or}
@@ -36,7 +36,7 @@ map_alike : {X Y : Type 0} (f g : X → Y) (xs : List X) → All (λ x. f x ≡ 
 map_alike f g [] same = refl
 map_alike f g (x ∷ xs) same = λ i. same zero x (omega arith) i ∷ map_alike f g xs (λ k d lt. same (suc k) d (omega (arith, lt))) i
 
--- within a list the default plays no part
+-- within a list the default does not matter
 pub get_or_default : {X : Type 0} (xs : List X) (i : ℕ) (d e : X) → i < length xs → get_or xs i d ≡ get_or xs i e
 get_or_default [] i d e lt = absurd (omega (arith, lt))
 get_or_default (x ∷ xs) zero d e lt = refl
@@ -45,7 +45,7 @@ get_or_default (x ∷ xs) (suc i) d e lt = get_or_default xs i d e (omega (arith
 pub row_is : (places : List ℕ) (features : List Feature) (i : ℕ) → i < length places → get_or (rows_at places features) i blank ≡ feature_at features (get_or places i 0)
 row_is places features i lt = get_or-map (feature_at features) places i 0 blank lt
 
--- what a table's lists tell of each place
+-- what a table's lists say of each place
 module _ (ids places : List ℕ) (features : List Feature) (tied : AreTied ids places features) where
   abbrev rows : List Feature
   rows = rows_at places features
@@ -65,20 +65,20 @@ module _ (ids places : List ℕ) (features : List Feature) (tied : AreTied ids p
       ∙ get_or-map (λ row. row.id) rows i blank 0 (omega (arith, lt, length_rows))
       ∙ ap (λ row. row.id) (row_is places features i lt)
 
-  -- no two entries name one place
+  -- no two entries have the same place
   pub places_differ : (i j : ℕ) → i < length places → j < length places → i ≢ j → get_or places i 0 ≢ get_or places j 0
   places_differ i j i_in j_in apart same =
       differ_at ids i j 0 rising (omega (arith, i_in, length_ids)) (omega (arith, j_in, length_ids)) apart
       (id_is i i_in ∙ ap (λ place. (feature_at features place).id) same ∙ sym (id_is j j_in))
 
-  -- where an id stands among those of the rows
+  -- the index of an id among the rows
   pub at_row : (id at : ℕ) → IsAt id ids at → IsAt id (ids_of rows) at
   at_row id at is = subst (λ xs. IsAt id xs at) tied.ids_told is
 
   pub gap_row : (id at : ℕ) → IsGapFor id ids at → IsGapFor id (ids_of rows) at
   gap_row id at is = subst (λ xs. IsGapFor id xs at) tied.ids_told is
 
-  -- a feature at the end of the list, and its place put in
+  -- a feature is appended, and an entry with its place inserted
   module _ (row : Feature) (at : ℕ) (gap : IsGapFor row.id ids at) where
     abbrev pushed : List Feature
     pushed = features ++ row ∷ []
@@ -122,7 +122,7 @@ module _ (ids places : List ℕ) (features : List Feature) (tied : AreTied ids p
       numbered = omega (arith, length_pushed, few);
     }
 
-  -- another shape, written at the place of an entry
+  -- another shape is written at the place of an entry
   module _ (id version : ℕ) (shape : List Point) (at : ℕ) (is : IsAt id ids at) where
     abbrev place : ℕ
     place = get_or places at 0
@@ -161,7 +161,7 @@ module _ (ids places : List ℕ) (features : List Feature) (tied : AreTied ids p
       numbered = omega (arith, tied.numbered, length_written);
     }
 
-  -- the last feature in the place of one whose entry goes, and another number for the last one's place
+  -- the last feature moves to the place of a removed entry, and its own entry is renumbered
   module _ (id at : ℕ) (is : IsAt id ids at) (less_features : List Feature) (less_places : List ℕ)
       (last : ℕ) (last_is : last + 1 ≡ length features) (less_is : length less_features ≡ last)
       (moves : get_or places at 0 < last → feature_at less_features (get_or places at 0) ≡ feature_at features last)
@@ -178,7 +178,7 @@ module _ (ids places : List ℕ) (features : List Feature) (tied : AreTied ids p
     length_removed : length (remove places at) + 1 ≡ length places
     length_removed = length-remove places at at_in_places
 
-    -- an entry that stays names another place, and one that is there
+    -- an entry that stays has another place, one that exists
     other_place : (k : ℕ) → k < length less_places → (get_or (remove places at) k 0 ≢ get_or places at 0) × (get_or (remove places at) k 0 < length features)
     other_place k lt = elim (cases_lt k at) [
       | inl below ↦ rw (get_or-remove_below places at 0 k below at_in_places)
@@ -216,7 +216,7 @@ module _ (ids places : List ℕ) (features : List Feature) (tied : AreTied ids p
       numbered = omega (arith, tied.numbered, less_is, last_is);
     }
 
-  -- what is read by way of an entry
+  -- what is read through an entry
   module _ (id at place : ℕ) (is : IsAt id ids at) (read : place ≡ get_or places at place) where
     within_places : at < length places
     within_places = omega (arith, is.in_range, length_ids)
@@ -234,7 +234,8 @@ module _ (ids places : List ℕ) (features : List Feature) (tied : AreTied ids p
     row_found row got =
         ap Some (feature_is row got ∙ sym (row_is places features at within_places)) ∙ sym (found_at id rows at blank tied.sorted (at_row id at is))
 
-  -- the same, in the terms of the code: what stands at `at` is taken out, and the last feature moves to its place
+  -- the same in the terms of the code: the feature at `at` is removed, and the last feature moves
+  -- to its place
   module _ (id at place : ℕ) (is : IsAt id ids at) (read : place ≡ get_or places at place) (swapped : List Feature) (n last : ℕ) (n_is : n ≡ length features)
       (last_is : last ≡ length swapped) (shorter : length swapped + 1 ≡ length features)
       (by_index : ((d : Feature) → place + 1 < n → get_or swapped place d ≡ get_or features (n - 1) d) × ((k : ℕ) (d : Feature) → k ≢ place → k + 1 < n → get_or swapped k d ≡ get_or features k d)) where
@@ -268,7 +269,7 @@ module _ (ids places : List ℕ) (features : List Feature) (tied : AreTied ids p
       | inr above ↦ rw (get_or-remove_above places at 0 k above at_there) (places_differ (k + 1) at (omega (arith, lt, length_less)) at_there (λ same. (let e : k + 1 ≡ at = same in omega (arith, e, above))))
     ]
 
-    -- the last feature itself is taken out
+    -- the removed feature is the last one itself
     module _ (no_more : last ≤ place) where
       kept_places : (k : ℕ) → k < length (remove places at)
           → (get_or (remove places at) k 0 ≡ last → get_or (remove places at) k 0 ≡ get_or places at 0) × (get_or (remove places at) k 0 ≢ last → get_or (remove places at) k 0 ≡ get_or (remove places at) k 0)
@@ -280,7 +281,7 @@ module _ (ids places : List ℕ) (features : List Feature) (tied : AreTied ids p
       pub tied_without_last : AreTied (remove ids at) (remove places at) swapped
       tied_without_last = tied_out id at is swapped (remove places at) last (omega (arith, last_is, shorter)) (sym last_is) moves_there stay_there refl kept_places
 
-    -- another one is
+    -- another one is removed
     module _ (more : place < last) (moved : Feature) (got : moved ≡ get_or swapped place moved) (new : List ℕ) (told : IsRenumbered (remove ids at) moved.id last place (remove places at) new) where
       moved_is : moved ≡ feature_at features last
       moved_is = got ∙ get_or_default swapped place moved blank (omega (arith, more, last_is)) ∙ rw (← end_is) (by_index.0 blank (omega (arith, more, n_is, last_is, shorter)))
@@ -303,7 +304,7 @@ module _ (ids places : List ℕ) (features : List Feature) (tied : AreTied ids p
   pub rising_less : (id at : ℕ) → IsAt id ids at → AreRising (remove ids at)
   rising_less id at is = subst AreRising (sym (ap (λ xs. remove xs at) tied.ids_told ∙ sym (map-remove (λ row. row.id) rows at) ∙ ap ids_of (remove_at id rows at tied.sorted (at_row id at is)))) (ids_rising (without id rows) (sorted_without id rows tied.sorted))
 
--- the places where an id has its place given another number, or is left
+-- the places, where that of an id is changed from `from` to `to`, or is unchanged
 module _ (ids places : List ℕ) (id at from to : ℕ) (rising_ids : AreRising ids) (same_length : length ids ≡ length places) (is : IsAt id ids at) where
   other_id : (k d : ℕ) → k < length places → k ≢ at → get_or ids k d ≢ id
   other_id k d lt apart same = differ_at ids k at d rising_ids (omega (arith, lt, same_length)) is.in_range apart (same ∙ sym (is.has_id d))

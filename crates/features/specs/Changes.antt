@@ -1,18 +1,19 @@
--- Lists of changes, and what they make of the features.
+-- Lists of changes, and the features after them.
 use Rattle.std.specs.Prelude.{◌≡◌, ◌≢◌, ℕ, ◌+◌, List, [], ◌∷◌, None, IsSome}
 use Rattle.features.specs.declared.rows.Feature.{Feature}
 use Rattle.features.specs.declared.rows.Change.{Change}
 use Rattle.features.specs.declared.rows.Change.TheVariants.{Add, Reshape, Delete}
 use Rattle.features.specs.Rows.{feature_with, with_row, with_shape, without}
 
--- the feature that a change names
+-- the id of the feature that is changed
 abbrev pub change_id : Change → ℕ
 change_id (Add id class shape) = id
 change_id (Reshape id known shape) = id
 change_id (Delete id known) = id
 
--- The features after one change under a version: an added feature is put in and belongs to the office that adds it, a reshaped one has the new shape,
--- a deleted one is taken out. The version in which a change knows its feature plays no part here: who judges the list compares it.
+-- The features after one change under a version: an added feature belongs to the office that adds
+-- it, a reshaped one has the new shape, a deleted one is removed. The version that the editor has
+-- seen does not matter here; it is compared when the list is judged.
 abbrev pub after_change : ℕ → List ℕ → Change → List Feature → List Feature
 after_change version office (Add id class shape) rows =
     with_row (record { id = id; version = version; office = office; class = class; shape = shape }) rows
@@ -24,18 +25,18 @@ abbrev pub after : ℕ → List ℕ → List Change → List Feature → List Fe
 after version office [] rows = rows
 after version office (change ∷ changes) rows = after version office changes (after_change version office change rows)
 
--- no change of the list names this feature
+-- no change of the list has this id
 abbrev pub IsUnnamed : ℕ → List Change → Type 0
 IsUnnamed id [] = Unit {0}
 IsUnnamed id (change ∷ changes) = (change_id change ≢ id) × IsUnnamed id changes
 
--- a change can be made: an added feature is not there yet, each other one is
+-- a change can be made: a feature to add is not there yet, any other is there
 abbrev pub CanChange : Change → List Feature → Type 0
 CanChange (Add id class shape) rows = feature_with id rows ≡ None
 CanChange (Reshape id known shape) rows = IsSome (feature_with id rows)
 CanChange (Delete id known) rows = IsSome (feature_with id rows)
 
--- each change can be made in these features, and no two name one feature
+-- each change can be made in these features, and no two have the same id
 abbrev pub CanApply : List Change → List Feature → Type 0
 CanApply [] rows = Unit {0}
 CanApply (change ∷ changes) rows = CanChange change rows × IsUnnamed (change_id change) changes × CanApply changes rows

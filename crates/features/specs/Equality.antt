@@ -1,4 +1,5 @@
--- When two names, subjects, features, changes, lists of changes are one: the tests, and that each of them decides `≡`.
+-- When two names, subjects, features, changes or lists of changes are equal: Boolean tests, and
+-- that each of them decides `≡`.
 use Rattle.std.specs.Prelude.{◌≡◌, ℕ, Bool, true, false, ◌&&◌, List, nat_eq}
 use Rattle.std.specs.Bool.{Decides}
 use Rattle.std.specs.Cmp.{first_so, second_so, unsigned_Decides}

@@ -12,15 +12,15 @@ is_name_byte b = (nat_le 97 b && nat_le b 122) || (nat_le 48 b && nat_le b 57) |
 abbrev pub is_name : List ℕ → Bool
 is_name bytes = nat_le 1 (length bytes) && nat_le (length bytes) NAME_LIMIT && list_all is_name_byte bytes
 
--- the name that a text is
+-- the name with this text, if it is a valid one
 abbrev pub name_of : List ℕ → Option (List ℕ)
 name_of text = if is_name text then Some text else None
 
--- what stands in the places that a name of this length leaves free
+-- the bytes that a name of this length leaves unused
 abbrev pub padding : ℕ → List ℕ
 padding len = replicate (NAME_LIMIT - len) 0
 
--- a row of `NAME_LIMIT` bytes that begins with a name of this length, and is padded behind it
+-- an array of `NAME_LIMIT` bytes that starts with a name of this length and is padded after it
 pub record HoldsName (bytes : List ℕ) (len : ℕ) : Type 0 where
   pub name : IsTrue (is_name (take len bytes))
   pub whole : length bytes ≡ NAME_LIMIT

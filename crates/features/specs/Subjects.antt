@@ -6,17 +6,17 @@ use Rattle.features.specs.declared.actors.Subject.{Subject}
 use Rattle.features.specs.declared.actors.SubjectsFault.{SubjectsFault}
 use Rattle.features.specs.declared.actors.SubjectsFault.TheVariants.{NoneGiven, TooMany, NameTwice}
 
--- the first subject of a name
+-- the first subject with this name
 abbrev pub subject_named : List ℕ → List Subject → Option Subject
 subject_named name [] = None
 subject_named name (s ∷ ss) = if pointwise nat_eq s.name name then Some s else subject_named name ss
 
--- whether no two subjects have one name
+-- no two subjects have the same name
 abbrev pub have_distinct_names : List Subject → Bool
 have_distinct_names [] = true
 have_distinct_names (s ∷ ss) = is_none (subject_named s.name ss) && have_distinct_names ss
 
--- a list of subjects as it is taken over, or why it is not
+-- a list of subjects, if it is valid, or why it is not
 abbrev pub subjects_of : List Subject → Result (List Subject) SubjectsFault
 subjects_of [] = Err NoneGiven
 subjects_of (s ∷ ss) =
@@ -24,7 +24,7 @@ subjects_of (s ∷ ss) =
     else if have_distinct_names (s ∷ ss) then Ok (s ∷ ss)
     else Err NameTwice
 
--- a row of `SUBJECT_LIMIT` subjects that begins with this many of distinct names
+-- an array of `SUBJECT_LIMIT` subjects that starts with this many, at least one, of distinct names
 pub record HoldsSubjects (places : List Subject) (count : ℕ) : Type 0 where
   pub whole : length places ≡ SUBJECT_LIMIT
   pub within : count ≤ SUBJECT_LIMIT

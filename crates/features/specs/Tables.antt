@@ -1,10 +1,11 @@
--- How a store keeps its features: each in a place, and apart from them their ids in order, with the place of each.
+-- How a store keeps its features: each at a place, and apart from them their ids, sorted, with the
+-- place of each.
 use Rattle.std.specs.Prelude.{◌≡◌, ℕ, ◌+◌, ◌<◌, ◌≤◌, ◌^◌, ◌==◌, ◌&&◌, List, [], length, map, All, slice_index_or, vec_len, vec_capacity, if◌then◌else◌}
 use Rattle.features.specs.declared.rows.Feature.{Feature}
 use Rattle.features.specs.declared.tables.Table.{Table}
 use Rattle.features.specs.Rows.{IsSortedById}
 
--- what is read at a place that is not there
+-- what is read at a place that does not exist
 abbrev pub blank : Feature
 blank = record { id = 0; version = 0; office = []; class = []; shape = [] }
 
@@ -18,7 +19,8 @@ ids_of rows = map (λ row. row.id) rows
 abbrev pub rows_at : List ℕ → List Feature → List Feature
 rows_at places features = map (feature_at features) places
 
--- the ids are those of the features at the places, and rise; each place is there, and there are as many as features
+-- the ids are those of the features at the places, and rise; each place exists, and there are as
+-- many as features
 pub record AreTied (ids places : List ℕ) (features : List Feature) : Type 0 where
   pub ids_told : ids ≡ ids_of (rows_at places features)
   pub sorted : IsSortedById (rows_at places features)
@@ -34,14 +36,14 @@ module _ {A : Type 0} where
   abbrev pub IsSound : Table A → Type 0
   IsSound table = AreTied table.ids.items table.places.items table.features.items
 
-  -- n more features can be put in without growth, and their places be numbered in 32 bits
+  -- n more features fit without growth, and their places fit into 32 bits
   pub record HasRoom (n : ℕ) (table : Table A) : Type 0 where
     pub ids_room : vec_len table.ids + n ≤ vec_capacity table.ids
     pub places_room : vec_len table.places + n ≤ vec_capacity table.places
     pub features_room : vec_len table.features + n ≤ vec_capacity table.features
     pub numbers : vec_len table.features + n ≤ 2 ^ 32
 
--- the places with another number for that of this id, where it is `from`
+-- the places, with `to` in place of `from` for this id
 pub record IsRenumbered (ids : List ℕ) (id from to : ℕ) (old new : List ℕ) : Type 0 where
   pub len : length new ≡ length old
   pub by_index : (k d : ℕ) → k < length old → slice_index_or new k d ≡ (if (slice_index_or ids k d == id) && (slice_index_or old k d == from) then to else slice_index_or old k d)

@@ -1,3 +1,5 @@
+//! Subjects, lists of them, and the actions that they ask for.
+
 ghost use Rattle.std.specs.Prelude.{◌≡◌, ◌≤◌, ◌↔◌, length, IsTrue};
 ghost use Rattle.features.specs.Subjects.{subject_named, have_distinct_names, subjects_of};
 
@@ -5,7 +7,7 @@ use crate::names::Name;
 use std::fmt;
 use std::marker::Model;
 
-/// How many subjects there are at most.
+/// The most subjects of a list.
 pub const SUBJECT_LIMIT: usize = 64;
 
 /// What a subject asks to do with a feature.
@@ -34,7 +36,7 @@ impl PartialEq for Subject {
 
     ghost laws = { partial_equiv_from_equiv (decided same_subject same_subject_decides) };
 
-    /// Whether the two are one, field by field.
+    /// Whether the two are equal, field by field.
     fn eq(&self, other: &Subject) -> bool
         ensures tested { result ≡ same_subject self.now other.now }
         ensures exact { IsTrue result ↔ (self.now ≡ other.now) }
@@ -53,7 +55,7 @@ impl Eq for Subject {
     ghost laws = { decided same_subject same_subject_decides };
 }
 
-/// Why a list of subjects is turned away.
+/// Why a list of subjects is rejected.
 #[derive(Clone, Copy, Debug, PartialEq, Eq)]
 pub enum SubjectsFault {
     NoneGiven,
@@ -64,7 +66,7 @@ pub enum SubjectsFault {
 impl SubjectsFault {
     ghost use Rattle.features.specs.FaultCodes.{subjects_code};
 
-    /// The code by which users know the fault.
+    /// The fault's code, as users see it.
     pub fn code(self) -> &'static str
         ensures { result.now ≡ subjects_code self }
     {
@@ -87,7 +89,7 @@ impl fmt::Display for SubjectsFault {
     }
 }
 
-/// The subjects that a server knows: 1 to 64, each under a name of its own. A contract sees their list.
+/// The subjects that a server knows: 1 to 64, with distinct names. A contract sees the list.
 #[derive(Debug, Drop)]
 pub struct Subjects {
     places: [Subject; SUBJECT_LIMIT],
@@ -107,8 +109,8 @@ impl Model for Subjects {
 }
 
 impl Subjects {
-    /// Takes a list of subjects over. Faults in this order: `NoneGiven` for an empty list, `TooMany` for more
-    /// than 64, `NameTwice` where two have one name.
+    /// Copies a list of subjects. Faults in this order: `NoneGiven` for an empty list, `TooMany`
+    /// for more than 64, `NameTwice` if two have the same name.
     pub fn new(subjects: &[Subject]) -> Result<Subjects, SubjectsFault>
         ensures { result ≡ subjects_of subjects.now }
     {
@@ -129,7 +131,7 @@ impl Subjects {
         })
     }
 
-    /// The subject of this name.
+    /// The subject with this name.
     pub fn get(&self, name: Name) -> Option<Subject>
         ensures { result ≡ subject_named name self.now }
     {
@@ -147,7 +149,7 @@ impl Subjects {
     }
 }
 
-/// The first subject of this name.
+/// The first subject with this name.
 fn find_named(subjects: &[Subject], name: &Name) -> Option<Subject>
     ensures { result ≡ subject_named name.now subjects.now }
 {
@@ -159,7 +161,7 @@ fn find_named(subjects: &[Subject], name: &Name) -> Option<Subject>
     None
 }
 
-/// Whether no two of these subjects have one name.
+/// Whether no two of these subjects have the same name.
 fn have_distinct_names(subjects: &[Subject]) -> bool
     ensures { result ≡ have_distinct_names subjects.now }
 {

@@ -1,10 +1,12 @@
+//! Meters of the features that are read.
+
 ghost use Rattle.std.specs.Prelude.{◌≡◌};
 ghost use Rattle.features.specs.Ticks.{ticked_by};
 
 use std::marker::Model;
 
-/// Counts the features that are read from a store, one tick each. It stays at the greatest `u64`. A contract
-/// sees it as the number of its ticks.
+/// Counts the features that are read from a store, one tick each, up to `u64::MAX`. A contract sees
+/// the number of ticks.
 #[derive(Clone, Copy, Debug, PartialEq, Eq)]
 pub struct Meter {
     ticks: u64,
@@ -21,7 +23,7 @@ impl Model for Meter {
 }
 
 impl Meter {
-    /// A meter that has counted nothing.
+    /// A meter at 0.
     pub fn new() -> Meter
         ensures { result ≡ 0 }
     {
@@ -35,7 +37,7 @@ impl Meter {
         self.ticks
     }
 
-    /// Counts this many ticks more.
+    /// Counts this many more ticks.
     pub fn tick(&mut self, count: u64)
         ensures { self.new ≡ ticked_by count self.old }
     {

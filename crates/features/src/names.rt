@@ -1,3 +1,5 @@
+//! Names of subjects, offices, roles, classes, rules and sessions.
+
 ghost use Rattle.std.specs.Prelude.{◌≡◌, ℕ, ◌≤◌, ◌++◌, length, nat_eq, IsTrue};
 ghost use Rattle.std.specs.List.{list_all};
 ghost use Rattle.std.specs.Cmp.Lexicographic.{pointwise};
@@ -8,11 +10,11 @@ ghost use Rattle.features.specs.Names.{is_name, is_name_byte, name_of, padding};
 use std::fmt;
 use std::marker::Model;
 
-/// How many bytes a name has at most.
+/// The most bytes of a name.
 pub const NAME_LIMIT: usize = 32;
 
-/// A name of a subject, an office, a role, a class, a rule or a session: 1 to 32 bytes of `a-z`, `0-9` and `-`.
-/// A contract sees it as those bytes.
+/// The name of a subject, an office, a role, a class, a rule or a session: 1 to 32 bytes of `a-z`,
+/// `0-9` and `-`. A contract sees the bytes.
 #[derive(Clone, Copy)]
 pub struct Name {
     bytes: [u8; NAME_LIMIT],
@@ -38,7 +40,7 @@ impl Model for Name {
 }
 
 impl Name {
-    /// Makes a name of a text, or answers `None` where the text is none.
+    /// The name with this text, or `None` if the text is no valid name.
     pub fn new(text: &[u8]) -> Option<Name>
         ensures { result ≡ name_of text.now }
     {
@@ -61,21 +63,21 @@ impl Name {
     }
 }
 
-/// Whether a text is a name.
+/// Whether a text is a valid name.
 fn is_name(text: &[u8]) -> bool
     ensures { result ≡ is_name text.now }
 {
     !text.is_empty() && text.len() <= NAME_LIMIT && may_all_stand(text)
 }
 
-/// Whether each of these bytes may stand in a name.
+/// Whether all these bytes are allowed in a name.
 fn may_all_stand(text: &[u8]) -> bool
     ensures { result ≡ list_all is_name_byte text.now }
 {
     text.iter().all(|byte| may_stand(*byte))
 }
 
-/// A text in a row of fixed length, with zeros behind it.
+/// A text in an array of fixed length, padded with zeros.
 fn padded(text: &[u8]) -> [u8; NAME_LIMIT]
     requires { length text.now ≤ NAME_LIMIT }
     ensures { result ≡ text.now ++ padding (length text.now) }
@@ -85,7 +87,7 @@ fn padded(text: &[u8]) -> [u8; NAME_LIMIT]
     bytes
 }
 
-/// Whether a byte may stand in a name.
+/// Whether a byte is allowed in a name.
 fn may_stand(byte: u8) -> bool
     ensures { result ≡ is_name_byte byte }
 {

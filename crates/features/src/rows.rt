@@ -1,3 +1,5 @@
+//! Features, and changes of features.
+
 ghost use Rattle.std.specs.Prelude.{◌≡◌, ◌↔◌, IsTrue};
 ghost use Rattle.features.specs.Changes.{change_id};
 ghost use Rattle.features.specs.Equality.{same_change, same_changes};
@@ -5,7 +7,7 @@ ghost use Rattle.features.specs.Equality.{same_change, same_changes};
 use crate::names::Name;
 use plane::Shape;
 
-/// A feature of the map, as it stands in the store.
+/// A feature of the map, as it is in the store.
 #[derive(Clone, Copy, Debug)]
 pub struct Feature {
     pub id: u64,
@@ -24,7 +26,7 @@ impl PartialEq for Feature {
 
     ghost laws = { partial_equiv_from_equiv (decided same_feature same_feature_decides) };
 
-    /// Whether the two are one, field by field.
+    /// Whether the two are equal, field by field.
     fn eq(&self, other: &Feature) -> bool
         ensures tested { result ≡ same_feature self.now other.now }
         ensures exact { IsTrue result ↔ (self.now ≡ other.now) }
@@ -44,15 +46,15 @@ impl Eq for Feature {
     ghost laws = { decided same_feature same_feature_decides };
 }
 
-/// One change of a list that is committed as a whole. `Reshape` and `Delete` say the version in which the caller
-/// knows the feature.
+/// One change of a list that is committed as a whole. `Reshape` and `Delete` have the version of
+/// the feature that the caller has seen.
 #[derive(Clone, Copy, Debug)]
 pub enum Change {
-    /// Puts a new feature in.
+    /// Adds a feature.
     Add { id: u64, class: Name, shape: Shape },
     /// Gives a feature another shape.
     Reshape { id: u64, version: u64, shape: Shape },
-    /// Takes a feature out.
+    /// Removes a feature.
     Delete { id: u64, version: u64 },
 }
 
@@ -64,7 +66,7 @@ impl PartialEq for Change {
 
     ghost laws = { partial_equiv_from_equiv (decided same_change same_change_decides) };
 
-    /// Whether the two are one, field by field.
+    /// Whether the two are equal, field by field.
     fn eq(&self, other: &Change) -> bool
         ensures tested { result ≡ same_change self.now other.now }
         ensures exact { IsTrue result ↔ (self.now ≡ other.now) }
@@ -80,7 +82,7 @@ impl Eq for Change {
     ghost laws = { decided same_change same_change_decides };
 }
 
-/// Whether two changes are one, field by field.
+/// Whether two changes are equal, field by field.
 fn is_same(one: &Change, other: &Change) -> bool
     ensures { result ≡ same_change one.now other.now }
 {
@@ -112,7 +114,7 @@ fn is_same(one: &Change, other: &Change) -> bool
     }
 }
 
-/// Whether two lists of changes are one, change by change: what `==` of two such lists answers.
+/// Whether two lists of changes are equal: what `==` of the lists returns.
 pub fn same_changes(one: &[Change], other: &[Change]) -> bool
     ensures tested { result ≡ same_changes one.now other.now }
     ensures exact { IsTrue result ↔ (one.now ≡ other.now) }
@@ -121,7 +123,7 @@ pub fn same_changes(one: &[Change], other: &[Change]) -> bool
 }
 
 impl Change {
-    /// The feature that the change names.
+    /// The id of the feature that is changed.
     pub fn id(&self) -> u64
         ensures { result ≡ change_id self.now }
     {

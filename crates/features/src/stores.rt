@@ -1,3 +1,5 @@
+//! The store of features.
+
 ghost use Rattle.std.specs.Prelude.{◌≡◌, ◌+◌, ◌<◌, ◌≤◌, ◌↔◌, ◌++◌, [], ◌∷◌, All, List, ℕ, length, vec_len, vec_capacity, slice_get, IsTrue, IfOk, IfErr, OnOk, OnErr};
 ghost use Rattle.std.specs.Option.{option_copied};
 ghost use Rattle.memory.specs.Refused.{refused};
@@ -15,7 +17,7 @@ use std::alloc::Allocator;
 use std::fmt;
 use std::marker::Model;
 
-/// Why a store does not take a list of changes, or does not list its features.
+/// Why a store rejects a list of changes, or cannot list its features.
 #[derive(Debug, Drop, PartialEq, Eq)]
 pub enum StoreFault {
     Full,
@@ -25,7 +27,7 @@ pub enum StoreFault {
 impl StoreFault {
     ghost use Rattle.features.specs.FaultCodes.{store_code};
 
-    /// The code by which users know the fault.
+    /// The fault's code, as users see it.
     pub fn code(&self) -> &'static str
         ensures { result.now ≡ store_code self.now }
     {
@@ -78,7 +80,7 @@ impl<A: Allocator> Model for Store<A> {
 }
 
 impl<A: Allocator + Copy> Store<A> {
-    /// A store with no features. It takes no memory.
+    /// A store without features. Allocates nothing.
     pub fn new(alloc: A) -> Self
         ensures { result ≡ [] }
     {
@@ -93,7 +95,7 @@ impl<A: Allocator + Copy> Store<A> {
 }
 
 impl<A: Allocator> Store<A> {
-    /// How many features there are, 100,000 at most.
+    /// How many features there are: at most 100,000.
     pub fn len(&self) -> usize
         ensures value { result ≡ length self.now }
         ensures within { length self.now ≤ FEATURE_LIMIT }
@@ -108,7 +110,7 @@ impl<A: Allocator> Store<A> {
         self.table.places.is_empty()
     }
 
-    /// The feature of an id. Costs one tick.
+    /// The feature with this id. Costs one tick.
     pub fn get(&self, id: u64, meter: &mut Meter) -> Option<&Feature>
         ensures value { option_copied result ≡ feature_with id self.now }
         ensures cost { meter.new ≡ ticked_by 1 meter.old }
@@ -117,7 +119,7 @@ impl<A: Allocator> Store<A> {
         tables::find(&self.table, id)
     }
 
-    /// The feature that stands at this place of the list sorted by id.
+    /// The feature at this index of the list sorted by id. Costs no tick.
     pub fn row_at(&self, at: usize) -> Option<&Feature>
         ensures value { option_copied result ≡ slice_get self.now at }
         ensures sorted { IsSortedById self.now }
@@ -127,7 +129,8 @@ impl<A: Allocator> Store<A> {
         Some(&self.table.features[*place as usize])
     }
 
-    /// A copy of all features, by rising id. Costs one tick for each; after `Memory`, none.
+    /// A copy of all features, by rising id. Costs one tick for each. The only error is `Memory`;
+    /// it costs none.
     pub fn dump<B: Allocator>(
         &self,
         alloc: B,
@@ -144,7 +147,7 @@ impl<A: Allocator> Store<A> {
         Ok(rows)
     }
 
-    /// How many features would stand after a list of changes.
+    /// How many features there would be after a list of changes.
     #[tactic(auto, using(crate::proofs::ChangeLemmas::length_after))]
     pub fn len_after(&self, changes: &[Change]) -> usize
         requires { CanApply changes.now self.now }
@@ -155,9 +158,9 @@ impl<A: Allocator> Store<A> {
         self.table.places.len() + added - deleted
     }
 
-    /// Makes a list of changes, all or none of them. `Full` where more than 100,000 features would stand after it;
-    /// `Memory` where room for those that it adds is refused. Either leaves the store as it was. A list that adds
-    /// none takes no memory.
+    /// Makes all changes of a list, or none. `Full` exactly if there would be more than 100,000
+    /// features; otherwise `Memory` if room for the added ones is refused. On an error the store is
+    /// unchanged. A list that adds no feature allocates nothing.
     pub fn apply(
         &mut self,
         version: u64,
@@ -180,7 +183,7 @@ impl<A: Allocator> Store<A> {
     }
 }
 
-/// Appends the features at these places.
+/// Appends copies of the features at these places.
 fn copy_rows<A: Allocator>(rows: &mut Vec<Feature, A>, places: &[u32], features: &[Feature])
     requires in_range { All (λ place. place < length features.now) places.now }
     requires room { vec_len rows.old + length places.now ≤ vec_capacity rows.old }
@@ -221,7 +224,7 @@ fn count_deletions(changes: &[Change]) -> usize
     count
 }
 
-/// Makes one change, for which there is room.
+/// Makes one change; the table has room for it.
 fn make<A: Allocator>(table: &mut Table<A>, version: u64, office: Name, change: Change)
     requires sound { IsSound table.old }
     requires can_change { CanChange change (rows_of table.old) }

@@ -1,3 +1,5 @@
+//! The table in which a store keeps its features.
+
 ghost use Rattle.std.specs.Prelude.{◌≡◌, ◌+◌, ◌<◌, ◌≤◌, length, vec_len, vec_capacity, ℕ, OnOk, OnErr, None, IsSome};
 ghost use Rattle.std.specs.Option.{option_copied};
 ghost use Rattle.features.specs.Places.{AreRising, IsPlaceOf};
@@ -9,11 +11,12 @@ use memory::{GrowVec, Refused};
 use plane::Shape;
 use std::alloc::Allocator;
 
-/// How many features a store holds at most.
+/// The most features of a store.
 pub const FEATURE_LIMIT: usize = 100_000;
 
-/// Features in places of their own, and apart from them their ids in order, with the place of each: so an insertion
-/// moves some twelve bytes a feature and no feature, and a look-up searches ids that lie close together.
+/// Features, each at a place, and apart from them their ids, sorted, with the place of each. An
+/// insertion moves about twelve bytes for each greater id, and no feature; a look-up searches ids
+/// that are close together in memory.
 #[derive(Debug, Drop)]
 pub(crate) struct Table<A: Allocator> {
     pub(crate) ids: Vec<u64, A>,
@@ -21,7 +24,7 @@ pub(crate) struct Table<A: Allocator> {
     pub(crate) features: Vec<Feature, A>,
 }
 
-/// Where an id stands, or where it would be put in.
+/// The index of an id, or the index at which it would be inserted.
 fn place_of(ids: &[u64], id: u64) -> Result<usize, usize>
     requires { AreRising ids.now }
     ensures { IsPlaceOf id ids.now result }
@@ -29,7 +32,7 @@ fn place_of(ids: &[u64], id: u64) -> Result<usize, usize>
     ids.binary_search(&id)
 }
 
-/// The feature of an id.
+/// The feature with this id.
 pub(crate) fn find<A: Allocator>(table: &Table<A>, id: u64) -> Option<&Feature>
     requires { IsSound table.now }
     ensures { option_copied result ≡ feature_with id (rows_of table.now) }
@@ -56,7 +59,7 @@ pub(crate) fn make_room<A: Allocator>(
     table.features.make_room(additional)
 }
 
-/// Puts a feature in.
+/// Adds a feature, whose id is new.
 pub(crate) fn put<A: Allocator>(table: &mut Table<A>, row: Feature)
     requires sound { IsSound table.old }
     requires absent { feature_with row.id (rows_of table.old) ≡ None }
@@ -77,7 +80,7 @@ pub(crate) fn put<A: Allocator>(table: &mut Table<A>, row: Feature)
     }
 }
 
-/// Gives a feature a shape, under a version.
+/// Gives a feature another shape and version.
 pub(crate) fn reshape<A: Allocator>(table: &mut Table<A>, id: u64, version: u64, shape: Shape)
     requires sound { IsSound table.old }
     requires present { IsSome (feature_with id (rows_of table.old)) }
@@ -99,7 +102,7 @@ pub(crate) fn reshape<A: Allocator>(table: &mut Table<A>, id: u64, version: u64,
     }
 }
 
-/// Takes a feature out. The last feature moves to its place.
+/// Removes a feature. The last feature moves to its place.
 pub(crate) fn take_out<A: Allocator>(table: &mut Table<A>, id: u64)
     requires sound { IsSound table.old }
     requires present { IsSome (feature_with id (rows_of table.old)) }
@@ -122,7 +125,7 @@ pub(crate) fn take_out<A: Allocator>(table: &mut Table<A>, id: u64)
     }
 }
 
-/// Gives the place of an id another number, where it is `from`.
+/// Changes the place of an id to `to`, if it is `from`.
 fn renumber<A: Allocator>(ids: &[u64], places: &mut Vec<u32, A>, id: u64, from: u32, to: u32)
     requires rising { AreRising ids.now }
     requires same_length { length ids.now ≡ length places.old.items }

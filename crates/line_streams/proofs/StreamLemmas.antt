@@ -1,4 +1,4 @@
--- Runs of lines, over whatever answers a line.
+-- Runs of lines, whatever answers the lines.
 use Rattle.std.proofs.Common.{◌≡◌, ◌≢◌, ℕ, zero, suc, ◌+◌, ◌-◌, ◌≤◌, ◌<◌, ◌⊎◌, Bool, true, false, List, [], ◌∷◌, ◌++◌, length, map, take, if◌then◌else◌, Option, None, Some, Result, Ok, Err, OnOk, refl, sym, ap, subst, ◌∙◌, append_assoc, append-nil, length-append, length-take, arith, inl, inr, le-ltb}
 use Rattle.std.specs.Io.BufRead.{strip_last, ends_with_byte}
 use Rattle.std.specs.List.{All, slice_split, flat_map}
@@ -80,7 +80,7 @@ whole_lines_of-pieces (piece ∷ pieces) behind whole open_line =
 
 -- ---- pieces of a text
 
--- further bytes behind a text, of which the part behind its pieces has pieces with them
+-- a text and further bytes: the pieces of the text, then those of its rest with the bytes
 pieces_then : (text bytes begun behind : List ℕ) (xs ys : List (List ℕ)) → ArePieces text xs begun → ArePieces (begun ++ bytes) ys behind → ArePieces (text ++ bytes) (xs ++ ys) behind
 pieces_then text bytes begun behind xs ys front rest = record {
   are = rw (front.are, flat_map-append fed xs ys, append_assoc (flat_map fed xs) begun bytes, rest.are) (sym (append_assoc (flat_map fed xs) (flat_map fed ys) behind));
@@ -175,7 +175,7 @@ appends_kept (Some a) None c xs written kept = absurd written
 appends_kept (Some a) (Some b) None xs written kept = absurd kept
 appends_kept (Some a) (Some b) (Some c) xs written kept = kept ∙ written
 
--- a read that gave something
+-- a read that gave at least one byte
 pub some_taken : (n : ℕ) (xs : List ℕ) → n ≢ 0 → n ≡ length (take n xs) → 0 < length (take n xs)
 some_taken zero xs other len = absurd (other refl)
 some_taken (suc n) xs other len = subst (λ (m : ℕ). 0 < m) len (omega arith)
@@ -199,7 +199,7 @@ module _ {S : Type 0} (tell : List ℕ → S → S → List ℕ → Next → Typ
   abbrev pub LongAlike : Type 0
   LongAlike = (line other : List ℕ) (old new : S) (said : List ℕ) (next : Next) → is_too_long line ≡ true → is_too_long other ≡ true → tell line old new said next → tell other old new said next
 
-  -- what is told of one line is told of another
+  -- an answer of one line is an answer of the other
   abbrev TellsAlike : List ℕ → List ℕ → S → S → Type 0
   TellsAlike line other old new = (said : List ℕ) (next : Next) → tell line old new said next → tell other old new said next
 
@@ -324,7 +324,7 @@ module _ {S : Type 0} (tell : List ℕ → S → S → List ℕ → Next → Typ
     answered = answered_none old a;
   }
 
-  -- as it stands before further bytes of a line that has begun
+  -- before further bytes of a line that has begun
   pub begun_passed : (begun held : List ℕ) (old : S) (a : Option (List ℕ)) → IsLine begun → held ≡ held_of begun → Passed tell begun old old held a a
   begun_passed begun held old a whole holds = record { pieces = []; begun = begun; are = no_pieces begun; open_line = whole; holds = holds; answered = answered_none old a }
 
@@ -338,7 +338,7 @@ module _ {S : Type 0} (tell : List ℕ → S → S → List ℕ → Next → Typ
     answered = answered_none old a;
   }
 
-  -- a line feed came
+  -- a line feed was taken
   pub feed_passed : LongAlike → (begun held after line : List ℕ) (byte : ℕ) (old new : S) (a b : Option (List ℕ)) → IsLine begun → held ≡ held_of begun → line ≡ strip_last 13 held → byte ≡ 10 → after ≡ []
       → ((said : List ℕ) × Appends a b said × GoesOn tell line old new said) → Passed tell (begun ++ byte ∷ []) old new after a b
   feed_passed alike begun held after line byte old new a b whole holds is_line fed_now none told = rw (fed_now, none) (record {
@@ -380,7 +380,7 @@ module _ {S : Type 0} (tell : List ℕ → S → S → List ℕ → Next → Typ
     stopped = rw (map-append (strip_last 13) first.pieces second.pieces) (stopped_then stop old mid new _ _ a b c first.answered second.stopped);
   }
 
-  -- further bytes
+  -- further bytes were taken
   pub passed_more : (begun front bytes all held held_then : List ℕ) (old mid new : S) (a b c : Option (List ℕ)) → all ≡ front ++ bytes → (first : Passed tell (begun ++ front) old mid held a b)
       → Passed tell (first.begun ++ bytes) mid new held_then b c → Passed tell (begun ++ all) old new held_then a c
   passed_more begun front bytes all held held_then old mid new a b c parts first second =
@@ -405,7 +405,7 @@ module _ {S : Type 0} (tell : List ℕ → S → S → List ℕ → Next → Typ
   pub no_last : (begun held : List ℕ) (old : S) (a : Option (List ℕ)) → held ≡ held_of begun → held ≡ [] → Answered tell old (lines_of begun) old a a
   no_last begun held old a holds none = rw (held_none begun held holds none, lines_of-none) (answered_none old a)
 
-  -- Before a read: what was read of the input, and where it has led.
+  -- The state before a read: what was read of the input, and what it led to.
   pub record Standing (old new : S) (held : List ℕ) (turns : ℕ) (start left a b : Option (List ℕ)) : Type 0 where
     pub text : List ℕ
     pub read : Consumes start left text
@@ -424,7 +424,7 @@ module _ {S : Type 0} (tell : List ℕ → S → S → List ℕ → Next → Typ
     passed = passed_then first.text bytes held held_then old mid new a b c first.passed second;
   }
 
-  -- the same, where the writer was flushed
+  -- the same after a flush
   pub stands_kept : (old new : S) (held : List ℕ) (turns : ℕ) (start left a b c : Option (List ℕ)) → Standing old new held turns start left a b → Keeps b c → Standing old new held turns start left a c
   stands_kept old new held turns start left a b c stands kept = record {
     text = stands.text;
@@ -451,14 +451,14 @@ module _ {S : Type 0} (tell : List ℕ → S → S → List ℕ → Next → Typ
     answered = rw (lines_so_far old new held turns start left a b stands) stands.passed.answered;
   }
 
-  -- a read failed, and the run is left with that
+  -- a read failed, and the run returns that fault
   pub read_failed : {T : Type 0} (r : Result T ServeFault) (failed : ReadFailed) (old new : S) (held : List ℕ) (turns : ℕ) (start left next a b c : Option (List ℕ)) → IsErrAnd r (λ fault. fault ≡ Read failed)
       → Standing old new held turns start left a b → Keeps b c → Keeps left next → Ran tell r old new start next a c
   read_failed {T} r failed old new held turns start left next a b c is stands flushed kept =
       left_by r (Read failed) (λ (r : Result T ServeFault). Ran tell r old new start next a c) is
       (ran_so_far old new held turns start left next a c (stands_kept old new held turns start left a b c stands flushed) kept)
 
-  -- a flush failed before a read
+  -- a flush before a read failed
   pub flush_failed : {T : Type 0} (r : Result T ServeFault) (failed : WriteFailed) (old new : S) (held : List ℕ) (turns : ℕ) (start left a b c : Option (List ℕ)) → IsErrAnd r (λ fault. fault ≡ Write failed)
       → Standing old new held turns start left a b → Keeps b c → Ran tell r old new start left a c
   flush_failed {T} r failed old new held turns start left a b c is stands kept =
@@ -570,14 +570,14 @@ module _ {S : Type 0} (tell : List ℕ → S → S → List ℕ → Next → Typ
   by_flush (Err (TooManyTurns turns)) old new input left a b c run kept = absurd kept
   by_flush (Err (Memory refused)) old new input left a b c run kept = absurd kept
 
-  -- the run ends behind its last line
+  -- the run ends after its last line
   pub concluded : {T : Type 0} (end : Result (Unit {0}) Stop) (r : Result T ServeFault) (old new : S) (input left a b c : Option (List ℕ)) → Ends end old new input left a b → Concludes end r b c → Ran tell r old new input left a c
   concluded (Ok u) r old new input left a b c run done = by_flush r old new input left a b c (inl run) done
   concluded (Err Ended) r old new input left a b c run done = by_flush r old new input left a b c (inr run) done
   concluded {T} (Err (Failed failed)) r old new input left a b c run done =
       subst (λ (r : Result T ServeFault). Ran tell r old new input left a c) (sym done.0) (inl (stop_kept (Failed failed) old new input left a b c run done.1))
 
-  -- ---- what a stream is answered
+  -- ---- the answers of a stream
 
   stream_ends : (old new : S) (lines : List (List ℕ)) (others : List (List ℕ)) (a b : Option (List ℕ)) → (all : Stopped tell Ended old lines new a b) → StreamEnds tell old (lines ++ others) new (all.said ++ all.front)
   stream_ends old new lines others a b all = record {
@@ -593,7 +593,7 @@ module _ {S : Type 0} (tell : List ℕ → S → S → List ℕ → Next → Typ
     is = ap (λ (xs : List ℕ). all.said ++ xs) (sym (append-nil all.front) ∙ ap (λ (xs : List ℕ). all.front ++ xs) (sym all.stops.1) ∙ sym all.parts);
   }
 
-  -- a run that ended well has written what all its known input is answered
+  -- a run that ended well has written the answers to all its known input
   pub stream_told : {T : Type 0} (r : Result T ServeFault) (old new : S) (input left a b : Option (List ℕ)) → Ran tell r old new input left a b
       → OnOk r (IfSome input (λ text. (said : List ℕ) × Appends a b said × StreamTells tell old (lines_of text) new said))
   stream_told (Err e) old new input left a b run = tt
@@ -605,9 +605,9 @@ module _ {S : Type 0} (tell : List ℕ → S → S → List ℕ → Next → Typ
   stream_told (Ok done) old new (Some text) left a b (inr run) =
       (run.stopped.said ++ run.stopped.front, run.stopped.written, inr (rw (run.are_first) (stream_ends old new run.lines run.others a b run.stopped)))
 
--- ---- lines none of which ends its stream
+-- ---- lines none of which ends the stream
 
--- what lines are answered, where each is also answered so
+-- answers of lines by one relation, if they are answers by another one too
 told_so : {S : Type 0} (tell shown : List ℕ → S → S → List ℕ → Type 0) → ((line : List ℕ) (old new : S) (said : List ℕ) → tell line old new said → shown line old new said)
     → (old new : S) (lines : List (List ℕ)) (said : List ℕ) → LinesTell tell old lines new said → LinesTell shown old lines new said
 told_so tell shown each old new [] said told = told
@@ -617,7 +617,7 @@ abbrev goes_on : Next → Type 0
 goes_on Line = Unit {0}
 goes_on End = ⊥
 
--- a run that ended well has written what all lines of its known input are answered
+-- a run that ended well has written the answers to all lines of its known input
 pub lines_told : {S T : Type 0} (tell : List ℕ → S → S → List ℕ → Type 0) (r : Result T ServeFault) (old new : S) (input left a b : Option (List ℕ)) → Ran (NeverEnds tell) r old new input left a b
     → OnOk r (IfSome input (λ text. (said : List ℕ) × Appends a b said × LinesTell tell old (lines_of text) new said))
 lines_told tell (Err e) old new input left a b run = tt
@@ -631,9 +631,9 @@ lines_told {T = T} tell (Ok done) old new (Some text) left a b run = go (stream_
     go (said, written, inl told) = (said, written, told_so (GoesOn (NeverEnds tell)) tell (λ line x y s h. h.0) old new (lines_of text) said told)
     go (said, written, inr ends) = absurd (subst goes_on (sym ends.told_last.1) tt)
 
--- ---- states that are seen as others
+-- ---- states that are seen as other states
 
--- `shown` answers lines; `tell` does so where its states are seen
+-- `shown` answers lines, and so does `tell` on the states as seen
 module _ {S T : Type 0} (see : S → T) (shown : List ℕ → S → S → List ℕ → Next → Type 0) (tell : List ℕ → T → T → List ℕ → Next → Type 0)
     (each : (line : List ℕ) (old new : S) (said : List ℕ) (next : Next) → shown line old new said next → tell line (see old) (see new) said next) where
   told_as : (old new : S) (lines : List (List ℕ)) (said : List ℕ) → LinesTell (GoesOn shown) old lines new said → LinesTell (GoesOn tell) (see old) lines (see new) said
@@ -694,15 +694,15 @@ module _ {S T : Type 0} (see : S → T) (shown : List ℕ → S → S → List �
   ran_as (Err (Write failed)) old new input left a b run = write_as failed old new input left a b run
   ran_as (Err (Memory refused)) old new input left a b run = (ap see run.0, run.1, run.2)
 
--- the same, where lines are answered by what is seen
+-- the same, if lines are answered according to the states as seen
 pub ran_along : {S T O : Type 0} (see : S → T) (tell : List ℕ → T → T → List ℕ → Next → Type 0) (r : Result O ServeFault) (old new : S) (input left a b : Option (List ℕ))
     → Ran (λ line x y said next. tell line (see x) (see y) said next) r old new input left a b → Ran tell r (see old) (see new) input left a b
 ran_along see tell r old new input left a b run =
     ran_as see (λ line x y said next. tell line (see x) (see y) said next) tell (λ line x y said next h. h) r old new input left a b run
 
--- ---- what every line keeps
+-- ---- what every line preserves
 
--- what every line keeps, a run keeps, however it ends
+-- what every line preserves, a run preserves, however it ends
 module _ {S : Type 0} (tell : List ℕ → S → S → List ℕ → Next → Type 0) (Kept : S → S → Type 0) (same : (s : S) → Kept s s)
     (chain : (a b c : S) → Kept a b → Kept b c → Kept a c) (each : (text : List ℕ) (old new : S) (said : List ℕ) (next : Next) → tell text old new said next → Kept old new) where
   lines_keep : (lines : List (List ℕ)) (old new : S) (said : List ℕ) → LinesTell (GoesOn tell) old lines new said → Kept old new

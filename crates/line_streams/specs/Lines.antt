@@ -4,19 +4,19 @@ use Rattle.std.specs.Io.BufRead.{strip_last}
 use Rattle.std.specs.List.{slice_split}
 use Rattle.line_streams.specs.declared.streams.TheConstants.{LINE_LIMIT}
 
--- a line without its end has so many bytes at most
+-- a line without its end has more than `LINE_LIMIT` bytes
 abbrev pub is_too_long : List ℕ → Bool
 is_too_long line = nat_lt LINE_LIMIT (length line)
 
 abbrev pub is_feed : ℕ → Bool
 is_feed b = b == 10
 
--- what stands behind the last line feed is a line where it is not empty
+-- what follows the last line feed is a line if it is not empty
 abbrev pub last_line : List ℕ → List (List ℕ)
 last_line [] = []
 last_line (b ∷ bs) = (b ∷ bs) ∷ []
 
--- The pieces between line feeds, as lines: a return right before a line feed is dropped.
+-- The pieces between line feeds, as lines: a carriage return right before a line feed is dropped.
 abbrev pub ended : List (List ℕ) → List (List ℕ)
 ended [] = []
 ended (last ∷ []) = last_line last
@@ -31,6 +31,7 @@ whole_ended [] = []
 whole_ended (last ∷ []) = []
 whole_ended (piece ∷ next ∷ pieces) = strip_last 13 piece ∷ whole_ended (next ∷ pieces)
 
--- The whole lines of a text: those that a line feed ends. What stands behind the last line feed is none of them.
+-- The whole lines of a text: those that a line feed ends. What follows the last line feed is not
+-- one of them.
 unfoldable pub whole_lines_of : List ℕ → List (List ℕ)
 whole_lines_of text = whole_ended (slice_split is_feed text)

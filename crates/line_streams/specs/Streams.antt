@@ -1,5 +1,6 @@
--- Runs of lines from a reader to a writer, over whatever answers a line: `tell line old new said next` says that a line is
--- answered by these bytes, leads from one state to another, and that the stream goes on behind it or ends.
+-- Runs of lines from a reader to a writer, whatever answers the lines: `tell line old new said
+-- next` says that the line is answered by the bytes `said` and leads from the state `old` to `new`,
+-- and that the stream goes on or ends after it.
 use Rattle.std.specs.Prelude.{◌≡◌, ◌≢◌, ◌⊎◌, ℕ, ◌≤◌, ◌<◌, nat_lt, List, [], ◌∷◌, ◌++◌, length, map, take, Option, Result, Ok, Err, All, IfOk, IfSome, if◌then◌else◌}
 use Rattle.std.specs.Io.BufRead.{strip_last}
 use Rattle.std.specs.Io.KnownBytes.{Appends, Consumes, IsAtEnd, Keeps}
@@ -14,21 +15,21 @@ use Rattle.line_streams.specs.declared.streams.ServeFault.TheVariants.{Read, Wri
 use Rattle.line_streams.specs.declared.streams.TheConstants.{HELD, READ_LIMIT}
 use Rattle.line_streams.specs.Lines.{lines_of, whole_lines_of}
 
--- what lines are answered, one after another
+-- lines are answered one after another; `text` is all their answers
 abbrev pub LinesTell : {S : Type 0} → (List ℕ → S → S → List ℕ → Type 0) → S → List (List ℕ) → S → List ℕ → Type 0
 LinesTell tell old [] new text = (new ≡ old) × (text ≡ [])
 LinesTell {S = S} tell old (line ∷ lines) new text =
     (mid : S) × (said : List ℕ) × (more : List ℕ) × tell line old mid said × (text ≡ said ++ more) × LinesTell tell mid lines new more
 
--- a line is answered, and the stream goes on behind it
+-- a line is answered, and the stream goes on
 abbrev pub GoesOn : {S : Type 0} → (List ℕ → S → S → List ℕ → Next → Type 0) → List ℕ → S → S → List ℕ → Type 0
 GoesOn tell line old new said = tell line old new said Line
 
--- a line is answered, and no line ends the stream
+-- a line is answered, and the stream always goes on
 abbrev pub NeverEnds : {S : Type 0} → (List ℕ → S → S → List ℕ → Type 0) → List ℕ → S → S → List ℕ → Next → Type 0
 NeverEnds tell line old new said next = tell line old new said × (next ≡ Line)
 
--- lines are answered up to the first that ends the stream, that one too
+-- lines are answered up to the first that ends the stream, including that one
 pub record StreamEnds {S : Type 0} (tell : List ℕ → S → S → List ℕ → Next → Type 0) (old : S) (lines : List (List ℕ)) (new : S) (text : List ℕ) : Type 0 where
   pub firsts : List (List ℕ)
   pub last : List ℕ
@@ -41,27 +42,29 @@ pub record StreamEnds {S : Type 0} (tell : List ℕ → S → S → List ℕ →
   pub told_last : tell last mid new more End
   pub is : text ≡ said ++ more
 
--- What the lines of a stream are answered: all of them, where none ends it, or those up to the first that does.
+-- The answers of a stream's lines: of all of them, if none ends it, or of those up to the first
+-- that does.
 abbrev pub StreamTells : {S : Type 0} → (List ℕ → S → S → List ℕ → Next → Type 0) → S → List (List ℕ) → S → List ℕ → Type 0
 StreamTells tell old lines new text = LinesTell (GoesOn tell) old lines new text ⊎ StreamEnds tell old lines new text
 
--- what a writer took of a line's answer, and what is said of the stream behind the line
+-- what a writer took of a line's answer, and whether the stream goes on if it took all
 abbrev pub TookLine : {E : Type 0} → Result Next E → Option (List ℕ) → Option (List ℕ) → List ℕ → Next → Type 0
 TookLine result before after said next = Took result before after said × IfOk result (λ answered. answered ≡ next)
 
--- Lines were answered, none of which ends the stream, and all of it was written.
+-- Lines were answered, none of them ended the stream, and all answers were written.
 pub record Answered {S : Type 0} (tell : List ℕ → S → S → List ℕ → Next → Type 0) (old : S) (lines : List (List ℕ)) (new : S) (before after : Option (List ℕ)) : Type 0 where
   pub said : List ℕ
   pub told : LinesTell (GoesOn tell) old lines new said
   pub written : Appends before after said
 
--- how a run stops behind a line: the line ends the stream, and all of its answer is written; or the answer is written in part
+-- how a run stops at a line: the line ends the stream and its answer is written in full, or its
+-- answer was not written in full
 abbrev pub StopsAs : Stop → Next → List ℕ → Type 0
 StopsAs Ended next left = (next ≡ End) × (left ≡ [])
 StopsAs (Failed failed) next left = Unit {0}
 
--- Lines were answered, and the last stopped the run: the answers of all but the last are written in full, and of that of the
--- last the front.
+-- Lines were answered, and the last one stopped the run. The answers of all but the last are
+-- written in full, and of that of the last its front.
 pub record Stopped {S : Type 0} (tell : List ℕ → S → S → List ℕ → Next → Type 0) (stop : Stop) (old : S) (lines : List (List ℕ)) (new : S) (before after : Option (List ℕ)) : Type 0 where
   pub firsts : List (List ℕ)
   pub last : List ℕ
@@ -84,15 +87,15 @@ pub record RanSoFar {S : Type 0} (tell : List ℕ → S → S → List ℕ → N
   pub read : Consumes input left text
   pub answered : Answered tell old (whole_lines_of text) new before after
 
--- the input is read to its end, and all its lines are answered
+-- the input was read to its end, and all its lines are answered
 pub record RanToEnd {S : Type 0} (tell : List ℕ → S → S → List ℕ → Next → Type 0) (old new : S) (input left before after : Option (List ℕ)) : Type 0 where
   pub text : List ℕ
   pub read : Consumes input left text
   pub at_end : IsAtEnd left
   pub answered : Answered tell old (lines_of text) new before after
 
--- Some lines of the input, from its first on, are answered, and the last of them stopped the run. No read was made behind the
--- one that ended this line: what was read before that one has fewer whole lines.
+-- Lines from the start of the input are answered, and the last of them stopped the run. No read was
+-- made after the one that ended this line: what was read before that one has fewer whole lines.
 pub record RanToStop {S : Type 0} (tell : List ℕ → S → S → List ℕ → Next → Type 0) (stop : Stop) (old new : S) (input left before after : Option (List ℕ)) : Type 0 where
   pub lines : List (List ℕ)
   pub others : List (List ℕ)
@@ -103,13 +106,15 @@ pub record RanToStop {S : Type 0} (tell : List ℕ → S → S → List ℕ → 
   pub read : Consumes input left (earlier ++ latest)
   pub at_once : length (whole_lines_of earlier) < length lines
 
--- all that a run is to answer is answered: the lines of the whole input, or those up to the one that ends the stream
+-- all lines that the run has to answer are answered: those of the whole input, or those up to the
+-- one that ends the stream
 abbrev pub RanWell : {S : Type 0} → (List ℕ → S → S → List ℕ → Next → Type 0) → S → S → Option (List ℕ) → Option (List ℕ) → Option (List ℕ) → Option (List ℕ) → Type 0
 RanWell tell old new input left before after = RanToEnd tell old new input left before after ⊎ RanToStop tell Ended old new input left before after
 
--- What stands when a run has ended, by how it ended: the states, the known bytes of the reader and of the writer, each
--- before and after. Where it ended by a write that failed, that was at a line; or the whole lines of what was read are
--- answered, or all that is to be, and a flush failed. A run is given up only once as many reads were made as it has.
+-- What holds when a run has ended, by how it ended: for the states, and for the known bytes of the
+-- reader and the writer, before and after. If a write failed, it was at a line, or it was a flush
+-- after the whole lines of what was read, or after all lines that the run has to answer.
+-- `TooManyTurns` means that `READ_LIMIT` reads were made.
 abbrev pub Ran : {S T : Type 0} → (List ℕ → S → S → List ℕ → Next → Type 0) → Result T ServeFault → S → S → Option (List ℕ) → Option (List ℕ) → Option (List ℕ) → Option (List ℕ) → Type 0
 Ran tell (Ok done) old new input left before after = RanWell tell old new input left before after
 Ran tell (Err (Read failed)) old new input left before after = RanSoFar tell old new input left before after
@@ -119,7 +124,7 @@ Ran tell (Err (TooManyTurns turns)) old new input left before after =
     (run : RanSoFar tell old new input left before after) × (READ_LIMIT ≤ length run.text) × (turns.made ≡ READ_LIMIT)
 Ran tell (Err (Memory refused)) old new input left before after = (new ≡ old) × (left ≡ input) × (after ≡ before)
 
--- what stands only where a run found no memory
+-- what holds if the run was out of memory
 abbrev pub OnMemory : ServeFault → Type 0 → Type 0
 OnMemory (Memory refused) stands = stands
 OnMemory _ stands = Unit {0}
@@ -128,7 +133,7 @@ OnMemory _ stands = Unit {0}
 abbrev pub IsLine : List ℕ → Type 0
 IsLine line = All (λ b. b ≢ 10) line
 
--- what is held of a line that has begun: a line of so many bytes is too long whatever follows
+-- what is held of the line that is being read; a line of `HELD` bytes is too long, whatever follows
 abbrev pub held_of : List ℕ → List ℕ
 held_of begun = take HELD begun
 
@@ -139,13 +144,13 @@ held_with byte held = if nat_lt (length held) HELD then held ++ byte ∷ [] else
 abbrev pub fed : List ℕ → List ℕ
 fed line = line ++ 10 ∷ []
 
--- pieces, each ended by a line feed, and what stands behind them, make this text
+-- the text is these pieces, each with a line feed after it, and then what is behind them
 pub record ArePieces (text : List ℕ) (pieces : List (List ℕ)) (behind : List ℕ) : Type 0 where
   pub are : text ≡ flat_map fed pieces ++ behind
   pub whole : All IsLine pieces
 
--- Bytes were taken: those of a line that has begun, and behind them further ones. The lines that they end are answered,
--- and what has begun behind these is held.
+-- Bytes were taken: the start of a line that was held already, and further bytes. The lines that
+-- they end are answered, and the start of the next line is held.
 pub record Passed {S : Type 0} (tell : List ℕ → S → S → List ℕ → Next → Type 0) (text : List ℕ) (old new : S) (held : List ℕ) (before after : Option (List ℕ)) : Type 0 where
   pub pieces : List (List ℕ)
   pub begun : List ℕ
@@ -154,7 +159,7 @@ pub record Passed {S : Type 0} (tell : List ℕ → S → S → List ℕ → Nex
   pub holds : held ≡ held_of begun
   pub answered : Answered tell old (map (strip_last 13) pieces) new before after
 
--- as before, up to a line that stopped the run
+-- the same, up to a line that stopped the run
 pub record PassedToStop {S : Type 0} (tell : List ℕ → S → S → List ℕ → Next → Type 0) (stop : Stop) (text : List ℕ) (old new : S) (before after : Option (List ℕ)) : Type 0 where
   pub pieces : List (List ℕ)
   pub behind : List ℕ
@@ -165,7 +170,7 @@ abbrev pub Passes : {S : Type 0} → (List ℕ → S → S → List ℕ → Next
 Passes tell (Ok u) text old new held before after = Passed tell text old new held before after
 Passes tell (Err stop) text old new held before after = PassedToStop tell stop text old new before after
 
--- a line was answered that stopped the run
+-- a line was answered, and it stopped the run
 pub record StoppedAt {S : Type 0} (tell : List ℕ → S → S → List ℕ → Next → Type 0) (stop : Stop) (line : List ℕ) (old new : S) (before after : Option (List ℕ)) : Type 0 where
   pub said : List ℕ
   pub next : Next
@@ -176,7 +181,7 @@ pub record StoppedAt {S : Type 0} (tell : List ℕ → S → S → List ℕ → 
   pub stops : StopsAs stop next left
   pub written : Appends before after front
 
--- a line was answered, and the stream goes on behind it, or stops there
+-- a line was answered, and the run goes on or stops
 abbrev pub TookOne : {S : Type 0} → (List ℕ → S → S → List ℕ → Next → Type 0) → Result (Unit {0}) Stop → List ℕ → S → S → Option (List ℕ) → Option (List ℕ) → Type 0
 TookOne tell (Ok u) line old new before after = (said : List ℕ) × Appends before after said × tell line old new said Line
 TookOne tell (Err stop) line old new before after = StoppedAt tell stop line old new before after
@@ -186,13 +191,13 @@ abbrev pub TookLast : {S : Type 0} → (List ℕ → S → S → List ℕ → Ne
 TookLast tell (Ok u) lines old new before after = Answered tell old lines new before after
 TookLast tell (Err stop) lines old new before after = Stopped tell stop old lines new before after
 
--- all that a run answers is written, and it ends well where the flush does
+-- everything was written before; the run ends well if the flush does
 abbrev pub IsFlushed : {T : Type 0} → Result T ServeFault → Option (List ℕ) → Option (List ℕ) → Type 0
 IsFlushed (Ok done) before after = Keeps before after
 IsFlushed (Err (Write failed)) before after = Keeps before after
 IsFlushed (Err _) before after = ⊥
 
--- a run ends behind its last line: by that line's write, where it failed, or as the flush says
+-- a run ends after its last line: with that line's failed write, or with the result of a flush
 abbrev pub Concludes : {T : Type 0} → Result (Unit {0}) Stop → Result T ServeFault → Option (List ℕ) → Option (List ℕ) → Type 0
 Concludes (Ok u) result before after = IsFlushed result before after
 Concludes (Err Ended) result before after = IsFlushed result before after

@@ -1,4 +1,4 @@
-//! Lines from any reader, answered to any writer, and what stands when a run of them has ended.
+//! Answers the lines of any reader to any writer, and states what holds when such a run ends.
 #![tactic(auto)]
 
 mod streams;

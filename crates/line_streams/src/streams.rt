@@ -1,4 +1,4 @@
-//! Lines from any reader, answered to any writer. What a line is answered is not known here.
+//! Runs of lines from any reader to any writer. How a line is answered is up to a `LineDesk`.
 ghost use Rattle.std.specs.Prelude.{◌≡◌, ℕ, ◌≤◌, ◌++◌, ◌∷◌, [], List, Option, true, IfOk, IfErr, vec_len, vec_capacity};
 ghost use Rattle.std.specs.Io.BufRead.{strip_last};
 ghost use Rattle.byte_streams.specs.Written.{Took};
@@ -12,35 +12,37 @@ use std::alloc::Allocator;
 use std::fmt;
 use std::io::{Read, Write};
 
-/// How many bytes a line has at most, without its end.
+/// The most bytes of a line, without its end.
 pub const LINE_LIMIT: usize = 65_536;
 
-/// How many bytes of a line are held: a return more, and one more, by which a line that is too long is known.
+/// `LINE_LIMIT`, a trailing carriage return, and one byte that marks the line as too long. Later
+/// bytes of a line are dropped.
 const HELD: usize = 65_538;
 
-/// How many times an input is read from at most.
+/// The most reads of a run.
 pub const READ_LIMIT: u32 = 16_777_216;
 
-/// How many bytes are read at once.
+/// The most bytes of a read.
 const CHUNK: usize = 4_096;
 
-/// Why a run of lines ends before its input does, and before a line ends it. What was done before stands.
+/// Why a run ends before its input does, and not by a line that ends it. What was done before stays
+/// done.
 #[derive(Debug, Drop, PartialEq, Eq)]
 pub enum ServeFault {
     /// V1: a read failed.
     Read(ReadFailed),
-    /// V2: a write failed, or a flush.
+    /// V2: a write or a flush failed.
     Write(WriteFailed),
-    /// V3: the input did not end in as many reads as a run has. These were made.
+    /// V3: the input did not end within the reads of a run. These were made.
     TooManyTurns(Turns),
-    /// V4: the buffers were refused, before anything was read.
+    /// V4: out of memory for the line buffer, before anything was read.
     Memory(Refused),
 }
 
 impl ServeFault {
     ghost use Rattle.line_streams.specs.Faults.{serve_code_of};
 
-    /// The code that the program shows.
+    /// The fault's code, as the program shows it.
     pub fn code(&self) -> &'static str
         ensures { result.now ≡ serve_code_of self.now }
     {
@@ -94,17 +96,17 @@ impl From<Refused> for ServeFault {
     }
 }
 
-/// Whether a stream of lines goes on behind a line that was answered.
+/// Whether a stream of lines goes on after a line.
 #[derive(Clone, Copy, Debug, Drop, PartialEq, Eq)]
 pub enum Next {
-    /// The next line is answered, where there is one.
+    /// The next line is answered, if there is one.
     Line,
     /// No further line is answered.
     End,
 }
 
 impl Next {
-    /// Says so of the stream behind a line whose answer was written, or not.
+    /// `self`, if the line's answer was written; otherwise the failure of that write.
     pub fn behind(self, written: Result<(), WriteFailed>) -> Result<Next, WriteFailed>
         ensures { (before after : Option (List ℕ)) (said : List ℕ) → Took written before after said
             → TookLine result before after said self }
@@ -116,18 +118,19 @@ impl Next {
     }
 }
 
-/// What answers lines, over a world of its own kind.
+/// Answers lines, given a world.
 pub trait LineDesk {
     ghost use Rattle.line_streams.specs.declared.streams.Next.{Next};
 
-    /// What the lines are about, which stays when the desk is gone.
+    /// The state that lines act on. It outlives the desk.
     type World;
 
-    // how a line is answered: from a world and a desk to others, with these bytes, and whether the stream goes on
+    /// How a line is answered: it leads from one world and desk to others, with these bytes as its
+    /// answer, and the stream goes on or ends.
     ghost tells: { List ℕ → Self.World × Self → Self.World × Self → List ℕ → Next → Type 0 };
 
-    /// Answers a line, which has no line feed, and says whether the stream goes on behind it. An error is the writer's; the
-    /// line is done all the same.
+    /// Answers a line, given without its line feed, and returns whether the stream goes on. An
+    /// error is the writer's; the line has taken effect all the same.
     fn take_line<W: Write>(
         &mut self,
         world: &mut Self::World,
@@ -138,18 +141,18 @@ pub trait LineDesk {
             × TookLine result (W.contents writer.old) (W.contents writer.new) said next
             × tells line.now (world.old, self.old) (world.new, self.new) said next };
 
-    // lines that are too long are answered alike
+    /// All lines that are too long are answered alike.
     ghost long_alike: { (line other : List ℕ) (old new : Self.World × Self) (said : List ℕ) (next : Next)
         → is_too_long line ≡ true → is_too_long other ≡ true
         → tells line old new said next → tells other old new said next };
 }
 
-/// Why no further line is answered.
+/// Why a run stops at a line.
 #[derive(Drop)]
 enum Stop {
-    /// A line ended the stream.
+    /// The line ended the stream.
     Ended,
-    /// The answer of a line was not written in full.
+    /// The line's answer was not written in full.
     Failed(WriteFailed),
 }
 
@@ -163,7 +166,7 @@ impl From<WriteFailed> for Stop {
     }
 }
 
-/// The bytes of a line that has begun, as far as they count.
+/// The first `HELD` bytes of the line that is being read.
 #[derive(Drop)]
 struct Held<A: Allocator> {
     bytes: Vec<u8, A>,
@@ -172,7 +175,7 @@ struct Held<A: Allocator> {
 }
 
 impl<A: Allocator> Held<A> {
-    /// No line has begun.
+    /// No byte of a line yet. Makes room for all bytes of a line.
     fn new(alloc: A) -> Result<Self, Refused>
         ensures { IfOk result (λ held. held.bytes.items ≡ []) }
     {
@@ -180,7 +183,7 @@ impl<A: Allocator> Held<A> {
         Ok(Held { bytes })
     }
 
-    /// One more byte of the line, which counts only while the line may still be short enough.
+    /// Adds a byte of the line, or drops it if `HELD` bytes are there.
     fn hold(&mut self, byte: u8)
         ensures { self.new.bytes.items ≡ held_with byte self.old.bytes.items }
     {
@@ -189,7 +192,7 @@ impl<A: Allocator> Held<A> {
         }
     }
 
-    /// The line without the return at its end.
+    /// The line without the carriage return at its end.
     fn without_return(&self) -> &[u8]
         ensures { result.now ≡ strip_last 13 self.now.bytes.items }
     {
@@ -200,7 +203,7 @@ impl<A: Allocator> Held<A> {
     }
 }
 
-/// Answers a line; the stream stops where the line ends it.
+/// Answers a line. `Stop` if the line ends the stream, or its answer is not written.
 fn answer_line<D: LineDesk, W: Write>(
     desk: &mut D,
     world: &mut D::World,
@@ -217,7 +220,7 @@ fn answer_line<D: LineDesk, W: Write>(
     }
 }
 
-/// Takes one byte of the input.
+/// Takes one byte of the input; a line feed has the line answered.
 fn take_byte<D: LineDesk, A: Allocator, W: Write>(
     desk: &mut D,
     world: &mut D::World,
@@ -237,7 +240,7 @@ fn take_byte<D: LineDesk, A: Allocator, W: Write>(
     Ok(())
 }
 
-/// Takes some bytes of the input.
+/// Takes bytes of the input, one by one.
 fn take_bytes<D: LineDesk, A: Allocator, W: Write>(
     desk: &mut D,
     world: &mut D::World,
@@ -254,7 +257,7 @@ fn take_bytes<D: LineDesk, A: Allocator, W: Write>(
     Ok(())
 }
 
-/// Answers the last line, which has no line feed, where there is one.
+/// Answers the last line, which has no line feed, if there is one.
 fn end<D: LineDesk, A: Allocator, W: Write>(
     desk: &mut D,
     world: &mut D::World,
@@ -270,7 +273,7 @@ fn end<D: LineDesk, A: Allocator, W: Write>(
     answer_line(desk, world, held.bytes.as_slice(), writer)
 }
 
-/// Ends a run behind its last line: by a flush, unless the line's answer could not be written.
+/// Ends a run after its last line: flushes, unless the line's answer could not be written.
 fn conclude<W: Write>(end: Result<(), Stop>, writer: &mut W) -> Result<Flushed, ServeFault>
     ensures { Concludes end result (W.contents writer.old) (W.contents writer.new) }
 {
@@ -280,12 +283,15 @@ fn conclude<W: Write>(end: Result<(), Stop>, writer: &mut W) -> Result<Flushed, 
     }
 }
 
-/// Reads lines to the end of the input, or to the line that ends the stream, and has the desk answer each. A line ends with a
-/// line feed, or with the input; a return right before the line feed is dropped. Behind a line that ends the stream no
-/// further one is answered, and nothing more is read. The writer is flushed before each read, and before the run ends other
-/// than by a write that failed. Takes memory for one line before anything is read, and none later. Faults: `Memory` where
-/// that is refused; `Read` and `Write` where a read or a write fails, or a flush; `TooManyTurns` after 16,777,216 reads of
-/// which none failed or ended the input.
+/// Reads lines up to the end of the input, or to the line that ends the stream, and has the desk
+/// answer each. A line ends with a line feed or with the input; a carriage return right before the
+/// line feed is dropped. After the line that ends the stream, no line is answered and nothing is
+/// read.
+///
+/// The writer is flushed before each read, and before the run ends, except after a failed write and
+/// for `Memory`. Memory for one line is allocated before the first read, and none later. Faults:
+/// `Memory` if that is refused; `Read` or `Write` if a read, a write or a flush fails;
+/// `TooManyTurns` after 16,777,216 reads of which none failed or reached the end of the input.
 pub fn run_lines<D: LineDesk, A: Allocator, R: Read, W: Write>(
     alloc: A,
     desk: &mut D,

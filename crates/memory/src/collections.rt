@@ -1,3 +1,5 @@
+//! Maps and buffered writers.
+
 ghost use Rattle.std.specs.Prelude.{◌≡◌, [], None, OnOk, OnErr, IfOk, IfErr};
 ghost use Rattle.std.specs.Io.Buffered.{writer_inner, writer_buffer};
 ghost use Rattle.indexmap.specs.IndexMap.{get, insert_entry, IsUnchanged};
@@ -8,7 +10,8 @@ use std::alloc::Allocator;
 use std::hash::{BuildHasher, Hash};
 use std::io::{BufWriter, Write};
 
-/// Puts a value under a key of a map that keeps its order, or hands both back.
+/// Inserts a value into a map that keeps insertion order, and returns the old value of the key. If
+/// out of memory, the error holds key and value; the key was absent, and the map is unchanged.
 pub fn put<K: Eq + Hash + Drop, V, S: BuildHasher, A: Allocator>(
     map: &mut IndexMap<K, V, S, A>,
     key: K,
@@ -29,7 +32,7 @@ pub fn put<K: Eq + Hash + Drop, V, S: BuildHasher, A: Allocator>(
     }
 }
 
-/// A writer with an empty buffer before it. Nothing is written yet.
+/// A buffered writer with an empty buffer. Writes nothing.
 pub fn buffered<W: Write + Drop, A: Allocator>(
     alloc: A,
     inner: W,

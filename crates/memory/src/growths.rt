@@ -1,3 +1,5 @@
+//! Growths of vectors and strings.
+
 ghost use Rattle.std.specs.Prelude.{◌≡◌, ◌+◌, ◌*◌, ◌<◌, ◌≤◌, ◌++◌, ◌∷◌, [], length, is_ok, vec_len, vec_capacity, string_bytes, string_len, string_capacity, if◌then◌else◌, IfErr, OnOk, OnErr, IsOk};
 ghost use prog.Memory.{size};
 ghost use denote.Param.{layout};
@@ -5,20 +7,22 @@ ghost use denote.Param.{layout};
 use crate::refused::{NotStored, Refused};
 use std::alloc::Allocator;
 
-/// How many bytes are asked for at once at most, so that nobody provokes a refusal by asking for what no memory holds.
+/// The most bytes that `make_room` and `vec_with_room` may ask for, so that no caller provokes a
+/// refusal by asking for more than any memory holds.
 pub const MOST_BYTES: usize = 67_108_864;
 
-/// How many places are asked for at once at most, where a place's bytes depend on a type parameter.
+/// The most elements that `make_places` and `vec_with_places` may ask for; the size of these
+/// depends on a type parameter.
 pub const MOST_PLACES: usize = 4_096;
 
 /// Growths of a `Vec`.
 pub trait GrowVec<T> {
-    /// Appends a value. A value that finds no room is dropped.
+    /// Appends a value. If out of memory, the value is dropped.
     fn try_push(&mut self, value: T) -> Result<(), Refused>
     where
         T: Drop;
 
-    /// Appends a value, or hands it back.
+    /// Appends a value. If out of memory, the error holds it.
     fn store(&mut self, value: T) -> Result<(), NotStored<T>>;
 
     /// Makes room for this many more values.
@@ -109,7 +113,7 @@ impl<T, A: Allocator> GrowVec<T> for Vec<T, A> {
     }
 }
 
-/// Appends copies of these values.
+/// Appends copies of all these values, or of none if out of memory.
 pub fn try_extend<T: Copy, A: Allocator>(list: &mut Vec<T, A>, values: &[T]) -> Result<(), Refused>
     ensures items { list.new.items ≡ (if is_ok result then list.old.items ++ values.now else list.old.items) }
     ensures len { vec_len list.new ≡ (if is_ok result then vec_len list.old + length values.now else vec_len list.old) }

@@ -1,3 +1,5 @@
+//! JSON values, read and printed.
+
 ghost use Rattle.std.specs.Prelude.{◌≡◌, ◌≤◌, ◌<◌, OnOk, OnErr, IfOk, IfErr, None, Some, false, length, string_bytes, IsUtf8};
 ghost use Rattle.serde_json.specs.Data.{string, depth as nesting, put as with_member};
 ghost use Rattle.serde_json.specs.Read.{read, max_depth, read as read_text};
@@ -9,16 +11,16 @@ use crate::refused::Refused;
 use serde_json::{Category, Error, Map, Value};
 use std::alloc::Global;
 
-/// Why bytes give no JSON value.
+/// Why bytes are not read as a JSON value.
 #[derive(Debug, Drop)]
 pub enum JsonFault {
-    /// They are no JSON text, or no UTF-8.
+    /// They are not JSON, or not UTF-8.
     Text(Error),
-    /// A growth was refused.
+    /// Out of memory.
     Memory(Refused),
 }
 
-/// The value that a JSON text (RFC 8259) spells, its bytes being UTF-8. No bytes are no text, whatever memory there is.
+/// Reads a JSON text (RFC 8259) in UTF-8. An empty text is always the fault `Text`.
 pub fn json_value(heap: Global, bytes: &[u8]) -> Result<Value, JsonFault>
     ensures ok { IfOk result (λ value. IsUtf8 bytes.now × (read_text bytes.now ≡ Some (view value))) }
     ensures nests { IfOk result (λ value. nesting (view value) ≤ max_depth) }
@@ -34,7 +36,8 @@ pub fn json_value(heap: Global, bytes: &[u8]) -> Result<Value, JsonFault>
     }
 }
 
-/// The text of a JSON value, without spaces, and its keys in order. It is read as that value.
+/// A JSON value as text: without spaces, the keys of each object sorted. It is read as that value,
+/// if it nests no deeper than the reader allows.
 pub fn json_text(heap: Global, value: &Value) -> Result<String, Refused>
     ensures text { IfOk result (λ text. has_float (view value.now) ≡ false → string_bytes text ≡ compact_text (view value.now)) }
     ensures reads_back { IfOk result (λ text. nesting (view value.now) ≤ max_depth → read (string_bytes text) ≡ Some (view value.now)) }
@@ -45,7 +48,7 @@ pub fn json_text(heap: Global, value: &Value) -> Result<String, Refused>
     }
 }
 
-/// A text as a JSON value.
+/// A text as a JSON string.
 pub fn json_string(heap: Global, text: &str) -> Result<Value, Refused>
     ensures { IfOk result (λ value. view value ≡ string text.now) }
 {
@@ -55,7 +58,8 @@ pub fn json_string(heap: Global, text: &str) -> Result<Value, Refused>
     }
 }
 
-/// Puts a member into a JSON object, in place of one that stands under the key.
+/// Puts a member into a JSON object, in place of one with the same key. If out of memory, the
+/// object is unchanged.
 pub fn put_member(
     members: &mut Map<String, Value>,
     heap: Global,

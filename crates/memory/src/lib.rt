@@ -1,4 +1,5 @@
-//! Growths of collections. Where one is refused, the answer is a `Refused`, which nothing else can make.
+//! Allocations and growths of collections. A refused one returns a `Refused`, which no other crate
+//! can make.
 #![tactic(auto)]
 
 mod collections;

@@ -1,3 +1,5 @@
+//! New collections, boxes and shared values.
+
 ghost use Rattle.std.specs.Prelude.{◌≡◌, ◌*◌, ◌≤◌, [], length, vec_len, vec_capacity, string_bytes, IfOk, IfErr, IsOk};
 ghost use Rattle.std.specs.Arc.{arc_value};
 ghost use prog.Memory.{size};
@@ -8,7 +10,7 @@ use crate::refused::{NotStored, Refused};
 use std::alloc::Allocator;
 use std::sync::Arc;
 
-/// An empty `Vec` with this much room. No room takes no memory.
+/// An empty `Vec` with this much room. No room needs no memory.
 pub fn vec_with_room<T, A: Allocator>(alloc: A, room: usize) -> Result<Vec<T, A>, Refused>
     requires { room * size (layout T.row) ≤ MOST_BYTES }
     ensures items { IfOk result (λ made. made.items ≡ []) }
@@ -22,7 +24,8 @@ pub fn vec_with_room<T, A: Allocator>(alloc: A, room: usize) -> Result<Vec<T, A>
     }
 }
 
-/// An empty `Vec` with this much room, for elements whose size depends on a type parameter. No room takes no memory.
+/// An empty `Vec` with this much room, for elements whose size depends on a type parameter. No room
+/// needs no memory.
 pub fn vec_with_places<T, A: Allocator>(alloc: A, room: usize) -> Result<Vec<T, A>, Refused>
     requires { room ≤ MOST_PLACES }
     ensures items { IfOk result (λ made. made.items ≡ []) }
@@ -57,7 +60,7 @@ pub fn text<A: Allocator>(alloc: A, text: &str) -> Result<String<A>, Refused>
     }
 }
 
-/// The value in a box, or handed back.
+/// The value in a box. If out of memory, the error holds it.
 pub fn boxed<T, A: Allocator>(alloc: A, value: T) -> Result<Box<T, A>, NotStored<T>>
     ensures ok { IfOk result (λ made. made.value ≡ value) }
     ensures value_returned { IfErr result (λ failed. failed.value ≡ value) }
@@ -71,7 +74,7 @@ pub fn boxed<T, A: Allocator>(alloc: A, value: T) -> Result<Box<T, A>, NotStored
     }
 }
 
-/// The value in an `Arc`, or handed back.
+/// The value in an `Arc`. If out of memory, the error holds it.
 pub fn shared<T, A: Allocator>(alloc: A, value: T) -> Result<Arc<T, A>, NotStored<T>>
     ensures ok { IfOk result (λ made. arc_value made ≡ value) }
     ensures value_returned { IfErr result (λ failed. failed.value ≡ value) }
@@ -85,7 +88,7 @@ pub fn shared<T, A: Allocator>(alloc: A, value: T) -> Result<Arc<T, A>, NotStore
     }
 }
 
-/// Another owner of what an `Arc` holds. It is refused only where an `Arc` has as many owners as can be counted.
+/// One more owner of the value of an `Arc`. Refused only if no more owners can be counted.
 pub fn another<T, A: Allocator>(held: &Arc<T, A>) -> Result<Arc<T, A>, Refused>
     ensures { IfOk result (λ made. arc_value made ≡ arc_value held.now) }
 {

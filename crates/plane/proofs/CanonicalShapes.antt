@@ -1,4 +1,4 @@
--- The corners that listed points have are a canonical shape.
+-- The corners of listed points are a canonical shape.
 use Rattle.std.specs.Prelude.{◌≡◌, ◌-◌, ◌<◌, ◌≤◌, not, cond, Bool, true, false, List, [], ◌∷◌, All, length, take, reverse, nat_lt, Result, Ok, Err, pos, ℤ, ◌≤ℤ◌, refl}
 use Rattle.std.specs.List.{list_all}
 use Rattle.std.proofs.Common.{arith, sym, subst, ◌∙◌, ⊎_elim, length-take-le}
@@ -31,7 +31,7 @@ done corners = Ok corners
 done_is : (a b : List Point) → done a ≡ done b → a ≡ b
 done_is a b e = cc
 
--- a test that was passed, with a fault behind it, or a fault before it
+-- a value from a test that chooses between a result and a fault is that of the result
 if_ok : (v : Bool) (r : Found) (e : ShapeFault) (corners : List Point) → cond v r (Err e) ≡ Ok corners → (v ≡ true) × (r ≡ Ok corners)
 if_ok true r e corners h = (refl, h)
 if_ok false r e corners h = absurd cc
@@ -76,7 +76,7 @@ point_canonical p corners h =
 
 -- ---- segments
 
--- two points that differ, the second of which is not before the first
+-- two distinct points, the second of which is not before the first
 pub ordered_canonical : (p q : Point) → IsInRange p → IsInRange q → is_same p q ≡ false → is_before q p ≡ false → IsCanonical (p ∷ q ∷ [])
 ordered_canonical p q p_in q_in differ order = record {
   in_range = both;
@@ -105,7 +105,7 @@ ordered_canonical p q p_in q_in differ order = record {
 same_either_way : (p q : Point) → is_same p q ≡ false → is_same q p ≡ false
 same_either_way p q e = false_from_ne_true _ (λ f. false≢true (sym e ∙ (decides_same p q).1 (sym ((decides_same q p).0 f))))
 
--- of two points one is not before the other
+-- of two points, at most one is before the other
 after_first : (p q : Point) → is_before q p ≡ true → is_before p q ≡ false
 after_first p q e = ⊎_elim (λ h. absurd (true≢false (sym e ∙ not_before p q h))) (λ h. not_before q p h) (one_precedes p q)
 

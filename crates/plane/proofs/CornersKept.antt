@@ -1,4 +1,4 @@
--- The corners of a convex ring: what is left of a ring when the points on its straight sides are dropped.
+-- The corners of a convex ring: what remains when the points on its straight sides are dropped.
 use Rattle.std.specs.Prelude.{◌≡◌, ◌-◌, Bool, true, false, cond, List, [], ◌∷◌, All, Contains, length, get_or, slice_index_or, ℤ, pos, ◌≤ℤ◌, ◌<ℤ◌, refl}
 use Rattle.std.proofs.Common.{arith, suc, ap, sym, ◌∙◌}
 use Rattle.std.proofs.lemmas.Bool.{false≢true}
@@ -13,11 +13,11 @@ use Rattle.plane.proofs.Turns.{GoesStraight, turn-cycle, straight_keeps_left, st
 use native.Mathlib.Numerals.{unary_clauses}
 use Rattle.plane.specs.declared.point.Point.{Point}
 
--- the next point: the first of the list, or else `end`
+-- the next point: the first of the list, or `end`
 abbrev pub next : List Point → Point → Point
 next rest end = slice_index_or rest 0 end
 
--- the last point: of the list, or else p
+-- the last point of the list, or p
 abbrev pub last : Point → List Point → Point
 last p [] = p
 last p (q ∷ rest) = last q rest
@@ -29,17 +29,17 @@ last_of-last p (q ∷ rest) = shorter ∙ last_of-last q rest
     shorter : get_or (p ∷ q ∷ rest) (suc (suc (length rest)) - 1) origin ≡ get_or (q ∷ rest) (suc (length rest) - 1) origin
     shorter = simp unary_clauses
 
--- each point of the way differs from the one before it
+-- each point of the path differs from the one before it
 abbrev pub StepsDiffer : Point → Point → List Point → Type 0
 StepsDiffer end p [] = p ≡ end → ⊥
 StepsDiffer end p (q ∷ rest) = (p ≡ q → ⊥) × StepsDiffer end q rest
 
--- the way turns at each of the points
+-- the path turns at each of the points
 abbrev pub TurnsAtEach : Point → Point → List Point → Type 0
 TurnsAtEach before end [] = Unit {0}
 TurnsAtEach before end (p ∷ rest) = (turn before p (next rest end) ≡ pos 0 → ⊥) × TurnsAtEach p end rest
 
--- such a way keeps all its points
+-- such a path keeps all its points
 pub turning_all : (before end : Point) (rest : List Point) → TurnsAtEach before end rest → turning before end rest ≡ rest
 turning_all before end [] h = refl
 turning_all before end (p ∷ rest) h = go (is_on_line (before, p) (next rest end)) refl (turning_all p end rest h.1)
@@ -48,7 +48,8 @@ turning_all before end (p ∷ rest) h = go (is_on_line (before, p) (next rest en
     go true e f = absurd (h.0 ((decides_line (before, p) (next rest end)).0 e))
     go false e f = ap (λ l. p ∷ l) f
 
--- the corner c was left towards the point p, and m is the point before p: the ways from c and from m to p are one straight way, and z is strictly left of it
+-- between two corners: c is the last corner, p the next point and m the one before p; the directed
+-- lines from c to p and from m to p are the same, and z is strictly left of them
 pub record IsUnderWay (points : List Point) (c m p z : Point) : Type 0 where
   pub keeps_left : (r : Point) → pos 0 ≤ℤ turn m p r → pos 0 ≤ℤ turn c p r
   pub on_line : (r : Point) → turn c p r ≡ pos 0 → turn m p r ≡ pos 0
@@ -56,7 +57,7 @@ pub record IsUnderWay (points : List Point) (c m p z : Point) : Type 0 where
   pub left : pos 0 <ℤ turn c p z
   pub among : Contains points z
 
--- what holds of the corners that follow c, where the ring goes from c to p, and m is its last point
+-- the corners that follow c, if the ring goes from c to p and its last point is m
 pub record AreCorners (points : List Point) (c p m end : Point) (corners : List Point) : Type 0 where
   pub sides : AreOnOrLeft (sides_to end (c ∷ corners)) points
   pub turns : TurnsAtEach c end corners
@@ -75,7 +76,7 @@ pub next_among : (points rest : List Point) (end : Point) → ((P : Point → Ty
 next_among points [] end among end_among P all = end_among P all
 next_among points (q ∷ rest) end among end_among P all = All-head P q rest (among P all)
 
--- the way goes straight on at p
+-- the path goes straight on at p
 straight_on : (points : List Point) (c m p q z : Point) → IsUnderWay points c m p z → turn m p q ≡ pos 0 → All (λ r. pos 0 ≤ℤ turn p q r) points → (p ≡ q → ⊥) → GoesStraight c p q z
 straight_on points c m p q z way flat left differ = record {
   straight = way.line_on q flat;
@@ -101,7 +102,7 @@ straight_step points c p q z m end corners h after = record {
   closing = after.closing;
 }
 
--- the way turns at p
+-- the path turns at p
 pub left_of_way : (m p q : Point) → pos 0 ≤ℤ turn m p q → (turn m p q ≡ pos 0 → ⊥) → pos 0 <ℤ turn p q m
 left_of_way m p q h apart = rw (turn-cycle p q m, turn-cycle q m p) (order_cases (turn m p q) (pos 0) _ (λ low. absurd (apart (even _ low h))) (λ above. above))
   where
@@ -118,7 +119,7 @@ corner_step points c m p q z last_point end corners way apart left after = recor
   closing = after.closing;
 }
 
--- the corners of the rest of the way
+-- the corners of the rest of the path
 pub corners_after : (points : List Point) (end c m z : Point) (rest : List Point) → IsUnderWay points c m (next rest end) z
     → StepsDiffer end m rest → AreOnOrLeft (sides_to end (m ∷ rest)) points
     → ((P : Point → Type 0) → All P points → All P (m ∷ rest)) → ((P : Point → Type 0) → All P points → P end)

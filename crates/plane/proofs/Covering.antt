@@ -1,4 +1,4 @@
--- Which frames cover which, and which meet.
+-- Which frames cover or meet others.
 use Rattle.std.specs.Prelude.{◌≡◌, ◌≤◌, List, [], ◌∷◌, All, length, ℤ, pos, negsuc, ◌+ℤ◌, ◌*ℤ◌, neg_ℤ, ◌≤ℤ◌, ◌<ℤ◌, Bool, false, IsTrue, ◌↔◌}
 use Rattle.std.specs.Int.{int_min, int_max}
 use Rattle.std.proofs.Common.{arith, sym, ◌∙◌, subst}
@@ -15,7 +15,7 @@ use Rattle.plane.proofs.Sums.{parts, diff-mul, neg-diff, same-diff}
 use Rattle.plane.specs.declared.point.Point.{Point}
 use Rattle.plane.specs.declared.rows.Row.{Row}
 
--- the fraction point x/w, y/w lies between the ends of the extent
+-- the fraction point x/w, y/w is between the ends of the extent
 pub record LiesBetween (x y w : ℤ) (e : Extent) : Type 0 where
   pub right : x ≤ℤ (w *ℤ e.x1)
   pub left : (w *ℤ e.x0) ≤ℤ x
@@ -82,7 +82,7 @@ covers_if e f xs ys = λ x y w above all. between_rows x y w e (wider x y w abov
       bottom = le_trans _ _ _ (scaled w _ _ (weak w above) ys.low_below) h.bottom;
     }
 
--- a whole point of the extent
+-- a point with whole coordinates is between the ends of the extent
 pub at_point : (x y : ℤ) (e : Extent) → e.x0 ≤ℤ x → x ≤ℤ e.x1 → e.y0 ≤ℤ y → y ≤ℤ e.y1 → LiesBetween x y (pos 1) e
 at_point x y e a b c d = record { right = one_high x e.x1 b; left = one_low x e.x0 a; top = one_high y e.y1 d; bottom = one_low y e.y0 c }
   where
@@ -206,7 +206,7 @@ frames_meet_only e f meet =
       ys = record { below_high = cancelled meet.w _ _ meet.above_zero (le_trans _ _ _ first.bottom second.top); above_low = cancelled meet.w _ _ meet.above_zero (le_trans _ _ _ second.bottom first.top) };
     }
 
--- ---- the tests of the code, which read numbers of 32 bits
+-- ---- the tests of the code, on 32-bit numbers
 
 overlap_reads : (a b c d : ℤ) → IsCoordinate a → IsCoordinate b → IsCoordinate c → IsCoordinate d → Overlap (narrow a) (narrow b) (narrow c) (narrow d) ↔ Overlap a b c d
 overlap_reads a b c d ha hb hc hd = rw (reads_narrow a ha, reads_narrow b hb, reads_narrow c hc, reads_narrow d hd) (λ o. o, λ o. o)

@@ -1,4 +1,4 @@
--- Frames: the least one of two, and the numbers of 32 bits that the code keeps.
+-- Frames: the least frame of two, and the 32-bit numbers that the code keeps.
 use Rattle.std.specs.Prelude.{◌≡◌, ℕ, ◌+◌, ◌<◌, ◌≤◌, List, [], ◌∷◌, length, drop, get_or, ℤ, ◌≤ℤ◌, refl, FitsSigned}
 use Rattle.std.specs.Int.{int_min, int_max}
 use Rattle.std.proofs.Common.{arith, sym, ap, ◌∙◌, add-one, drop-cons, to_z, of_z}
@@ -46,11 +46,11 @@ IsFrame-joined e f h k = record {
 abbrev pub extent : ℤ → ℤ → ℤ → ℤ → Extent
 extent a b c d = record { x0 = a; y0 = b; x1 = c; y1 = d }
 
--- an extent whose numbers are these
+-- extents with equal numbers are equal
 pub same_extent : (a b c d a' b' c' d' : ℤ) → a ≡ a' → b ≡ b' → c ≡ c' → d ≡ d' → extent a b c d ≡ extent a' b' c' d'
 same_extent a b c d a' b' c' d' p q r s = cc
 
--- the points added to an extent one by one, from the first on
+-- an extent joined with points, one by one
 abbrev pub extended : Extent → List Point → Extent
 extended e [] = e
 extended e (p ∷ rest) = extended (joined e (point_extent p)) rest
@@ -77,7 +77,7 @@ joined_itself e = same_extent _ _ _ _ _ _ _ _ (min_itself e.x0) (min_itself e.y0
     max_itself : (a : ℤ) → int_max a a ≡ a
     max_itself a = omega (arith, ints, clamps)
 
--- from the first point on, the points make the least extent that holds them
+-- starting with the first point, this gives the least extent that contains all points
 pub extended_all : (points : List Point) (d : Point) → 1 ≤ length points → extended (point_extent (get_or points 0 d)) points ≡ extent_of points
 extended_all [] d h = absurd (omega (arith, h))
 extended_all (p ∷ []) d h = joined_itself (point_extent p)

@@ -1,4 +1,5 @@
--- What lies in a shape is among its corners: where all corners are strictly right of a way, so is each fraction point of the shape.
+-- What lies in a shape is among its corners: if all corners are strictly right of a directed line,
+-- so is each fraction point of the shape.
 use Rattle.std.specs.Prelude.{◌≡◌, ◌⊎◌, ℕ, ◌<◌, Bool, true, false, not, ◌||◌, List, [], ◌∷◌, All, Contains, get_or, Decides, IsTrue, ◌↔◌, length, map, ℤ, pos, ◌+ℤ◌, ◌-ℤ◌, ◌*ℤ◌, neg_ℤ, ◌≤ℤ◌, ◌<ℤ◌, refl}
 use Rattle.std.specs.List.{list_all, list_any}
 use Rattle.std.specs.Int.{int_min, int_max}
@@ -26,7 +27,7 @@ use Rattle.plane.specs.declared.point.Point.{Point}
 
 -- ---- the turn of a side and a fraction point
 
--- as `turn p q` of the fraction point x/w, y/w, times w
+-- `turn p q` of the fraction point x/w, y/w, times w
 abbrev pub turn_to : Point × Point → ℤ → ℤ → ℤ → ℤ
 turn_to side x y w = (side.1.x -ℤ side.0.x) *ℤ (y -ℤ w *ℤ side.0.y) -ℤ (side.1.y -ℤ side.0.y) *ℤ (x -ℤ w *ℤ side.0.x)
 
@@ -46,7 +47,7 @@ left_row side x y w h = below _ _ (rw (slack (side.1.x -ℤ side.0.x) (side.1.y 
     below : (a b : ℤ) → pos 0 ≤ℤ (b -ℤ a) → a ≤ℤ b
     below a b h = omega (arith, ints)
 
--- the way back
+-- the side in the other direction
 turn_back_to : (px py qx qy x y w : ℤ) → (px -ℤ qx) *ℤ (y -ℤ w *ℤ qy) -ℤ (py -ℤ qy) *ℤ (x -ℤ w *ℤ qx) ≡ neg_ℤ ((qx -ℤ px) *ℤ (y -ℤ w *ℤ py) -ℤ (qy -ℤ py) *ℤ (x -ℤ w *ℤ px))
 turn_back_to px py qx qy x y w = rw (parts px, parts py, parts qx, parts qy, parts x, parts y, parts w) (simp (diff-mul, diff-sub, diff-add, neg-diff) (same-diff _ _ _ _ (omega arith)))
 
@@ -75,7 +76,7 @@ left_negated p q x y w h =
     from : (a b u v : ℤ) → pos 0 ≤ℤ neg_ℤ (v -ℤ u) → b -ℤ a ≡ u -ℤ v → a ≤ℤ b
     from a b u v h e = omega (arith, ints)
 
--- ---- what lies in a shape is on or left of each of its sides, taken as a ring of one, two or more points
+-- ---- what lies in a shape is on or left of each of its sides, as a ring of one or more points
 
 abbrev pub AreLeft : List (Point × Point) → ℤ → ℤ → ℤ → Type 0
 AreLeft ways x y w = All (λ side. pos 0 ≤ℤ turn_to side x y w) ways
@@ -131,14 +132,14 @@ meet-frames first second meet = record {
   in_second = left_part (Satisfies meet.x meet.y meet.w) (frame_rows (extent_of second)) (edge_rows second) meet.in_second;
 }
 
--- ---- strictly right of a way
+-- ---- strictly right of a directed line
 
--- the turn of a way, from one point to another
+-- the turn of a fraction point, as that of v and what the move from v adds
 moved_to : (px py qx qy vx vy x y w : ℤ) → (qx -ℤ px) *ℤ (y -ℤ w *ℤ py) -ℤ (qy -ℤ py) *ℤ (x -ℤ w *ℤ px)
     ≡ w *ℤ ((qx -ℤ px) *ℤ (vy -ℤ py) -ℤ (qy -ℤ py) *ℤ (vx -ℤ px)) +ℤ ((qx -ℤ px) *ℤ (y -ℤ w *ℤ vy) -ℤ (qy -ℤ py) *ℤ (x -ℤ w *ℤ vx))
 moved_to px py qx qy vx vy x y w = rw (parts px, parts py, parts qx, parts qy, parts vx, parts vy, parts x, parts y, parts w) (simp (diff-mul, diff-sub, diff-add) (same-diff _ _ _ _ (omega arith)))
 
--- where the way from v to the fraction point does not go left, it is as far right as v is
+-- if v is strictly right, so is each fraction point that is no further left than v
 right_of : (p q v : Point) (x y w : ℤ) → pos 0 <ℤ w → turn p q v <ℤ pos 0 → ((q.x -ℤ p.x) *ℤ (y -ℤ w *ℤ v.y) -ℤ (q.y -ℤ p.y) *ℤ (x -ℤ w *ℤ v.x)) ≤ℤ pos 0
     → turn_to (p, q) x y w <ℤ pos 0
 right_of p q v x y w above right on =
@@ -168,7 +169,7 @@ point_right p q v x y w above inside right =
 
 -- ---- one end
 
--- how the turn of a way differs at two points
+-- how the turns at two points differ
 turn_from : (p q v u : Point) → turn p q u -ℤ turn p q v ≡ (q.x -ℤ p.x) *ℤ (u.y -ℤ v.y) -ℤ (q.y -ℤ p.y) *ℤ (u.x -ℤ v.x)
 turn_from p q v u = rw (parts p.x, parts p.y, parts q.x, parts q.y, parts v.x, parts v.y, parts u.x, parts u.y) (simp (diff-mul, diff-sub) (same-diff _ _ _ _ (omega arith)))
 
@@ -186,7 +187,7 @@ not_positive k c h e = cancelled k c (pos 0) h (rw (*ℤ-zero k) e)
 
 -- ---- segments
 
--- k and t have one sign, and k is not zero
+-- k is not 0, and t is 0 or has the sign of k
 abbrev Ahead : ℤ → ℤ → Type 0
 Ahead k t = ((pos 0 <ℤ k) × (pos 0 ≤ℤ t)) ⊎ ((k <ℤ pos 0) × (t ≤ℤ pos 0))
 
@@ -207,7 +208,7 @@ ahead_not_positive k t c s (inr h) e below =
 flat_products : (a b : ℤ) → a -ℤ b ≡ pos 0 → a ≡ b
 flat_products a b e = omega (arith, ints)
 
--- what is along the way of dx, dy turns as that way does
+-- a vector along (dx, dy) turns as (dx, dy) does
 along_x : (gx gy dx dy zx zy : ℤ) → dx *ℤ zy ≡ dy *ℤ zx → dx *ℤ (gx *ℤ zy -ℤ gy *ℤ zx) ≡ zx *ℤ (gx *ℤ dy -ℤ gy *ℤ dx)
 along_x gx gy dx dy zx zy e = one gx gy dx zx zy ∙ ap (λ k. gx *ℤ k -ℤ zx *ℤ (gy *ℤ dx)) e ∙ other gx gy dx dy zx
   where
@@ -226,7 +227,7 @@ along_y gx gy dx dy zx zy e = one gx gy dy zx zy ∙ ap (λ k. zy *ℤ (gx *ℤ 
     other : (gx gy dx dy zy : ℤ) → zy *ℤ (gx *ℤ dy) -ℤ gy *ℤ (dx *ℤ zy) ≡ zy *ℤ (gx *ℤ dy -ℤ gy *ℤ dx)
     other gx gy dx dy zy = rw (parts gx, parts gy, parts dx, parts dy, parts zy) (simp (diff-mul, diff-sub) (same-diff _ _ _ _ (omega arith)))
 
--- from its end v on, the segment to u goes towards the fraction point
+-- from its end v, the segment to u goes towards the fraction point
 abbrev Towards : Point → Point → ℤ → ℤ → ℤ → Type 0
 Towards v u x y w = Ahead (u.x -ℤ v.x) (x -ℤ w *ℤ v.x) ⊎ Ahead (u.y -ℤ v.y) (y -ℤ w *ℤ v.y)
 
@@ -236,7 +237,7 @@ end_right p q v u x y w above right most line (inl ahead) =
 end_right p q v u x y w above right most line (inr ahead) =
     right_of p q v x y w above right (ahead_not_positive _ _ _ _ ahead (along_y (q.x -ℤ p.x) (q.y -ℤ p.y) (u.x -ℤ v.x) (u.y -ℤ v.y) (x -ℤ w *ℤ v.x) (y -ℤ w *ℤ v.y) (flat_products _ _ line)) (no_further_left p q v u most))
 
--- a segment whose ends are seen from one another
+-- the fraction point is on the segment, seen from both ends
 record IsAlong (a b : Point) (x y w : ℤ) : Type 0 where
   there : turn_to (a, b) x y w ≡ pos 0
   back : turn_to (b, a) x y w ≡ pos 0
@@ -310,7 +311,7 @@ segment_right p q a b x y w above order inside right_a right_b = go order
       from_b = inr (ahead_from_high a.y b.y w y h (subst (λ z. y ≤ℤ (w *ℤ z)) (max_second a.y b.y (weak_lt _ _ h)) box.top));
     }) right_a right_b
 
-    -- both ends are one point
+    -- both ends are the same point
     at_end : a.x ≡ b.x → b.y ≤ℤ a.y → a.y ≤ℤ b.y → turn_to (p, q) x y w <ℤ pos 0
     at_end same low high =
         let same_y : a.y ≡ b.y = even _ _ high low in
@@ -339,7 +340,7 @@ segment_right p q a b x y w above order inside right_a right_b = go order
 
 -- ---- polygons
 
--- of a list that is not empty, a point at which the turn of a way is greatest
+-- a point of the list at which the turn is greatest
 record HasMost (p q : Point) (points : List Point) : Type 0 where
   most : Point
   among : Contains points most
@@ -366,7 +367,7 @@ has_most p q c (d ∷ rest) = go (has_most p q d rest)
               (All-weaker (λ e. turn p q e ≤ℤ turn p q found.most) (λ e. turn p q e ≤ℤ turn p q c) (λ e h. le_trans _ _ _ h (weak_lt _ _ gt)) (d ∷ rest) found.above);
         })
 
--- the points before and after v in a ring that turns left at v: each is a P, and both sides are a Q
+-- the neighbours of v in a ring that turns left at v: P holds for both points, Q for both sides
 record HasNeighbours (P : Point → Type 0) (Q : Point × Point → Type 0) (v : Point) : Type 0 where
   before : Point
   after : Point
@@ -412,7 +413,7 @@ ring_neighbours P Q p rest all turns ways =
 seen_back : (ux uy vx vy x y w : ℤ) → (vx -ℤ ux) *ℤ (y -ℤ w *ℤ uy) -ℤ (vy -ℤ uy) *ℤ (x -ℤ w *ℤ ux) ≡ (x -ℤ w *ℤ vx) *ℤ (uy -ℤ vy) -ℤ (y -ℤ w *ℤ vy) *ℤ (ux -ℤ vx)
 seen_back ux uy vx vy x y w = rw (parts ux, parts uy, parts vx, parts vy, parts x, parts y, parts w) (simp (diff-mul, diff-sub, diff-add) (same-diff _ _ _ _ (omega arith)))
 
--- where the turn is greatest at v, whatever is left of both sides at v turns no further left
+-- if the turn is greatest at v, and v is strictly right, so is what is left of both sides at v
 corner_right : (p q u v t : Point) (x y w : ℤ) → pos 0 <ℤ w → turn p q v <ℤ pos 0 → turn p q u ≤ℤ turn p q v → turn p q t ≤ℤ turn p q v → pos 0 ≤ℤ turn_to (u, v) x y w → pos 0 ≤ℤ turn_to (v, t) x y w
     → pos 0 <ℤ turn u v t → turn_to (p, q) x y w <ℤ pos 0
 corner_right p q u v t x y w above right most_u most_t left_u left_t turns =
@@ -455,7 +456,7 @@ shape_right p q (a ∷ b ∷ []) x y w is above inside right =
     (All-head (λ r. turn p q r <ℤ pos 0) b [] (All-tail (λ r. turn p q r <ℤ pos 0) a (b ∷ []) right))
 shape_right p q (a ∷ b ∷ c ∷ rest) x y w is above inside right = polygon_right p q a (b ∷ c ∷ rest) x y w above (is.turn_left (omega arith)) inside right
 
--- ---- a side that has all corners of the other shape strictly on its right
+-- ---- a side with all corners of the other shape strictly on its right
 
 decides_right : (side : Point × Point) (r : Point) → Decides (not (is_on_or_left side r)) (turn side.0 side.1 r <ℤ pos 0)
 decides_right side r = (
@@ -484,7 +485,7 @@ apart_ways (side ∷ ways) corners x y w is above inside left e = go (list_all (
 pub apart_not : (first second : List Point) → IsCanonical second → is_apart first second ≡ true → Meet first second → ⊥
 apart_not first second is e meet = apart_ways (sides first) second meet.x meet.y meet.w is meet.above_zero meet.in_second (lies_left first meet.x meet.y meet.w meet.in_first) e
 
--- ---- a whole point
+-- ---- a point with whole coordinates
 
 whole_turn : (side : Point × Point) (r : Point) → turn_to side r.x r.y (pos 1) ≡ turn side.0 side.1 r
 whole_turn side r = same side.0.x side.0.y side.1.x side.1.y r.x r.y
@@ -498,7 +499,7 @@ whole_turn side r = same side.0.x side.0.y side.1.x side.1.y r.x r.y
 decides_whole : (r : Point) (side : Point × Point) → Decides (is_on_or_left side r) (pos 0 ≤ℤ turn_to side r.x r.y (pos 1))
 decides_whole r side = rw (whole_turn side r) (decides_left side r)
 
--- a point lies in a shape where the shape's frame covers it, and it is on or left of each side
+-- a point lies in a shape if the shape's frame covers it and it is on or left of each side
 pub whole_lies : (corners : List Point) (r : Point) (frame : Extent) (v : Bool) → frame ≡ extent_of corners → Covers frame (point_extent r) → v ≡ list_all (λ side. is_on_or_left side r) (sides corners)
     → IsTrue v ↔ LiesIn r.x r.y (pos 1) corners
 whole_lies corners r frame v frame_is covers told = (

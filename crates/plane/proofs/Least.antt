@@ -19,7 +19,7 @@ use Rattle.plane.proofs.Sums.{parts, diff-mul, diff-sub, diff-add, neg-diff, sam
 use Rattle.plane.proofs.Turns.{from_middle, on_one_line, same_point, no_zero_product}
 use Rattle.plane.specs.declared.point.Point.{Point}
 
--- p is q, or has the lesser x, or at the same x the lesser y
+-- p is q, or has the lesser x, or the same x and the lesser y
 unfoldable pub Precedes : Point → Point → Type 0
 Precedes p q = (p.x <ℤ q.x) ⊎ ((p.x ≡ q.x) × (p.y ≤ℤ q.y))
 
@@ -118,7 +118,7 @@ has_least p (q ∷ rest) = go (has_least q rest)
         })
         (one_precedes p found.least)
 
--- the first place of a least point is a place of the list
+-- the index of the first least point is within the list
 least_place : (ring : List Point) → 1 ≤ length ring → position_or_len (is_least ring) ring < length ring
 least_place [] h = absurd (omega (arith, h))
 least_place (p ∷ rest) h =
@@ -133,7 +133,7 @@ least_place (p ∷ rest) h =
     fails : (found : HasLeast (p ∷ rest)) → length (p ∷ rest) ≤ position_or_len (is_least (p ∷ rest)) (p ∷ rest) → is_least (p ∷ rest) (get_or (p ∷ rest) found.among.0 found.least) ≡ false
     fails found past = fails_before_first (is_least (p ∷ rest)) (p ∷ rest) found.among.0 found.least (omega (arith, found.among.1))
 
--- the ring, read from its least point on: that point, and the others
+-- the ring, starting at its least point: that point, and the others
 pub record StartsLeast (ring : List Point) : Type 0 where
   pub first : Point
   pub rest : List Point
@@ -156,7 +156,8 @@ from_least-starts ring h =
 
 -- ---- the ring turns at its least point
 
--- two ways that meet at p, the first coming from a later point and the second going to one, are not one straight way with a point strictly left of the second
+-- if the vector u leads to the least point and v leads away from it, no positive multiple of u is a
+-- nonnegative multiple of v
 least_numbers : (ux uy vx vy d e : ℤ) → (ux <ℤ pos 0) ⊎ ((ux ≡ pos 0) × (uy <ℤ pos 0)) → (pos 0 <ℤ vx) ⊎ ((vx ≡ pos 0) × (pos 0 ≤ℤ vy)) → pos 0 ≤ℤ d → pos 0 ≤ℤ e
     → e *ℤ ux ≡ d *ℤ vx → e *ℤ uy ≡ d *ℤ vy → e ≡ pos 0
 least_numbers ux uy vx vy d e u v d_above e_above same_x same_y = order_cases e (pos 0) _ (λ low. even _ _ low e_above) (λ above. absurd (no above u v))
@@ -193,7 +194,8 @@ dropped a k b t e f = without_zero _ _ _ e (ap (λ z. z *ℤ t) f ∙ zero-*ℤ 
     without_zero : (a z b : ℤ) → a +ℤ z ≡ b → z ≡ pos 0 → a ≡ b
     without_zero a z b e f = omega (arith, ints)
 
--- a comes before the least point p, and b after it: where the three are on one line, no point is strictly left of the way from p to b
+-- a comes before the least point p, and b after it: if the three are on one line, no point is
+-- strictly left of the directed line from p to b
 nothing_left : (a p b r : Point) → Precedes p a → (p ≡ a → ⊥) → Precedes p b → turn a p b ≡ pos 0 → pos 0 ≤ℤ turn a p r → pos 0 ≤ℤ turn p b r → turn p b r ≡ pos 0
 unfolding Precedes
 nothing_left a p b r before differ after flat d_above e_above =
@@ -222,7 +224,7 @@ nothing_left a p b r before differ after flat d_above e_above =
     ahead (inl h) = inl (more _ _ h)
     ahead (inr h) = inr (none _ _ (sym h.0), some _ _ h.1)
 
--- where all points are on or left of both ways, and not all on one line, the ring turns at its least point
+-- if all points are left of or on both lines, not all on one, the ring turns at its least point
 pub turns_at_least : (points : List Point) (a p b : Point) → Precedes p a → (p ≡ a → ⊥) → Precedes p b → (p ≡ b → ⊥)
     → All (λ r. pos 0 ≤ℤ turn a p r) points → All (λ r. pos 0 ≤ℤ turn p b r) points → (AreOnOneLine points → ⊥) → turn a p b ≡ pos 0 → ⊥
 turns_at_least points a p b before differ after differ' left_a left_b not_flat flat =

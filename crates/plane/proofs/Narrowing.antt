@@ -1,4 +1,4 @@
--- The steps of the elimination, over rows and gaps.
+-- The steps of the elimination, for rows and gaps.
 use Rattle.std.specs.Prelude.{◌≡◌, ℕ, ◌+◌, ◌≤◌, ◌<◌, length, Option, Some, None, IfSome, IfNone, All, List, ℤ, pos, ◌+ℤ◌, ◌-ℤ◌, ◌*ℤ◌, neg_ℤ, ◌≤ℤ◌, ◌<ℤ◌}
 use Rattle.std.proofs.Common.{lit<, arith, get_or, take, sym, take_all, subst, ⊎_elim}
 use Rattle.std.proofs.lemmas.List.Elements.{All-nil, All-more, All-same}
@@ -41,7 +41,7 @@ cross_c first second h k = record {
   fits = lit< tt;
 }
 
--- what a pair of rows leaves when x is removed, as a level
+-- what remains of a pair of rows when x is removed, as a level
 pub pair_level : (first second : Row) (level : Level) (y w : ℤ)
     → level.b ≡ first.a *ℤ second.b -ℤ second.a *ℤ first.b → level.c ≡ first.a *ℤ second.c -ℤ second.a *ℤ first.c
     → pos 0 <ℤ first.a → second.a <ℤ pos 0 → CrossesBoth first second y w → Allows level y w
@@ -62,7 +62,7 @@ pub pair_nowhere : (first second : Row) (level : Level) (r : Option Gap)
 pair_nowhere first second level (Some new) b c above below h = tt
 pair_nowhere first second level None b c above below h = λ y w w_above crosses. h y w w_above (pair_level first second level y w b c above below crosses)
 
--- a gap that a row narrows with each of the others in turn: so far with the first i of them
+-- the gap after a row was paired with the first i of the others
 pub record PairedSoFar (rows : List Row) (row : Row) (i : ℕ) (old new : Gap) : Type 0 where
   pub keeps : (y w : ℤ) → pos 0 <ℤ w → HoldsIn new y w → HoldsIn old y w
   pub within : (y w : ℤ) → pos 0 <ℤ w → HoldsIn new y w → All (λ other. PairAllows row other y w) (take i rows)
@@ -160,7 +160,7 @@ left_narrows rows row gap left = record {
     not_both : (a : ℤ) → a <ℤ pos 0 → pos 0 <ℤ a → ⊥
     not_both a h k = omega (arith, ints)
 
--- a row without x, as the bound on y/w that it is
+-- a row without x, as a bound on y/w
 pub top_holds : (row : Row) (level : Level) (bound : Bound) (x y w : ℤ) → level.b ≡ row.b → level.c ≡ row.c → bound.scale ≡ level.b → bound.most ≡ level.c
     → row.a ≡ pos 0 → Satisfies x y w row → Holds bound y w
 top_holds row level bound x y w b c scale most flat h = rw (scale, most) (flat_allows row level x y w b c flat h)
@@ -199,7 +199,7 @@ pub height_without : (rows : List Row) (i : ℕ) (gap : Gap) (r : Option Height)
 height_without rows i gap None far h = λ x y w above all. h y w above (far.whole x y w above all)
 height_without rows i gap (Some found) far h = tt
 
--- the best of the first i rows, or the one that the search began with
+-- the best of the first i rows, or the row that the search started with
 pub record BestSoFar (rows : List Row) (y w : ℤ) (i : ℕ) (best : Row) : Type 0 where
   pub small : IsSmallRow best
   pub right : pos 0 <ℤ best.a
@@ -223,7 +223,7 @@ best_more rows y w i d best new in' small allowed far step = record {
     one_is : (P : Row → Type 0) → P best → (pos 0 <ℤ (get_or rows i d).a → P (get_or rows i d)) → P new
     one_is P old other = ⊎_elim (λ e. subst P (sym e) old) (λ e. subst P (sym e.0) (other e.1)) step.one_of
 
--- the point that the best row gives satisfies each row
+-- the point of the best row satisfies each row
 pub satisfied : (rows : List Row) (best row : Row) (x y w : ℤ) → x ≡ reach best y w → pos 0 <ℤ best.a → (pos 0 <ℤ row.a → IsCloser best row y w) → RowAllows rows row y w
     → PairAllows best row y w → Satisfies x (y *ℤ best.a) (w *ℤ best.a) row
 satisfied rows best row x y w e right closest allows paired =

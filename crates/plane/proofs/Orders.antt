@@ -1,4 +1,4 @@
--- Products and the order of whole numbers.
+-- Products and the order of integers.
 use Rattle.std.specs.Prelude.{◌≡◌, ℕ, ◌+◌, ◌*◌, ◌≤◌, ℤ, pos, negsuc, ◌+ℤ◌, ◌-ℤ◌, ◌*ℤ◌, neg_ℤ, ◌≤ℤ◌, ◌<ℤ◌, unsigned_abs, IsTrue, false}
 use Rattle.std.proofs.Common.{arith, suc, zero}
 use Rattle.std.proofs.lemmas.Int.{ints, unsigned_abs-mul, by_lt_z}
@@ -7,7 +7,7 @@ use Rattle.std.proofs.lemmas.Bool.{false≢true}
 use Rattle.std.proofs.Math.IntN.{*ℤ_comm, zero-*ℤ}
 use Rattle.plane.proofs.Sums.{parts, diff-mul, diff-sub, diff-add, neg-diff, same-diff}
 
--- a product of two numbers that are not negative is not
+-- a product of two nonnegative numbers is nonnegative
 pub product_not_negative : (a b : ℤ) → pos 0 ≤ℤ a → pos 0 ≤ℤ b → pos 0 ≤ℤ (a *ℤ b)
 product_not_negative (pos a) (pos b) h k = omega (arith, ints)
 product_not_negative (pos a) (negsuc b) h k = absurd (omega (arith, ints, k))
@@ -24,7 +24,7 @@ product_positive (negsuc a) b h k = absurd (omega (arith, ints, h))
 pub mul-sub : (k a b : ℤ) → k *ℤ (b -ℤ a) ≡ k *ℤ b -ℤ k *ℤ a
 mul-sub k a b = rw (parts k, parts a, parts b) (simp (diff-mul, diff-sub) (same-diff _ _ _ _ (omega arith)))
 
--- the order of products whose factors are moved
+-- moving the factors of a product
 pub swap_left : (a b c : ℤ) → a *ℤ (b *ℤ c) ≡ b *ℤ (a *ℤ c)
 swap_left a b c = rw (parts a, parts b, parts c) (simp diff-mul (same-diff _ _ _ _ (omega arith)))
 
@@ -34,30 +34,30 @@ swap_ends a b c = rw (parts a, parts b, parts c) (simp diff-mul (same-diff _ _ _
 pub le_trans : (a b c : ℤ) → a ≤ℤ b → b ≤ℤ c → a ≤ℤ c
 le_trans a b c h k = omega (arith, ints)
 
--- an order times a factor that is not negative
+-- an inequality times a nonnegative factor
 pub scaled : (k a b : ℤ) → pos 0 ≤ℤ k → a ≤ℤ b → (k *ℤ a) ≤ℤ (k *ℤ b)
 scaled k a b h e =
     let above : pos 0 ≤ℤ (k *ℤ (b -ℤ a)) = product_not_negative k (b -ℤ a) h (omega (arith, ints)) in
     omega (arith, ints, mul-sub k a b)
 
--- a positive factor may be left out
--- of two numbers one is at most the other, or the other is below it
+-- of two numbers, the first is at most the second, or the second is below the first
 pub order_cases : (a b : ℤ) (P : Type 0) → (a ≤ℤ b → P) → (b <ℤ a → P) → P
 order_cases a b P f g = by_lt_z b a g f
 
 pub weak_lt : (a b : ℤ) → a <ℤ b → a ≤ℤ b
 weak_lt a b h = omega (arith, ints)
 
+-- a positive factor can be cancelled
 pub cancelled : (k a b : ℤ) → pos 0 <ℤ k → (k *ℤ a) ≤ℤ (k *ℤ b) → a ≤ℤ b
 cancelled k a b h e = order_cases a b (a ≤ℤ b) (λ le. le)
     (λ gt. let above : pos 0 <ℤ (k *ℤ (a -ℤ b)) = product_positive k (a -ℤ b) h (omega (arith, ints)) in
     absurd (omega (arith, ints, mul-sub k b a)))
 
--- the size of a product
+-- a bound on the size of a product
 pub size-mul : (a b : ℤ) (m n : ℕ) → unsigned_abs a ≤ m → unsigned_abs b ≤ n → unsigned_abs (a *ℤ b) ≤ m * n
 size-mul a b m n h k = rw (unsigned_abs-mul a b) (mul-le _ _ m n h k)
 
--- the size of a difference of two products
+-- a bound on the size of a difference of two products
 pub size-cross : (a b c d : ℤ) (m n k l : ℕ) → unsigned_abs a ≤ m → unsigned_abs b ≤ n → unsigned_abs c ≤ k → unsigned_abs d ≤ l → unsigned_abs (a *ℤ b -ℤ c *ℤ d) ≤ m * n + k * l
 size-cross a b c d m n k l ha hb hc hd = difference (a *ℤ b) (c *ℤ d) (m * n) (k * l) (size-mul a b m n ha hb) (size-mul c d k l hc hd)
   where
@@ -71,14 +71,14 @@ tighter_implies m c n d t w m_above n_above w_above less holds =
     let second : (w *ℤ (c *ℤ n)) ≤ℤ (w *ℤ (d *ℤ m)) = scaled w _ _ (omega (arith, ints)) less in
     cancelled m _ _ m_above (rw (swap_left m n t, swap_ends m d w) (le_trans _ (n *ℤ (c *ℤ w)) _ first (rw (swap_ends n c w) second)))
 
--- what a failed test of an order says
+-- what a failed comparison says
 pub below_otherwise : (a b : ℤ) → (a ≤ℤ b → IsTrue false) → b <ℤ a
 below_otherwise a b refused = order_cases a b (b <ℤ a) (λ le. absurd (false≢true (refused le))) (λ gt. gt)
 
 pub at_most_otherwise : (a b : ℤ) → (a ≤ℤ b → IsTrue false) → b ≤ℤ a
 at_most_otherwise a b refused = let less : b <ℤ a = below_otherwise a b refused in omega (arith, ints)
 
--- where some t/w lies between a bound on -t and one on t, the end of the first lies within the second
+-- if some t/w is within a bound on -t and one on t, the end of the first is within the second
 between : (m c n d t w : ℤ) → w *ℤ (n *ℤ neg_ℤ c) +ℤ n *ℤ (c *ℤ w) ≡ n *ℤ (m *ℤ neg_ℤ t) +ℤ m *ℤ (n *ℤ t)
 between m c n d t w = rw (parts m, parts c, parts n, parts t, parts w) (simp (diff-mul, diff-add, neg-diff) (same-diff _ _ _ _ (omega arith)))
 
@@ -111,14 +111,15 @@ removed a₁ b₁ c₁ a₂ b₂ c₂ x y w above below first second =
     sum_le : (a b c d : ℤ) → a ≤ℤ b → c ≤ℤ d → (a +ℤ c) ≤ℤ (b +ℤ d)
     sum_le a b c d h k = omega (arith, ints)
 
--- the closer of two is closer than what the further one is closer than
+-- being closer is transitive
 pub closer_trans : (r a s b t d : ℤ) → pos 0 ≤ℤ a → pos 0 <ℤ b → pos 0 ≤ℤ d → (r *ℤ b) ≤ℤ (s *ℤ a) → (s *ℤ d) ≤ℤ (t *ℤ b) → (r *ℤ d) ≤ℤ (t *ℤ a)
 closer_trans r a s b t d a_above b_above d_above first second =
     let one : (d *ℤ (r *ℤ b)) ≤ℤ (d *ℤ (s *ℤ a)) = scaled d _ _ d_above first in
     let two : (a *ℤ (s *ℤ d)) ≤ℤ (a *ℤ (t *ℤ b)) = scaled a _ _ a_above second in
     cancelled b _ _ b_above (rw (swap_ends b r d, swap_ends b t a) (le_trans _ (d *ℤ (s *ℤ a)) _ one (rw (swap_ends d s a) two)))
 
--- the point that lies as far to the right as a row (of a, b, c) lets it at the height y/w: what another row (of d, e, f) says of it
+-- the rightmost point that a row (a, b, c) allows at the height y/w, in the terms of another row
+-- (d, e, f)
 pub below_right : (x a e f y w : ℤ) → (d : ℤ) → (x *ℤ d) ≤ℤ ((f *ℤ w -ℤ e *ℤ y) *ℤ a) → (d *ℤ x +ℤ e *ℤ (y *ℤ a)) ≤ℤ (f *ℤ (w *ℤ a))
 below_right x a e f y w d h =
     let one : (f *ℤ w -ℤ e *ℤ y) *ℤ a ≡ f *ℤ (w *ℤ a) -ℤ e *ℤ (y *ℤ a) =

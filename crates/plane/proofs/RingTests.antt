@@ -1,4 +1,4 @@
--- What the tests of points and rings say.
+-- What the tests of points and rings decide.
 use Rattle.std.specs.Prelude.{◌≡◌, ◌<◌, ◌≤◌, Contains, Decides, cond, slice_index_or, Bool, true, false, List, [], ◌∷◌, All, length, ℤ, pos, ◌≤ℤ◌, int_le, refl}
 use Rattle.std.specs.List.{list_all, list_any}
 use Rattle.std.specs.Ordering.{int_eq}
@@ -27,7 +27,7 @@ int_eq-true a b e = grind (arith, ints)
 eq-int_eq : (a b : ℤ) → a ≡ b → int_eq a b ≡ true
 eq-int_eq a b e = grind (arith, ints)
 
--- a test of each element, and the fact of each
+-- a test of each element decides a fact about each
 pub decides_all : {X : Type 0} (p : X → Bool) (P : X → Type 0) → ((x : X) → Decides (p x) (P x)) → (xs : List X) → Decides (list_all p xs) (All P xs)
 decides_all p P each xs = Decides-by_and p P (list_all p) each refl (λ _ _. refl) xs
 

@@ -40,7 +40,7 @@ kept_by corners n places e small p canonical = record {
   canonical = rw (p, e, take-append_seam) canonical;
 }
 
--- ---- what dropping points keeps
+-- ---- what dropping points preserves
 
 dropped-All : (P : Point → Type 0) (before end : Point) (rest : List Point) → All P rest → All P (turning before end rest)
 dropped-All P before end [] all = All-nil P
@@ -58,7 +58,7 @@ dropped-Differ before end (p ∷ rest) h = go (is_on_line (before, p) (next rest
     go true others = others
     go false others = (dropped-All (λ q. p ≡ q → ⊥) p end rest h.0, others)
 
--- ---- the ring's own facts
+-- ---- facts about the ring
 
 last_among : (P : Point → Type 0) (p : Point) (rest : List Point) → All P (p ∷ rest) → P (last p rest)
 last_among P p [] all = All-head P p [] all
@@ -95,7 +95,8 @@ passes a b c d e f g h r p q s t = rw (p, q, s, t) refl
 passes_ring : (a b c : Bool) (e f : ShapeFault) (r s : Result (List Point) ShapeFault) → a ≡ false → b ≡ false → c ≡ true → cond a (Err e) (cond b (Err f) (cond c r s)) ≡ r
 passes_ring a b c e f r s p q t = rw (p, q, t) refl
 
--- corners in range, no two alike, that start with the least one, turn at each one and are each on or left of each side
+-- corners in range, distinct, the least one first, that turn at each corner and are each on or left
+-- of each side
 record IsCornerRing (p x y : Point) (more : List Point) : Type 0 where
   in_range : All IsInRange (p ∷ x ∷ y ∷ more)
   at_most : length (p ∷ x ∷ y ∷ more) ≤ CORNER_LIMIT
@@ -104,7 +105,8 @@ record IsCornerRing (p x y : Point) (more : List Point) : Type 0 where
   left : AreOnOrLeft (sides_to p (p ∷ x ∷ y ∷ more)) (p ∷ x ∷ y ∷ more)
   turns : TurnsAtEach (last p (x ∷ y ∷ more)) p (p ∷ x ∷ y ∷ more)
 
--- a way of points that turns at each of them, each of which is on or left of every side, turns left at each
+-- a path of points that turns at each of them, each point being on or left of every side, turns
+-- left at each
 turns_left : (points : List Point) (end before : Point) (rest : List Point) → TurnsAtEach before end rest → AreOnOrLeft (sides_to end (before ∷ rest)) points
     → ((P : Point → Type 0) → All P points → All P rest) → ((P : Point → Type 0) → All P points → P end) → TurnsLeft before end rest
 turns_left points end before [] turns left among end_among = tt
@@ -173,7 +175,7 @@ corner_ring_canonical p x y more h = record {
   turn_left = λ _. subst (λ before. TurnsLeft before p (p ∷ x ∷ y ∷ more)) (sym (last_of-last p (x ∷ y ∷ more))) (corners_turn_left p x y more h);
 }
 
--- ---- the corners of a ring that starts with its least point
+-- ---- the corners of a ring, starting at its least point
 
 record HasCorners (p b : Point) (rest : List Point) (more : List Point) : Type 0 where
   dropped : turning_points (p ∷ b ∷ rest) ≡ p ∷ more
@@ -217,7 +219,7 @@ has_corners p b rest h precedes = record {
     first_kept : (v : Bool) → v ≡ false → cond v (turning p p (b ∷ rest)) (p ∷ turning p p (b ∷ rest)) ≡ p ∷ turning p p (b ∷ rest)
     first_kept v e = rw e refl
 
--- there are three corners at least, and they are a ring of corners
+-- there are at least three corners, and they form a ring of corners
 three_corners : (p b : Point) (rest more : List Point) → IsConvexRing (p ∷ b ∷ rest) → All (λ q. Precedes p q) (p ∷ b ∷ rest) → HasCorners p b rest more
     → length (p ∷ more) ≤ CORNER_LIMIT → IsCanonical (p ∷ more)
 three_corners p b rest [] h precedes found small = absurd (not_zero _ found.left_first (found.are.forward (last b rest) (turn_nowhere p (last b rest))))

@@ -1,4 +1,4 @@
--- A ring read from another point on, or in the other direction.
+-- A ring starting at another point, or in the opposite direction.
 use Rattle.std.specs.Prelude.{◌≡◌, ◌<◌, ◌≤◌, true, false, List, [], ◌∷◌, ◌++◌, All, length, take, drop, reverse, slice_index_or, pos, ◌≤ℤ◌, refl}
 use Rattle.std.specs.List.{position_or_len}
 use Rattle.std.proofs.Common.{ap, sym, ◌∙◌, subst, take-append-drop, append-nil, add_comm}
@@ -14,7 +14,7 @@ use Rattle.plane.proofs.ShapeRows.{left_part, right_part}
 use Rattle.plane.specs.declared.point.Point.{Point}
 use Rattle.plane.specs.declared.ring.TheConstants.{LISTED_LIMIT}
 
--- the other part first
+-- the second part first
 pub All-swap : {X : Type 0} (P : X → Type 0) (xs ys : List X) → All P (xs ++ ys) → All P (ys ++ xs)
 All-swap P xs ys all = All-append P ys xs (right_part P xs ys all) (left_part P xs ys all)
 
@@ -22,7 +22,7 @@ pub All-reverse : {X : Type 0} (P : X → Type 0) (xs : List X) → All P xs →
 All-reverse P [] all = All-nil P
 All-reverse P (x ∷ xs) all = All-same P (reverse (x ∷ xs)) (reverse xs ++ x ∷ []) (reverse_onto xs x []) (All-append P (reverse xs) (x ∷ []) (All-reverse P xs (All-tail P x xs all)) (All-cons P x [] (All-head P x xs all) (All-nil P)))
 
--- the same fact of every three points
+-- a fact about every three points
 three_weaker : (xs ys : List Point) → ((P : Point → Type 0) → All P xs → All P ys) → AreOnOneLine xs → AreOnOneLine ys
 three_weaker xs ys f line =
     f (λ p. All (λ q. All (λ r. turn p q r ≡ pos 0) ys) ys)
@@ -40,7 +40,7 @@ Differ-parts (x ∷ xs) ys h =
     let rest = Differ-parts xs ys h.1 in
     ((left_part (λ q. x ≡ q → ⊥) xs ys h.0, rest.0), rest.1, All-cons (λ x. All (λ y. x ≡ y → ⊥) ys) x xs (right_part (λ q. x ≡ q → ⊥) xs ys h.0) rest.2)
 
--- facts of each pair, in the other order
+-- facts about each pair, in the other order
 cross-swap : (xs ys : List Point) → All (λ x. All (λ y. x ≡ y → ⊥) ys) xs → All (λ y. All (λ x. y ≡ x → ⊥) xs) ys
 cross-swap xs ys all = λ k d in' j e among e'. all j e among k d in' (sym e')
 
@@ -54,7 +54,7 @@ Differ-reverse (x ∷ xs) h =
     (Differ-append (reverse xs) (x ∷ []) (Differ-reverse xs h.1) (All-nil _, tt)
     (All-weaker (λ q. x ≡ q → ⊥) (λ q. All (λ y. q ≡ y → ⊥) (x ∷ [])) (λ q apart. All-cons (λ y. q ≡ y → ⊥) x [] (λ e. apart (sym e)) (All-nil _)) (reverse xs) (All-reverse (λ q. x ≡ q → ⊥) xs h.0)))
 
--- a convex ring's points in the other direction, where they go left
+-- a ring's points in the opposite direction are a convex ring, if that goes left
 pub reversed_convex : (ring back : List Point) → back ≡ reverse ring → All IsInRange ring → 3 ≤ length ring → length ring < LISTED_LIMIT → Differ ring → (AreOnOneLine ring → ⊥) → AreOnOrLeft (sides back) back → IsConvexRing back
 reversed_convex ring back e in_range least most differ not_flat left = record {
   in_range = rw e (All-reverse IsInRange ring in_range);

@@ -48,7 +48,7 @@ row a b c = record { a = a; b = b; c = c }
 pub same_row : (a b c a' b' c' : ℤ) → a ≡ a' → b ≡ b' → c ≡ c' → row a b c ≡ row a' b' c'
 same_row a b c a' b' c' p q r = cc
 
--- the numbers that the code finds for an edge
+-- the numbers that the code computes for an edge
 pub record IsEdge (p q : Point) (dx dy x y c : ℤ) : Type 0 where
   pub dx_is : dx ≡ narrow q.x -ℤ narrow p.x
   pub dx_size : unsigned_abs dx ≤ 20000000
@@ -168,7 +168,7 @@ length-rows_of (p ∷ []) h = lit≤ tt
 length-rows_of (p ∷ q ∷ []) h = lit≤ tt
 length-rows_of (p ∷ q ∷ r ∷ rest) h = rw length-append (rw (length-sides_to p (p ∷ q ∷ r ∷ rest)) (omega arith))
 
--- two lists of rows, the first of a shape, have a frame to begin with
+-- two lists of rows, the first of them a shape's, start with a frame
 pub rows-HasFrame : (e : Extent) (edges others : List Row) → HasFrame ((frame_rows e ++ edges) ++ others)
 rows-HasFrame e edges others = record {
   long = omega arith;
@@ -185,7 +185,7 @@ pub right_part : {X : Type 0} (P : X → Type 0) (xs ys : List X) → All P (xs 
 right_part P [] ys all = all
 right_part P (x ∷ xs) ys all = right_part P xs ys (All-tail P x (xs ++ ys) all)
 
--- a common point of all the rows of two shapes, in the words of meeting
+-- a common point of all rows of two shapes lies in both shapes
 pub common : (first second : List Point) (rows : List Row) (r : Option Fraction) → rows ≡ rows_of first ++ rows_of second
     → IfSome r (λ p. All (Satisfies p.x p.y p.w) rows) → IfSome r (λ p. LiesIn p.x p.y p.w first × LiesIn p.x p.y p.w second)
 common first second rows None e h = tt

@@ -1,4 +1,4 @@
--- Rows of the sides of rings, added one by one.
+-- Rows of the sides of a ring, appended one by one.
 use Rattle.std.specs.Prelude.{◌≡◌, ℕ, ◌+◌, ◌<◌, ◌≤◌, List, [], ◌∷◌, ◌++◌, length, drop, get_or, map, slice_index_or}
 use Rattle.std.proofs.Common.{arith, sym, ◌∙◌, add-one, drop-cons, append_assoc, append-nil}
 use Rattle.std.proofs.lemmas.List.{length-append}
@@ -8,7 +8,7 @@ use Rattle.plane.specs.Rows.{edge_row}
 use Rattle.plane.specs.declared.point.Point.{Point}
 use Rattle.plane.specs.declared.rows.Row.{Row}
 
--- the rows so far, and those of the sides from the point i on, are all the rows
+-- the rows so far, followed by those of the sides from index i on, are all the rows
 pub record SidesSoFar (before : List Row) (ring : List Point) (i : ℕ) (rows : List Row) : Type 0 where
   pub told : rows ++ map edge_row (sides_to (first_of ring) (drop i ring)) ≡ before ++ map edge_row (sides ring)
   pub count : length rows ≡ length before + i

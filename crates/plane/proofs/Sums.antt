@@ -1,4 +1,5 @@
--- Identities of sums and products of whole numbers. Each is read as a difference of two natural numbers, where `omega` multiplies out.
+-- Identities of sums and products of integers. Each integer is written as a difference of two
+-- naturals, for which `omega` multiplies out.
 use Rattle.std.specs.Prelude.{◌≡◌, ℕ, ◌+◌, ◌*◌, ℤ, pos, negsuc, ◌+ℤ◌, ◌-ℤ◌, ◌*ℤ◌}
 use Rattle.std.proofs.Common.{arith, suc, sym, ◌∙◌, ap}
 use Rattle.std.proofs.lemmas.Int.{ints}
@@ -29,7 +30,7 @@ pub neg-diff : (u v : ℕ) → neg_ℤ (diff u v) ≡ diff v u
 unfolding diff
 neg-diff u v = omega (arith, ints)
 
--- one of the two parts is 0
+-- a difference of two naturals as an integer in normal form
 pos-diff : (u v k : ℕ) → u ≡ v + k → diff u v ≡ pos k
 unfolding diff
 pos-diff u v k e = omega (arith, ints)
@@ -51,7 +52,7 @@ pub diff-mul : (u v u' v' : ℕ) → diff u v *ℤ diff u' v' ≡ diff (u * u' +
 unfolding diff
 diff-mul u v u' v' = mul-go (diff u v) (diff u' v') u v u' v' (omega (arith, ints)) (omega (arith, ints))
 
--- turn along
+-- an identity between the cross products of three vectors
 pub turn-id : (ux uy vx vy wx wy : ℤ) → (ux *ℤ vy -ℤ uy *ℤ vx) *ℤ wx +ℤ (vx *ℤ wy -ℤ vy *ℤ wx) *ℤ ux ≡ (ux *ℤ wy -ℤ uy *ℤ wx) *ℤ vx
 turn-id ux uy vx vy wx wy = rw (parts ux, parts uy, parts vx, parts vy, parts wx, parts wy) (simp (diff-mul, diff-sub, diff-add) (same-diff _ _ _ _ (omega arith)))
 

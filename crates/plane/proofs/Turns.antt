@@ -1,4 +1,4 @@
--- Turns: areas of triangles, and points on one line.
+-- Turns: signed areas of triangles, and points on one line.
 use Rattle.std.specs.Prelude.{◌≡◌, ℤ, pos, ◌+ℤ◌, ◌-ℤ◌, ◌*ℤ◌, neg_ℤ, ◌≤ℤ◌, ◌<ℤ◌, ◌⊎◌}
 use Rattle.std.proofs.Common.{arith, ap, sym, subst, inl, inr, ◌∙◌}
 use Rattle.std.proofs.lemmas.Int.{ints}
@@ -11,7 +11,7 @@ use Rattle.plane.specs.declared.point.Point.{Point}
 pub turn-cycle : (p q r : Point) → turn p q r ≡ turn q r p
 turn-cycle p q r = rw (parts p.x, parts p.y, parts q.x, parts q.y, parts r.x, parts r.y) (simp (diff-mul, diff-sub) (same-diff _ _ _ _ (omega arith)))
 
--- the ways from c to p and from p to q, taken together
+-- from c to q, through p
 pub turn-along : (c p q r : Point) → turn c q r ≡ turn c p r +ℤ turn p q r -ℤ turn c p q
 turn-along c p q r =
     rw (parts c.x, parts c.y, parts p.x, parts p.y, parts q.x, parts q.y, parts r.x, parts r.y) (simp (diff-mul, diff-sub, diff-add) (same-diff _ _ _ _ (omega arith)))
@@ -21,11 +21,11 @@ pub cross-products : (a b c d e f g h : ℤ)
 cross-products a b c d e f g h =
     rw (parts a, parts b, parts c, parts d, parts e, parts f, parts g, parts h) (simp (diff-mul, diff-sub, diff-add) (same-diff _ _ _ _ (omega arith)))
 
--- a turn seen from its middle point
+-- a turn relative to its middle point
 pub from_middle : (c p r : Point) → turn c p r ≡ (p.x -ℤ c.x) *ℤ (r.y -ℤ p.y) -ℤ (p.y -ℤ c.y) *ℤ (r.x -ℤ p.x)
 from_middle c p r = rw (parts c.x, parts c.y, parts p.x, parts p.y, parts r.x, parts r.y) (simp (diff-mul, diff-sub) (same-diff _ _ _ _ (omega arith)))
 
--- four points seen from p: the ways from c to p and from p to q, and the points z and r
+-- four points relative to p
 pub turn-products : (c p q z r : Point) → turn p q z *ℤ turn c p r +ℤ turn c p q *ℤ turn p z r ≡ turn c p z *ℤ turn p q r
 turn-products c p q z r = rw (from_middle c p r, from_middle c p q, from_middle c p z) (cross-products (p.x -ℤ c.x) (p.y -ℤ c.y) (q.x -ℤ p.x) (q.y -ℤ p.y) (z.x -ℤ p.x) (z.y -ℤ p.y) (r.x -ℤ p.x) (r.y -ℤ p.y))
 
@@ -37,7 +37,7 @@ turn_nowhere p r = rw (parts p.x, parts p.y, parts r.x, parts r.y) (simp (diff-m
 
 -- ---- numbers
 
--- where a positive number times a is another times b, a and b have one sign
+-- if a positive number times a is a nonnegative number times b, then a is of b's sign or 0
 pub sign_follows : (d e a b : ℤ) → pos 0 <ℤ e → pos 0 ≤ℤ d → e *ℤ a ≡ d *ℤ b → pos 0 ≤ℤ b → pos 0 ≤ℤ a
 sign_follows d e a b e_above d_above same h =
     cancelled e (pos 0) a e_above (rw (*ℤ-zero e, same) (product_not_negative d b d_above h))
@@ -115,7 +115,7 @@ same_at a b c d e f = cc
 pub same_point : (p q : Point) → p.x ≡ q.x → p.y ≡ q.y → p ≡ q
 same_point p q e f = same_at p.x p.y q.x q.y e f
 
--- some point is off the line of two that differ
+-- some point is off the line through two distinct points
 pub off_line : (p q : Point) → (p ≡ q → ⊥) → ((r : Point) → turn p q r ≡ pos 0) → ⊥
 off_line p q differ all =
     differ (same_point p q (from_x _ _ (sym (turn_at_y p q) ∙ all (at_y p))) (from_y _ _ (sym (turn_at_x p q) ∙ all (at_x p))))
@@ -126,7 +126,7 @@ off_line p q differ all =
     from_y : (a b : ℤ) → a -ℤ b ≡ pos 0 → a ≡ b
     from_y a b e = omega (arith, ints)
 
--- three points on the line of two that differ are on one line
+-- two points on the line through p and q are on one line with p
 middle : (p q b c : Point) → (p ≡ q → ⊥) → turn p q b ≡ pos 0 → turn p q c ≡ pos 0 → turn p b c ≡ pos 0
 middle p q b c differ hb hc =
     order_cases (turn p b c) (pos 0) _
@@ -157,16 +157,16 @@ on_one_line p q a b c differ ha hb hc = from_along _ _ _ _ (turn-along p a b c) 
     from_along : (w x y z : ℤ) → w ≡ x +ℤ y -ℤ z → w ≡ pos 0 → x ≡ pos 0 → z ≡ pos 0 → y ≡ pos 0
     from_along w x y z e f g h = omega (arith, ints)
 
--- ---- a way that goes straight on
+-- ---- a path that goes straight on
 
--- the way from c to p goes on straight to q: z is left of it, and q is not p
+-- the path from c to p goes straight on to q: z is left of it, and q is not p
 pub record GoesStraight (c p q z : Point) : Type 0 where
   pub straight : turn c p q ≡ pos 0
   pub left : pos 0 <ℤ turn c p z
   pub left_after : pos 0 ≤ℤ turn p q z
   pub differ : p ≡ q → ⊥
 
--- what then holds of the ways from c to p, from p to q and from c to q
+-- how the turns on c to p, p to q and c to q then relate
 pub straight_products : (c p q z r : Point) → GoesStraight c p q z → turn p q z *ℤ turn c p r ≡ turn c p z *ℤ turn p q r
 straight_products c p q z r h = dropped _ _ _ (turn-products c p q z r) (ap (λ k. k *ℤ turn p z r) h.straight ∙ zero-*ℤ (turn p z r))
   where
@@ -192,7 +192,7 @@ sum_of c p q z r h = dropped (turn c q r) (turn c p r) (turn p q r) (turn c p q)
     dropped : (w x y k : ℤ) → w ≡ x +ℤ y -ℤ k → k ≡ pos 0 → w ≡ x +ℤ y
     dropped w x y k e f = omega (arith, ints)
 
--- left of p to q is left of c to q
+-- what is left of p to q is left of c to q
 pub straight_keeps_left : (c p q z r : Point) → GoesStraight c p q z → pos 0 ≤ℤ turn p q r → pos 0 ≤ℤ turn c q r
 straight_keeps_left c p q z r h k =
     rw (sum_of c p q z r h) (sum_above _ _ (sign_follows (turn c p z) (turn p q z) (turn c p r) (turn p q r) (straight_left c p q z h) (weak _ h.left) (straight_products c p q z r h) k) k)
@@ -206,7 +206,7 @@ straight_strict c p q z h = rw (sum_of c p q z z h) (sum_above _ _ h.left h.left
     sum_above : (a b : ℤ) → pos 0 <ℤ a → pos 0 ≤ℤ b → pos 0 <ℤ (a +ℤ b)
     sum_above a b h k = omega (arith, ints)
 
--- on the line of c to q is on that of c to p and on that of p to q
+-- what is on the line from c to q is on those from c to p and from p to q
 pub straight_on_line : (c p q z r : Point) → GoesStraight c p q z → turn c q r ≡ pos 0 → (turn c p r ≡ pos 0) × (turn p q r ≡ pos 0)
 straight_on_line c p q z r h e =
     let same = straight_products c p q z r h in

@@ -1,4 +1,4 @@
--- Numbers of 128 bits, as the code's own operations read them.
+-- Numbers of 128 bits, as the operations of the code see them.
 use Rattle.std.specs.Prelude.{◌≡◌, ℕ, ◌+◌, ◌*◌, ◌≤◌, ◌<◌, ◌^◌, ℤ, ◌-ℤ◌, ◌*ℤ◌, ◌≤ℤ◌, ◌↔◌, IsTrue, unsigned_abs, refl, FitsSigned}
 use Rattle.std.specs.Int.Signed.{le_z, le_z_yes}
 use Rattle.std.proofs.Common.{arith, lit<, sym, subst, T, to_z, of_z}

@@ -1,4 +1,4 @@
--- How large the numbers of an elimination are: each product of two of them stays below 2 ^ 127.
+-- The ranges of the numbers of an elimination: each product of two of them is below 2 ^ 127.
 use Rattle.std.specs.Prelude.{◌≤◌, ℤ, pos, ◌<ℤ◌, unsigned_abs}
 use Rattle.plane.specs.declared.rows.Row.{Row}
 

@@ -1,4 +1,4 @@
--- The canonical shape of a list of listed points, or its first fault.
+-- The canonical shape of listed points, or its first fault.
 use Rattle.std.specs.Prelude.{◌≡◌, ◌-◌, ◌≤◌, not, List, [], ◌∷◌, ◌++◌, length, take, reverse, All, if◌then◌else◌, nat_lt, Result, Ok, Err}
 use Rattle.std.specs.List.{list_all}
 use Rattle.plane.specs.Convex.{AreOnOrLeft, TurnsLeft}
@@ -24,13 +24,13 @@ segment_of p q =
     (if is_same p q then Err SameEnds else Ok (in_order p q))
     else Err OutOfRange
 
--- a polygon's corners are the points at which the ring turns, counter-clockwise from the least one
+-- a polygon's corners are where the ring turns, counter-clockwise from the least one on
 abbrev pub corners_of : List Point → Result (List Point) ShapeFault
 corners_of ring =
     let corners = turning_points (from_least ring) in
     if nat_lt CORNER_LIMIT (length corners) then Err TooManyCorners else Ok corners
 
--- a ring's points differ and are not on one line, and in one of the two directions each is on or left of every side
+-- a ring's points are distinct, not on one line, and in one direction left of or on every side
 abbrev pub ring_of : List Point → Result (List Point) ShapeFault
 ring_of ring =
     if has_repeat ring then Err Repeated
@@ -48,15 +48,15 @@ polygon_of listed =
     else (if not (is_same (first_of listed) (last_of listed)) then Err NotClosed
     else ring_of (take (length listed - 1) listed))))
 
--- the canonical shape of the points by which these corners are listed: a ring with its first corner again
+-- the canonical shape of the points that list these corners: a ring lists its first corner again
 abbrev pub listed_shape : List Point → Result (List Point) ShapeFault
 listed_shape [] = Err TooFew
 listed_shape (p ∷ []) = point_of p
 listed_shape (p ∷ q ∷ []) = segment_of p q
 listed_shape (p ∷ q ∷ r ∷ rest) = polygon_of ((p ∷ q ∷ r ∷ rest) ++ p ∷ [])
 
--- what every shape's corners are: 1 to 16 in range, from the least one on, the canonical shape of the points by which they are listed,
--- each on or left of every side, and, where they are three or more, turning left at each of them
+-- The invariant of a shape's corners: 1 to 16 in range, the least one first; listing them gives
+-- that very shape; each is on or left of every side; and three or more turn left at each of them.
 pub record IsCanonical (corners : List Point) : Type 0 where
   pub in_range : All IsInRange corners
   pub not_empty : 1 ≤ length corners

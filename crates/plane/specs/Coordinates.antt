@@ -2,7 +2,7 @@
 use Rattle.std.specs.Prelude.{Bool, ◌&&◌, ℤ, pos, ◌-ℤ◌, ◌≤ℤ◌, int_le}
 use Rattle.plane.specs.declared.point.TheConstants.{LIMIT}
 
--- a coordinate lies from -LIMIT to LIMIT
+-- a coordinate is from -LIMIT to LIMIT
 pub record IsCoordinate (value : ℤ) : Type 0 where
   pub low : (pos 0 -ℤ LIMIT) ≤ℤ value
   pub high : value ≤ℤ LIMIT

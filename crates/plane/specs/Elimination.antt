@@ -1,4 +1,4 @@
--- What the steps of an elimination keep.
+-- What the steps of an elimination preserve.
 use Rattle.std.specs.Prelude.{◌≡◌, ◌⊎◌, List, All, HoldsAt, length, ℤ, pos, ◌-ℤ◌, ◌*ℤ◌, neg_ℤ, ◌≤ℤ◌, ◌<ℤ◌, ◌≤◌}
 use Rattle.plane.specs.Rows.{Satisfies}
 use Rattle.plane.specs.declared.bounds.Bound.{Bound}
@@ -19,23 +19,23 @@ pub record HoldsIn (gap : Gap) (y w : ℤ) : Type 0 where
 abbrev pub Allows : Level → ℤ → ℤ → Type 0
 Allows level y w = (level.b *ℤ y) ≤ℤ (level.c *ℤ w)
 
--- the new gap lies in the old one; P holds in it, and it has all heights of the old one at which Q holds
+-- the new gap is part of the old one; P holds in it, and it has all old heights where Q holds
 pub record Narrows (P Q : ℤ → ℤ → Type 0) (old new : Gap) : Type 0 where
   pub keeps : (y w : ℤ) → pos 0 <ℤ w → HoldsIn new y w → HoldsIn old y w
   pub within : (y w : ℤ) → pos 0 <ℤ w → HoldsIn new y w → P y w
   pub whole : (y w : ℤ) → pos 0 <ℤ w → HoldsIn old y w → Q y w → HoldsIn new y w
 
--- no height has Q
+-- Q holds at no height
 abbrev pub IsNowhere : (ℤ → ℤ → Type 0) → Type 0
 IsNowhere Q = (y w : ℤ) → pos 0 <ℤ w → Q y w → ⊥
 
--- the row that is left of two rows when x is removed, where the first bounds x from above and the second from below
+-- what remains of two rows when x is removed; the first bounds x from above, the second from below
 abbrev pub PairAllows : Row → Row → ℤ → ℤ → Type 0
 PairAllows first second y w =
     second.a <ℤ pos 0
     → ((first.a *ℤ second.b -ℤ second.a *ℤ first.b) *ℤ y) ≤ℤ ((first.a *ℤ second.c -ℤ second.a *ℤ first.c) *ℤ w)
 
--- what is left of a row, paired with each of the others, when x is removed
+-- what remains of a row, paired with each of the others, when x is removed
 pub record RowAllows (rows : List Row) (row : Row) (y w : ℤ) : Type 0 where
   pub flat : row.a ≡ pos 0 → (row.b *ℤ y) ≤ℤ (row.c *ℤ w)
   pub paired : pos 0 <ℤ row.a → All (λ other. PairAllows row other y w) rows
@@ -55,15 +55,15 @@ pub record HasFrame (rows : List Row) : Type 0 where
   pub top : HoldsAt (λ row. (row.a ≡ pos 0) × (pos 0 <ℤ row.b)) rows 2
   pub bottom : HoldsAt (λ row. (row.a ≡ pos 0) × (row.b <ℤ pos 0)) rows 3
 
--- how far to the right a row lets a point go at the height y/w, times the row's a
+-- the greatest value of `a x` that a row allows for a point x/w, y/w
 abbrev pub reach : Row → ℤ → ℤ → ℤ
 reach row y w = row.c *ℤ w -ℤ row.b *ℤ y
 
--- of two rows that bound x from above, the first lets a point go no further than the second
+-- of two rows that bound x from above, the first allows no greater x than the second
 abbrev pub IsCloser : Row → Row → ℤ → ℤ → Type 0
 IsCloser first second y w = (reach first y w *ℤ second.a) ≤ℤ (reach second y w *ℤ first.a)
 
--- of the best row so far and one more, the new best one
+-- the new best row, of the best one so far and one more
 pub record IsBest (best row : Row) (y w : ℤ) (new : Row) : Type 0 where
   pub one_of : (new ≡ best) ⊎ ((new ≡ row) × (pos 0 <ℤ row.a))
   pub below_best : IsCloser new best y w

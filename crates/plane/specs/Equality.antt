@@ -1,4 +1,4 @@
--- When two points, frames, shapes are one: the tests, and that each of them decides `≡`.
+-- When two points, frames or shapes are equal: Boolean tests, and that each of them decides `≡`.
 use Rattle.std.specs.Prelude.{◌≡◌, Bool, true, ◌&&◌, ℤ, List}
 use Rattle.std.specs.Bool.{Decides}
 use Rattle.std.specs.Cmp.{first_so, second_so, signed_Decides}
@@ -9,11 +9,11 @@ use Rattle.plane.specs.Extents.{Extent}
 use Rattle.plane.specs.Points.{is_same}
 use Rattle.plane.specs.declared.point.Point.{Point}
 
--- a test that answers true of each value and itself, and of no two that are not one, decides `≡`
+-- a test that is true of each value and itself, and only of equal values, decides `≡`
 pub decides_by : {X : Type 0} (test : X → X → Bool) → ((a : X) → test a a ≡ true) → ((a b : X) → test a b ≡ true → a ≡ b) → (a b : X) → Decides (test a b) (a ≡ b)
 decides_by test itself told a b = (told a b, λ e. subst (λ c. test a c ≡ true) e (itself a))
 
--- two tests that answer true
+-- if two tests are true, so is their conjunction
 pub both_so : (p q : Bool) → p ≡ true → q ≡ true → (p && q) ≡ true
 both_so p q h k = λ i. h i && k i
 
@@ -33,7 +33,7 @@ is_same-told p q e =
 pub is_same_decides : (p q : Point) → Decides (is_same p q) (p ≡ q)
 is_same_decides = decides_by is_same is_same-itself is_same-told
 
--- two shapes, by their corners
+-- two shapes are compared by their corners
 abbrev pub same_shape : List Point → List Point → Bool
 same_shape = pointwise is_same
 
@@ -43,7 +43,7 @@ same_shape_decides = pointwise_decides is_same_decides
 pub same_shape-itself : (a : List Point) → same_shape a a ≡ true
 same_shape-itself a = (same_shape_decides a a).1 refl
 
--- two frames, by their ends
+-- two frames are compared by their ends
 abbrev pub same_frame : Extent → Extent → Bool
 same_frame e f = int_eq e.x0 f.x0 && int_eq e.y0 f.y0 && int_eq e.x1 f.x1 && int_eq e.y1 f.y1
 

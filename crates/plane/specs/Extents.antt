@@ -26,11 +26,11 @@ pub record IsFrame (e : Extent) : Type 0 where
 abbrev pub point_extent : Point → Extent
 point_extent p = record { x0 = p.x; y0 = p.y; x1 = p.x; y1 = p.y }
 
--- the least extent that holds both
+-- the least extent that contains both
 abbrev pub joined : Extent → Extent → Extent
 joined e f = record { x0 = int_min e.x0 f.x0; y0 = int_min e.y0 f.y0; x1 = int_max e.x1 f.x1; y1 = int_max e.y1 f.y1 }
 
--- the least extent that holds all the points, of which there is one at least
+-- the least extent that contains all the points, at least one
 abbrev pub extent_of : List Point → Extent
 extent_of [] = point_extent origin
 extent_of (p ∷ []) = point_extent p
@@ -40,12 +40,12 @@ extent_of (p ∷ q ∷ rest) = joined (point_extent p) (extent_of (q ∷ rest))
 abbrev pub whole_extent : Extent
 whole_extent = record { x0 = pos 0 -ℤ LIMIT; y0 = pos 0 -ℤ LIMIT; x1 = LIMIT; y1 = LIMIT }
 
--- two stretches of one axis have a common number, their ends being in order
+-- two intervals, each with its ends in order, have a common number
 pub record Overlap (low high other_low other_high : ℤ) : Type 0 where
   pub below_high : low ≤ℤ other_high
   pub above_low : other_low ≤ℤ high
 
--- the first stretch of an axis holds the second
+-- the first interval contains the second
 pub record Spans (low high other_low other_high : ℤ) : Type 0 where
   pub low_below : low ≤ℤ other_low
   pub high_above : other_high ≤ℤ high

@@ -1,4 +1,4 @@
--- How a shape keeps its corners: in the first places of a row of `CORNER_LIMIT`, the others being at the origin.
+-- How a shape keeps its corners: in an array of `CORNER_LIMIT` places, the rest at the origin.
 use Rattle.std.specs.Prelude.{◌≡◌, ℕ, ◌-◌, ◌≤◌, List, ◌++◌, length, take, drop, replicate}
 use Rattle.std.proofs.Common.{arith, take-append-drop, length-take-le}
 use Rattle.plane.specs.Points.{origin}
@@ -16,7 +16,7 @@ pub record IsKept (count : ℕ) (places : List Point) : Type 0 where
 abbrev pub places_of : List Point → Inside
 places_of corners = record { places = corners ++ replicate (CORNER_LIMIT - length corners) origin; count = length corners }
 
--- so many corners, in these places
+-- `n` corners, in these places
 abbrev kept_as : ℕ → List Point → Inside
 kept_as n l = record { places = l; count = n }
 

@@ -1,4 +1,4 @@
--- Points: their range, their order.
+-- Points: their range and their order.
 use Rattle.std.specs.Prelude.{◌≡◌, Bool, false, ◌&&◌, ◌||◌, List, [], ◌∷◌, All, pos, int_lt}
 use Rattle.std.specs.Ordering.{int_eq}
 use Rattle.plane.specs.Coordinates.{IsCoordinate, is_coordinate}
@@ -16,11 +16,11 @@ is_in_range p = is_coordinate p.x && is_coordinate p.y
 abbrev pub origin : Point
 origin = record { x = pos 0; y = pos 0 }
 
--- p and q are one point
+-- p and q are equal
 abbrev pub is_same : Point → Point → Bool
 is_same p q = int_eq p.x q.x && int_eq p.y q.y
 
--- p has the lesser x, or at the same x the lesser y
+-- p has the lesser x, or the same x and the lesser y
 abbrev pub is_before : Point → Point → Bool
 is_before p q = int_lt p.x q.x || (int_eq p.x q.x && int_lt p.y q.y)
 

@@ -5,7 +5,7 @@ use Rattle.plane.specs.Rings.{sides}
 use Rattle.plane.specs.declared.rows.Row.{Row}
 use Rattle.plane.specs.declared.point.Point.{Point}
 
--- the fraction point x/w, y/w, where w is above 0, satisfies the row a x + b y ≤ c
+-- the fraction point x/w, y/w, with w above 0, satisfies the row a x + b y ≤ c
 abbrev pub Satisfies : ℤ → ℤ → ℤ → Row → Type 0
 Satisfies x y w row = (row.a *ℤ x +ℤ row.b *ℤ y) ≤ℤ (row.c *ℤ w)
 
@@ -18,7 +18,7 @@ frame_rows e =
     ∷ record { a = pos 0; b = negsuc 0; c = neg_ℤ e.y0 }
     ∷ []
 
--- what is on the way from p to q, or left of it
+-- the closed half plane left of the directed line from p to q
 abbrev pub edge_row : Point × Point → Row
 edge_row side =
     let dx = side.1.x -ℤ side.0.x in
@@ -28,7 +28,7 @@ edge_row side =
 abbrev pub negated : Row → Row
 negated row = record { a = neg_ℤ row.a; b = neg_ℤ row.b; c = neg_ℤ row.c }
 
--- none for a point, the line of a segment from both sides, one for each edge of a polygon
+-- no rows for a point, the line of a segment from both sides, one row for each side of a polygon
 abbrev pub edge_rows : List Point → List Row
 edge_rows [] = []
 edge_rows (p ∷ []) = []
@@ -56,7 +56,7 @@ pub record HaveCommonPoint (rows others : List Row) : Type 0 where
 abbrev pub Meet : List Point → List Point → Type 0
 Meet first second = HaveCommonPoint (rows_of first) (rows_of second)
 
--- the same for frames, which are judged by their four rows
+-- the same for frames, by their four rows
 abbrev pub FramesMeet : Extent → Extent → Type 0
 FramesMeet first second = HaveCommonPoint (frame_rows first) (frame_rows second)
 
@@ -64,13 +64,13 @@ FramesMeet first second = HaveCommonPoint (frame_rows first) (frame_rows second)
 abbrev pub Covers : Extent → Extent → Type 0
 Covers first second = (x y w : ℤ) → pos 0 <ℤ w → All (Satisfies x y w) (frame_rows second) → All (Satisfies x y w) (frame_rows first)
 
--- the first extent covers the two others, and any frame that covers both covers it
+-- the result covers both extents, and each frame that covers both covers it
 pub record IsLeastCover (result first second : Extent) : Type 0 where
   pub covers_first : Covers result first
   pub covers_second : Covers result second
   pub least : (e : Extent) → IsFrame e → Covers e first → Covers e second → Covers e result
 
--- the extent covers each of the points, and any frame that covers them all covers it
+-- the result covers each of the points, and each frame that covers them all covers it
 pub record IsLeastFrame (result : Extent) (points : List Point) : Type 0 where
   pub covers : All (λ p. Covers result (point_extent p)) points
   pub least : (e : Extent) → IsFrame e → All (λ p. Covers e (point_extent p)) points → Covers e result

@@ -1,8 +1,8 @@
-//! The numbers of an elimination, in their ranges.
+//! The numbers of an elimination, with their ranges.
 
 ghost use Rattle.plane.specs.Bounds.{IsBound, IsHeight, IsLevel};
 
-/// A row without x: it allows the heights y/w at which `b y <= c w`.
+/// A row without x. It allows the heights y/w with `b y <= c w`.
 #[derive(Clone, Copy)]
 pub struct Level {
     pub b: i128,
@@ -18,7 +18,7 @@ pub struct Bound {
     ghost in_range: { IsBound scale most },
 }
 
-/// What is left of a line: a bound on -y/w, and one on y/w.
+/// An interval of heights: a bound on -y/w, and one on y/w.
 #[derive(Clone, Copy)]
 pub struct Gap {
     pub lower: Bound,

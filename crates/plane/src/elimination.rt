@@ -1,8 +1,8 @@
-//! Fourier and Motzkin's elimination of x from a list of rows, and the point that it finds.
+//! Fourier-Motzkin elimination of x from a list of rows, and the point that it finds.
 //!
-//! A list of rows in x and y has a common fraction point exactly where the rows in y alone have one that are left
-//! when x is removed: the rows without x, and one for each row that bounds x from above with each that bounds it
-//! from below.
+//! Rows in x and y have a common fraction point exactly if the rows in y that remain after removing
+//! x have one: the rows without x, and one for each pair of a row that bounds x from above and a
+//! row that bounds it from below.
 
 ghost use Rattle.std.specs.Prelude.{◌≡◌, ◌≤◌, ℤ, pos, ◌≤ℤ◌, ◌<ℤ◌, ◌*ℤ◌, ◌-ℤ◌, ◌+ℤ◌, neg_ℤ, All, IfSome, IfNone, IsTrue, ◌↔◌, unsigned_abs};
 ghost use Rattle.plane.specs.Bounds.{IsSmallRow};
@@ -13,7 +13,7 @@ use crate::bounds::{Bound, Gap, Height, Level};
 use crate::fraction::Fraction;
 use crate::rows::Row;
 
-/// Whether the first of two bounds on one unknown is the tighter one, or they are equal.
+/// Whether the first of two bounds on one unknown is at least as tight as the second.
 fn is_tighter(first: Bound, second: Bound) -> bool
     ensures { IsTrue result ↔ ((first.most *ℤ second.scale) ≤ℤ (second.most *ℤ first.scale)) }
 {
@@ -57,7 +57,7 @@ fn bound_below(level: Level) -> Bound
     }
 }
 
-/// The part of the gap that the level allows, or None where it allows no height at all.
+/// The part of the gap that the level allows; `None` if it allows no height at all.
 fn narrowed(gap: Gap, level: Level) -> Option<Gap>
     ensures some { IfSome result (Narrows (Allows level) (Allows level) gap) }
     ensures none { IfNone result (IsNowhere (Allows level)) }
@@ -88,7 +88,7 @@ fn is_within(bound: Bound, height: Height) -> bool
     bound.scale * height.y <= bound.most * height.w
 }
 
-/// The lowest height that the gap's lower bound allows.
+/// The least height that the gap's lower bound allows.
 fn foot(gap: Gap) -> Height
     ensures y { result.y ≡ neg_ℤ gap.lower.most }
     ensures w { result.w ≡ gap.lower.scale }
@@ -99,7 +99,7 @@ fn foot(gap: Gap) -> Height
     }
 }
 
-/// The lowest height in the gap, or None where it holds none.
+/// The least height in the gap; `None` if it has none.
 fn lowest(gap: Gap) -> Option<Height>
     ensures some { IfSome result (λ height. HoldsIn gap height.y height.w) }
     ensures none { IfNone result ((y w : ℤ) → pos 0 <ℤ w → HoldsIn gap y w → ⊥) }
@@ -121,7 +121,8 @@ fn flat_level(row: Row) -> Level
     Level { b: row.b, c: row.c }
 }
 
-/// The row that is left of two rows when x is removed, where the first bounds x from above and the second from below.
+/// The row that remains of two rows when x is removed. The first bounds x from above, the second
+/// from below.
 fn combined(first: Row, second: Row) -> Level
     requires first { IsSmallRow first }
     requires second { IsSmallRow second }
@@ -134,7 +135,7 @@ fn combined(first: Row, second: Row) -> Level
     }
 }
 
-/// The part of the gap that two rows allow, of which the first bounds x from above.
+/// The part of the gap that two rows allow, the first of which bounds x from above.
 fn narrowed_by_pair(gap: Gap, first: Row, second: Row) -> Option<Gap>
     requires first { IsSmallRow first }
     requires second { IsSmallRow second }
@@ -149,7 +150,8 @@ fn narrowed_by_pair(gap: Gap, first: Row, second: Row) -> Option<Gap>
     }
 }
 
-/// The part of the gap that a row, which bounds x from above, allows with each of the others.
+/// The part of the gap that a row, which bounds x from above, allows together with each of the
+/// others.
 fn narrowed_by_pairs(mut gap: Gap, row: Row, rows: &[Row]) -> Option<Gap>
     requires row { IsSmallRow row }
     requires rows { All IsSmallRow rows.now }
@@ -166,7 +168,7 @@ fn narrowed_by_pairs(mut gap: Gap, row: Row, rows: &[Row]) -> Option<Gap>
     Some(gap)
 }
 
-/// The part of the gap that a row allows with the others.
+/// The part of the gap that a row allows together with the others.
 fn narrowed_by_row(gap: Gap, row: Row, rows: &[Row]) -> Option<Gap>
     requires row { IsSmallRow row }
     requires rows { All IsSmallRow rows.now }
@@ -182,7 +184,7 @@ fn narrowed_by_row(gap: Gap, row: Row, rows: &[Row]) -> Option<Gap>
     }
 }
 
-/// The heights that the first frame of the rows allows.
+/// The heights that the frame at the front of the rows allows.
 fn first_gap(rows: &[Row]) -> Gap
     requires small { All IsSmallRow rows.now }
     requires frame { HasFrame rows.now }
@@ -194,7 +196,7 @@ fn first_gap(rows: &[Row]) -> Gap
     }
 }
 
-/// A height at which some point satisfies the rows, or None where there is none.
+/// A height at which some point satisfies the rows; `None` if there is none.
 fn height(rows: &[Row]) -> Option<Height>
     requires small { All IsSmallRow rows.now }
     requires frame { HasFrame rows.now }
@@ -211,7 +213,7 @@ fn height(rows: &[Row]) -> Option<Height>
     lowest(gap)
 }
 
-/// How far to the right a row lets a point go at a height, times the row's a.
+/// The greatest value of `a x` that a row allows for a point x/w, y/w at this height.
 fn reach(row: Row, height: Height) -> i128
     requires { IsSmallRow row }
     ensures value { result ≡ reach row height.y height.w }
@@ -220,7 +222,7 @@ fn reach(row: Row, height: Height) -> i128
     row.c * height.w - row.b * height.y
 }
 
-/// Whether the first of two rows that bound x from above lets a point go no further than the second.
+/// Whether the first of two rows that bound x from above allows no greater x than the second.
 fn is_closer(first: Row, second: Row, height: Height) -> bool
     requires first { IsSmallRow first }
     requires second { IsSmallRow second }
@@ -229,7 +231,8 @@ fn is_closer(first: Row, second: Row, height: Height) -> bool
     reach(first, height) * second.a <= reach(second, height) * first.a
 }
 
-/// The closer of the best row so far, which bounds x from above, and one more row, where that bounds x from above.
+/// The closer of the best row so far, which bounds x from above, and one more row, if that bounds x
+/// from above too.
 fn closer(best: Row, row: Row, height: Height) -> Row
     requires best { IsSmallRow best }
     requires row { IsSmallRow row }
@@ -247,7 +250,7 @@ fn closer(best: Row, row: Row, height: Height) -> Row
     }
 }
 
-/// The point at a height that goes as far to the right as a row lets it.
+/// The rightmost point at a height that a row allows.
 fn point_at(row: Row, height: Height) -> Fraction
     requires small { IsSmallRow row }
     requires above { pos 0 <ℤ row.a }
@@ -262,7 +265,7 @@ fn point_at(row: Row, height: Height) -> Fraction
     }
 }
 
-/// The point furthest to the right at a height that the rows allow.
+/// The rightmost point at a height that the rows allow.
 fn furthest(rows: &[Row], height: Height) -> Fraction
     requires small { All IsSmallRow rows.now }
     requires frame { HasFrame rows.now }
@@ -276,7 +279,7 @@ fn furthest(rows: &[Row], height: Height) -> Fraction
     point_at(best, height)
 }
 
-/// A fraction point that satisfies all rows, or None where none does.
+/// A fraction point that satisfies all rows; `None` if there is none.
 pub fn solution(rows: &[Row]) -> Option<Fraction>
     requires small { All IsSmallRow rows.now }
     requires frame { HasFrame rows.now }

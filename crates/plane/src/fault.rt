@@ -5,20 +5,20 @@ ghost use Rattle.std.specs.Prelude.{◌≡◌};
 use std::error::Error;
 use std::fmt;
 
-/// Why a list of points is no shape, in the order in which the faults are looked for.
+/// Why a list of points has no shape, in the order in which the faults are looked for.
 #[derive(Clone, Copy, Debug, PartialEq, Eq)]
 pub enum ShapeFault {
     /// P1: a listed coordinate is out of range.
     OutOfRange,
-    /// P2: the two ends of a segment are one point.
+    /// P2: the two ends of a segment are equal.
     SameEnds,
     /// P3: a ring lists more than 64 points, its closing one included.
     TooManyPoints,
-    /// P4: a ring lists fewer than 4 points.
+    /// P4: a ring lists fewer than 4 points, its closing one included.
     TooFew,
-    /// P5: the last listed point of a ring is not the first one.
+    /// P5: the last listed point of a ring is not equal to the first.
     NotClosed,
-    /// P6: two listed points of a ring are equal, the closing one aside.
+    /// P6: two listed points of a ring other than the closing one are equal.
     Repeated,
     /// P7: all points of a ring are on one line.
     Flat,

@@ -1,8 +1,8 @@
-//! Points of the plane with any fractions for coordinates.
+//! Points of the plane with fractions as coordinates.
 
 ghost use Rattle.std.specs.Prelude.{pos, ◌<ℤ◌};
 
-/// The point x/w, y/w, where w is above 0.
+/// The point (x/w, y/w), with w above 0.
 #[derive(Clone, Copy, Debug)]
 pub struct Fraction {
     pub x: i128,

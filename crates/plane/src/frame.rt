@@ -9,7 +9,8 @@ use crate::point::{LIMIT, Point};
 use crate::shape::{Shape, corners};
 use std::marker::Model;
 
-/// A rectangle from `x0` to `x1` and from `y0` to `y1`, both ends included, in the range of coordinates.
+/// A rectangle from `x0` to `x1` and from `y0` to `y1`, both inclusive, within the
+/// range of coordinates.
 #[derive(Clone, Copy, Debug)]
 pub struct Frame {
     x0: i32,
@@ -18,7 +19,7 @@ pub struct Frame {
     y1: i32,
 }
 
-// Clauses see its extent. The ends are in order and in range.
+// A contract sees the extent. The ends are in order and in range.
 impl Model for Frame {
     ghost use Rattle.plane.specs.Extents.{Extent, IsFrame};
 
@@ -39,7 +40,7 @@ impl PartialEq for Frame {
 
     ghost laws = { partial_equiv_from_equiv (decided same_frame same_frame_decides) };
 
-    /// Whether the two frames are one: whether they have the same ends.
+    /// Whether the two frames have the same ends.
     fn eq(&self, other: &Frame) -> bool
         ensures tested { result ≡ same_frame self.now other.now }
         ensures exact { IsTrue result ↔ (self.now ≡ other.now) }
@@ -69,7 +70,7 @@ impl Frame {
         }
     }
 
-    /// The left side. Every frame's ends are in order and in range.
+    /// The left side. The ends of each frame are in order and in range.
     pub fn x0(self) -> i32
         ensures value { result ≡ self.x0 }
         ensures frame { IsFrame self }
@@ -112,7 +113,7 @@ pub fn point_frame(p: Point) -> Frame
     }
 }
 
-/// The least frame that holds both frames.
+/// The least frame that contains both frames.
 pub fn hull(first: Frame, second: Frame) -> Frame
     ensures value { result ≡ joined first second }
     ensures least { IsLeastCover result first second }
@@ -125,7 +126,7 @@ pub fn hull(first: Frame, second: Frame) -> Frame
     }
 }
 
-/// The least frame that holds a shape's corners.
+/// The least frame that contains a shape's corners.
 pub fn frame_of(shape: &Shape) -> Frame
     ensures value { result ≡ extent_of shape.now }
     ensures least { IsLeastFrame result shape.now }
@@ -138,14 +139,14 @@ pub fn frame_of(shape: &Shape) -> Frame
     frame
 }
 
-/// Whether two stretches of one axis, whose ends are in order, have a common number.
+/// Whether two intervals, each with its ends in order, have a common number.
 fn overlap(low: i32, high: i32, other_low: i32, other_high: i32) -> bool
     ensures { IsTrue result ↔ Overlap low high other_low other_high }
 {
     low <= other_high && other_low <= high
 }
 
-/// Whether one stretch of an axis holds another.
+/// Whether the first interval contains the second.
 fn spans(low: i32, high: i32, other_low: i32, other_high: i32) -> bool
     ensures { IsTrue result ↔ Spans low high other_low other_high }
 {
@@ -160,7 +161,7 @@ pub fn frames_meet(first: Frame, second: Frame) -> bool
         && overlap(first.y0, first.y1, second.y0, second.y1)
 }
 
-/// Whether each point of the second frame lies in the first.
+/// Whether each fraction point of the second frame lies in the first.
 pub fn covers(first: Frame, second: Frame) -> bool
     ensures { IsTrue result ↔ Covers first second }
 {

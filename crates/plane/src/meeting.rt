@@ -1,7 +1,7 @@
 //! Whether two shapes meet.
 //!
-//! Most pairs are decided by quick tests: by their frames, by a corner of one shape that lies in the other, by a side
-//! of one that has the whole other shape on its right. Elimination decides what they leave.
+//! Quick tests decide most pairs: by their frames, by a corner of one shape that lies in the other,
+//! or by a side of one that has the whole other shape on its right. Elimination decides the rest.
 
 ghost use Rattle.std.specs.Prelude.{◌≡◌, ◌≤◌, ◌↔◌, All, Contains, IfSome, IfNone, IsSome, IsTrue, length, pos};
 ghost use Rattle.plane.specs.Extents.{extent_of};
@@ -17,7 +17,7 @@ use crate::shape::{Shape, corners};
 use crate::shape_rows::push_rows;
 use arrayvec::ArrayVec;
 
-/// A fraction point that lies in both shapes, or None where no fraction point does.
+/// A fraction point that lies in both shapes; `None` if there is none.
 pub fn common_point(first: &Shape, second: &Shape) -> Option<Fraction>
     ensures common { IfSome result (λ p. LiesIn p.x p.y p.w first.now × LiesIn p.x p.y p.w second.now) }
     ensures found { IsSome result ↔ Meet first.now second.now }
@@ -39,7 +39,7 @@ pub fn common_point(first: &Shape, second: &Shape) -> Option<Fraction>
     by_elimination(first, second)
 }
 
-/// Whether a point lies in a shape, of which this is the frame.
+/// Whether a point lies in a shape; `frame` is the shape's.
 fn lies_in(point: Point, shape: &Shape, frame: Frame) -> bool
     requires point { IsInRange point }
     requires frame { frame ≡ extent_of shape.now }
@@ -48,7 +48,7 @@ fn lies_in(point: Point, shape: &Shape, frame: Frame) -> bool
     covers(frame, point_frame(point)) && is_left_of_sides(point, corners(shape))
 }
 
-/// A point with whole coordinates, as one with any fractions for them.
+/// A point with whole coordinates as a fraction point.
 fn whole_point(point: Point) -> Fraction
     requires { IsInRange point }
     ensures x { result.x ≡ point.x }
@@ -62,7 +62,7 @@ fn whole_point(point: Point) -> Fraction
     }
 }
 
-/// The first corner of a shape that lies in another, of which this is the frame.
+/// The first corner of a shape that lies in `other`; `frame` is that of `other`.
 fn corner_in(shape: &Shape, other: &Shape, frame: Frame) -> Option<Fraction>
     requires { frame ≡ extent_of other.now }
     ensures { IfSome result (λ p. LiesIn p.x p.y p.w shape.now × LiesIn p.x p.y p.w other.now) }

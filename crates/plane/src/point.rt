@@ -3,17 +3,17 @@
 ghost use Rattle.std.specs.Prelude.{◌≡◌, ◌↔◌, IsTrue};
 ghost use Rattle.plane.specs.Coordinates.{IsCoordinate, is_coordinate};
 
-/// No coordinate is above this, or below its negation.
+/// The greatest coordinate. The least is its negation.
 pub const LIMIT: i32 = 10_000_000;
 
-/// A point of the plane. One that is listed for a shape has to be in range.
+/// A point of the plane. Points that are listed for a shape have to be in range.
 #[derive(Clone, Copy, Debug, Default, PartialEq, Eq)]
 pub struct Point {
     pub x: i32,
     pub y: i32,
 }
 
-/// Whether a coordinate lies from `-LIMIT` to `LIMIT`.
+/// Whether a coordinate is from `-LIMIT` to `LIMIT`.
 fn is_coordinate(value: i32) -> bool
     ensures test { result ≡ is_coordinate value }
     ensures range { IsTrue result ↔ IsCoordinate value }
@@ -24,7 +24,7 @@ fn is_coordinate(value: i32) -> bool
 impl Point {
     ghost use Rattle.plane.specs.Points.{IsInRange, is_in_range, is_before};
 
-    /// Whether both coordinates lie from `-LIMIT` to `LIMIT`.
+    /// Whether both coordinates are from `-LIMIT` to `LIMIT`.
     pub fn is_in_range(self) -> bool
         ensures test { result ≡ is_in_range self }
         ensures range { IsTrue result ↔ IsInRange self }
@@ -32,7 +32,7 @@ impl Point {
         is_coordinate(self.x) && is_coordinate(self.y)
     }
 
-    /// Whether this point has the lesser x, or at the same x the lesser y.
+    /// Whether this point has the lesser x, or the same x and the lesser y.
     pub fn is_before(self, other: Point) -> bool
         ensures { result ≡ is_before self other }
     {

@@ -3,7 +3,7 @@
 ghost use Rattle.std.specs.Prelude.{◌≡◌, ◌≤◌, ◌-ℤ◌, ◌*ℤ◌, unsigned_abs};
 ghost use Rattle.plane.specs.Coordinates.{IsCoordinate};
 
-/// How far one coordinate is above another.
+/// The coordinate `to` minus the coordinate `from`.
 pub fn difference(from: i32, to: i32) -> i128
     requires from { IsCoordinate from }
     requires to { IsCoordinate to }

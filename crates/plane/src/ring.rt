@@ -1,4 +1,4 @@
-//! Rings of points: lists of the points in turn, each once. From the last point a ring goes back to the first.
+//! Rings of points: the points in order, each once. The last point is followed by the first.
 
 ghost use Rattle.std.specs.Prelude.{◌≡◌, ◌+◌, ◌<◌, ◌≤◌, ◌↔◌, pos, ◌≤ℤ◌, All, IsTrue, length, not, drop, reverse, slice_index_or};
 ghost use Rattle.std.specs.List.{list_all, list_any, position_or_len};
@@ -9,7 +9,7 @@ use crate::point::Point;
 use crate::products::{cross, difference};
 use arrayvec::ArrayVec;
 
-/// A ring lists at most this many points, its closing one included.
+/// The most points that a ring lists, its closing one included.
 pub const LISTED_LIMIT: usize = 64;
 
 /// Whether all points are in range.
@@ -20,7 +20,7 @@ pub fn all_in_range(points: &[Point]) -> bool
     points.iter().all(|point| point.is_in_range())
 }
 
-/// The point of a ring after the one at an index: after the last one comes the first.
+/// The point after the one at an index; after the last point comes the first.
 pub fn next_point(ring: &[Point], index: usize) -> Point
     requires { index < length ring.now }
     ensures { result ≡ slice_index_or (drop (index + 1) ring.now) 0 (first_of ring.now) }
@@ -32,8 +32,9 @@ pub fn next_point(ring: &[Point], index: usize) -> Point
     }
 }
 
-/// Twice the area of the triangle of three points: above 0 where the third is left of the way from the first to the
-/// second, and 0 where the three are on one line.
+/// Twice the signed area of the triangle of three points: above 0 if the third is left of the
+/// directed line from the first to the second, below 0 if it is right of it, and 0 if the three are
+/// on one line.
 fn turn(p: Point, q: Point, r: Point) -> i128
     requires p { IsInRange p }
     requires q { IsInRange q }
@@ -48,7 +49,7 @@ fn turn(p: Point, q: Point, r: Point) -> i128
     )
 }
 
-/// Whether a point is on the side from one point to another, or left of it.
+/// Whether a point is on or left of the directed line from one point to another.
 fn is_on_or_left(from: Point, to: Point, point: Point) -> bool
     requires from { IsInRange from }
     requires to { IsInRange to }
@@ -68,7 +69,7 @@ fn is_on_line(from: Point, to: Point, point: Point) -> bool
     turn(from, to, point) == 0
 }
 
-/// Whether every point of a ring is on a side or left of it.
+/// Whether every point of a ring is on or left of a side.
 fn all_on_or_left(from: Point, to: Point, ring: &[Point]) -> bool
     requires from { IsInRange from }
     requires to { IsInRange to }
@@ -128,7 +129,7 @@ pub fn is_left_of_sides(point: Point, ring: &[Point]) -> bool
     true
 }
 
-/// Whether all of some points are strictly right of the way from one point to another.
+/// Whether all points are strictly right of the directed line from one point to another.
 fn all_right(from: Point, to: Point, points: &[Point]) -> bool
     requires from { IsInRange from }
     requires to { IsInRange to }
@@ -138,7 +139,7 @@ fn all_right(from: Point, to: Point, points: &[Point]) -> bool
     points.iter().all(|point| !is_on_or_left(from, to, *point))
 }
 
-/// Whether some side of a ring has all of some points strictly on its right.
+/// Whether some side of a ring has all these points strictly on its right.
 pub fn is_apart(ring: &[Point], points: &[Point]) -> bool
     requires ring { All IsInRange ring.now }
     requires points { All IsInRange points.now }
@@ -152,14 +153,14 @@ pub fn is_apart(ring: &[Point], points: &[Point]) -> bool
     false
 }
 
-/// Whether a point is among others.
+/// Whether a point is one of the others.
 fn is_among(point: Point, others: &[Point]) -> bool
     ensures { result ≡ list_any (is_same point) others.now }
 {
     others.contains(&point)
 }
 
-/// Whether some point stands twice in a list.
+/// Whether a point occurs twice in a list.
 pub fn has_repeat(points: &[Point]) -> bool
     ensures { result ≡ has_repeat points.now }
 {
@@ -191,7 +192,7 @@ fn least_index(ring: &[Point]) -> usize
     ring.len()
 }
 
-/// The ring, read from its least point on.
+/// The ring, starting at its least point.
 fn from_least(ring: &[Point]) -> ArrayVec<Point, LISTED_LIMIT>
     requires { length ring.now ≤ LISTED_LIMIT }
     ensures { result.items ≡ from_least ring.now }
@@ -203,7 +204,7 @@ fn from_least(ring: &[Point]) -> ArrayVec<Point, LISTED_LIMIT>
     points
 }
 
-/// The ring in the other direction.
+/// The ring in the opposite direction.
 pub fn reversed(ring: &[Point]) -> ArrayVec<Point, LISTED_LIMIT>
     requires { length ring.now ≤ LISTED_LIMIT }
     ensures { result.items ≡ reverse ring.now }
@@ -232,7 +233,7 @@ fn turning_points(ring: &[Point]) -> ArrayVec<Point, LISTED_LIMIT>
     corners
 }
 
-/// The points at which a ring turns, from its least point on.
+/// The points at which a ring turns, starting at its least point.
 pub fn corners_from_least(ring: &[Point]) -> ArrayVec<Point, LISTED_LIMIT>
     requires in_range { All IsInRange ring.now }
     requires within { length ring.now ≤ LISTED_LIMIT }

@@ -1,6 +1,6 @@
 //! Rows: the half planes that a shape is made of.
 
-/// A row `a x + b y <= c`: the points of a half plane.
+/// A row `a x + b y <= c`: a closed half plane.
 #[derive(Clone, Copy, Debug, Default, PartialEq, Eq)]
 pub struct Row {
     pub a: i128,

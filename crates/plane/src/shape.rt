@@ -1,4 +1,4 @@
-//! Shapes: a point, a segment or a convex polygon, as a fixed row of corners.
+//! Shapes: a point, a segment or a convex polygon, as a fixed array of corners.
 
 ghost use Rattle.std.specs.Prelude.{◌≡◌, ◌↔◌, ◌-◌, ◌<◌, ◌≤◌, ◌++◌, All, IsTrue, List, length, replicate};
 ghost use Rattle.plane.specs.Points.{IsInRange};
@@ -12,20 +12,21 @@ use crate::ring::{
 };
 use std::marker::Model;
 
-/// A polygon has at most this many corners.
+/// The most corners of a polygon.
 pub const CORNER_LIMIT: usize = 16;
 
 const ORIGIN: Point = Point { x: 0, y: 0 };
 
-/// A point, a segment or a convex polygon. Contracts see it as the list of its corners in canonical order: a
-/// segment's lesser end first, a polygon's corners counter-clockwise from the one of least x, then least y.
+/// A point, a segment or a convex polygon. A contract sees the list of its corners in canonical
+/// order: a segment's lesser end first, a polygon's corners counter-clockwise from the one with the
+/// least x, then least y.
 #[derive(Clone, Copy, Debug)]
 pub struct Shape {
     places: [Point; CORNER_LIMIT],
     count: u8,
 }
 
-// The places past the corners are at the origin, so that equal shapes are equal places.
+// The unused places hold the origin, so that equal shapes have equal places.
 impl Model for Shape {
     ghost use Rattle.std.specs.Prelude.{List, take};
     ghost use Rattle.plane.specs.declared.point.Point.{Point};
@@ -51,7 +52,7 @@ impl PartialEq for Shape {
 
     ghost laws = { partial_equiv_from_equiv (decided same_shape same_shape_decides) };
 
-    /// Whether the two shapes are one: whether they have the same corners.
+    /// Whether the two shapes have the same corners.
     fn eq(&self, other: &Shape) -> bool
         ensures tested { result ≡ same_shape self.now other.now }
         ensures exact { IsTrue result ↔ (self.now ≡ other.now) }
@@ -68,7 +69,7 @@ impl Eq for Shape {
 }
 
 impl Shape {
-    /// The shape that is this point alone. P1 where it is out of range.
+    /// The shape that is this point alone. P1 if the point is out of range.
     pub fn point(p: Point) -> Result<Shape, ShapeFault>
         ensures { result ≡ point_of p }
     {
@@ -81,7 +82,7 @@ impl Shape {
         }
     }
 
-    /// The segment between two points, whatever their order. P1 where one is out of range, P2 where they are the same.
+    /// The segment between two points, in either order. P1 if one is out of range, P2 if equal.
     pub fn segment(p: Point, q: Point) -> Result<Shape, ShapeFault>
         ensures { result ≡ segment_of p q }
     {
@@ -102,8 +103,8 @@ impl Shape {
         Ok(Shape { places, count: 2 })
     }
 
-    /// The convex polygon of a ring, which is listed in either direction and with its closing point. P1, P3, P4, P5,
-    /// P6, P7, P8 or P9, the first of them that the list has.
+    /// The convex polygon of a ring, listed in either direction and with its closing point. P1, P3,
+    /// P4, P5, P6, P7, P8 or P9: the first of them, in this order, that applies.
     pub fn polygon(listed: &[Point]) -> Result<Shape, ShapeFault>
         ensures { result ≡ polygon_of listed.now }
     {
@@ -147,7 +148,7 @@ fn of_ring(ring: &[Point]) -> Result<Shape, ShapeFault>
     }
 }
 
-/// The corners, and the origin in the places that are left.
+/// The corners, and the origin in the unused places.
 fn places_of(corners: &[Point]) -> [Point; CORNER_LIMIT]
     requires { length corners.now ≤ CORNER_LIMIT }
     ensures { result ≡ corners.now ++ replicate (CORNER_LIMIT - length corners.now) ORIGIN }
@@ -157,7 +158,7 @@ fn places_of(corners: &[Point]) -> [Point; CORNER_LIMIT]
     places
 }
 
-/// The polygon of a ring that is known to be convex and counter-clockwise.
+/// The polygon of a convex and counter-clockwise ring. `TooManyCorners` is the only fault left.
 fn of_convex_ring(ring: &[Point]) -> Result<Shape, ShapeFault>
     requires { IsConvexRing ring.now }
     ensures { result ≡ corners_of ring.now }
@@ -173,8 +174,8 @@ fn of_convex_ring(ring: &[Point]) -> Result<Shape, ShapeFault>
     })
 }
 
-/// The shape's corners in canonical order: a segment's lesser end first, a polygon's corners counter-clockwise from
-/// the one of least x, then least y.
+/// The shape's corners in canonical order: a segment's lesser end first, a polygon's corners
+/// counter-clockwise from the one with the least x, then least y.
 pub fn corners(shape: &Shape) -> &[Point]
     ensures value { result.now ≡ shape.now }
     ensures canonical { IsCanonical shape.now }

@@ -16,7 +16,7 @@ use crate::rows::Row;
 use crate::shape::{CORNER_LIMIT, Shape, corners};
 use arrayvec::ArrayVec;
 
-/// The half plane on the way from one point to another, or left of it.
+/// The closed half plane left of the directed line `from` → `to`.
 fn edge_row(from: Point, to: Point) -> Row
     requires from { IsInRange from }
     requires to { IsInRange to }
@@ -29,7 +29,7 @@ fn edge_row(from: Point, to: Point) -> Row
     Row { a: dy, b: -dx, c }
 }
 
-/// The other half plane at a row's line.
+/// The half plane on the other side of a row's line.
 fn negated(row: Row) -> Row
     requires { IsSmallRow row }
     ensures { result ≡ negated row }
@@ -69,7 +69,7 @@ fn frame_rows(frame: Frame) -> [Row; 4]
     ]
 }
 
-/// Adds the row of each side of a ring of at most 16 points.
+/// Appends the row of each side of a ring of at most 16 points.
 fn push_sides(rows: &mut ArrayVec<Row, 40>, ring: &[Point])
     requires in_range { All IsInRange ring.now }
     requires within { length ring.now ≤ CORNER_LIMIT }
@@ -81,7 +81,7 @@ fn push_sides(rows: &mut ArrayVec<Row, 40>, ring: &[Point])
     }
 }
 
-/// Adds the rows of a shape beside those of its frame.
+/// Appends the rows of a shape other than those of its frame.
 fn push_edges(rows: &mut ArrayVec<Row, 40>, corners: &[Point])
     requires in_range { All IsInRange corners.now }
     requires within { length corners.now ≤ CORNER_LIMIT }
@@ -97,7 +97,7 @@ fn push_edges(rows: &mut ArrayVec<Row, 40>, corners: &[Point])
     }
 }
 
-/// Adds the rows of a shape.
+/// Appends the rows of a shape.
 pub fn push_rows(rows: &mut ArrayVec<Row, 40>, shape: &Shape)
     requires { array_vec_len rows.old ≤ 20 }
     ensures items { rows.new.items ≡ rows.old.items ++ rows_of shape.now }

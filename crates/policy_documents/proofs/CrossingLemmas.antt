@@ -1,5 +1,6 @@
--- Documents may cross threads as their allocator may. The check proves this for most types, in `TheSendSync`; but not for
--- a type that leads back to itself, as a set of sets does, nor for one that holds such a type.
+-- Documents are `Send` and `Sync` if their allocator is. The checker proves this for most types by
+-- itself, in `TheSendSync`, but not for a recursive type, as a set of sets is, nor for a type that
+-- contains one.
 use base.Stored.{Coded}
 use denote.Builtin.{u32, u64}
 use denote.Model.{View}
@@ -36,12 +37,12 @@ u64_send = plain_send _ _ _ _ _
 pub u64_sync : IsSync u64
 u64_sync = plain_sync _ _ _ _ _
 
--- the fields of a struct, or the variants of an enum, one behind another, with `tt` at the end
+-- the fields of a struct, or the variants of an enum, in order, with `tt` at the end
 infixr 4 ◌&◌
 pub ◌&◌ : {A B : Type 0} → A → B → A × B
 first & others = (first, others)
 
--- a struct with a model crosses as its fields do
+-- a struct with a model is `Send` or `Sync` if its fields are
 module _ (T : Declared) {D : Type 0} {code : Coded D} {view : (row T).Denot → D} {holds : (row T).Denot → Type 0} where
   pub model_send : AllSend (shape T).fields → IsSend (View (row T) D code view holds)
   model_send s = view_send _ _ _ _ _ (recorded_send _ _ _ T.to_one (struct_send (shape T) s))

@@ -1,4 +1,4 @@
--- Comparing the parts of documents: what the tests that are derived answer, and that `==` is exact.
+-- Comparing the parts of documents: the results of the derived tests, and that `==` is exact.
 use Rattle.std.proofs.Common.{◌≡◌, ◌↔◌, ℕ, ◌+◌, ◌<◌, Bool, true, false, not, ◌&&◌, List, length, slice_get, Option, refl, sym, ap, ◌∙◌, IsTrue}
 use Rattle.std.proofs.lemmas.Bool.Decides.{Decides-at}
 use Rattle.std.specs.Cmp.Lexicographic.{pointwise, pointwise_decides}
@@ -55,7 +55,7 @@ same_atom_derived (atoms.Not a) (atoms.Not b) = same_term_derived a b
 same_atom_derived (atoms.Is a) (atoms.Not b) = refl
 same_atom_derived (atoms.Not a) (atoms.Is b) = refl
 
--- rows are compared exactly where their parts are
+-- the test of lists is exact if that of their parts is
 pub exact_items : {X : Type 0} (test : X → X → Bool) (r : Bool) (a b p q : List X) → r ≡ pointwise test p q → p ≡ a → q ≡ b →
     ((x y : X) → IsTrue (test x y) ↔ (x ≡ y)) → IsTrue r ↔ (a ≡ b)
 exact_items test r a b p q e h k exact = Decides-at r (pointwise test a b) (e ∙ (λ i. pointwise test (h i) (k i))) (pointwise_decides exact a b)
@@ -78,7 +78,7 @@ exact_rule r a b e = Decides-at r (same_rule a b) e (same_rule_decides a b)
 pub exact_node : (r : Bool) (a b : NodeData) → r ≡ same_node a b → IsTrue r ↔ (a ≡ b)
 exact_node r a b e = Decides-at r (same_node a b) e (same_node_decides a b)
 
--- where the zones are the same, the roots decide
+-- if the zones are equal, the documents are equal exactly if their roots are
 pub exact_document_roots : (r s : Bool) (a b p q : DocumentData) → s ≡ same_zones a.zones b.zones → s ≡ true → p ≡ a → q ≡ b → r ≡ same_node p.root q.root → IsTrue r ↔ (a ≡ b)
 exact_document_roots r s a b p q zones same at_a at_b told =
     Decides-at r (same_document a b) (told ∙ (λ i. same_node (at_a i).root (at_b i).root) ∙ ap (λ v. v && same_node a.root b.root) (sym same ∙ zones)) (same_document_decides a b)

@@ -1,4 +1,4 @@
--- What a node of each kind stands for.
+-- The plain data of each kind of node.
 use Rattle.std.proofs.Common.{◌≡◌, ℕ, ◌+◌, ◌<◌, List, [], ◌∷◌, ◌++◌, length, get_or, take, map, sym, ap, ◌∙◌}
 use Rattle.std.proofs.lemmas.List.{map-append, map_more}
 use Rattle.policy_documents.specs.Documents.{NodeData, set, policy, children_of}
@@ -16,7 +16,7 @@ pub node_view-Set : (A : Type 0) → (name : _) (combine : _) (target : _) (of :
 node_view-Set A name combine target of =
     ap (node_view {A = A}) (sym (rolls-Set name combine target of)) ∙ fold-roll-Node A NodeData node_step (Node-F.Set name combine target of)
 
--- one more element, seen alike in two lists
+-- two lists that are equal under f and g stay so with one more element
 pub mapped_more : {X Y Z : Type 0} (f : X → Z) (g : Y → Z) (xs zs : List X) (ys : List Y) (i : ℕ) (x : X) (y : Y) →
     zs ≡ xs ++ x ∷ [] → i < length ys → map f xs ≡ map g (take i ys) → f x ≡ g (get_or ys i y) → map f zs ≡ map g (take (i + 1) ys)
 mapped_more f g xs zs ys i x y all in_range before last =

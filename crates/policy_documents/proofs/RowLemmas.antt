@@ -1,4 +1,4 @@
--- Comparing two rows, one element after another.
+-- Comparing two lists element by element.
 use Rattle.std.proofs.Common.{◌≡◌, ℕ, zero, suc, ◌+◌, ◌<◌, ◌≤◌, Bool, true, false, ◌&&◌, ◌≢◌, List, [], ◌∷◌, length, get_or, drop, map, slice_get, refl, sym, ap, ◌∙◌, arith, add-one, drop-cons}
 use Rattle.std.specs.Option.{option_eq}
 use Rattle.std.specs.Cmp.Lexicographic.{pointwise, unequal}
@@ -7,7 +7,7 @@ use Rattle.policy_documents.specs.Documents.{NodeData, children_of}
 use Rattle.policy_documents.specs.Equality.{same_node, same_children}
 
 module _ {X Y : Type 0} (test : X → Y → Bool) where
-  -- what is left to compare from the element at i on
+  -- what is left to compare from the element at index i on
   abbrev pub same_from : ℕ → List X → List Y → Bool
   same_from i xs ys = pointwise test (drop i xs) (drop i ys)
 
@@ -47,7 +47,7 @@ module _ {X : Type 0} (test : X → X → Bool) where
       option_eq test (slice_get xs i) (slice_get ys i) ≡ false → false ≡ same_from test i xs ys
   same_from-other_at i xs ys in_xs in_ys told = sym (same_from-at i xs ys in_xs in_ys ∙ ap (λ b. b && same_from test (suc i) xs ys) told)
 
--- the children are compared as a row of nodes
+-- comparing children is comparing lists of nodes
 pub same_children-row : {X Y : Type 0} (f : X → NodeData) (g : Y → NodeData) (xs : List X) (ys : List Y) →
     pointwise (λ x y. same_node (f x) (g y)) xs ys ≡ same_children (children_of (map f xs)) (children_of (map g ys))
 same_children-row f g [] [] = refl

@@ -1,4 +1,4 @@
--- Looking for a rule by its number.
+-- Finding a rule by its number.
 use Rattle.std.proofs.Common.{◌≡◌, ℕ, zero, suc, ◌+◌, ◌-◌, ◌<◌, ◌≤◌, List, [], ◌∷◌, ◌++◌, length, get_or, drop, map, refl, ap, ◌∙◌, arith, add-one, drop-cons, Result, Ok, Err, slice_get, option_map}
 use Rattle.std.specs.Result.{result_ok}
 use Rattle.policy_documents.specs.Documents.{NodeData, RuleData, children_of, rules_of, rules_of_all, found_rule, rule_named}
@@ -33,7 +33,7 @@ pub found_behind : {X : Type 0} (view : X → NodeData) (items : List X) (at lef
 found_behind view items at left rest x in_range missed =
     rw (drop-cons items at x in_range, found_rule-append, missed, add-one) refl
 
--- the number of a rule is one more than its place
+-- the number of a rule is its index plus one
 pub rule_named-suc : (i : ℕ) (xs : List RuleData) → option_map (λ rule. rule.name) (slice_get xs i) ≡ result_ok (found_rule i xs)
 rule_named-suc i [] = refl
 rule_named-suc zero (x ∷ xs) = refl

@@ -41,7 +41,7 @@ pub lookup-list_any : (key : ZoneName) (es : List (ZoneName × List Point)) → 
 lookup-list_any key [] = refl
 lookup-list_any key (e ∷ es) = known_or_behind (same_key key e.0) key e es refl (lookup-list_any key es)
 
--- a zone that stands behind others has a name of its own
+-- with distinct names, inserting a zone that comes after others appends it
 pub insert_entry-behind : (S : Type 0) (m : IndexMap ZoneName (List Point) S) (e : ZoneName × List Point) (fs : List (ZoneName × List Point)) →
     IsDistinct same_key (keys_of (m.entries ++ e ∷ fs)) → insert_entry same_key m.entries e.0 e.1 ≡ m.entries ++ e ∷ []
 insert_entry-behind S m e fs distinct = insert_entry-new same_key m e.0 e.1 (absent_before same_key-laws m.entries fs e distinct)
@@ -50,7 +50,7 @@ none_from_is_some : {X : Type 0} (o : Option X) → is_some o ≡ false → o �
 none_from_is_some None h = refl
 none_from_is_some (Some x) h = cc
 
--- where the list of zones has no such name, one more goes last
+-- a zone whose name is new is appended
 pub zones-insert_entry : (S : Type 0) (m : IndexMap ZoneName (List Point) S) (key : ZoneName) (shape : List Point) →
     false ≡ list_any (λ z. same_name key.name z.name) (map zone_of m.entries) →
     map zone_of (insert_entry same_key m.entries key shape) ≡ map zone_of m.entries ++ zone_of (key, shape) ∷ []

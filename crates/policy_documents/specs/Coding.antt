@@ -1,4 +1,5 @@
--- How a proof tells two documents apart: a tree is stored as the list of its parts, from left to right.
+-- Codes by which proofs tell two documents apart: a tree is stored as the list of its parts, from
+-- left to right.
 use Rattle.std.specs.Prelude.{◌≡◌, List, [], ◌∷◌, refl}
 use Rattle.std.proofs.Common.{ap, ◌∙◌}
 use Rattle.policy_documents.specs.Documents.{DocumentData, RuleData, Head, NodeData, set, policy, Children, no_children, child}
@@ -21,7 +22,7 @@ abbrev mutual
   parts_before_all no_children rest = ends ∷ rest
   parts_before_all (child node others) rest = next ∷ parts_before node (parts_before_all others rest)
 
--- what was built so far of the parts on the right
+-- what the parts to the right of a position build
 pub data Built : Type 0 where
   nothing : Built
   a_node : NodeData → Built → Built
@@ -61,7 +62,7 @@ first_node (a_row row rest) d = d
 abbrev pub no_node : NodeData
 no_node = policy (record { name = []; combine = DenyOverrides; target = [] }) []
 
--- the parts of a tree, and the tree of its parts
+-- the parts of a tree, and the tree built from its parts
 abbrev pub parts_of : NodeData → List Part
 parts_of n = parts_before n []
 

@@ -45,7 +45,7 @@ pub record DocumentData : Type 0 where
   pub zones : List Zone
   pub root : NodeData
 
--- the shape of the zone of this name
+-- the shape of the zone with this name
 abbrev pub zone_shape : List ℕ → List Zone → Option (List Point)
 zone_shape name zones = option_map (λ z. z.shape) (find (λ z. same_name name z.name) zones)
 
@@ -59,7 +59,7 @@ abbrev mutual
   rules_of_all no_children = []
   rules_of_all (child node rest) = rules_of node ++ rules_of_all rest
 
--- the name of the rule at a place, or how far behind the rules the place is
+-- the name of the rule at this index, or the index minus the number of rules
 abbrev pub found_rule : ℕ → List RuleData → Result (List ℕ) ℕ
 found_rule index [] = Err index
 found_rule zero (rule ∷ rules) = Ok rule.name
@@ -80,7 +80,7 @@ abbrev mutual
   node_count_of_all no_children = 0
   node_count_of_all (child node rest) = node_count node + node_count_of_all rest
 
--- how many sets and policies stand within one another
+-- how deep sets and policies nest
 abbrev mutual
   pub depth_of : NodeData → ℕ
   depth_of (set head children) = suc (depth_of_all children)
@@ -109,7 +109,7 @@ abbrev pub atom_term : Atom → Term
 atom_term (atoms.Is term) = term
 atom_term (atoms.Not term) = term
 
--- the match of an atom, if it is one or the negation of one
+-- the match of a term, if it has one
 abbrev pub term_matches : Term → List Match
 term_matches (terms.Match m) = m ∷ []
 term_matches terms.Own = []
@@ -138,7 +138,7 @@ abbrev mutual
   targets_of_all no_children = []
   targets_of_all (child node rest) = targets_of node ++ targets_of_all rest
 
--- something stands in the list
+-- the list is not empty
 abbrev pub is_filled : {X : Type 0} → List X → Bool
 is_filled [] = false
 is_filled (x ∷ xs) = true
@@ -147,7 +147,7 @@ is_filled (x ∷ xs) = true
 abbrev pub is_target : List (List (List Match)) → Bool
 is_target target = list_all (λ part. is_filled part && list_all is_filled part) target
 
--- how many objects spell an atom: two where it is negated
+-- how many matches and atoms an atom counts as: two if it is negated
 abbrev pub atom_size : Atom → ℕ
 atom_size (atoms.Is term) = 1
 atom_size (atoms.Not term) = 2
@@ -160,7 +160,7 @@ abbrev pub rule_sizes : List RuleData → ℕ
 rule_sizes [] = 0
 rule_sizes (rule ∷ rest) = length (target_matches rule.target) + atom_sizes rule.when + rule_sizes rest
 
--- how many matches and atoms there are below a node
+-- how many matches and atoms there are below a node and in its target
 abbrev mutual
   pub test_count : NodeData → ℕ
   test_count (set head children) = length (target_matches head.target) + test_count_of_all children
@@ -170,12 +170,12 @@ abbrev mutual
   test_count_of_all no_children = 0
   test_count_of_all (child node rest) = test_count node + test_count_of_all rest
 
--- no name of the list stands in it again
+-- no two names are equal
 abbrev pub are_distinct : List (List ℕ) → Bool
 are_distinct [] = true
 are_distinct (name ∷ rest) = not (list_any (same_name name) rest) && are_distinct rest
 
--- the zone of which a match speaks, if it speaks of one, is among these
+-- the zone that a match names, if it names one, is among these
 abbrev pub is_zone_known : List Zone → Match → Bool
 is_zone_known zones (matches.Zone name) = list_any (λ z. same_name name z.name) zones
 is_zone_known zones (matches.Role name) = true
@@ -184,7 +184,7 @@ is_zone_known zones (matches.Class name) = true
 is_zone_known zones (matches.Owner name) = true
 is_zone_known zones (matches.Action action) = true
 
--- what stands in a match as a name is spelled as one
+-- the name in a match, if it has one, is a valid name
 abbrev pub is_match_spelled : Match → Bool
 is_match_spelled (matches.Role name) = spelling.is_name name
 is_match_spelled (matches.Office name) = spelling.is_name name
@@ -193,13 +193,13 @@ is_match_spelled (matches.Owner name) = spelling.is_name name
 is_match_spelled (matches.Zone name) = spelling.is_name name
 is_match_spelled (matches.Action action) = true
 
--- a zone has a name, and the corners of a shape
+-- the zone's name is valid, and its shape is canonical
 pub record IsZone (z : Zone) : Type 0 where
   pub name : IsTrue (spelling.is_name z.name)
   pub shape : IsCanonical z.shape
 
--- what every document keeps: its limits, one name for each, the zones of which it speaks, and that nothing stands in it
--- that no text can spell
+-- the invariant of documents: limits, distinct names, zones that exist, and only names and shapes
+-- that a text can spell
 pub record IsDocument (d : DocumentData) : Type 0 where
   pub depth : depth_of d.root ≤ DEPTH_LIMIT
   pub rules : length (rules_of d.root) ≤ RULE_LIMIT

@@ -1,4 +1,4 @@
--- When two parts of documents are one: a test for each type of plain data, and that each of these tests decides `≡`.
+-- When two parts of documents are equal: a test for each type of plain data, which decides `≡`.
 use Rattle.std.specs.Prelude.{◌≡◌, ℕ, Bool, true, false, ◌&&◌, List, refl}
 use Rattle.std.specs.Bool.{Decides}
 use Rattle.std.specs.Cmp.{first_so, second_so}
@@ -142,7 +142,7 @@ same_atom-told a b e = absurd (false≢true e)
 pub same_atom_decides : (a b : Atom) → Decides (same_atom a b) (a ≡ b)
 same_atom_decides = decides_by same_atom same_atom-itself same_atom-told
 
--- the matches that have to hold together, the alternatives, and the target
+-- matches, alternatives and targets are compared as lists
 abbrev pub same_all_of : List Match → List Match → Bool
 same_all_of = pointwise same_match
 

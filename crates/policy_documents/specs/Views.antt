@@ -1,4 +1,4 @@
--- The plain data that a node stands for.
+-- The plain data of a node.
 use Rattle.std.specs.Prelude.{List, map}
 use Rattle.policy_documents.specs.Documents.{DocumentData, NodeData, set, policy, children_of}
 use Rattle.policy_documents.specs.declared.zones.Zone.{Zone}

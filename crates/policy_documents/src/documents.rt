@@ -17,27 +17,27 @@ use std::alloc::Allocator;
 use std::hash::{BuildHasherDefault, FoldHasher};
 use std::marker::Model;
 
-/// How many sets and policies may stand within one another.
+/// How deep sets and policies may nest.
 pub const DEPTH_LIMIT: usize = 8;
 
-/// How many sets and policies a document has at most.
+/// The most sets and policies of a document.
 pub const NODE_LIMIT: u32 = 512;
 
-/// How many rules a document has at most.
+/// The most rules of a document.
 pub const RULE_LIMIT: u32 = 512;
 
-/// How many matches and atoms a document has at most.
+/// The most matches and atoms of a document; a negated atom counts twice.
 pub const TEST_LIMIT: u32 = 4096;
 
-/// How many zones a document has at most.
+/// The most zones of a document.
 pub const ZONE_LIMIT: usize = 64;
 
-/// Shapes under their names, in written order.
+/// Zones by name, in written order.
 pub type Zones<A> = IndexMap<ZoneName, Shape, BuildHasherDefault<FoldHasher>, A>;
 
-/// A policy document: its zones, in written order, and its root. It keeps the limits of documents, its sets,
-/// policies and rules have one name each, so have its zones, and each zone of which a match speaks is there. A
-/// contract sees the zones' list and a tree of plain data.
+/// A policy document: its zones, in written order, and its root. It keeps the limits above; the
+/// names of its sets, policies and rules are distinct, and those of its zones; each zone that a
+/// match names exists. A contract sees the list of zones and a tree of plain data.
 #[derive(Debug, Drop)]
 pub struct Document<A: Allocator> {
     zones: Zones<A>,
@@ -63,8 +63,9 @@ impl<A: Allocator> Model for Document<A> {
 }
 
 impl<A: Allocator> Document<A> {
-    /// The document of these zones and this root. Who makes one owes what every document keeps (`IsDocument`), so this is
-    /// for readers of documents: `policy_text` reads one from its text, with a fault for each thing that is owed.
+    /// The document of these zones and this root. The caller has to prove `IsDocument`; to get a
+    /// document from a text, use `policy_text::read_document`, which has a fault for each
+    /// requirement.
     pub fn new(zones: Zones<A>, root: Node<A>) -> Self
         requires { IsDocument (document_view zones.entries root) }
         ensures { result ≡ document_view zones.entries root }
@@ -94,7 +95,7 @@ impl<A: Allocator> Document<A> {
         self.zones.len()
     }
 
-    /// The zone at this place, counted from 0, in written order.
+    /// The zone at this index, counted from 0, in written order.
     pub fn zone_at(&self, index: usize) -> Option<Zone>
         ensures { result ≡ slice_get self.now.zones index }
     {
@@ -105,14 +106,14 @@ impl<A: Allocator> Document<A> {
         })
     }
 
-    /// The shape of the zone of this name.
+    /// The shape of the zone with this name.
     pub fn zone(&self, name: Name) -> Option<&Shape>
         ensures { option_copied result ≡ zone_shape name self.now.zones }
     {
         self.zones.get(&ZoneName { name })
     }
 
-    /// The name of the rule of this number. Rules are numbered from 1, in document order.
+    /// The name of the rule with this number. Rules are numbered from 1, in document order.
     pub fn rule_name(&self, number: u32) -> Option<Name>
         ensures { result ≡ rule_named number self.now.root }
     {
@@ -122,7 +123,7 @@ impl<A: Allocator> Document<A> {
         rule_in(&self.root, number as usize - 1).ok()
     }
 
-    /// A copy of the document, made by another allocator. The only error is want of memory.
+    /// A copy of the document in another allocator. Fails only when out of memory.
     pub fn copy<B: Allocator + Copy>(&self, alloc: B) -> Result<Document<B>, Refused>
         ensures { IfOk result (λ copy. copy ≡ self.now) }
     {
@@ -133,7 +134,8 @@ impl<A: Allocator> Document<A> {
     }
 }
 
-/// The name of the rule at this place, counted from 0, in the node, or how far behind the node's rules the place is.
+/// The name of the node's rule at this index, counted from 0. If there are too few rules, the error
+/// is the index minus their count.
 #[cycle(rule_in)]
 fn rule_in<A: Allocator>(node: &Node<A>, index: usize) -> Result<Name, usize>
     ensures { result ≡ found_rule index (rules_of (node_view node.now)) }
@@ -144,7 +146,7 @@ fn rule_in<A: Allocator>(node: &Node<A>, index: usize) -> Result<Name, usize>
     }
 }
 
-/// The same over the rules of a policy.
+/// `rule_in` for the rules of a policy.
 fn rule_at<A: Allocator>(rules: &[Rule<A>], index: usize) -> Result<Name, usize>
     ensures { result ≡ found_rule index rules.now }
 {
@@ -156,7 +158,7 @@ fn rule_at<A: Allocator>(rules: &[Rule<A>], index: usize) -> Result<Name, usize>
     }
 }
 
-/// The same over several nodes.
+/// `rule_in` for several nodes.
 #[cycle(rule_in)]
 fn rule_in_nodes<A: Allocator>(nodes: &[Node<A>], index: usize) -> Result<Name, usize>
     ensures { result ≡ found_rule index (rules_of_all (children_of (map node_view nodes.now))) }
@@ -171,7 +173,7 @@ fn rule_in_nodes<A: Allocator>(nodes: &[Node<A>], index: usize) -> Result<Name, 
     Err(left)
 }
 
-/// A copy of the zones. The only error is want of memory.
+/// A copy of the zones. Fails only when out of memory.
 fn copy_zones<A: Allocator, B: Allocator + Copy>(
     alloc: B,
     zones: &Zones<A>,

@@ -1,4 +1,4 @@
-//! A law of the tests by which parts of documents are compared. The function does nothing: it is its contract.
+//! A law of the tests that compare parts of documents. The function is its contract.
 
 ghost use Rattle.std.specs.Prelude.{◌≡◌, ◌↔◌, IsTrue};
 ghost use Rattle.policy_documents.specs.contracts.matches.MatchPartialEq.TheImpl as matching;
@@ -6,7 +6,7 @@ ghost use Rattle.policy_documents.specs.contracts.matches.AtomPartialEq.TheImpl 
 
 use crate::matches::{Atom, Match};
 
-/// Two matches are `==` exactly where they are one, and two conditions. So the `==` of what is made of them is exact.
+/// `==` on matches and on atoms is exact, and therefore also on what is made of them.
 pub fn tests_compare_exactly()
     ensures matches { (a b : Match) → IsTrue (matching.eq-value.it a b) ↔ (a ≡ b) }
     ensures atoms { (a b : Atom) → IsTrue (testing.eq-value.it a b) ↔ (a ≡ b) }

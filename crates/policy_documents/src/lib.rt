@@ -1,4 +1,4 @@
-//! Policy documents: their types, what each of them keeps, and when two of them are one.
+//! Policy documents: their types, their invariant, and their equality.
 #![tactic(auto)]
 
 mod algorithms;

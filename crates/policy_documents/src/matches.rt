@@ -1,4 +1,4 @@
-//! What a rule, a policy or a set asks of a question before it applies.
+//! Tests of a question: matches, conditions, and targets.
 
 ghost use Rattle.std.specs.Prelude.{◌≡◌, ◌↔◌, IfOk, IsTrue};
 ghost use Rattle.std.specs.Cmp.Lexicographic.{pointwise, lists_per, lists_equiv};
@@ -11,17 +11,17 @@ use std::marker::Model;
 /// A test of one part of a question.
 #[derive(Clone, Copy, Debug, PartialEq, Eq)]
 pub enum Match {
-    /// The subject's role.
+    /// The subject's role is this one.
     Role(Name),
-    /// The subject's office.
+    /// The subject's office is this one.
     Office(Name),
-    /// The class of the feature that the question is about.
+    /// The feature's class is this one.
     Class(Name),
-    /// The office that the feature belongs to.
+    /// The feature belongs to this office.
     Owner(Name),
     /// The question's shape meets the shape of this zone.
     Zone(Name),
-    /// What the subject asks to do.
+    /// The subject asks for this action.
     Action(Action),
 }
 
@@ -39,22 +39,22 @@ pub enum Atom {
     Not(Term),
 }
 
-/// Parts, in written order. A contract sees their list.
+/// Parts, in written order. A contract sees the list.
 #[derive(Debug, Drop)]
 pub struct Items<T, A: Allocator> {
     items: Vec<T, A>,
 }
 
-/// Matches that hold where each of them holds.
+/// Matches that all have to hold.
 pub type AllOf<A> = Items<Match, A>;
 
-/// Alternatives, of which one has to hold.
+/// Alternatives, at least one of which has to hold.
 pub type AnyOf<A> = Items<AllOf<A>, A>;
 
-/// What a set, a policy or a rule is about: each of its parts has to hold.
+/// What a set, a policy or a rule is about. Each of its parts has to hold.
 pub type Target<A> = Items<AnyOf<A>, A>;
 
-/// The conditions of a rule, all of which have to hold.
+/// The conditions of a rule. All have to hold.
 pub type Conditions<A> = Items<Atom, A>;
 
 impl<T, A: Allocator> Model for Items<T, A> {
@@ -66,7 +66,7 @@ impl<T, A: Allocator> Model for Items<T, A> {
 }
 
 impl<T, A: Allocator> Items<T, A> {
-    /// The parts of this list.
+    /// A list of these parts.
     pub fn from_vec(items: Vec<T, A>) -> Self
         ensures { result ≡ items.items }
     {
@@ -86,7 +86,7 @@ impl<T: PartialEq, A: Allocator> PartialEq for Items<T, A> {
 
     ghost laws = { lists_per T.laws };
 
-    /// Two rows are `==` where their parts are, and so exactly where they are one if that is said of their parts.
+    /// Compares part by part. Exact if `==` on the parts is exact.
     fn eq(&self, other: &Self) -> bool
         ensures tested { result ≡ pointwise T.eq self.now other.now }
         ensures exact { ((a b : T) → IsTrue (T.eq a b) ↔ (a ≡ b)) → (IsTrue result ↔ (self.now ≡ other.now)) }
@@ -99,7 +99,7 @@ impl<T: Eq, A: Allocator> Eq for Items<T, A> {
     ghost laws = { lists_equiv T.Eq.laws };
 }
 
-/// A copy of these matches, or of these conditions. The only error is want of memory.
+/// A copy of these matches or conditions. Fails only when out of memory.
 pub(crate) fn copy_items<T: Copy, A: Allocator, B: Allocator + Copy>(
     alloc: B,
     items: &Items<T, A>,
@@ -109,7 +109,7 @@ pub(crate) fn copy_items<T: Copy, A: Allocator, B: Allocator + Copy>(
     Ok(Items::from_vec(copied(alloc, items.as_slice())?))
 }
 
-/// A copy of these alternatives. The only error is want of memory.
+/// A copy of these alternatives. Fails only when out of memory.
 pub(crate) fn copy_alternatives<A: Allocator, B: Allocator + Copy>(
     alloc: B,
     alternatives: &AnyOf<A>,
@@ -123,7 +123,7 @@ pub(crate) fn copy_alternatives<A: Allocator, B: Allocator + Copy>(
     Ok(Items::from_vec(copies))
 }
 
-/// A copy of this target. The only error is want of memory.
+/// A copy of this target. Fails only when out of memory.
 pub(crate) fn copy_target<A: Allocator, B: Allocator + Copy>(
     alloc: B,
     target: &Target<A>,

@@ -12,8 +12,8 @@ use features::Name;
 use memory::{GrowVec, Refused};
 use std::alloc::Allocator;
 
-/// A set of sets and policies, or a policy, which has rules. Its decision is that of its children, combined, where
-/// its target holds.
+/// A set, whose children are sets and policies, or a policy, whose children are rules. If its
+/// target holds, it combines the decisions of its children.
 #[derive(Debug, Drop)]
 pub enum Node<A: Allocator> {
     Set {
@@ -30,7 +30,7 @@ pub enum Node<A: Allocator> {
     },
 }
 
-/// A copy of the node. The only error is want of memory.
+/// A copy of the node. Fails only when out of memory.
 #[cycle(copy)]
 pub(crate) fn copy_node<A: Allocator, B: Allocator + Copy>(
     alloc: B,
@@ -64,7 +64,7 @@ pub(crate) fn copy_node<A: Allocator, B: Allocator + Copy>(
     }
 }
 
-/// Copies of the nodes, in their order. The only error is want of memory.
+/// Copies of the nodes, in their order. Fails only when out of memory.
 #[cycle(copy)]
 fn copy_nodes<A: Allocator, B: Allocator + Copy>(
     alloc: B,
@@ -79,7 +79,7 @@ fn copy_nodes<A: Allocator, B: Allocator + Copy>(
     Ok(copies)
 }
 
-/// Copies of the rules, in their order. The only error is want of memory.
+/// Copies of the rules, in their order. Fails only when out of memory.
 fn copy_rules<A: Allocator, B: Allocator + Copy>(
     alloc: B,
     rules: &Vec<Rule<A>, A>,
@@ -119,7 +119,7 @@ impl<A: Allocator> Eq for Node<A> {
     ghost laws = { on_equiv node_view (decided same_node same_node_decides) };
 }
 
-/// Whether two nodes are one.
+/// Whether two nodes are equal.
 #[cycle(same)]
 fn same_node<A: Allocator>(node: &Node<A>, other: &Node<A>) -> bool
     ensures { result ≡ same_node (node_view node.now) (node_view other.now) }
@@ -136,7 +136,7 @@ fn same_node<A: Allocator>(node: &Node<A>, other: &Node<A>) -> bool
     }
 }
 
-/// Whether two nodes have one name, one algorithm and one target.
+/// Whether two nodes have equal names, algorithms and targets.
 #[tactic(auto, using(crate::proofs::EqualLemmas::same_target_derived))]
 fn same_head<A: Allocator>(node: &Node<A>, other: &Node<A>) -> bool
     ensures { result ≡ same_head (head_of (node_view node.now)) (head_of (node_view other.now)) }
@@ -146,7 +146,7 @@ fn same_head<A: Allocator>(node: &Node<A>, other: &Node<A>) -> bool
     name == other_name && combine == other_combine && *target == *other_target
 }
 
-/// The node's name, how its decision is made of those of its children, and its target.
+/// The node's name, algorithm and target.
 fn head<A: Allocator>(node: &Node<A>) -> (Name, Algorithm, &Target<A>)
     ensures { head_of (node_view node.now) ≡ record { name = result.0; combine = result.1; target = result.2.now } }
 {
@@ -166,7 +166,7 @@ fn head<A: Allocator>(node: &Node<A>) -> (Name, Algorithm, &Target<A>)
     }
 }
 
-/// Whether two rows of nodes are one.
+/// Whether two lists of nodes are equal.
 #[cycle(same)]
 fn same_nodes<A: Allocator>(nodes: &[Node<A>], others: &[Node<A>]) -> bool
     ensures { result ≡ same_children (children_of (map node_view nodes.now)) (children_of (map node_view others.now)) }

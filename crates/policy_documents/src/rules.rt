@@ -10,7 +10,7 @@ use memory::Refused;
 use std::alloc::Allocator;
 use std::marker::Model;
 
-/// A rule: it gives its effect where its target and all its conditions hold.
+/// A rule: it decides its effect if its target and all its conditions hold.
 #[derive(Debug, Drop)]
 pub struct Rule<A: Allocator> {
     pub name: Name,
@@ -28,7 +28,7 @@ impl<A: Allocator> Model for Rule<A> {
 }
 
 impl<A: Allocator> Rule<A> {
-    /// A copy of the rule. The only error is want of memory.
+    /// A copy of the rule. Fails only when out of memory.
     pub fn copy<B: Allocator + Copy>(&self, alloc: B) -> Result<Rule<B>, Refused>
         ensures { IfOk result (λ copy. copy ≡ self.now) }
     {
@@ -64,7 +64,7 @@ impl<A: Allocator> Eq for Rule<A> {
     ghost laws = { decided same_rule same_rule_decides };
 }
 
-/// Whether two rules are one, field by field.
+/// Whether two rules are equal, field by field.
 #[tactic(auto, using(crate::proofs::EqualLemmas::same_target_derived, crate::proofs::EqualLemmas::same_conditions_derived))]
 fn is_same<A: Allocator>(rule: &Rule<A>, other: &Rule<A>) -> bool
     ensures { result ≡ same_rule rule.now other.now }

@@ -1,4 +1,4 @@
-//! Zones: shapes under names, of which a document speaks.
+//! Zones: named shapes in a document.
 
 ghost use Rattle.std.specs.Hash as fed;
 ghost use Rattle.std.specs.Cmp.Rules.{comparing, hashing};
@@ -9,7 +9,7 @@ use features::Name;
 use plane::Shape;
 use std::hash::{Hash, Hasher};
 
-/// A shape under a name. A match `zone` holds where the question's shape meets it.
+/// A named shape. The match `zone` holds if the question's shape meets it.
 #[derive(Clone, Copy, Debug, PartialEq, Eq)]
 pub struct Zone {
     pub name: Name,

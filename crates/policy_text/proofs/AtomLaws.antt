@@ -1,4 +1,4 @@
--- What the terms and atoms are that were read.
+-- Terms and atoms that were read.
 use Rattle.std.proofs.Common.{◌≡◌, ℕ, true, IsTrue, List, refl, subst, arith, Ok, Option, Some, None, option_and_then}
 use Rattle.std.specs.List.{list_all}
 use Rattle.std.proofs.lemmas.Bool.{and_from}
@@ -48,7 +48,7 @@ module _ (zones : List Zone) where
   unfolding term_at
   term_at-tested path a d r told = bound _ _ r told (λ _ _ read. term_of-tested path a d r read)
 
-  -- what an atom adds
+  -- what an atom adds to the count and the matches
   abbrev IsAtom : ℕ → Atom × ℕ → Type 0
   IsAtom a r = IsTested zones a (atom_size r.0) (term_matches (atom_term r.0)) true r.1
 

@@ -1,4 +1,4 @@
--- The document of the JSON value that bytes were read as, and the fault where there was none.
+-- The document of bytes that were read as a JSON value, and the fault of bytes that were not.
 use Rattle.std.proofs.Common.{◌≡◌, ℕ, Bool, true, false, List, [], ◌∷◌, length, arith, IsUtf8, refl, ap, ◌∙◌, Option, Some, None, Result, Err}
 use Rattle.std.specs.Str.{is_utf8}
 use Rattle.std.specs.Option.{ok_or}
@@ -22,11 +22,11 @@ document_of-read : (bytes : List ℕ) (o : Option Data) → read bytes ≡ o →
 unfolding document_of of_read
 document_of-read bytes o told = ap (λ x. ok_or x faults.NotJson >>= document_in) told
 
--- of a text, the bytes spell what it spells
+-- bytes that are UTF-8 spell the document of their text
 pub document_of_bytes-utf8 : (bytes : List ℕ) → IsUtf8 bytes → document_of_bytes bytes ≡ document_of bytes
 document_of_bytes-utf8 bytes utf8 = rw (is_utf8-from_IsUtf8 bytes utf8) refl
 
--- the JSON value of the bytes spells the document
+-- bytes spell the document of the JSON value that they are read as
 pub document_of_bytes-read : (bytes : List ℕ) (d : Data) → IsUtf8 bytes → read bytes ≡ Some d → document_of_bytes bytes ≡ document_in d
 unfolding of_read
 document_of_bytes-read bytes d utf8 told = document_of_bytes-utf8 bytes utf8 ∙ document_of-read bytes (Some d) told
@@ -39,12 +39,12 @@ unread bytes told = by_test (is_utf8 bytes) refl
     by_test true test = rw test (document_of-read bytes None (told (IsUtf8-from_is_utf8 bytes test)))
     by_test false test = rw test refl
 
--- where no JSON value was read, memory ran out or the bytes are no JSON text
+-- if no JSON value was read, it is out of memory, or the bytes are not JSON
 pub json_fault-fails : (bytes : List ℕ) (e : JsonFault) → (IsTextFault e → IsUtf8 bytes → read bytes ≡ None) → Fails (json_fault e) (document_of_bytes bytes)
 json_fault-fails bytes (reasons.Text error) told = unread bytes (told tt)
 json_fault-fails bytes (reasons.Memory m) told = tt
 
--- no bytes are no JSON value
+-- the empty text is no JSON value
 read-empty : (d : Data) → read [] ≡ Some d → ⊥
 unfolding serde_json_on_literals
 read-empty d told = cc

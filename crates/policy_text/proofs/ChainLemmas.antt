@@ -1,4 +1,4 @@
--- What the steps of a reading gave, where the whole gave a value.
+-- What each step of a reading gave, if the whole gave a value.
 use Rattle.std.proofs.Common.{◌≡◌, ℕ, ◌+◌, ◌<◌, Bool, true, false, IsTrue, if◌then◌else◌, nat_lt, List, [], ◌∷◌, ◌++◌, refl, sym, subst, ◌∙◌, ltb-true, Result, Ok, Err, Option, Some, None, option_and_then}
 use Rattle.std.specs.List.{list_any}
 use Rattle.std.specs.Option.{ok_or}
@@ -13,7 +13,7 @@ use Rattle.policy_text.specs.declared.paths.Key.{Key}
 use Rattle.policy_text.specs.declared.faults.TextFault.{TextFault}
 use Rattle.policy_text.specs.declared.faults.TextFault.TheVariants as faults
 
--- a chain that gave a value, by its first step
+-- the first step of a chain that gave a value
 pub bound : {A B P : Type 0} (r : Result A TextFault) (k : A → Result B TextFault) (y : B) → (r >>= k) ≡ Ok y →
     ((x : A) → r ≡ Ok x → k x ≡ Ok y → P) → P
 bound (Ok x) k y told next = next x refl told
@@ -25,12 +25,12 @@ read_as x = Ok x
 pub same_value : {A : Type 0} (x y : A) → read_as x ≡ Ok y → x ≡ y
 same_value x y told = cc
 
--- a value that was taken on a test
+-- a value accepted by a test
 pub taken : {A : Type 0} (b : Bool) (x y : A) (e : TextFault) → (if b then Ok x else Err e) ≡ Ok y → (b ≡ true) × (x ≡ y)
 taken true x y e told = (refl, cc)
 taken false x y e told = absurd cc
 
--- a value that was refused on a test
+-- a value that a test did not reject
 pub passed : {A : Type 0} (b : Bool) (x y : A) (e : TextFault) → (if b then Err e else Ok x) ≡ Ok y → (b ≡ false) × (x ≡ y)
 passed true x y e told = absurd cc
 passed false x y e told = (refl, cc)
@@ -40,7 +40,7 @@ pub either : {A : Type 0} (P : A → Type 0) (b : Bool) (r s : Result A TextFaul
 either P true r s x first second told = first told
 either P false r s x first second told = second told
 
--- the name that stands under a key is spelled as one
+-- the name under a key is a valid name
 pub name_in-spelled : (key : Key) (path : List Step) (d : Data) (name : List ℕ) → name_in key path d ≡ Ok name → IsTrue (spelling.is_name name)
 name_in-spelled key path d name = under (option_and_then as_str (value_of key d))
   where
@@ -55,11 +55,11 @@ name_in-spelled key path d name = under (option_and_then as_str (value_of key d)
     under None told = absurd cc
     under (Some text) told = of_test (spelling.is_name text) text refl told
 
--- one name more, that was not seen before
+-- one more name, which was not seen before
 pub fresh-read : (name : List ℕ) (before after : List (List ℕ)) → fresh name before ≡ Ok after → (list_any (same_name name) before ≡ false) × (before ++ name ∷ [] ≡ after)
 fresh-read name before after told = passed (list_any (same_name name) before) (before ++ name ∷ []) after _ told
 
--- one more of a kind of which there may be so many
+-- one more, below the limit
 pub within-read : (limit before after : ℕ) → within limit before ≡ Ok after → (before < limit) × (before + 1 ≡ after)
 within-read limit before after told =
     let t = taken (nat_lt before limit) (before + 1) after _ told in (ltb-true before limit t.0, t.1)
@@ -69,7 +69,7 @@ pub items_in-filled : (path : List Step) (d : Data) (items : Items) → items_in
 items_in-filled path d items told = bound _ _ _ told (λ found _ rest.
     let t = passed (is_empty found) found items _ rest in subst (λ i. is_empty i ≡ false) t.1 t.0)
 
--- what is read of the items of an array, from what is read of each
+-- how the items of an array are read, given how each is read
 module _ {X S : Type 0} (read : List Step → S → Data → Result (X × S) TextFault) where
   abbrev behind_first : List Step → ℕ → Items → X × S → Result (List X × S) TextFault
   behind_first path i rest first = each_at read path (i + 1) first.1 rest >>= λ others. Ok (first.0 ∷ others.0, others.1)
@@ -82,7 +82,7 @@ module _ {X S : Type 0} (read : List Step → S → Data → Result (X × S) Tex
   unfolding each_at
   each_at-none path i s = refl
 
-  -- the first item was read, and the others
+  -- the first item was read, then the others
   in_turn : {P : Type 0} (path : List Step) (i : ℕ) (s : S) (d : Data) (rest : Items) (r : List X × S) → each_at read path i s (item d rest) ≡ Ok r →
       ((first : X × S) (others : List X × S) → read (at_item path i) s d ≡ Ok first → each_at read path (i + 1) first.1 rest ≡ Ok others → (first.0 ∷ others.0, others.1) ≡ r → P) → P
   in_turn path i s d rest r told next =

@@ -1,4 +1,4 @@
--- What rules, policies and sets hold.
+-- The contents of rules, policies and sets.
 use Rattle.std.proofs.Common.{◌≡◌, suc, ◌+◌, List, [], ◌∷◌, length, map, flat_map, refl, ap, sym, ◌∙◌, arith, length-append}
 use Rattle.policy_documents.specs.Documents.{RuleData, Head, NodeData, Children, children_of, target_matches, rule_matches, rule_sizes, atom_sizes, names_of, names_of_all, rules_of, rules_of_all, node_count, node_count_of_all, test_count, test_count_of_all, depth_of, depth_of_all, matches_of, matches_of_all, targets_of, targets_of_all}
 use Rattle.policy_text.proofs.PartLaws.{Contents, beside, all_contents}

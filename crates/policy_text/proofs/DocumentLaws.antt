@@ -1,4 +1,4 @@
--- What was read is a document: it keeps its limits, and its names, zones and targets are those of one.
+-- What was read is a valid document: its limits, names, zones and targets.
 use Rattle.std.proofs.Common.{◌≡◌, IsTrue, List, [], refl, subst, arith, Ok}
 use Rattle.serde_json.specs.Data.{Data}
 use Rattle.policy_documents.specs.Documents.{DocumentData, NodeData, IsDocument, are_distinct}
@@ -14,7 +14,7 @@ use Rattle.policy_text.proofs.ZoneLaws.{AreZones, zones_at-AreZones}
 nothing_within : IsWithin nothing_seen
 nothing_within = record { nodes = omega arith; rules = omega arith; tests = omega arith; names = refl }
 
--- zones, and a root that was read with them
+-- zones, and a root that was read with them, make a document
 both_sound : (zones : List Zone) (root : NodeData) (t : Seen) → AreZones zones → IsSound zones 8 nothing_seen (node_contents root) t → IsDocument (record { zones = zones; root = root })
 both_sound zones root t z h = let w = h.kept nothing_within in record {
   depth = h.depth;
@@ -31,7 +31,7 @@ both_sound zones root t z h = let w = h.kept nothing_within in record {
   targets_filled = h.filled;
 }
 
--- a JSON value that was read gave a document
+-- a JSON value that was read gives a valid document
 pub document_in-IsDocument : (d : Data) (r : DocumentData) → document_in d ≡ Ok r → IsDocument r
 unfolding document_in
 document_in-IsDocument d r told = bound (object_in document_keys [] d) _ r told (λ _ _ a. bound (optional_array_in keys.Zones [] d) _ r a (λ items _ b.

@@ -1,4 +1,4 @@
--- Reading the items of an array, one after another.
+-- Reading the items of an array one by one.
 use Rattle.std.proofs.Common.{◌≡◌, ℕ, ◌+◌, ◌<◌, ◌≤◌, List, [], ◌∷◌, ◌++◌, length, get_or, drop, refl, sym, ap, ◌∙◌, subst, append_assoc, add-one, drop-cons, Result, Ok, Err, Option, Some, false, nat_eq, arith, IsErrAnd, if◌then◌else◌}
 use Rattle.std.specs.Option.{ok_or}
 use Rattle.std.proofs.lemmas.List.{append-nil, drop_all}
@@ -48,13 +48,13 @@ items_in-found path d vs ws n e f k g =
     ap (items_in_of path) (sym e) ∙ ap (items_in_of path) (ap (λ l. Some (items_view l)) (sym g))
     ∙ ap (λ b. if b then Err (faults.Form path) else Ok (items_view ws)) (is_empty-length ws ∙ ap (λ m. nat_eq m 0) k ∙ sym f)
 
--- what left by `?` is the fault that was met
+-- an error passed on by `?` is the fault that occurred
 pub Gives-residual : {X Y : Type 0} (view : X → Y) (r : Result X TextFault) (e : TextFault) (reading : Result Y TextFault) →
     IsErrAnd r (λ f. f ≡ e) → Fails e reading → Gives view r reading
 Gives-residual view (Ok x) e reading h told = absurd h
 Gives-residual view (Err f) e reading h told = subst (λ g. Fails g reading) (sym h) told
 
--- what was read already, before what is read of the rest
+-- what was read already, followed by what is read of the rest
 abbrev pub behind : {X S : Type 0} → List X → Result (List X × S) TextFault → Result (List X × S) TextFault
 behind done rest = rest >>= λ r. Ok (done ++ r.0, r.1)
 
@@ -74,7 +74,7 @@ module _ {X S : Type 0} (read : List Step → S → Data → Result (X × S) Tex
   left_at-cons i seen vs v in_range at =
       ap (λ ws. each_at read path i seen (items_view ws)) (drop-cons vs i v in_range) ∙ rw (← at, add-one) refl
 
-  -- an item was read
+  -- one more item was read
   pub left_at-more : (done : List X) (i : ℕ) (seen after : S) (vs : List Value) (v : Value) (x : X) → i < length vs → v ≡ get_or vs i v →
       read (at_item path i) seen (view v) ≡ Ok (x, after) →
       behind (done ++ x ∷ []) (left_at (i + 1) after vs) ≡ behind done (left_at i seen vs)
@@ -87,7 +87,7 @@ module _ {X S : Type 0} (read : List Step → S → Data → Result (X × S) Tex
   left_at-fails done i seen vs v e in_range at told =
       subst (λ r. Fails e (behind done r)) (sym (left_at-cons i seen vs v in_range at)) (Fails-bind e _ _ (Fails-bind e _ _ told))
 
-  -- all was read
+  -- all items were read
   pub left_at-end : (done : List X) (i : ℕ) (seen : S) (vs : List Value) → length vs ≤ i → behind done (left_at i seen vs) ≡ Ok (done, seen)
   unfolding each_at
   left_at-end done i seen vs past =

@@ -1,4 +1,4 @@
--- Comparing faults: the test that is derived decides `≡`.
+-- Comparing faults: the derived test decides `≡`.
 use Rattle.std.proofs.Common.{◌≡◌, ◌↔◌, true, ◌&&◌, refl, ap, IsTrue}
 use Rattle.std.proofs.lemmas.Bool.{false≢true}
 use Rattle.std.specs.Cmp.{first_so, second_so, unsigned_Decides}
@@ -82,6 +82,6 @@ text_fault-told (faults.BadZone m a) (faults.BadZone n b) e =
     λ i. faults.BadZone (name i) (fault i)
 text_fault-told a b e = absurd (false≢true e)
 
--- two faults are `==` exactly where they are one
+-- `==` on faults is exact
 pub text_fault_exact : (a b : TextFault) → IsTrue (comparing.eq-value.it a b) ↔ (a ≡ b)
 text_fault_exact = decides_by comparing.eq-value.it text_fault-itself text_fault-told

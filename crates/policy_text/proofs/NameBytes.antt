@@ -20,7 +20,7 @@ pub name-utf8 : (bs : List ℕ) → IsTrue (is_name bs) → IsUtf8 bs
 name-utf8 bs name =
     IsUtf8-from_ascii bs (ascii bs (second_so (nat_le 1 (length bs) && nat_le (length bs) 32) (list_all is_name_byte bs) name))
 
--- what fails only of other bytes does not fail
+-- a result that is an error only if Q is false is `Ok`, given Q
 pub ok_unless : {X Y : Type 0} (P : X → Type 0) (Q : Type 0) (R : Y → Type 0) (r : Result X Y) → MatchResult r P (λ y. (Q → ⊥) × R y) → Q → IsOk r
 ok_unless P Q R (Ok x) told q = refl
 ok_unless P Q R (Err y) told q = absurd (told.0 q)

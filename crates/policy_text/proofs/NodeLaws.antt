@@ -1,4 +1,4 @@
--- What the rules, policies and sets are that were read.
+-- Rules, policies and sets that were read are sound.
 use Rattle.std.proofs.Common.{◌≡◌, ℕ, zero, suc, ◌+◌, Bool, true, List, ◌++◌, sym, subst, arith, Ok, Result}
 use Rattle.serde_json.specs.Data.{Data, Items}
 use Rattle.policy_documents.specs.Documents.{RuleData, Head, NodeData, Children, set, policy, children_of, target_matches, is_target}
@@ -16,7 +16,7 @@ use Rattle.policy_text.proofs.ContentLemmas.{rule_contents, head_contents, node_
 use Rattle.policy_text.proofs.PartLaws.{beside, all_contents, IsSound, then_sound, each_sound, own_sound}
 
 module _ (zones : List Zone) (levels : ℕ) where
-  -- a target, and the conditions behind it
+  -- a target, and the conditions after it
   target_and_when : (a b c size more : ℕ) (xs ys : List Match) (full : Bool) → IsTested zones a size xs full b → IsTested zones b more ys true c → IsTested zones a (size + more) (xs ++ ys) full c
   target_and_when a b c size more xs ys full h k =
       let both = then_tested zones a b c size more xs ys full true h k in
@@ -49,7 +49,7 @@ module _ (zones : List Zone) (levels : ℕ) where
       (name_in-spelled name_key path d name spelled) new (sym n.1) (omega arith) (λ _. omega (arith, n.0, n.1)) (λ low. low)
       (target_at-tested zones (at_key path keys.Target) s.tests target t target_read))))))))))
 
-  -- a node, whose head and children are sound
+  -- a node whose head and children are sound is sound
   policy_sound : (s t : Seen) (head : Head) (rules : List RuleData) → IsSound zones levels s (beside (head_contents head) (rules_contents rules)) t →
       IsSound zones (suc levels) s (node_contents (policy head rules)) t
   policy_sound s t head rules h = record {
@@ -100,7 +100,7 @@ module _ (zones : List Zone) (levels : ℕ) where
         (set_sound s nodes.1 h.0 (children_of nodes.0) (subst (λ c. IsSound zones levels s (beside (head_contents h.0) c) nodes.1) (all_contents-nodes nodes.0)
         (then_sound zones levels s h.1.0 nodes.1 (head_contents h.0) (all_contents node_contents nodes.0) own below)))))
 
--- a set or a policy, with no more levels than may stand there
+-- a set or a policy that was read is sound and no deeper than `levels`
 pub node_at-sound : (zones : List Zone) (levels : ℕ) (path : List Step) (s : Seen) (d : Data) (r : NodeData × Seen) → node_at zones levels path s d ≡ Ok r →
     IsSound zones levels s (node_contents r.0) r.1
 unfolding node_at

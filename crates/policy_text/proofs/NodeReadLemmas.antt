@@ -23,7 +23,7 @@ module _ (zones : List Zone) (path : List Step) (seen : Seen) (d : Data) where
   unfolding node_at
   node_at-policy levels below l e = rw (l, ← e) refl
 
-  -- what was read as of a set or a policy is read of the node
+  -- a reading that equals another one has its result
   pub Gives-along : {X : Type 0} (view : X → NodeData × Seen) (r : Result X TextFault) (a b : Result (NodeData × Seen) TextFault) → a ≡ b → Gives view r a → Gives view r b
   Gives-along view r a b e h = subst (Gives view r) e h
 

@@ -1,4 +1,4 @@
--- What the parts of a document are that were read: what they hold, behind what was seen before.
+-- Parts of a document that were read: their contents, and what was seen after them.
 use Rattle.std.proofs.Common.{◌≡◌, ℕ, ◌+◌, ◌≤◌, max, true, IsTrue, List, [], ◌∷◌, ◌++◌, append-nil, append_assoc, refl, ap, sym, subst, ◌∙◌, arith, Ok, Result}
 use Rattle.std.specs.List.{list_all}
 use Rattle.std.proofs.lemmas.Bool.{and_from}
@@ -14,7 +14,7 @@ use Rattle.policy_text.proofs.ChainLemmas.{each_at-read, fresh-read}
 use Rattle.policy_text.proofs.DistinctLemmas.{are_distinct-push}
 use Rattle.policy_text.proofs.TestLaws.{IsTested, all_append}
 
--- what a part of a document holds
+-- the contents of a part of a document
 pub record Contents : Type 0 where
   pub names : List (List ℕ)
   pub nodes : ℕ
@@ -27,7 +27,7 @@ pub record Contents : Type 0 where
 abbrev pub no_contents : Contents
 no_contents = record { names = []; nodes = 0; rules = 0; tests = 0; depth = 0; found = []; targets = [] }
 
--- the contents of a part and of those behind it
+-- the contents of a part and of the parts after it
 abbrev pub beside : Contents → Contents → Contents
 beside a b = record {
   names = a.names ++ b.names;
@@ -43,14 +43,14 @@ abbrev pub all_contents : {X : Type 0} → (X → Contents) → List X → Conte
 all_contents contents [] = no_contents
 all_contents contents (x ∷ xs) = beside (contents x) (all_contents contents xs)
 
--- what was seen keeps the limits of documents, and no two names of it are one
+-- what was seen is within the limits of documents, and its names are distinct
 pub record IsWithin (s : Seen) : Type 0 where
   pub nodes : s.nodes ≤ 512
   pub rules : s.rules ≤ 512
   pub tests : s.tests ≤ 4096
   pub names : IsTrue (are_distinct s.names)
 
--- a part with these contents, behind which `t` was seen where `s` was before it
+-- a part with these contents is sound, and takes what was seen from `s` to `t`
 pub record IsSound (zones : List Zone) (levels : ℕ) (s : Seen) (c : Contents) (t : Seen) : Type 0 where
   pub names : t.names ≡ s.names ++ c.names
   pub nodes : t.nodes ≡ s.nodes + c.nodes
@@ -99,7 +99,7 @@ module _ (zones : List Zone) (levels : ℕ) where
     each_sound = each_at-read read (λ s x t. IsSound zones levels s (contents x) t) (λ s xs t. IsSound zones levels s (all_contents contents xs) t)
         nothing_sound (λ s t u x xs. then_sound s t u (contents x) (all_contents contents xs)) reads
 
-  -- what a set, a policy or a rule holds itself: a name, a target, and matches and atoms
+  -- the contents of a set, a policy or a rule without its children
   abbrev pub own_contents : List ℕ → ℕ → ℕ → ℕ → List Match → List (List (List Match)) → Contents
   own_contents name nodes rules tests found target = record { names = name ∷ []; nodes = nodes; rules = rules; tests = tests; depth = 0; found = found; targets = target ∷ [] }
 

@@ -1,4 +1,4 @@
--- A path with one step more.
+-- A path with one more step.
 use Rattle.std.proofs.Common.{◌≡◌, ℕ, ◌+◌, ◌-◌, ◌<◌, List, drop, replicate, sym, ap, ◌∙◌, arith, length-set}
 use Rattle.std.proofs.Math.ListN.{set}
 use Rattle.std.proofs.lemmas.List.{drop-set-lt, drop-drop, drop-replicate}

@@ -1,4 +1,4 @@
--- Comparing places in a document: what the test that is derived answers, and that `==` is exact.
+-- Comparing paths: the result of the derived test, and that `==` is exact.
 use Rattle.std.proofs.Common.{◌≡◌, ◌↔◌, Bool, List, refl, ◌∙◌, IsTrue}
 use Rattle.std.proofs.lemmas.Bool.Decides.{Decides-at}
 use Rattle.std.specs.Cmp.Lexicographic.{pointwise}

@@ -1,4 +1,4 @@
--- A printed document is read again.
+-- A printed document is read as itself.
 use Rattle.std.proofs.Common.{◌≡◌, IsTrue, List, [], Ok, refl, arith}
 use Rattle.std.specs.List.{list_all}
 use Rattle.std.proofs.lemmas.Bool.{and_from}
@@ -36,7 +36,7 @@ module _ (root : Data) where
 all_readable : (zones : List Zone) (ms : List Match) → IsTrue (list_all (is_zone_known zones) ms) → IsTrue (list_all is_match_spelled ms) → IsTrue (list_all (is_readable zones) ms)
 all_readable zones = list_all_both (is_zone_known zones) is_match_spelled (is_readable zones) (λ m h k. and_from (is_zone_known zones m) (is_match_spelled m) h k)
 
--- the root of a document stands behind nothing
+-- nothing was seen before the root of a document
 root_here : (d : DocumentData) → IsDocument d → IsNodeHere d.zones 8 nothing_seen d.root
 root_here d h = record {
   depth = h.depth;

@@ -1,4 +1,4 @@
--- The printed heads of sets and policies are read again.
+-- The printed heads of sets and policies are read as themselves.
 use Rattle.std.proofs.Common.{◌≡◌, ℕ, ◌+◌, ◌<◌, ◌≤◌, false, IsTrue, List, [], ◌∷◌, ◌++◌, length, Ok, refl}
 use Rattle.std.specs.List.{list_any, list_all}
 use Rattle.serde_json.specs.Data.{Data, string, array, object, Items, no_items, item, no_members}
@@ -41,14 +41,14 @@ module _ (path : List Step) (combine name : List ℕ) (children : Items) where
   policy_target no_items = refl
   policy_target (item d ds) = refl
 
--- the object of a policy has no key of a set
+-- the object of a policy does not have the key `set`
 pub policy_kind : (combine name : List ℕ) (rules target : Items) → false ≡ has_key keys.Set (policy_object combine name rules target)
 policy_kind combine name rules no_items = refl
 policy_kind combine name rules (item d ds) = refl
 
 -- ---- heads
 
--- what is asked of a head, for it to be read behind what was seen
+-- what a head needs to be read after `seen`
 pub record IsHeadHere (zones : List Zone) (seen : Seen) (head : Head) : Type 0 where
   pub spelled : IsTrue (spelling.is_name head.name)
   pub target : IsTrue (is_target head.target)
@@ -57,7 +57,7 @@ pub record IsHeadHere (zones : List Zone) (seen : Seen) (head : Head) : Type 0 w
   pub nodes : seen.nodes < 512
   pub tests : seen.tests + length (target_matches head.target) ≤ 4096
 
--- what was seen behind a head
+-- what was seen after a head
 abbrev pub after_head : Seen → Head → Seen
 after_head seen head = seen_of (seen.names ++ head.name ∷ []) (seen.nodes + 1) seen.rules (seen.tests + length (target_matches head.target))
 

@@ -1,4 +1,4 @@
--- Reading a printed array again, item by item.
+-- Reading a printed array item by item.
 use Rattle.std.proofs.Common.{◌≡◌, ℕ, ◌+◌, ◌≤◌, Bool, ◌&&◌, IsTrue, List, [], ◌∷◌, length, map, flat_map, Result, Ok, refl, ap, ◌∙◌, arith, length-append}
 use Rattle.std.specs.List.{list_all}
 use Rattle.std.proofs.lemmas.Bool.{and_parts, and_from}
@@ -13,7 +13,7 @@ use Rattle.policy_text.specs.declared.faults.TextFault.{TextFault}
 
 -- ---- lists
 
--- how large the items are, together
+-- the sizes of the items, added up
 abbrev pub sizes : {X : Type 0} → (X → ℕ) → List X → ℕ
 sizes size [] = 0
 sizes size (x ∷ xs) = size x + sizes size xs
@@ -34,7 +34,7 @@ pub list_all-flat_map : {X Y : Type 0} (p : Y → Bool) (f : X → List Y) (xs :
 list_all-flat_map p f [] = refl
 list_all-flat_map p f (x ∷ xs) = list_all-append p (f x) (flat_map f xs) ∙ ap (λ b. list_all p (f x) && b) (list_all-flat_map p f xs)
 
--- what follows of each item from two facts on it
+-- two facts on each item imply a third
 pub list_all_both : {X : Type 0} (p q r : X → Bool) → ((x : X) → IsTrue (p x) → IsTrue (q x) → IsTrue (r x)) → (xs : List X) →
     IsTrue (list_all p xs) → IsTrue (list_all q xs) → IsTrue (list_all r xs)
 list_all_both p q r both [] h k = refl
@@ -50,7 +50,7 @@ items_read data_of path [] h = absurd cc
 items_read data_of path (x ∷ xs) h = refl
 
 module _ {X : Type 0} (read : List Step → ℕ → Data → Result (X × ℕ) TextFault) (data_of : X → Data) (size : X → ℕ) (fits : X → Bool) where
-  -- each item that fits is read again, where there is room for it
+  -- each item that fits is read as itself, if the limit allows it
   abbrev pub ReadsAgain : Type 0
   ReadsAgain = (path : List Step) (tests : ℕ) (x : X) → IsTrue (fits x) → tests + size x ≤ 4096 → read path tests (data_of x) ≡ Ok (x, tests + size x)
 
@@ -64,7 +64,7 @@ module _ {X : Type 0} (read : List Step → ℕ → Data → Result (X × ℕ) T
       rw (again (at_item path index) tests x parts.0 (omega arith), each_read again path (index + 1) (tests + size x) xs parts.1 (omega arith))
       (ap (λ n. Ok (x ∷ xs, n)) e)
 
--- one item more in front of those that are read
+-- one more item in front of those that are read
 pub each_more : {X S : Type 0} (read : List Step → S → Data → Result (X × S) TextFault) (path : List Step) (index : ℕ) (seen next last : S) (d : Data) (rest : Items) (x : X) (xs : List X) →
     read (at_item path index) seen d ≡ Ok (x, next) → each_at read path (index + 1) next rest ≡ Ok (xs, last) → each_at read path index seen (item d rest) ≡ Ok (x ∷ xs, last)
 unfolding each_at

@@ -1,4 +1,4 @@
--- Printed matches and atoms are read again.
+-- Printed matches and atoms are read as themselves.
 use Rattle.std.proofs.Common.{◌≡◌, ℕ, ◌+◌, ◌<◌, ◌≤◌, Bool, true, false, ◌&&◌, IsTrue, List, None, Ok, refl, ap, arith}
 use Rattle.std.specs.List.{list_all}
 use Rattle.std.proofs.lemmas.Bool.{and_parts}
@@ -16,7 +16,7 @@ use Rattle.policy_documents.specs.declared.matches.Atom.{Atom}
 use Rattle.policy_documents.specs.declared.matches.Atom.TheVariants as atoms
 use Rattle.policy_text.proofs.PrintedSteps.{action_read, counted_room, known_read}
 
--- a match that can be read again: its zone is known, and its name is spelled as one
+-- a match can be read: its zone is known, and its name is a valid one
 abbrev pub is_readable : List Zone → Match → Bool
 is_readable zones m = is_zone_known zones m && is_match_spelled m
 
@@ -82,7 +82,7 @@ module _ (zones : List Zone) where
       let lt : tests < 4096 = omega arith in
       rw (single_match path m, match_in_read path m parts.1, known_read zones m parts.0, counted_room tests lt) refl
 
-  -- the match of a term, if it has one, can be read again
+  -- the match of a term, if it has one, can be read
   abbrev pub is_term_readable : Term → Bool
   is_term_readable term = list_all (is_readable zones) (term_matches term)
 

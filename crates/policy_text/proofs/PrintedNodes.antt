@@ -1,4 +1,4 @@
--- Printed sets and policies are read again.
+-- Printed sets and policies are read as themselves.
 use Rattle.std.proofs.Common.{◌≡◌, ℕ, zero, suc, ◌+◌, List, [], ◌∷◌, map, flat_map, Ok, refl, sym, ap, ◌∙◌, arith, append_assoc, append-nil, length-append}
 use Rattle.std.specs.List.{list_all}
 use Rattle.std.proofs.lemmas.Bool.{and_parts}
@@ -29,7 +29,7 @@ children_of-nodes_of : (nodes : Children) → children_of (nodes_of nodes) ≡ n
 children_of-nodes_of no_children = refl
 children_of-nodes_of (child node rest) = ap (child node) (children_of-nodes_of rest)
 
--- ---- what was seen behind the parts of a node, together
+-- ---- what was seen after the parts of a node, together
 
 module _ (seen : Seen) where
   after_set : (head : Head) (nodes : Children) → after_nodes (after_head seen head) nodes ≡ after_node seen (set head nodes)
@@ -71,7 +71,7 @@ module _ (zones : List Zone) where
       ∙ policy_at-read zones path seen (node_data (policy head rules)) head next (after_rules next rules) items place rules (policy_head_read zones path seen head items here) refl behind
       ∙ ap (λ s. Ok (policy head rules, s)) (after_policy seen head rules)
 
-  -- ---- sets, and nodes one after another
+  -- ---- sets, and nodes one by one
 
   mutual
     pub node_read : (node : NodeData) (levels : ℕ) (path : List Step) (seen : Seen) → IsNodeHere zones levels seen node → node_at zones levels path seen (node_data node) ≡ Ok (node, after_node seen node)

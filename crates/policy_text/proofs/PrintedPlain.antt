@@ -1,4 +1,4 @@
--- A printed document has no float, and does not nest deep.
+-- The JSON value of a document has no float and does not nest deep.
 use Rattle.std.proofs.Common.{◌≡◌, ℕ, suc, ◌+◌, ◌*◌, ◌≤◌, Bool, true, false, ◌||◌, List, [], ◌∷◌, map, refl, arith}
 use Rattle.serde_json.specs.Data.{Data, string, array, object, depth, items_depth, members_depth, Items, no_items, item, Members, no_members}
 use Rattle.serde_json.specs.View.{items_of}
@@ -16,7 +16,7 @@ use Rattle.policy_documents.specs.declared.matches.Term.TheVariants as terms
 use Rattle.policy_documents.specs.declared.matches.Atom.{Atom}
 use Rattle.policy_documents.specs.declared.matches.Atom.TheVariants as atoms
 
--- a value has no float, and nests no deeper than this
+-- a value has no float, and nests at most `limit` deep
 pub record IsPlain (limit : ℕ) (d : Data) : Type 0 where
   pub whole : has_float d ≡ false
   pub shallow : depth d ≤ limit
@@ -96,7 +96,7 @@ rule-plain rule =
     (keyed_items-plain 3 keys.Target (target_items rule.target) _ (target-plain rule.target)
     (keyed_items-plain 3 keys.When (when_items rule.when) no_members (items_of-plain atom_data 3 atom-plain rule.when) (no_members-plain 4)))))
 
--- the target of a set or a policy, among its members
+-- the target among the members of a set or a policy
 head-plain : (limit : ℕ) (target : List (List (List Match))) → 4 ≤ limit → HasPlain limit (keyed_items keys.Target (target_items target) no_members)
 head-plain limit target room =
     let h = keyed_items-plain 3 keys.Target (target_items target) no_members (target-plain target) (no_members-plain 4) in
@@ -108,7 +108,7 @@ IsPlain-more a b d more h = record { whole = h.whole; shallow = omega (arith, h.
 ArePlain-more : (a b : ℕ) (ds : Items) → a ≤ b → ArePlain a ds → ArePlain b ds
 ArePlain-more a b ds more h = record { whole = h.whole; shallow = omega (arith, h.shallow) }
 
--- a set, by its children
+-- a set whose children are plain is plain
 set-plain : (limit : ℕ) (head : Head) (children : Children) → 3 ≤ limit → ArePlain limit (nodes_items children) → IsPlain (suc (suc limit)) (node_data (set head children))
 set-plain limit head children room h =
     object-plain (suc limit) _ (keyed-plain (suc limit) keys.Combine _ _ (text-plain (suc limit) (algorithm_text head.combine))
@@ -120,7 +120,7 @@ policy-plain head rules =
     object-plain 6 _ (keyed-plain 6 keys.Combine _ _ (text-plain 6 (algorithm_text head.combine)) (keyed-plain 6 keys.Policy _ _ (text-plain 6 head.name)
     (keyed-plain 6 keys.Rules _ _ (array-plain 5 _ (items_of-plain rule_data 5 rule-plain rules)) (head-plain 6 head.target (omega arith)))))
 
--- two levels of JSON for each of sets and policies, and five below them
+-- each set or policy nests two levels of JSON, and what is below them five
 mutual
   node-plain : (n : NodeData) → IsPlain (2 * depth_of n + 5) (node_data n)
   node-plain (set head children) =

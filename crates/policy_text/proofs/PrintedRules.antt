@@ -1,4 +1,4 @@
--- Printed rules are read again.
+-- Printed rules are read as themselves.
 use Rattle.std.proofs.Common.{◌≡◌, ℕ, ◌+◌, ◌<◌, ◌≤◌, false, IsTrue, List, [], ◌∷◌, ◌++◌, length, map, flat_map, Ok, refl, sym, ap, ◌∙◌, arith, append_assoc, append-nil}
 use Rattle.std.specs.List.{list_any, list_all}
 use Rattle.std.proofs.lemmas.Bool.{and_parts}
@@ -45,7 +45,7 @@ when_found path effect name (item d ds) (item e es) = refl
 
 -- ---- rules
 
--- what is asked of a rule, for it to be read behind what was seen
+-- what a rule needs to be read after `seen`
 record IsRuleHere (zones : List Zone) (seen : Seen) (rule : RuleData) : Type 0 where
   spelled : IsTrue (spelling.is_name rule.name)
   target : IsTrue (is_target rule.target)
@@ -54,7 +54,7 @@ record IsRuleHere (zones : List Zone) (seen : Seen) (rule : RuleData) : Type 0 w
   rules : seen.rules < 512
   tests : seen.tests + (length (target_matches rule.target) + atom_sizes rule.when) ≤ 4096
 
--- what was seen behind one rule
+-- what was seen after one rule
 abbrev after_rule : Seen → RuleData → Seen
 after_rule seen rule = seen_of (seen.names ++ rule.name ∷ []) seen.nodes (seen.rules + 1) (seen.tests + (length (target_matches rule.target) + atom_sizes rule.when))
 
@@ -83,7 +83,7 @@ module _ (zones : List Zone) where
       )
       (ap (λ n. Ok (rule, seen_of (seen.names ++ rule.name ∷ []) seen.nodes (seen.rules + 1) n)) e)
 
-  -- the rules of a policy, in turn
+  -- the rules of a policy, one by one
   pub rules_read : (path : List Step) (index : ℕ) (seen : Seen) (rules : List RuleData) → IsTrue (list_all spelling.is_name (map (λ rule. rule.name) rules)) →
       IsTrue (list_all is_target (map (λ rule. rule.target) rules)) → IsTrue (list_all (is_readable zones) (flat_map rule_matches rules)) →
       IsTrue (are_distinct (seen.names ++ map (λ rule. rule.name) rules)) → seen.rules + length rules ≤ 512 → seen.tests + rule_sizes rules ≤ 4096 →

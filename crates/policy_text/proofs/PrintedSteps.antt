@@ -1,4 +1,4 @@
--- What the steps of a reader give where nothing is at fault.
+-- What each step of the reader gives if there is no fault.
 use Rattle.std.proofs.Common.{◌≡◌, ℕ, ◌+◌, ◌<◌, false, not, IsTrue, List, [], ◌∷◌, ◌++◌, Some, Ok, refl, sym, ◌∙◌, rules}
 use Rattle.std.specs.Cmp.{IsEquivalence}
 use Rattle.std.specs.Cmp.Rules.{comparing}
@@ -66,7 +66,7 @@ known_read zones (matches.Action action) h = refl
 same_name-laws : IsEquivalence same_name
 same_name-laws = search (comparing, rules)
 
--- a name is none of those before it
+-- a name differs from all names before it
 pub distinct_behind : (xs : List (List ℕ)) (name : List ℕ) (ys : List (List ℕ)) → IsTrue (are_distinct (xs ++ name ∷ ys)) → list_any (same_name name) xs ≡ false
 distinct_behind [] name ys h = refl
 distinct_behind (x ∷ xs) name ys h =

@@ -1,4 +1,4 @@
--- Printed targets and conditions are read again.
+-- Printed targets and conditions are read as themselves.
 use Rattle.std.proofs.Common.{◌≡◌, ℕ, ◌+◌, ◌≤◌, Bool, ◌&&◌, IsTrue, List, length, flat_map, Ok, sym, ap, ◌∙◌, arith}
 use Rattle.std.specs.List.{list_all}
 use Rattle.std.proofs.lemmas.Bool.{and_parts, and_from}

@@ -1,4 +1,4 @@
--- What the text of a value is, where the value is a printed document.
+-- The text of a JSON value that is a document's.
 use Rattle.std.proofs.Common.{◌≡◌, ◌≤◌, ℕ, List, IsUtf8, false, Some, Ok, ap, ◌∙◌}
 use Rattle.serde_json.specs.Data.{Data, depth}
 use Rattle.serde_json.specs.Read.{read, max_depth}

@@ -1,4 +1,4 @@
--- Printed zones are read again.
+-- Printed zones are read as themselves.
 use Rattle.std.proofs.Common.{◌≡◌, ℕ, ◌+◌, ◌<◌, ◌≤◌, false, IsTrue, List, [], ◌∷◌, ◌++◌, length, map, Ok, refl, sym, ap, ◌∙◌, arith, append_assoc, append-nil, length-append}
 use Rattle.std.specs.List.{list_any, AllByRecursion}
 use Rattle.std.proofs.lemmas.List.{map-append}
@@ -16,7 +16,7 @@ use Rattle.policy_text.proofs.ZoneReadLemmas.{zones_place}
 abbrev pub names_of_zones : List Zone → List (List ℕ)
 names_of_zones zones = map (λ z. z.name) zones
 
--- the name of a zone is looked for among the names
+-- looking for a zone by name is looking among the names
 list_any-names : (name : List ℕ) (zones : List Zone) → list_any (λ z. same_name name z.name) zones ≡ list_any (same_name name) (names_of_zones zones)
 list_any-names name [] = refl
 list_any-names name (z ∷ zs) = rw (list_any-names name zs) refl
@@ -33,7 +33,7 @@ zone_read : (path : List Step) (z : Zone) (zones : List Zone) → IsZone z → l
 unfolding zone_at
 zone_read path z zones h absent room = rw (name_read z.name h.name, shape_read z h) (with_zone_read z zones absent room)
 
--- zones behind others
+-- zones are read after others
 pub zones_read : (index : ℕ) (before zones : List Zone) → AllByRecursion IsZone zones → IsTrue (are_distinct (names_of_zones (before ++ zones))) → length (before ++ zones) ≤ 64 →
     zones_at index before (zones_items zones) ≡ Ok (before ++ zones)
 unfolding zones_at

@@ -1,4 +1,4 @@
--- Objects as their members are put, one after another.
+-- Objects as their members are put, one by one.
 use Rattle.std.proofs.Common.{◌≡◌, ℕ, false, nat_eq, List, [], ◌∷◌, length, map, refl, sym, ap, ◌∙◌, true≢false}
 use Rattle.serde_json.specs.Data.{Data, string, array, object, Items, no_items, item, Members, no_members, put}
 use Rattle.serde_json.specs.View.{items_view, items_of}
@@ -16,14 +16,14 @@ pub put_items-filled : (key : Key) (vs : List Value) (n : ℕ) (old : Members) �
 put_items-filled key [] n old e h = absurd (true≢false (sym (h ∙ ap (λ m. nat_eq m 0) (sym e))))
 put_items-filled key (v ∷ vs) n old e h = refl
 
--- the target of a set comes behind its algorithm, its children and its name
+-- the target of a set comes after its algorithm, its children and its name
 set-put_at : (combine name : Data) (children target : Items) →
     put_items keys.Target target (put (key_text keys.Of) (array children) (put (key_text keys.Set) name (put (key_text keys.Combine) combine no_members)))
     ≡ keyed keys.Combine combine (keyed keys.Of (array children) (keyed keys.Set name (keyed_items keys.Target target no_members)))
 set-put_at combine name children no_items = refl
 set-put_at combine name children (item d ds) = refl
 
--- the target of a policy comes behind its algorithm, its name and its rules
+-- the target of a policy comes after its algorithm, its name and its rules
 policy-put_at : (combine name : Data) (children target : Items) →
     put_items keys.Target target (put (key_text keys.Rules) (array children) (put (key_text keys.Policy) name (put (key_text keys.Combine) combine no_members)))
     ≡ keyed keys.Combine combine (keyed keys.Policy name (keyed keys.Rules (array children) (keyed_items keys.Target target no_members)))

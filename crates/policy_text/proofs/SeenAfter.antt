@@ -1,4 +1,4 @@
--- What was seen behind a part of a document, by what was seen before it.
+-- What was seen after a part of a document, given what was seen before it.
 use Rattle.std.specs.Prelude.{◌+◌, List, ◌++◌, length, map}
 use Rattle.policy_documents.specs.Documents.{RuleData, NodeData, Children, names_of, names_of_all, rules_of, rules_of_all, node_count, node_count_of_all, test_count, test_count_of_all, rule_sizes}
 use Rattle.policy_text.specs.Reading.{Seen}

@@ -1,4 +1,4 @@
--- What the targets and conditions are that were read.
+-- Targets and conditions that were read.
 use Rattle.std.proofs.Common.{◌≡◌, ℕ, ◌+◌, Bool, ◌&&◌, true, IsTrue, List, [], ◌∷◌, length, flat_map, refl, ap, sym, subst, ◌∙◌, arith, length-append, Ok}
 use Rattle.std.specs.List.{list_all}
 use Rattle.std.proofs.lemmas.Bool.{and_from}
@@ -30,7 +30,7 @@ singles [] = refl
 singles (x ∷ xs) = ap (λ ys. x ∷ ys) (singles xs)
 
 module _ (zones : List Zone) where
-  -- the same part, counted and listed otherwise
+  -- the same part with its count and its matches written otherwise
   as_tested : (a b s t : ℕ) (xs ys : List Match) (f g : Bool) → s ≡ t → xs ≡ ys → IsTrue g → IsTested zones a s xs f b → IsTested zones a t ys g b
   as_tested a b s t xs ys f g size same full h = record {
     count = h.count ∙ ap (λ n. a + n) size;

@@ -1,4 +1,4 @@
--- What the matches and atoms are that were read: their count, their zones, their spelling, and that no list of them is empty.
+-- Matches that were read: their count, zones and spelling, and that no list of them is empty.
 use Rattle.std.proofs.Common.{◌≡◌, ℕ, ◌+◌, ◌≤◌, Bool, true, ◌&&◌, IsTrue, if◌then◌else◌, List, [], ◌∷◌, ◌++◌, flat_map, refl, sym, subst, ◌∙◌, arith, Result, Ok, Err}
 use Rattle.std.specs.List.{list_any, list_all}
 use Rattle.std.proofs.lemmas.Bool.{and_from}
@@ -17,7 +17,7 @@ use Rattle.policy_documents.specs.declared.matches.Match.TheVariants as matches
 use Rattle.policy_text.specs.declared.faults.TextFault.{TextFault}
 use Rattle.policy_text.proofs.ChainLemmas.{bound, same_value, taken, either, name_in-spelled, within-read, each_at-read}
 
--- the matches of a part, and how many objects spell them, counted on from those before it
+-- the matches of a part, and the count of matches and atoms, given the count before the part
 pub record IsTested (zones : List Zone) (before size : ℕ) (found : List Match) (full : Bool) (after : ℕ) : Type 0 where
   pub count : after ≡ before + size
   pub within : before ≤ 4096 → after ≤ 4096
@@ -28,7 +28,7 @@ pub record IsTested (zones : List Zone) (before size : ℕ) (found : List Match)
 pub all_append : {X : Type 0} (p : X → Bool) (xs ys : List X) → IsTrue (list_all p xs) → IsTrue (list_all p ys) → IsTrue (list_all p (xs ++ ys))
 all_append p xs ys h k = list_all-append p xs ys ∙ and_from _ _ h k
 
--- what each of several is counted as, by what one is
+-- the sizes of several, added up
 abbrev pub sizes_of : {X : Type 0} → (X → ℕ) → List X → ℕ
 sizes_of size [] = 0
 sizes_of size (x ∷ xs) = size x + sizes_of size xs

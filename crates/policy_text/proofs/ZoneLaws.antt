@@ -1,4 +1,4 @@
--- What the zones are that were read.
+-- Zones that were read.
 use Rattle.std.proofs.Common.{◌≡◌, ℕ, ◌+◌, ◌<◌, ◌≤◌, false, IsTrue, All, List, [], ◌∷◌, ◌++◌, length, map, refl, sym, subst, ◌∙◌, arith, length-append, Ok, Err, Result}
 use Rattle.std.specs.List.{list_any}
 use Rattle.std.proofs.lemmas.List.{map-append}
@@ -23,7 +23,7 @@ use Rattle.policy_text.proofs.DistinctLemmas.{are_distinct-push, list_any-names}
 abbrev name_of_zone : Zone → List ℕ
 name_of_zone z = z.name
 
--- zones that may stand in a document
+-- the zones are valid in a document
 pub record AreZones (zones : List Zone) : Type 0 where
   pub count : length zones ≤ 64
   pub distinct : IsTrue (are_distinct (map (λ z. z.name) zones))
@@ -40,7 +40,7 @@ one_more zones z h new room sound = record {
   sound = All-push IsZone zones z h.sound sound;
 }
 
--- a shape that was read is the shape of its text
+-- a shape that was read for a zone is the shape of its text
 shape_in-shape_of : (name text : List ℕ) (corners : List Point) → shape_in name text ≡ Ok corners → shape_of text ≡ Ok corners
 shape_in-shape_of name text corners told = by_shape (shape_of text) refl
   where
@@ -77,6 +77,6 @@ zones_at-sound i zones more (item d rest) h told =
     bound (zone_at (at_item (steps.Key keys.Zones ∷ []) i) zones d) (λ found. zones_at (i + 1) found rest) more (sym (zones_at-item i zones d rest) ∙ told) (λ found one others.
     zones_at-sound (i + 1) found more rest (zone_at-sound _ zones found d h one) others)
 
--- the zones of a document
+-- the zones of a document are valid
 pub zones_at-AreZones : (zones : List Zone) (items : Items) → zones_at 0 [] items ≡ Ok zones → AreZones zones
 zones_at-AreZones zones items told = zones_at-sound 0 [] zones items no_zones told

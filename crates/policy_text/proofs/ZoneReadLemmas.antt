@@ -1,4 +1,4 @@
--- Reading zones, one after another.
+-- Reading zones one by one.
 use Rattle.std.proofs.Common.{◌≡◌, ℕ, ◌+◌, ◌<◌, ◌≤◌, List, [], ◌∷◌, length, get_or, drop, refl, sym, ap, ◌∙◌, subst, add-one, drop-cons, Result, Ok}
 use Rattle.std.proofs.lemmas.List.{drop_all}
 use Rattle.serde_json.specs.View.{view, items_view}
@@ -14,7 +14,7 @@ use Rattle.policy_text.proofs.EachLemmas.{Fails-bind}
 abbrev pub zones_place : List Step
 zones_place = steps.Key keys.Zones ∷ []
 
--- what is left from the item at i on
+-- what is left to read from the item at index i on
 abbrev pub zones_left : ℕ → List Zone → List Value → Result (List Zone) TextFault
 zones_left i zones vs = zones_at i zones (items_view (drop i vs))
 

@@ -3,7 +3,7 @@ use Rattle.std.specs.Prelude.{ℕ, List, codes}
 use Rattle.policy_text.specs.declared.paths.Key.{Key}
 use Rattle.policy_text.specs.declared.paths.Key.TheVariants.{Zones, Root, Zone, Shape, Set, Policy, Combine, Target, Of, Rules, Rule, Effect, When, Role, Office, Class, Owner, Action, Own, Not}
 
--- a key as it is written
+-- a key as text
 abbrev pub key_text : Key → List ℕ
 key_text Zones = codes "zones"
 key_text Root = codes "root"

@@ -1,4 +1,4 @@
--- How a path keeps its steps: in the first of `STEP_LIMIT` places, the others being filled.
+-- How a path stores its steps: at the front of an array of `STEP_LIMIT` cells, then fillers.
 use Rattle.std.specs.Prelude.{◌≡◌, ℕ, ◌-◌, ◌≤◌, List, ◌++◌, length, take, drop, replicate}
 use Rattle.std.proofs.Common.{arith, ◌∙◌, ap, sym, take-append-drop, length-take-le}
 use Rattle.policy_text.specs.declared.paths.TheConstants.{STEP_LIMIT}

@@ -1,4 +1,4 @@
--- When two places in a document, or two faults of one, are one: a test for each, and that it decides `≡`.
+-- When two paths in a document are equal: Boolean tests, and that they decide `≡`.
 use Rattle.std.specs.Prelude.{◌≡◌, Bool, true, false, nat_eq, List, refl}
 use Rattle.std.specs.Bool.{Decides}
 use Rattle.std.specs.Cmp.{unsigned_Decides}
@@ -96,7 +96,7 @@ same_step-told a b e = absurd (false≢true e)
 pub same_step_decides : (a b : Step) → Decides (same_step a b) (a ≡ b)
 same_step_decides = decides_by same_step same_step-itself same_step-told
 
--- two paths, by their steps
+-- two paths are equal, step by step
 abbrev pub same_path : List Step → List Step → Bool
 same_path = pointwise same_step
 

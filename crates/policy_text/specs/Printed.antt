@@ -1,5 +1,5 @@
--- The JSON value as which a document is printed: each object has its keys in order, and zones, targets and conditions
--- are left out where there are none.
+-- The JSON value of a document: the keys of each object are sorted, and empty zones, targets and
+-- conditions are left out.
 use Rattle.std.specs.Prelude.{ℕ, true, List, map, codes}
 use Rattle.serde_json.specs.Data.{Data, string, array, object, boolean, Items, no_items, item, Members, no_members, member}
 use Rattle.serde_json.specs.View.{items_of}
@@ -45,7 +45,7 @@ action_text actions.Delete = codes "delete"
 abbrev pub keyed : Key → Data → Members → Members
 keyed key d rest = member (key_text key) d rest
 
--- an array under a key, left out where it is empty
+-- an array under a key, left out if it is empty
 abbrev pub keyed_items : Key → Items → Members → Members
 keyed_items key no_items rest = rest
 keyed_items key (item d ds) rest = keyed key (array (item d ds)) rest
@@ -106,6 +106,6 @@ zones_items zones = items_of (map zone_data zones)
 abbrev pub document_data : DocumentData → Data
 document_data d = object (keyed keys.Root (node_data d.root) (keyed_items keys.Zones (zones_items d.zones) no_members))
 
--- the printed form of a document: JSON without spaces (RFC 8259), the keys of each object in order
+-- a document as JSON (RFC 8259) without spaces, the keys of each object sorted
 abbrev pub document_text : DocumentData → List ℕ
 document_text d = compact_text (document_data d)

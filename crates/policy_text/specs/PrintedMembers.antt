@@ -1,4 +1,4 @@
--- The members of printed objects as they are put, one after another. Clauses of private functions alone cite it.
+-- The members of printed objects as they are put, one by one, for contracts of private functions.
 use Rattle.serde_json.specs.Data.{string, array, Items, no_items, item, Members, no_members, put}
 use Rattle.policy_documents.specs.Documents.{Head}
 use Rattle.policy_text.specs.Keys.{key_text}
@@ -6,12 +6,12 @@ use Rattle.policy_text.specs.Printed.{algorithm_text, target_items}
 use Rattle.policy_text.specs.declared.paths.Key.{Key}
 use Rattle.policy_text.specs.declared.paths.Key.TheVariants as keys
 
--- the members with an array at a key, unless it is empty
+-- the members with an array put under a key, unless it is empty
 abbrev pub put_items : Key → Items → Members → Members
 put_items key no_items members = members
 put_items key (item d ds) members = put (key_text key) (array (item d ds)) members
 
--- the members of a set or a policy, by the keys of its name and of its children
+-- the members of a set or a policy, given the keys of its name and of its children
 abbrev pub put_node : Key → Key → Head → Items → Members
 put_node name_key children_key head children =
     put_items keys.Target (target_items head.target) (put (key_text children_key) (array children)

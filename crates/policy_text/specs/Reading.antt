@@ -1,4 +1,4 @@
--- Reading a document: what the JSON value of a text spells, or its first fault.
+-- Reading a document: the document that the JSON value of a text spells, or its first fault.
 use Rattle.std.specs.Prelude.{◌≡◌, ℕ, zero, suc, ◌+◌, ◌&&◌, Bool, true, false, List, [], ◌∷◌, ◌++◌, codes, length, nat_lt, if◌then◌else◌, Option, Some, None, is_some, option_and_then, Result, Ok, Err}
 use Rattle.std.specs.List.{list_any}
 use Rattle.std.specs.Option.{ok_or}
@@ -39,7 +39,7 @@ abbrev pub ◌>>=◌ : {A B : Type 0} → Result A TextFault → (A → Result B
 (Ok x) >>= f = f x
 (Err e) >>= f = Err e
 
--- a fault is what reading gives, unless memory ran out
+-- the reading has this fault, unless the fault is out of memory
 abbrev pub Fails : {Y : Type 0} → TextFault → Result Y TextFault → Type 0
 Fails (faults.Memory refused) reading = Unit {0}
 Fails faults.NotJson reading = reading ≡ Err faults.NotJson
@@ -51,26 +51,26 @@ Fails (faults.BadZone name fault) reading = reading ≡ Err (faults.BadZone name
 Fails faults.TooDeep reading = reading ≡ Err faults.TooDeep
 Fails faults.TooMany reading = reading ≡ Err faults.TooMany
 
--- what a function returned, seen by `view`, is what reading gives, unless memory ran out
+-- the function's result, seen through `view`, is that of the reading, unless it is out of memory
 abbrev pub Gives : {X Y : Type 0} → (X → Y) → Result X TextFault → Result Y TextFault → Type 0
 Gives view (Ok x) reading = reading ≡ Ok (view x)
 Gives view (Err e) reading = Fails e reading
 
--- what a function that takes no memory returned, seen by `view`, is what reading gives
+-- the same for a function that does not allocate
 abbrev pub Shows : {X Y : Type 0} → (X → Y) → Result X TextFault → Result Y TextFault → Type 0
 Shows view (Ok x) reading = reading ≡ Ok (view x)
 Shows view (Err e) reading = reading ≡ Err e
 
--- a fault that reading gives is told, whatever memory there is
+-- if the reading has a fault, it is the function's error, however much memory there is
 abbrev pub Tells : {X Y : Type 0} → Result X TextFault → Result Y TextFault → Type 0
 Tells result (Ok y) = Unit {0}
 Tells result (Err e) = result ≡ Err e
 
--- the place of the value of a key
+-- the path of the value under a key
 abbrev pub at_key : List Step → Key → List Step
 at_key path key = path ++ steps.Key key ∷ []
 
--- the place of an item of an array
+-- the path of an item of an array
 abbrev pub at_item : List Step → ℕ → List Step
 at_item path index = path ++ steps.Item index ∷ []
 
@@ -81,24 +81,24 @@ value_of key d = get (key_text key) d
 abbrev pub is_listed : List Key → List ℕ → Bool
 is_listed listed text = list_any (λ key. bytes_eq (key_text key) text) listed
 
--- each key of an object is listed
+-- all keys of the object are listed
 abbrev pub has_only : List Key → Members → Bool
 has_only listed no_members = true
 has_only listed (member text d rest) = is_listed listed text && has_only listed rest
 
--- the value is an object, all of whose keys are listed
+-- the value is an object whose keys are all listed
 abbrev pub object_in : List Key → List Step → Data → Result (Unit {0}) TextFault
 object_in listed path d = ok_or (as_object d) (faults.Form path) >>= λ members. if has_only listed members then Ok tt else Err (faults.UnknownKey path)
 
--- the name that stands under a key
+-- the name under a key
 abbrev pub name_in : Key → List Step → Data → Result (List ℕ) TextFault
 name_in key path d = ok_or (option_and_then name_of (option_and_then as_str (value_of key d))) (faults.Form (at_key path key))
 
--- the array that stands under a key
+-- the array under a key
 abbrev pub array_in : Key → List Step → Data → Result Items TextFault
 array_in key path d = ok_or (option_and_then as_array (value_of key d)) (faults.Form (at_key path key))
 
--- the array that stands under a key, empty where it is left out
+-- the array under a key; empty if the object does not have the key
 unfoldable pub optional_array_in : Key → List Step → Data → Result Items TextFault
 optional_array_in key path d = option_array (value_of key d)
   where
@@ -144,7 +144,7 @@ has_one no_members = false
 has_one (member text d no_members) = true
 has_one (member text d (member more e rest)) = false
 
--- the value is an object with exactly one key, and that is listed
+-- the value is an object with exactly one key, which is listed
 abbrev pub single_in : List Key → List Step → Data → Result (Unit {0}) TextFault
 single_in listed path d = ok_or (as_object d) (faults.Form path) >>= λ members.
     if has_only listed members then (if has_one members then Ok tt else Err (faults.Form path)) else Err (faults.UnknownKey path)
@@ -153,7 +153,7 @@ single_in listed path d = ok_or (as_object d) (faults.Form path) >>= λ members.
 abbrev pub has_key : Key → Data → Bool
 has_key key d = is_some (value_of key d)
 
--- the match of an object that has one key, a match's
+-- the match of an object whose only key is a match's
 unfoldable pub match_in : List Step → Data → Result Match TextFault
 match_in path d =
     if has_key keys.Role d then (name_in keys.Role path d >>= λ name. Ok (matches.Role name))
@@ -163,7 +163,7 @@ match_in path d =
     else if has_key keys.Zone d then (name_in keys.Zone path d >>= λ name. Ok (matches.Zone name))
     else (action_in path d >>= λ action. Ok (matches.Action action))
 
--- the zone of which a match speaks is there
+-- the zone of a match exists
 abbrev pub known_in : List Zone → Match → Result (Unit {0}) TextFault
 known_in zones (matches.Zone name) = if list_any (λ z. same_name name z.name) zones then Ok tt else Err (faults.NoZone name)
 known_in zones (matches.Role name) = Ok tt
@@ -172,18 +172,18 @@ known_in zones (matches.Class name) = Ok tt
 known_in zones (matches.Owner name) = Ok tt
 known_in zones (matches.Action action) = Ok tt
 
--- one more of a kind of which there may be so many
+-- `count + 1`, unless `count` has reached the limit
 abbrev pub within : ℕ → ℕ → Result ℕ TextFault
 within limit count = if nat_lt count limit then Ok (count + 1) else Err faults.TooMany
 
--- one match or atom more
+-- one more match or atom
 abbrev pub counted : ℕ → Result ℕ TextFault
 counted = within TEST_LIMIT
 
 abbrev pub match_keys : List Key
 match_keys = keys.Role ∷ keys.Office ∷ keys.Class ∷ keys.Owner ∷ keys.Zone ∷ keys.Action ∷ []
 
--- a match, with the count of matches and atoms behind it
+-- a match, with the count of matches and atoms after it
 unfoldable pub match_at : List Zone → List Step → ℕ → Data → Result (Match × ℕ) TextFault
 match_at zones path tests d =
     single_in match_keys path d >>= λ _. match_in path d >>= λ m. known_in zones m >>= λ _. counted tests >>= λ n. Ok (m, n)
@@ -196,7 +196,7 @@ abbrev pub is_empty : Items → Bool
 is_empty no_items = true
 is_empty (item d rest) = false
 
--- the word for the subject's own office, whose value is true
+-- the subject's own office: the key `own`, whose value is true
 abbrev pub own_in : List Step → Data → Result Term TextFault
 own_in path d = if is_true (option_and_then as_bool (value_of keys.Own d)) then Ok terms.Own else Err (faults.Form (at_key path keys.Own))
 
@@ -213,24 +213,24 @@ term_keys = keys.Role ∷ keys.Office ∷ keys.Class ∷ keys.Owner ∷ keys.Zon
 abbrev pub atom_keys : List Key
 atom_keys = keys.Role ∷ keys.Office ∷ keys.Class ∷ keys.Owner ∷ keys.Zone ∷ keys.Action ∷ keys.Own ∷ keys.Not ∷ []
 
--- the term of an object that was found to be one
+-- the term of an object whose only key is a term's
 unfoldable pub term_of : List Zone → List Step → ℕ → Data → Result (Term × ℕ) TextFault
 term_of zones path tests d = term_in path d >>= λ term. known_term zones term >>= λ _. counted tests >>= λ n. Ok (term, n)
 
--- what stands in a `not`
+-- the term in a `not`
 unfoldable pub term_at : List Zone → List Step → ℕ → Data → Result (Term × ℕ) TextFault
 term_at zones path tests d = single_in term_keys path d >>= λ _. term_of zones path tests d
 
--- the object of a `not` counts before what stands in it
+-- a `not` counts before the term in it
 unfoldable pub atom_of : List Zone → List Step → ℕ → Data → Option Data → Result (Atom × ℕ) TextFault
 atom_of zones path tests d None = term_of zones path tests d >>= λ r. Ok (atoms.Is r.0, r.1)
 atom_of zones path tests d (Some inner) = counted tests >>= λ n. term_at zones (at_key path keys.Not) n inner >>= λ r. Ok (atoms.Not r.0, r.1)
 
--- an atom, with the count of matches and atoms behind it
+-- an atom, with the count of matches and atoms after it
 unfoldable pub atom_at : List Zone → List Step → ℕ → Data → Result (Atom × ℕ) TextFault
 atom_at zones path tests d = single_in atom_keys path d >>= λ _. atom_of zones path tests d (value_of keys.Not d)
 
--- the items of an array, each read at its place from index on, with what was seen before it
+-- the items of an array, each read at its path from `index` on, given what was seen before it
 unfoldable pub each_at : {X S : Type 0} → (List Step → S → Data → Result (X × S) TextFault) → List Step → ℕ → S → Items → Result (List X × S) TextFault
 each_at read path index seen no_items = Ok ([], seen)
 each_at read path index seen (item d rest) =
@@ -240,7 +240,7 @@ each_at read path index seen (item d rest) =
 abbrev pub items_in : List Step → Data → Result Items TextFault
 items_in path d = ok_or (as_array d) (faults.Form path) >>= λ items. if is_empty items then Err (faults.Form path) else Ok items
 
--- an array that is not empty, each of its items read with the count of matches and atoms before it
+-- an array that is not empty, each item read given the count of matches and atoms before it
 abbrev pub row_at : {X : Type 0} → (List Step → ℕ → Data → Result (X × ℕ) TextFault) → List Step → ℕ → Data → Result (List X × ℕ) TextFault
 row_at read path tests d = items_in path d >>= λ items. each_at read path 0 tests items
 
@@ -256,14 +256,15 @@ target_at zones path tests items = each_at (any_of_at zones) path 0 tests items
 unfoldable pub when_at : List Zone → List Step → ℕ → Items → Result (List Atom × ℕ) TextFault
 when_at zones path tests items = each_at (atom_at zones) path 0 tests items
 
--- what was read before: the names of sets, policies and rules, and how many there are of each kind
+-- what was read so far: the names of sets, policies and rules, and the counts of sets and policies,
+-- of rules, and of matches and atoms
 pub record Seen : Type 0 where
   pub names : List (List ℕ)
   pub nodes : ℕ
   pub rules : ℕ
   pub tests : ℕ
 
--- one name more, that was not seen before
+-- one more name, which was not seen before
 abbrev pub fresh : List ℕ → List (List ℕ) → Result (List (List ℕ)) TextFault
 fresh name names = if list_any (same_name name) names then Err (faults.NameTwice name) else Ok (names ++ name ∷ [])
 
@@ -284,7 +285,8 @@ set_keys = keys.Set ∷ keys.Combine ∷ keys.Target ∷ keys.Of ∷ []
 abbrev pub policy_keys : List Key
 policy_keys = keys.Policy ∷ keys.Combine ∷ keys.Target ∷ keys.Rules ∷ []
 
--- a set or a policy before its children: its head, what was seen behind its target, and its children's array
+-- a set or a policy without its children: its head, what was seen up to its target's end, and the
+-- array of its children
 unfoldable pub head_at : List Zone → List Key → Key → Key → List Step → Seen → Data → Result (Head × (Seen × Items)) TextFault
 head_at zones listed name_key children path seen d =
     object_in listed path d >>= λ _. name_in name_key path d >>= λ name. algorithm_in path d >>= λ combine.
@@ -304,7 +306,7 @@ set_at read zones path seen d =
     head_at zones set_keys keys.Set keys.Of path seen d >>= λ h.
     each_at read (at_key path keys.Of) 0 h.1.0 h.1.1 >>= λ r. Ok (set h.0 (children_of r.0), r.1)
 
--- a set or a policy, where so many levels may stand; an object that has the key `set` is a set
+-- a set or a policy with at most this many levels; an object with the key `set` is a set
 unfoldable pub node_at : List Zone → ℕ → List Step → Seen → Data → Result (NodeData × Seen) TextFault
 node_at zones zero path seen d = Err faults.TooDeep
 node_at zones (suc levels) path seen d = if has_key keys.Set d then set_at (node_at zones levels) zones path seen d else policy_at zones path seen d
@@ -312,7 +314,7 @@ node_at zones (suc levels) path seen d = if has_key keys.Set d then set_at (node
 abbrev pub zone_keys : List Key
 zone_keys = keys.Zone ∷ keys.Shape ∷ []
 
--- the text that stands under a key
+-- the text under a key
 abbrev pub text_in : Key → List Step → Data → Result (List ℕ) TextFault
 text_in key path d = ok_or (option_and_then as_str (value_of key d)) (faults.Form (at_key path key))
 
@@ -332,7 +334,7 @@ unseen name zones = if list_any (λ z. same_name name z.name) zones then Err (fa
 unfoldable pub with_zone : List ℕ → List Point → List Zone → Result (List Zone) TextFault
 with_zone name shape zones = unseen name zones >>= λ _. within ZONE_LIMIT (length zones) >>= λ _. Ok (zones ++ record { name = name; shape = shape } ∷ [])
 
--- a zone, with those before it
+-- a zone, added to those before it
 unfoldable pub zone_at : List Step → List Zone → Data → Result (List Zone) TextFault
 zone_at path zones d =
     object_in zone_keys path d >>= λ _. name_in keys.Zone path d >>= λ name. text_in keys.Shape path d >>= λ text.
@@ -355,6 +357,6 @@ document_in d =
     ok_or (value_of keys.Root d) (faults.Form (at_key [] keys.Root)) >>= λ root. zones_at 0 [] items >>= λ zones.
     node_at zones DEPTH_LIMIT (at_key [] keys.Root) nothing_seen root >>= λ r. Ok (record { zones = zones; root = r.0 })
 
--- the document that a text spells, by the JSON value that `serde_json` reads, or its first fault
+-- the document that a text spells, as `serde_json` reads the text, or its first fault
 unfoldable pub document_of : List ℕ → Result DocumentData TextFault
 document_of text = ok_or (read text) faults.NotJson >>= document_in

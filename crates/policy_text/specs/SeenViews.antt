@@ -1,10 +1,10 @@
--- What a reader of documents keeps, as plain data. Clauses of private functions alone cite it.
+-- What the reader keeps, as plain data. Only contracts of private functions use it.
 use Rattle.policy_documents.specs.Documents.{Head}
 use Rattle.policy_text.specs.Reading.{Seen}
 use Rattle.policy_text.specs.declared.reading.SoFar.{SoFar}
 use Rattle.policy_text.specs.declared.reading.Headed.{Headed}
 
--- what was seen, and a head, without where they lie in memory
+-- what was seen, and a head, without their allocator
 abbrev pub seen_view : {A : Type 0} → SoFar A → Seen
 seen_view s = record { names = s.names.items; nodes = s.nodes; rules = s.rules; tests = s.tests }
 

@@ -1,4 +1,4 @@
-//! Reading zones, and the parts of a document.
+//! Reads zones and whole documents from JSON values.
 
 ghost use Rattle.std.specs.Prelude.{◌≡◌, ◌<◌, [], length, map};
 ghost use Rattle.serde_json.specs.View.{view, items_view};
@@ -23,7 +23,7 @@ const ZONE_KEYS: [Key; 2] = [Key::Zone, Key::Shape];
 
 const DOCUMENT_KEYS: [Key; 2] = [Key::Zones, Key::Root];
 
-/// The shape of a zone.
+/// Reads the shape of the zone with this name; `BadZone` if the text is no shape.
 fn shape_in(name: Name, text: &str) -> Result<Shape, TextFault>
     ensures { result ≡ shape_in name text.now }
 {
@@ -33,7 +33,7 @@ fn shape_in(name: Name, text: &str) -> Result<Shape, TextFault>
     }
 }
 
-/// Puts one more zone behind the others, whose name is new.
+/// Adds a zone. `NameTwice` if a zone has the name; otherwise `TooMany` at `ZONE_LIMIT`.
 #[tactic(auto, unfolding(crate::specs::Reading::with_zone))]
 fn put_zone<A: Allocator + Copy>(
     name: Name,
@@ -53,7 +53,7 @@ fn put_zone<A: Allocator + Copy>(
     Ok(())
 }
 
-/// Reads a zone, and puts it behind those before it.
+/// Reads a zone and adds it to the zones before it.
 #[tactic(auto, unfolding(crate::specs::Reading::zone_at))]
 fn zone_at<A: Allocator + Copy>(
     value: &Value,
@@ -71,7 +71,7 @@ fn zone_at<A: Allocator + Copy>(
     put_zone(name, shape, zones)
 }
 
-/// The zones of an array.
+/// Reads the zones of an array.
 fn zones_at<A: Allocator + Copy>(alloc: A, items: &[Value]) -> Result<Zones<A>, TextFault>
     ensures { Gives (λ z. map zone_of z.entries) result (zones_at 0 [] (items_view items.now)) }
 {
@@ -83,7 +83,7 @@ fn zones_at<A: Allocator + Copy>(alloc: A, items: &[Value]) -> Result<Zones<A>, 
     Ok(zones)
 }
 
-/// The zones and the root of the document that a JSON value spells.
+/// Reads the zones and the root of a document.
 #[tactic(auto, unfolding(crate::specs::Reading::document_in))]
 pub(crate) fn document_in<A: Allocator + Copy>(
     alloc: A,

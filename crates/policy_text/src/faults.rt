@@ -8,33 +8,33 @@ use memory::{JsonFault, NotStored, Refused};
 use std::fmt;
 use wkt::WktFault;
 
-/// Why a text is no document: the first fault in the order of the documents' grammar.
+/// Why a text is no document: the first fault, in the order that `read_document` states.
 #[derive(Debug, Drop, PartialEq, Eq)]
 pub enum TextFault {
-    /// D1: the text is no JSON.
+    /// D1: the text is not JSON.
     NotJson,
     /// D2: a value is missing or of the wrong form.
     Form(Path),
-    /// D3: an object has a key that is not listed.
+    /// D3: an object has a key that is not listed for it.
     UnknownKey(Path),
-    /// D4: two sets, policies or rules have this name, or two zones.
+    /// D4: two sets, policies or rules, or two zones, have this name.
     NameTwice(Name),
-    /// D5: there is no zone of this name.
+    /// D5: no zone has this name.
     NoZone(Name),
-    /// D6: the shape of this zone is none.
+    /// D6: the shape of this zone is invalid.
     BadZone(Name, WktFault),
     /// D7: sets and policies nest more than 8 deep.
     TooDeep,
-    /// D8: more rules, sets and policies, zones, or matches and atoms than a document may have.
+    /// D8: too many zones, sets and policies, rules, or matches and atoms.
     TooMany,
-    /// D9: a growth was refused.
+    /// D9: out of memory.
     Memory(Refused),
 }
 
 impl TextFault {
     ghost use Rattle.policy_text.specs.FaultCodes.{code_of};
 
-    /// The code by which users know the fault.
+    /// The fault's code, as users see it.
     pub fn code(&self) -> &'static str
         ensures { result.now ≡ code_of self.now }
     {

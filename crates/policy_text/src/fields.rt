@@ -1,4 +1,4 @@
-//! The parts of an object of a document.
+//! Reads the members of a document's objects.
 
 ghost use Rattle.std.specs.Prelude.{◌≡◌, ◌<◌, option_map, option_and_then, length};
 ghost use Rattle.serde_json.specs.View.{view, items_view, members_view};
@@ -14,21 +14,21 @@ use features::{Action, Name};
 use policy_documents::{Algorithm, Effect};
 use serde_json::{Map, Value};
 
-/// Whether a text is one of these keys.
+/// Whether `text` is one of these keys.
 fn is_listed(listed: &[Key], text: &str) -> bool
     ensures { result ≡ is_listed listed.now text.now }
 {
     listed.iter().any(|key| key.text() == text)
 }
 
-/// The text that stands under a key.
+/// The text under a key, if there is one.
 fn text_at(value: &Value, key: Key) -> Option<&str>
     ensures { option_map (λ text. text.now) result ≡ option_and_then as_str (value_of key (view value.now)) }
 {
     value.get(key.text())?.as_str()
 }
 
-/// A missing or wrong value under a key.
+/// The fault of a missing or wrong value under a key.
 fn form_at(path: Path, key: Key) -> TextFault
     requires { length path < STEP_LIMIT }
     ensures { result ≡ Form (at_key path key) }
@@ -36,7 +36,7 @@ fn form_at(path: Path, key: Key) -> TextFault
     TextFault::Form(path.with(Step::Key(key)))
 }
 
-/// The name that stands under a key.
+/// The name under a key.
 pub(crate) fn name_in(value: &Value, key: Key, path: Path) -> Result<Name, TextFault>
     requires { length path < STEP_LIMIT }
     ensures { result ≡ name_in key path (view value.now) }
@@ -50,7 +50,7 @@ pub(crate) fn name_in(value: &Value, key: Key, path: Path) -> Result<Name, TextF
     }
 }
 
-/// The text that stands under a key.
+/// The text under a key.
 pub(crate) fn text_in(value: &Value, key: Key, path: Path) -> Result<&str, TextFault>
     requires { length path < STEP_LIMIT }
     ensures { Shows (λ text. text.now) result (text_in key path (view value.now)) }
@@ -61,7 +61,7 @@ pub(crate) fn text_in(value: &Value, key: Key, path: Path) -> Result<&str, TextF
     Ok(text)
 }
 
-/// The value that stands under a key.
+/// The value under a key.
 pub(crate) fn value_in(value: &Value, key: Key, path: Path) -> Result<&Value, TextFault>
     requires { length path < STEP_LIMIT }
     ensures { Shows (λ v. view v.now) result (ok_or (value_of key (view value.now)) (Form (at_key path key))) }
@@ -72,7 +72,7 @@ pub(crate) fn value_in(value: &Value, key: Key, path: Path) -> Result<&Value, Te
     }
 }
 
-/// The word for an algorithm that stands under its key.
+/// The algorithm under the key `combine`.
 pub(crate) fn algorithm_in(value: &Value, path: Path) -> Result<Algorithm, TextFault>
     requires { length path < STEP_LIMIT }
     ensures { result ≡ algorithm_in path (view value.now) }
@@ -90,7 +90,7 @@ pub(crate) fn algorithm_in(value: &Value, path: Path) -> Result<Algorithm, TextF
     }
 }
 
-/// The word for an effect that stands under its key.
+/// The effect under the key `effect`.
 pub(crate) fn effect_in(value: &Value, path: Path) -> Result<Effect, TextFault>
     requires { length path < STEP_LIMIT }
     ensures { result ≡ effect_in path (view value.now) }
@@ -105,7 +105,7 @@ pub(crate) fn effect_in(value: &Value, path: Path) -> Result<Effect, TextFault>
     }
 }
 
-/// The word for an action that stands under its key.
+/// The action under the key `action`.
 pub(crate) fn action_in(value: &Value, path: Path) -> Result<Action, TextFault>
     requires { length path < STEP_LIMIT }
     ensures { result ≡ action_in path (view value.now) }
@@ -141,7 +141,7 @@ fn has_only(listed: &[Key], members: &Map<String, Value>) -> bool
     true
 }
 
-/// Finds that a value is an object, all of whose keys are listed.
+/// Checks that a value is an object (else `Form`) and its keys are listed (else `UnknownKey`).
 pub(crate) fn object_in(value: &Value, listed: &[Key], path: Path) -> Result<(), TextFault>
     ensures { result ≡ object_in listed.now path (view value.now) }
 {
@@ -162,7 +162,8 @@ fn has_one(members: &Map<String, Value>) -> bool
     members.len() == 1
 }
 
-/// Finds that a value is an object with exactly one key, and that this is listed.
+/// Checks that a value is an object (else `Form`), its keys are listed (else `UnknownKey`), and it
+/// has exactly one key (else `Form`).
 pub(crate) fn single_in(value: &Value, listed: &[Key], path: Path) -> Result<(), TextFault>
     ensures { result ≡ single_in listed.now path (view value.now) }
 {
@@ -179,7 +180,7 @@ pub(crate) fn single_in(value: &Value, listed: &[Key], path: Path) -> Result<(),
     }
 }
 
-/// The array that stands under a key.
+/// The array under a key.
 pub(crate) fn array_in(value: &Value, key: Key, path: Path) -> Result<&[Value], TextFault>
     requires { length path < STEP_LIMIT }
     ensures { Shows (λ items. items_view items.now) result (array_in key path (view value.now)) }
@@ -193,7 +194,7 @@ pub(crate) fn array_in(value: &Value, key: Key, path: Path) -> Result<&[Value], 
     }
 }
 
-/// The array that stands under a key, empty where it is left out.
+/// The array under a key; empty if the object does not have the key.
 #[tactic(auto, unfolding(crate::specs::Reading::optional_array_in))]
 pub(crate) fn optional_array_in(value: &Value, key: Key, path: Path) -> Result<&[Value], TextFault>
     requires { length path < STEP_LIMIT }
@@ -208,7 +209,7 @@ pub(crate) fn optional_array_in(value: &Value, key: Key, path: Path) -> Result<&
     }
 }
 
-/// One more of a kind of which there may be so many.
+/// `count + 1`, or `TooMany` if `count` has reached `limit`.
 pub(crate) fn within(limit: u32, count: u32) -> Result<u32, TextFault>
     ensures { result ≡ within limit count }
 {

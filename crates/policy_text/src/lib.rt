@@ -1,4 +1,4 @@
-//! Policy documents as JSON: their reader and their printer. Their types are those of `policy_documents`.
+//! Policy documents as JSON: a reader and a printer for the types of `policy_documents`.
 #![tactic(auto)]
 
 mod areas;

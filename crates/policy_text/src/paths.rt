@@ -1,4 +1,4 @@
-//! Where a fault stands in a document.
+//! Where in a document a fault is.
 
 ghost use Rattle.std.specs.Prelude.{◌≡◌, ◌↔◌, ◌<◌, [], ◌∷◌, ◌++◌, length, IsTrue};
 ghost use Rattle.policy_text.specs.Keys.{key_text};
@@ -7,8 +7,8 @@ ghost use Rattle.policy_text.specs.Places.{same_path};
 use std::fmt;
 use std::marker::Model;
 
-/// How many steps a path has room for. The longest path of a fault has 22: the root, seven sets within one another, the
-/// policy's rule, and in its target the key of a match.
+/// The most steps that a path can have. The longest path of a fault has 22: the root, seven nested
+/// sets, a policy's rule, and in its target the key of a match.
 pub const STEP_LIMIT: usize = 24;
 
 /// A key of an object of a document.
@@ -37,7 +37,7 @@ pub enum Key {
 }
 
 impl Key {
-    /// The key as it is written.
+    /// The key as text.
     pub fn text(self) -> &'static str
         ensures { result.now ≡ key_text self }
     {
@@ -66,15 +66,16 @@ impl Key {
     }
 }
 
-/// One step of a path: to the value of a key, or to an item of an array, counted from 0.
+/// One step of a path: to the value under a key, or to an item of an array, counted from 0.
 #[derive(Clone, Copy, Debug, PartialEq, Eq)]
 pub enum Step {
     Key(Key),
     Item(usize),
 }
 
-/// A place in a document. A contract sees its steps. It has room for the longest path of a fault, so that faults take
-/// no memory. It is written as `/root/of/0`, the document's own as the empty text.
+/// A position in a document. A contract sees its steps. The steps are stored inline, so that a
+/// fault needs no allocation. It is printed as `/root/of/0`, and the document itself as the empty
+/// text.
 #[derive(Clone, Copy)]
 pub struct Path {
     steps: [Step; STEP_LIMIT],
@@ -101,7 +102,7 @@ impl Model for Path {
 }
 
 impl Path {
-    /// The document's own place.
+    /// The path of the document itself.
     pub fn new() -> Path
         ensures { result ≡ [] }
     {
@@ -111,7 +112,7 @@ impl Path {
         }
     }
 
-    /// The place that one step more leads to.
+    /// The path with one more step.
     pub(crate) fn with(self, step: Step) -> Path
         requires { length self < STEP_LIMIT }
         ensures { result ≡ self ++ step ∷ [] }
@@ -124,7 +125,7 @@ impl Path {
         }
     }
 
-    /// The steps, from the document on.
+    /// The steps, starting from the document.
     pub fn as_slice(&self) -> &[Step]
         ensures { result.now ≡ self.now }
     {

@@ -1,4 +1,4 @@
-//! Printing documents.
+//! Prints documents as JSON.
 
 ghost use Rattle.std.specs.Prelude.{◌≡◌, IfOk, map, string_bytes};
 ghost use Rattle.serde_json.specs.Data.{object};
@@ -24,7 +24,7 @@ use wkt::print_shape;
 impl<A: Allocator> Printed for Rule<A> {
     ghost printed = { rule_data };
 
-    // Its target and its conditions are left out where there are none.
+    /// Leaves out an empty target and empty conditions.
     fn value(&self, heap: Global) -> Result<Value, Refused> {
         let effect = json_string(heap, effect_word(self.effect))?;
         let name = name_value(heap, &self.name)?;
@@ -39,14 +39,14 @@ impl<A: Allocator> Printed for Rule<A> {
     }
 }
 
-/// The parts of a target. The only error is want of memory.
+/// The parts of a target. Fails only when out of memory.
 fn target_values<A: Allocator>(heap: Global, target: &Target<A>) -> Result<Vec<Value>, Refused>
     ensures { IfOk result (λ values. items_view values.items ≡ target_items target.now) }
 {
     part_values(heap, target.as_slice())
 }
 
-/// A set or a policy with these children, its target left out where there is none. The only error is want of memory.
+/// A set or a policy with these children, without an empty target. Fails only when out of memory.
 fn form_value<A: Allocator>(
     heap: Global,
     form: NodeForm,
@@ -74,7 +74,7 @@ fn form_value<A: Allocator>(
     Ok(Value::Object(members))
 }
 
-/// A set or a policy. The only error is want of memory.
+/// A set or a policy. Fails only when out of memory.
 #[cycle(print)]
 fn node_value<A: Allocator>(heap: Global, node: &Node<A>) -> Result<Value, Refused>
     ensures { IfOk result (λ v. view v ≡ node_data (node_view node.now)) }
@@ -101,7 +101,7 @@ fn node_value<A: Allocator>(heap: Global, node: &Node<A>) -> Result<Value, Refus
     }
 }
 
-/// The sets and policies of a set. The only error is want of memory.
+/// The children of a set. Fails only when out of memory.
 #[cycle(print)]
 fn node_values<A: Allocator>(heap: Global, nodes: &Vec<Node<A>, A>) -> Result<Vec<Value>, Refused>
     ensures { IfOk result (λ values. map view values.items ≡ map (λ n. node_data (node_view n)) nodes.now.items) }
@@ -113,7 +113,7 @@ fn node_values<A: Allocator>(heap: Global, nodes: &Vec<Node<A>, A>) -> Result<Ve
     Ok(values)
 }
 
-/// A zone. The only error is want of memory.
+/// A zone. Fails only when out of memory.
 fn zone_value(heap: Global, name: &Name, shape: &Shape) -> Result<Value, Refused>
     ensures { IfOk result (λ v. view v ≡ zone_data (record { name = name.now; shape = shape.now })) }
 {
@@ -125,7 +125,7 @@ fn zone_value(heap: Global, name: &Name, shape: &Shape) -> Result<Value, Refused
     Ok(Value::Object(members))
 }
 
-/// The zones, in their order. The only error is want of memory.
+/// The zones, in their order. Fails only when out of memory.
 fn zone_values<A: Allocator>(heap: Global, zones: &Zones<A>) -> Result<Vec<Value>, Refused>
     ensures { IfOk result (λ values. items_view values.items ≡ zones_items (map zone_of zones.now.entries)) }
 {
@@ -136,7 +136,7 @@ fn zone_values<A: Allocator>(heap: Global, zones: &Zones<A>) -> Result<Vec<Value
     Ok(values)
 }
 
-/// A document as a JSON value, its zones left out where there are none. The only error is want of memory.
+/// A document as a JSON value, without an empty list of zones. Fails only when out of memory.
 pub fn document_value<A: Allocator>(heap: Global, document: &Document<A>) -> Result<Value, Refused>
     ensures value { IfOk result (λ v. view v ≡ document_data document.now) }
     ensures sound { IsDocument document.now }
@@ -149,8 +149,9 @@ pub fn document_value<A: Allocator>(heap: Global, document: &Document<A>) -> Res
     Ok(Value::Object(members))
 }
 
-/// The printed form of a document: JSON (RFC 8259) without spaces, the keys of each object in order, and zones, targets and
-/// conditions left out where there are none. It is read as the same document. The only error is want of memory.
+/// A document as JSON (RFC 8259) without spaces, the keys of each object sorted. Leaves out zones,
+/// targets and conditions that are empty. `read_document` reads it as the same document. Fails only
+/// when out of memory.
 pub fn print_document<A: Allocator>(heap: Global, document: &Document<A>) -> Result<String, Refused>
     ensures text { IfOk result (λ text. string_bytes text ≡ document_text document.now) }
     ensures read { IfOk result (λ text. document_of_bytes (string_bytes text) ≡ Ok document.now) }

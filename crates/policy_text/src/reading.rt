@@ -1,4 +1,4 @@
-//! Reading rules, policies and sets.
+//! Reads rules, policies and sets from JSON values.
 
 ghost use Rattle.std.specs.Prelude.{◌≡◌, ◌+◌, ◌*◌, ◌<◌, ◌≤◌, length, map};
 ghost use Rattle.std.specs.List.{list_any};
@@ -22,7 +22,7 @@ use std::alloc::Allocator;
 
 const RULE_KEYS: [Key; 4] = [Key::Rule, Key::Effect, Key::Target, Key::When];
 
-/// What an object of a kind of node may have as keys: its name, its children and two more.
+/// The keys of a set or of a policy: all of them, that of its name, and that of its children.
 #[derive(Clone, Copy)]
 pub(crate) struct NodeForm {
     pub listed: [Key; 4],
@@ -42,7 +42,8 @@ pub(crate) const POLICY: NodeForm = NodeForm {
     children: Key::Rules,
 };
 
-/// What was read before: the names of sets, policies and rules, and how many there are of each kind.
+/// What was read so far: the names of sets, policies and rules, and the counts of sets and
+/// policies, of rules, and of matches and atoms.
 #[derive(Drop)]
 pub(crate) struct SoFar<A: Allocator> {
     pub names: Vec<Name, A>,
@@ -66,7 +67,7 @@ fn has_name(names: &[Name], name: Name) -> bool
     names.iter().any(|other| name == *other)
 }
 
-/// Puts one more name behind the others, that was not there before.
+/// Appends a name; `NameTwice` if it is one of the names already.
 pub(crate) fn fresh<A: Allocator>(name: Name, names: &mut Vec<Name, A>) -> Result<(), TextFault>
     ensures value { Gives (λ _. names.new.items) result (fresh name names.old.items) }
     ensures told { Tells result (fresh name names.old.items) }
@@ -78,7 +79,7 @@ pub(crate) fn fresh<A: Allocator>(name: Name, names: &mut Vec<Name, A>) -> Resul
     Ok(())
 }
 
-/// A rule; what was seen behind it stands in `seen`.
+/// Reads a rule, and adds to `seen` what it has.
 #[tactic(auto, unfolding(crate::specs::Reading::rule_at, crate::specs::Reading::target_at, crate::specs::Reading::any_of_at, crate::specs::Reading::all_of_at, crate::specs::Reading::when_at))]
 fn rule_at<A: Allocator + Copy, B: Allocator>(
     alloc: A,
@@ -115,7 +116,7 @@ fn rule_at<A: Allocator + Copy, B: Allocator>(
     })
 }
 
-/// The rules of an array.
+/// Reads the rules of an array.
 fn rules_at<A: Allocator + Copy, B: Allocator>(
     alloc: A,
     zones: &Zones<B>,
@@ -135,7 +136,7 @@ fn rules_at<A: Allocator + Copy, B: Allocator>(
     Ok(rules)
 }
 
-/// A set or a policy without its children, and its children's array.
+/// Reads a set or a policy without its children, and returns it with the array of these.
 #[tactic(auto, unfolding(crate::specs::Reading::head_at, crate::specs::Reading::target_at, crate::specs::Reading::any_of_at, crate::specs::Reading::all_of_at))]
 fn head_at<'v, A: Allocator + Copy, B: Allocator>(
     alloc: A,
@@ -172,7 +173,7 @@ fn head_at<'v, A: Allocator + Copy, B: Allocator>(
     Ok((head, items))
 }
 
-/// A policy.
+/// Reads a policy.
 #[tactic(auto, unfolding(crate::specs::Reading::policy_at))]
 fn policy_at<A: Allocator + Copy, B: Allocator>(
     alloc: A,
@@ -200,7 +201,7 @@ fn policy_at<A: Allocator + Copy, B: Allocator>(
     })
 }
 
-/// A set or a policy, where so many levels may stand, its own among them.
+/// Reads a set or a policy. `TooDeep` if `levels` is 0; the node itself counts as one level.
 #[cycle(read)]
 pub(crate) fn node_at<A: Allocator + Copy, B: Allocator>(
     alloc: A,
@@ -225,7 +226,7 @@ pub(crate) fn node_at<A: Allocator + Copy, B: Allocator>(
     }
 }
 
-/// A set, where so many levels may stand below it.
+/// Reads a set with at most `below` levels below it.
 #[cycle(read)]
 #[tactic(auto, unfolding(crate::specs::Reading::set_at))]
 fn set_at<A: Allocator + Copy, B: Allocator>(
@@ -262,7 +263,7 @@ fn set_at<A: Allocator + Copy, B: Allocator>(
     })
 }
 
-/// The sets and policies of an array.
+/// Reads the children of a set.
 #[cycle(read)]
 fn nodes_at<A: Allocator + Copy, B: Allocator>(
     alloc: A,

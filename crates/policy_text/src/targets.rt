@@ -1,4 +1,4 @@
-//! Reading the parts of targets and conditions.
+//! Reads the parts of targets and conditions from JSON values.
 
 ghost use Rattle.std.specs.Prelude.{◌≡◌, ◌+◌, ◌<◌, ◌≤◌, ℕ, suc, length, map, List, Result};
 ghost use Rattle.serde_json.specs.Data.{Data};
@@ -16,15 +16,16 @@ use policy_documents::{Items, Zones};
 use serde_json::Value;
 use std::alloc::Allocator;
 
-/// What targets and conditions are made of: matches, atoms, and rows of parts.
+/// A part of a target or of conditions: a match, an atom, or a list of parts.
 pub(crate) trait Part<A: Allocator + Copy>: Drop {
-    /// What a value spells under these zones, with the count of matches and atoms behind it, or its first fault.
+    /// What a value is read as under these zones, with the count of matches and atoms after it, or
+    /// its first fault.
     ghost reads: { List Zone → List Step → ℕ → Data → Result (Self × ℕ) TextFault };
 
-    /// How many steps lead from its place to that of a fault at most.
+    /// The most steps from the part to a fault in it.
     ghost steps: { ℕ };
 
-    /// Reads the part that stands at a place.
+    /// Reads the part at `path`; `tests` counts the matches and atoms before it.
     fn read<B: Allocator>(
         alloc: A,
         zones: &Zones<B>,
@@ -36,7 +37,7 @@ pub(crate) trait Part<A: Allocator + Copy>: Drop {
         ensures { Gives (λ r. (r.0, r.1)) result (reads (map zone_of zones.now.entries) path tests (view value.now)) };
 }
 
-/// The items of an array that is not empty.
+/// The items of an array; `Form` if the value is no array, or an empty one.
 fn items_in(value: &Value, path: Path) -> Result<&[Value], TextFault>
     ensures { Shows (λ items. items_view items.now) result (items_in path (view value.now)) }
 {
@@ -49,7 +50,7 @@ fn items_in(value: &Value, path: Path) -> Result<&[Value], TextFault>
     Ok(items)
 }
 
-/// The parts of an array, with the count of matches and atoms behind them.
+/// Reads the parts of an array, and returns them with the count of matches and atoms after them.
 pub(crate) fn parts_at<T: Part<A>, A: Allocator + Copy, B: Allocator>(
     alloc: A,
     zones: &Zones<B>,

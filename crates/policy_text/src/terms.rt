@@ -1,4 +1,4 @@
-//! Reading matches and atoms.
+//! Reads matches and atoms from JSON values.
 
 ghost use Rattle.std.specs.Prelude.{◌≡◌, ◌<◌, ◌≤◌, length, map};
 ghost use Rattle.std.specs.List.{list_any};
@@ -46,7 +46,7 @@ const ATOM_KEYS: [Key; 8] = [
     Key::Not,
 ];
 
-/// The match of an object that has one key, a match's.
+/// Reads the match of an object whose only key is a match's.
 #[tactic(auto, unfolding(crate::specs::Reading::match_in))]
 fn match_in(value: &Value, path: Path) -> Result<Match, TextFault>
     requires { length path < STEP_LIMIT }
@@ -70,14 +70,14 @@ fn match_in(value: &Value, path: Path) -> Result<Match, TextFault>
     Ok(Match::Action(action_in(value, path)?))
 }
 
-/// Whether there is a zone of this name.
+/// Whether a zone has this name.
 pub(crate) fn has_zone<A: Allocator>(zones: &Zones<A>, name: Name) -> bool
     ensures { result ≡ list_any (λ z. same_name name z.name) (map zone_of zones.now.entries) }
 {
     zones.contains_key(&ZoneName { name })
 }
 
-/// Finds that the zone of which a match speaks is there.
+/// Checks that the zone of a match exists (else `NoZone`).
 fn known_in<A: Allocator>(zones: &Zones<A>, test: &Match) -> Result<(), TextFault>
     ensures { result ≡ known_in (map zone_of zones.now.entries) test.now }
 {
@@ -114,7 +114,7 @@ impl<A: Allocator + Copy> Part<A> for Match {
     }
 }
 
-/// The term of an object that has one key, a term's.
+/// Reads the term of an object whose only key is a term's.
 #[tactic(auto, unfolding(crate::specs::Reading::term_in))]
 fn term_in(value: &Value, path: Path) -> Result<Term, TextFault>
     requires { length path < STEP_LIMIT }
@@ -129,7 +129,7 @@ fn term_in(value: &Value, path: Path) -> Result<Term, TextFault>
     }
 }
 
-/// Finds that the zone of which a term speaks is there.
+/// Checks that the zone of a term exists (else `NoZone`).
 fn known_term<A: Allocator>(zones: &Zones<A>, term: &Term) -> Result<(), TextFault>
     ensures { result ≡ known_term (map zone_of zones.now.entries) term.now }
 {
@@ -139,7 +139,8 @@ fn known_term<A: Allocator>(zones: &Zones<A>, term: &Term) -> Result<(), TextFau
     }
 }
 
-/// The term of an object that was found to be one, with the count of matches and atoms behind it.
+/// Reads the term of an object whose only key is a term's, and returns it with the count of matches
+/// and atoms after it.
 #[tactic(auto, unfolding(crate::specs::Reading::term_of))]
 fn term_of<A: Allocator>(
     zones: &Zones<A>,
@@ -156,7 +157,7 @@ fn term_of<A: Allocator>(
     Ok((term, tests))
 }
 
-/// What stands in a `not`.
+/// Reads the term in a `not`.
 #[tactic(auto, unfolding(crate::specs::Reading::term_at))]
 fn term_at<A: Allocator>(
     zones: &Zones<A>,

@@ -1,4 +1,4 @@
-//! Reading whole documents.
+//! Reads whole documents.
 
 ghost use Rattle.std.specs.Prelude.{◌≡◌, length};
 ghost use Rattle.serde_json.specs.View.{view};
@@ -12,26 +12,31 @@ use policy_documents::Document;
 use serde_json::Value;
 use std::alloc::{Allocator, Global};
 
-/// Reads the document that a JSON text (RFC 8259) spells.
+/// Reads a document from a JSON text (RFC 8259).
 ///
-/// The text is read as a JSON value first. It is no JSON (D1) where its bytes are no UTF-8 (section 8.1), where they
-/// do not follow the grammar (section 2), where an escape is one half of a surrogate pair (section 8.2), where arrays
-/// and objects nest more than 127 deep (section 9), or where a number is too large for a 64-bit float (section 6). If
-/// an object has a key twice, its last value counts (section 4).
+/// The text is read as a JSON value first. It is not JSON (D1) if its bytes are not UTF-8 (section
+/// 8.1) or do not follow the grammar (section 2), if an escape is one half of a surrogate pair
+/// (section 8.2), if arrays and objects nest more than 127 deep (section 9), or if a number is too
+/// large for a 64-bit float (section 6). If an object has a key twice, its last value counts
+/// (section 4).
 ///
-/// Else the error is the first fault from the top down: of the document, of its zones in written order, then of its
-/// root, and there of each set, policy or rule before what stands below it.
+/// Otherwise the error is the first fault from the top down: of the document, of its zones in
+/// written order, then of its root, and there of each set, policy or rule before its children. In
+/// each object the order is:
 ///
-/// - Of an object: that it is none (D2), then that a key is not listed (D3), then what stands under each key (D2).
-/// - Of a zone, behind that: its shape (D6), its name again (D4), more than 64 zones (D8).
-/// - Of a set, policy or rule: more than 8 sets and policies within one another (D7) before all else; behind what
-///   stands under its keys its name again (D4), more than 512 sets and policies, or 512 rules (D8), then the parts of
-///   its target, and its conditions.
-/// - Of a match or an atom: that it has not one key (D2) behind D3; behind what stands under it that its zone is not
-///   there (D5), then more than 4096 of them (D8). An object that negates counts too, before what it negates.
+/// - Any object: it is not an object (D2), a key is not listed (D3), a key's value is missing or
+///   wrong (D2).
+/// - A zone, after that: its shape (D6), its name again (D4), more than 64 zones (D8).
+/// - A set or policy, before all else: more than 8 nested sets and policies (D7). A set, policy or
+///   rule, after the values of its keys: its name again (D4), more than 512 sets and policies, or
+///   512 rules (D8), the parts of its target, its conditions.
+/// - A match or an atom: after D3, that it does not have exactly one key (D2); after the key's
+///   value, that its zone does not exist (D5), then more than 4096 matches and atoms (D8). A `not`
+///   counts too, before the term in it.
 ///
-/// What the text says lies in `heap` while it is read, and nothing of it afterwards. The document is made in `alloc`,
-/// and with it, for a while, a list of its names. A refusal by either is D9, at whatever place.
+/// `heap` holds the JSON value while it is read, and nothing afterwards. `alloc` holds the document
+/// and, during the call, a list of its names. The error is D9 as soon as either refuses an
+/// allocation.
 pub fn read_document<A: Allocator + Copy>(
     alloc: A,
     heap: Global,
@@ -44,8 +49,8 @@ pub fn read_document<A: Allocator + Copy>(
     document_of_value(alloc, &value)
 }
 
-/// Reads the document that a JSON value spells, which may stand within a larger text. The faults are those of
-/// [`read_document`] behind D1, in their order; a path begins at the value.
+/// Reads a document from a JSON value, which may be part of a larger one. The faults are those of
+/// [`read_document`] after D1, in the same order; paths start at `value`.
 pub fn document_of_value<A: Allocator + Copy>(
     alloc: A,
     value: &Value,

@@ -13,17 +13,17 @@ use policy_documents::{Atom, Items, Match, Term};
 use serde_json::Value;
 use std::alloc::{Allocator, Global};
 
-/// A part of a document that is printed by itself.
+/// A part of a document that has a JSON value of its own.
 pub(crate) trait Printed {
-    /// What its JSON value is.
+    /// The part's JSON value, as data.
     ghost printed: { Self → Data };
 
-    /// Its JSON value. The only error is want of memory.
+    /// The part's JSON value. Fails only when out of memory.
     fn value(&self, heap: Global) -> Result<Value, Refused>
         ensures { IfOk result (λ v. view v ≡ printed self.now) };
 }
 
-/// The JSON values of parts, in their order. The only error is want of memory.
+/// The JSON values of parts, in their order. Fails only when out of memory.
 pub(crate) fn part_values<T: Printed>(heap: Global, parts: &[T]) -> Result<Vec<Value>, Refused>
     ensures { IfOk result (λ values. map view values.items ≡ map T.printed parts.now) }
 {
@@ -42,7 +42,7 @@ impl<T: Printed, A: Allocator> Printed for Items<T, A> {
     }
 }
 
-/// An object with one member, a name. The only error is want of memory.
+/// An object with one member, a name. Fails only when out of memory.
 fn named_value(heap: Global, key: Key, name: &Name) -> Result<Value, Refused>
     ensures { IfOk result (λ v. view v ≡ single key (string name.now)) }
 {
@@ -67,7 +67,7 @@ impl Printed for Match {
     }
 }
 
-/// A term. The only error is want of memory.
+/// A term as a JSON value. Fails only when out of memory.
 fn term_value(heap: Global, term: &Term) -> Result<Value, Refused>
     ensures { IfOk result (λ v. view v ≡ term_data term.now) }
 {

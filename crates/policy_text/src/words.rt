@@ -1,4 +1,4 @@
-//! The words and the members of printed documents.
+//! The words and members that documents are printed with.
 
 ghost use Rattle.std.specs.Prelude.{◌≡◌, IfOk, OnOk, string_bytes};
 ghost use Rattle.serde_json.specs.Data.{string};
@@ -55,14 +55,14 @@ fn name_text(name: &Name) -> &str
     str::from_utf8(name.as_bytes()).unwrap()
 }
 
-/// A name as a JSON text. The only error is want of memory.
+/// A name as a JSON string. Fails only when out of memory.
 pub(crate) fn name_value(heap: Global, name: &Name) -> Result<Value, Refused>
     ensures { IfOk result (λ v. view v ≡ string name.now) }
 {
     json_string(heap, name_text(name))
 }
 
-/// An object with one member. The only error is want of memory.
+/// An object with one member. Fails only when out of memory.
 pub(crate) fn single_value(heap: Global, key: Key, value: Value) -> Result<Value, Refused>
     ensures { IfOk result (λ v. view v ≡ single key (view value)) }
 {
@@ -71,7 +71,7 @@ pub(crate) fn single_value(heap: Global, key: Key, value: Value) -> Result<Value
     Ok(Value::Object(members))
 }
 
-/// Puts an array under a key, unless it is empty. The only error is want of memory.
+/// Puts an array under a key, unless it is empty. Fails only when out of memory.
 pub(crate) fn put_array(
     members: &mut Map<String, Value>,
     heap: Global,

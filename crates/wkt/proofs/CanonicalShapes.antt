@@ -1,4 +1,4 @@
--- The corners of what is read as a shape are canonical.
+-- The corners that are read are canonical.
 use Rattle.std.specs.Prelude.{◌≡◌, ℕ, List, Ok}
 use Rattle.plane.specs.Canonical.{IsCanonical}
 use Rattle.plane.proofs.CanonicalShapes.{point_canonical, segment_canonical, polygon_canonical}

@@ -1,4 +1,4 @@
--- Digits at the front of bytes, and the value of digits where it is capped as it is read: for any cap.
+-- Digits at the front of bytes, and the capped value of digits read one by one, for any cap.
 use Rattle.std.proofs.Common.{◌≡◌, ℕ, ◌+◌, ◌-◌, ◌*◌, ◌≤◌, ◌<◌, min, Bool, true, List, length, take, get_or, arith}
 use Rattle.std.specs.Char.{digit_value}
 use Rattle.std.specs.Int.{IsInRange}

@@ -1,4 +1,4 @@
--- Where a fault stands: the tokens before it begin a list of points, and no list of points begins with these and the faulty one.
+-- Where a fault is: the tokens before it begin a list of points, those up to it begin none.
 use Rattle.std.specs.List.{list_all}
 use Rattle.std.proofs.lemmas.Bool.{and_from}
 use Rattle.std.proofs.Common.{◌≡◌, ℕ, ◌+◌, not, ◌||◌, take_while, one-add, Bool, true, false, cond, ◌⊎◌, List, [], ◌∷◌, ◌++◌, codes, length, Option, Some, None, Result, Ok, Err, ℤ, pos, refl, sym, ap, subst, ◌∙◌, inl, inr, append_assoc, if◌then◌else◌}
@@ -26,7 +26,7 @@ words_append : (ts us : List Token) → words (ts ++ us) ≡ words ts ++ words u
 words_append [] us = refl
 words_append (t ∷ ts) us = ap (λ ws. t.1 ∷ ws) (words_append ts us)
 
--- words as tokens with no place of their own
+-- words as tokens, all with the same place
 bare : List Word → List Token
 bare [] = []
 bare (w ∷ ws) = (0, w) ∷ bare ws
@@ -38,7 +38,7 @@ bare_words (w ∷ ws) = ap (λ rest. w ∷ rest) (bare_words ws)
 
 -- ---- words that are the tokens of a text
 
--- a mark, or one byte or more of a word
+-- a mark, or at least one byte of a word
 IsPlain : Word → Type 0
 IsPlain [] = ⊥
 IsPlain (c ∷ cs) = ((is_space c ≡ false) × (is_mark c ≡ true) × (cs ≡ [])) ⊎ (list_all is_word_byte (c ∷ cs) ≡ true)
@@ -57,7 +57,7 @@ unfolding ArePlain
 plain_left [] vs h = tt
 plain_left (w ∷ ws) vs h = (h.0, plain_left ws vs h.1)
 
--- words with a space behind each
+-- words with a space after each
 joined : List Word → List ℕ
 joined [] = []
 joined (w ∷ ws) = w ++ 32 ∷ joined ws
@@ -124,7 +124,7 @@ unfolding tokens_from ArePlain
 tokens_plain [] inside k = tt
 tokens_plain (b ∷ bs) inside k = go-plain (is_space b) (is_mark b) inside k b bs refl refl (tokens_plain bs)
 
--- ---- faults of a step have the place of their token
+-- ---- the fault of a step has the place of its token
 
 abbrev fault : {A : Type 0} → WktFault → Result A WktFault
 fault e = Err e
@@ -421,7 +421,7 @@ made_no_place (Err f) e k h p = no_place (subst (λ d. place_of d ≡ Some k) (s
     no_place : place_of (Bad f) ≡ Some k → ⊥
     no_place q = cc
 
--- a run that fails at a place lists nothing
+-- tokens whose run fails at a place list no points
 fails_not : (end : ℕ) (ts : List Token) (listed : Listed) (e : WktFault) (k : ℕ) → run start end ts ≡ Err e → place_of e ≡ Some k → SpellsListed (words ts) listed → ⊥
 fails_not end ts listed e k h p spelled =
     made_no_place (canonical_of listed) e k (sym (listed_only end ts listed spelled) ∙ sym (reading_run end ts) ∙ ap (λ r. r >>= judged) h) p

@@ -1,4 +1,4 @@
--- Of a ring the points that are kept tell as much as all.
+-- The kept points of a ring give the same polygon, or the same fault, as all its points.
 use Rattle.std.proofs.Common.{◌≡◌, ℕ, zero, suc, ◌<◌, Bool, true, false, cond, List, [], ◌∷◌, take, length, Option, Some, None, Result, Ok, Err, ℤ, refl, sym, ap, subst, if◌then◌else◌, ◌∙◌, arith, inl, inr}
 use Rattle.std.specs.List.{list_all}
 use Rattle.std.proofs.lemmas.Bool.{cases_lt, lt-ltb, and_from, and_parts}
@@ -20,7 +20,7 @@ use Rattle.wkt.specs.declared.ring.TheConstants.{KEPT}
 
 -- ---- every point that is read is in range
 
--- a coordinate that is read is one
+-- a coordinate that is read is in range
 go-test : (v : Bool) (at : ℕ) (n x : ℤ) → is_coordinate n ≡ v → cond v (Ok n) (Err (OutOfRange at)) ≡ Ok x → is_coordinate x ≡ true
 go-test true at n x e h = let same : n ≡ x = cc in rw (← same) e
 go-test false at n x e h = absurd cc
@@ -88,7 +88,7 @@ ring_in_range end (t ∷ ts) pair ring inside h = go-pair end t ts ring (number_
 ring_in_range end (t ∷ ts) (second x) ring inside h = go-second end x t ts ring (number_of_token t) (ring_in_range end ts) inside refl h
 ring_in_range end (t ∷ ts) mark ring inside h = go-more end ts ring (is_more t) (ring_in_range end ts) h
 
--- ---- one point more than a ring may list is too many, as more are
+-- ---- one point more than a ring may list is too many, and so are more
 
 list_all-take : (n : ℕ) (ps : List Point) → list_all is_in_range ps ≡ true → list_all is_in_range (take n ps) ≡ true
 list_all-take zero ps h = refl

@@ -1,4 +1,5 @@
--- Reading a text one token after the other: the same as the reading by fields, with a state for what is due next.
+-- Reading a text token by token, with a state for what comes next, gives the same as reading it
+-- field by field.
 use Rattle.std.proofs.Common.{◌≡◌, ℕ, Bool, true, false, cond, List, [], ◌∷◌, ◌++◌, Result, Ok, Err, ℤ, refl, sym, ap, ◌∙◌, append_assoc, append-nil, if◌then◌else◌}
 use Rattle.plane.specs.declared.point.Point.{Point}
 use Rattle.wkt.specs.declared.fault.WktFault.{WktFault}
@@ -9,7 +10,7 @@ use Rattle.wkt.specs.Tokens.{Token, OPENING, CLOSING, COMMA}
 use Rattle.wkt.specs.Reading.{◌>>=◌, Due, pair, second, mark, with_rest, with_front, pair_of, is_the_mark, is_left_out_form, begins_with_mark, kind_of, keyword_at, opening_at, mark_at, closing_at, end_at, number_of_token, number_at, pair_at, is_more, ring_at, ring_from, made, point_at, line_string_at, polygon_at, body_at}
 use Rattle.wkt.specs.Spelling.{Listed, one_point, two_points, ring, canonical_of}
 
--- what is due next
+-- what comes next
 pub data State : Type 0 where
   start : State
   opening : Kind → State
@@ -29,7 +30,7 @@ pub data State : Type 0 where
   ring_close : List Point → State
   done : Listed → State
 
--- what is due behind the opening bracket
+-- what comes after the opening bracket
 abbrev pub inside : Kind → State
 inside kinds.Point = point_x
 inside kinds.LineString = line_x
@@ -125,7 +126,7 @@ go-number : (r : Result ℤ WktFault) (next : ℤ → State) (end : ℕ) (ts : L
 go-number (Ok z) next end ts = refl
 go-number (Err e) next end ts = refl
 
--- a state at which a number is due
+-- in this state a number comes next
 abbrev WantsNumber : State → (ℤ → State) → Type 0
 WantsNumber s next = ((t : Token) → step s t ≡ number_step next t) × ((end : ℕ) → finish s end ≡ Err (Syntax end))
 
@@ -134,7 +135,7 @@ unfolding number_at
 number_run s next wants end [] = wants.1 end
 number_run s next wants end (t ∷ ts) = ap (λ r. r >>= λ n. run n end ts) (wants.0 t) ∙ go-number (number_of_token t) next end ts
 
--- a state at which a pair is due
+-- in this state a pair comes next
 pair_run : (s : State) (x_next : ℤ → State) (next : Point → State) → WantsNumber s x_next → ((x : ℤ) → WantsNumber (x_next x) (λ y. next (at x y))) → (end : ℕ) (ts : List Token)
     → run s end ts ≡ (pair_at end ts >>= λ p. run (next p.0) end p.1)
 unfolding pair_at
@@ -353,7 +354,7 @@ body_judged kinds.Point end ts = point_judged end ts
 body_judged kinds.LineString end ts = line_judged end ts
 body_judged kinds.Polygon end ts = polygon_judged end ts
 
--- the reading by fields is the run of all tokens, and the shape of what is listed
+-- reading field by field is running over all tokens, then taking the shape of what is listed
 pub reading_run : (end : ℕ) (ts : List Token) → (run start end ts >>= judged) ≡ (keyword_at end ts >>= λ k. body_at k.0 end k.1)
 reading_run end ts =
     ap (λ r. r >>= judged) (keyword_listing end ts) ∙ bind_assoc (keyword_at end ts) (λ k. listing k.0 end k.1) judged

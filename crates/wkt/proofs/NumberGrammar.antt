@@ -1,4 +1,4 @@
--- The words that `number_of` takes are those that spell a number.
+-- The words that `number_of` accepts are those that spell a number.
 use Rattle.std.proofs.Common.{◌≡◌, ℕ, ◌<◌, ◌==◌, Bool, true, false, cond, ◌&&◌, List, [], ◌∷◌, ◌++◌, take, drop, length, Option, Some, None, option_map, ℤ, refl, sym, ap, ◌∙◌, arith, inl, inr, take-append-drop, append-nil}
 use Rattle.std.specs.Char.{is_ascii_digit}
 use Rattle.std.specs.List.{AllByRecursion, list_all, prefix_len}
@@ -110,7 +110,7 @@ pub number_found : (word : List ℕ) (z : ℤ) → number_of word ≡ Some z →
 number_found [] z h = absurd cc
 number_found (b ∷ bs) z h = go-sign (b == 45) (b == 43) b bs z refl refl h
 
--- behind a sign, or with none
+-- after a sign, or without one
 go-only : (sign digits fraction : List ℕ) (negative : Bool) → SpellsSign sign negative → all_ascii_digits digits ≡ true → 0 < length digits → sign_of (sign ++ (digits ++ fraction)) ≡ (negative, digits ++ fraction)
 go-only [] [] fraction negative s h lt = absurd (omega arith)
 go-only [] (d ∷ ds) fraction negative s h lt = rw s (sign_of_digits d (ds ++ fraction) (and_parts (is_ascii_digit d) (all_ascii_digits ds) h).0)

@@ -1,4 +1,4 @@
--- A printed coordinate is one word, and is read again.
+-- A printed coordinate is one word, and is read as itself.
 use Rattle.std.proofs.Common.{◌≡◌, ℕ, suc, ◌+◌, ◌≤◌, ◌<◌, ◌==◌, Bool, true, false, not, ◌||◌, List, [], ◌∷◌, ◌++◌, take, drop, take_while, length, Some, Ok, ℤ, pos, negsuc, decimal, refl, ap, ◌∙◌, arith, one-add}
 use Rattle.std.specs.Char.{is_ascii_digit}
 use Rattle.std.specs.Fmt.{signed_decimal}
@@ -19,7 +19,7 @@ use Rattle.wkt.proofs.DigitsLemmas.{own}
 use Rattle.wkt.proofs.PrintingLemmas.{mag_of_coordinate}
 use Rattle.wkt.proofs.TokensLemmas.{tokens-word}
 
--- ---- a word in front of a byte that is none of a word
+-- ---- a word before a byte that ends it
 
 pub whole_prefix : (p : ℕ → Bool) (w : List ℕ) (b : ℕ) (rest : List ℕ) → list_all p w ≡ true → p b ≡ false → prefix_len p (w ++ b ∷ rest) ≡ length w
 whole_prefix p [] b rest h e = rw e refl
@@ -110,7 +110,7 @@ go-word end at z (c ∷ cs) b rest h inside e =
     let tests = word_parts (is_space c) (is_mark c) parts.0 in
     rw (tokens_of_word at c cs b rest h.bytes e, tests.1, h.value, inside) refl
 
--- a printed coordinate is read again, whatever stands behind its word
+-- a printed coordinate is read as itself, whatever follows its word
 pub number_read : (end at : ℕ) (z : ℤ) (b : ℕ) (rest : List ℕ) → IsCoordinate z → is_word_byte b ≡ false
     → number_at end (tokens at (signed_decimal z ++ b ∷ rest)) ≡ Ok (z, tokens (at + length (signed_decimal z)) (b ∷ rest))
 number_read end at z b rest h e = go-word end at z (signed_decimal z) b rest (printed_word z (mag_of_coordinate z h)) (coordinate_test z h) e

@@ -14,7 +14,7 @@ use Rattle.wkt.proofs.RingLemmas.{ring_more, ring_last}
 use Rattle.wkt.proofs.PrintedNumbers.{number_read}
 use Rattle.wkt.proofs.TokensLemmas.{tokens-space}
 
--- a printed pair is read again, whatever stands behind its second word
+-- a printed pair is read as itself, whatever follows its second word
 abbrev ReadsPair : ℕ → ℕ → Point → List ℕ → Type 0
 ReadsPair end at p tail = (k : ℕ) × (pair_at end (tokens at (pair_text p ++ tail)) ≡ Ok (p, tokens k tail))
 
@@ -30,7 +30,7 @@ pair_read end at p b rest h e =
 
 -- ---- the points of a ring
 
--- behind the first pair of a printed ring
+-- what follows the first pair of a printed ring
 abbrev ring_tail : List Point → List ℕ
 ring_tail ps = flat_map following_text ps ++ codes "))"
 
@@ -119,7 +119,7 @@ polygon_read end at p ps h hs =
 regroup : (a b c d : List ℕ) → a ++ b ++ c ++ d ≡ a ++ (b ++ (c ++ []) ++ d)
 regroup a b c d = simp (append_assoc, append-nil)
 
--- a printed ring lists its corners and the first one again
+-- a printed ring lists its corners, then the first one again
 ring_text : (p : Point) (qs : List Point) → pair_text p ++ flat_map following_text qs ++ following_text p ++ codes "))" ≡ pair_text p ++ ring_tail (qs ++ p ∷ [])
 ring_text p qs =
     regroup (pair_text p) (flat_map following_text qs) (following_text p) (codes "))")

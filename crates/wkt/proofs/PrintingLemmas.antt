@@ -1,4 +1,4 @@
--- How long the text of a coordinate is.
+-- The length of a coordinate's text.
 use Rattle.std.proofs.Common.{◌≡◌, ℕ, ◌≤◌, ℤ, pos, negsuc, List, length, to_z, of_z, w32, SFits, arith, rules}
 use Rattle.std.specs.Fmt.{signed_decimal}
 use Rattle.std.specs.Int.Signed.{mag}
@@ -15,7 +15,7 @@ number_room z h =
     let m = mag_of_coordinate z h in
     length_signed_le 8 z (omega arith) (omega arith)
 
--- what `format` gives of a coordinate
+-- the length of what `format` prints for a coordinate
 pub format_room : (z : ℤ) (bytes : List ℕ) → SFits w32 z → bytes ≡ signed_decimal (to_z w32 (of_z w32 z)) → IsCoordinate z → length bytes ≤ 9
 format_room z bytes fits e h =
     let same : to_z w32 (of_z w32 z) ≡ z = search (rules, fits) in

@@ -1,4 +1,4 @@
--- Reading the points of a ring one after the other, as a loop does, and keeping the first of them.
+-- Reading the points of a ring in a loop, and keeping the first of them.
 use Rattle.std.proofs.Common.{◌≡◌, ℕ, zero, suc, ◌<◌, Bool, true, false, List, [], ◌∷◌, ◌++◌, take, length, Result, Ok, Err, ℤ, refl, sym, ap, ◌∙◌, append_assoc, arith, if◌then◌else◌}
 use Rattle.std.proofs.lemmas.List.{take_all, take_at, length-append}
 use Rattle.plane.specs.declared.point.Point.{Point}
@@ -7,7 +7,7 @@ use Rattle.wkt.specs.Tokens.{Token}
 use Rattle.wkt.specs.Reading.{◌>>=◌, second, mark, with_rest, with_front, pair_of, number_of_token, is_more, number_at, pair_at, more_at, ring_at, ring_from}
 use Rattle.wkt.specs.declared.ring.TheConstants.{KEPT}
 
--- what is behind a pair: with a comma the rest of the ring, else nothing
+-- what comes after a pair: the rest of the ring after a comma, otherwise nothing
 abbrev pub behind_pair : ℕ → Point → Bool × List Token → Result (List Point × List Token) WktFault
 behind_pair end p more = if more.0 then with_front p (ring_at end more.1) else Ok (p ∷ [], more.1)
 
@@ -43,13 +43,13 @@ go-first : (end : ℕ) (ts : List Token) (n : Result ℤ WktFault) → (n >>= λ
 go-first end ts (Ok x) = at-second end x ts
 go-first end ts (Err e) = refl
 
--- one pair, and what is behind it
+-- one pair, and what comes after it
 pub ring_step : (end : ℕ) (ts : List Token) → ring_at end ts ≡ (pair_at end ts >>= after_pair end)
 unfolding ring_from pair_at number_at
 ring_step end [] = refl
 ring_step end (t ∷ ts) = go-first end ts (number_of_token t)
 
--- a pair with a comma behind it, and one with the closing bracket
+-- a pair with a comma after it, and one with the closing bracket
 pub ring_more : (end : ℕ) (p : Point) (ts behind rest : List Token) → pair_at end ts ≡ Ok (p, behind) → more_at end behind ≡ Ok (true, rest) → ring_at end ts ≡ with_front p (ring_at end rest)
 ring_more end p ts behind rest one more = ring_step end ts ∙ rw (one, more) refl
 
@@ -58,7 +58,7 @@ ring_last end p ts behind rest one more = ring_step end ts ∙ rw (one, more) re
 
 -- ---- the points that are kept
 
--- the points that are kept of those so far and of those that are still read
+-- what is kept of the points so far together with those still to be read
 abbrev pub kept_behind : List Point → Result (List Point × List Token) WktFault → Result (List Point × List Token) WktFault
 kept_behind front reading = reading >>= λ ring. Ok (take KEPT (front ++ ring.0), ring.1)
 
@@ -74,7 +74,7 @@ kept_with_front : (front : List Point) (p : Point) (reading : Result (List Point
 kept_with_front front p (Ok ring) = ap (λ (ps : List Point). Ok (ps, ring.1)) (keep-one KEPT front ring.0 p)
 kept_with_front front p (Err e) = refl
 
--- the loop's steps, where `total` is what the whole ring gives
+-- the steps of the loop; `total` is the result for the whole ring
 pub goes_on : (end : ℕ) (front now : List Point) (p : Point) (ts behind rest : List Token) (total : Result (List Point × List Token) WktFault)
     → pair_at end ts ≡ Ok (p, behind) → more_at end behind ≡ Ok (true, rest) → now ≡ take KEPT (front ++ p ∷ []) → kept_behind front (ring_at end ts) ≡ total → kept_behind now (ring_at end rest) ≡ total
 goes_on end front now p ts behind rest total one more keeps so_far =
@@ -99,7 +99,7 @@ no_more end front p ts behind e total one none so_far =
     let step : ring_at end ts ≡ Err e = ring_step end ts ∙ rw (one, none) refl in
     sym so_far ∙ ap (kept_behind front) step
 
--- one more point, where there is room or none
+-- one more point, with room for it and without
 pub keep_more : (points : List Point) (p : Point) → length points < KEPT → points ++ p ∷ [] ≡ take KEPT (points ++ p ∷ [])
 keep_more points p lt = sym (take_all KEPT (points ++ p ∷ []) (omega (arith, length-append points (p ∷ []))))
 

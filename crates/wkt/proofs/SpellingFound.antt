@@ -1,4 +1,4 @@
--- What is read as a shape spells it.
+-- What is read as a shape spells that shape.
 use Rattle.std.proofs.Common.{◌≡◌, ℕ, zero, suc, length, Bool, true, false, cond, ◌⊎◌, map, List, [], ◌∷◌, ◌++◌, codes, bytes_eq, Option, Some, None, Result, Ok, Err, ℤ, refl, sym, ap, subst, ◌∙◌, inl, inr, pos, negsuc, leb, arith, if◌then◌else◌}
 use Rattle.std.specs.Char.{to_ascii_lowercase}
 use Rattle.std.proofs.lemmas.Slice.Eq.{bytes_eq-Decides}
@@ -26,7 +26,7 @@ bind_ok : {A B : Type 0} (r : Result A WktFault) (f : A → Result B WktFault) (
 bind_ok (Ok x) f y e = (x, refl, e)
 bind_ok (Err d) f y e = absurd cc
 
--- a test that was passed, with an error behind it, or an error before it
+-- a value from a test that chooses between a result and an error is that of the result
 if_ok : {A : Type 0} (v : Bool) (r : Result A WktFault) (e : WktFault) (y : A) → cond v r (Err e) ≡ Ok y → (v ≡ true) × (r ≡ Ok y)
 if_ok true r e y h = (refl, h)
 if_ok false r e y h = absurd cc
@@ -35,7 +35,7 @@ unless_ok : {A : Type 0} (v : Bool) (r : Result A WktFault) (e : WktFault) (y : 
 unless_ok true r e y h = absurd cc
 unless_ok false r e y h = (refl, h)
 
--- one of two
+-- a value from a test that chooses between two results is that of one of them
 either_ok : {A : Type 0} (v : Bool) (r s : Result A WktFault) (y : A) → cond v r s ≡ Ok y → ((v ≡ true) × (r ≡ Ok y)) ⊎ ((v ≡ false) × (s ≡ Ok y))
 either_ok true r s y h = inl (refl, h)
 either_ok false r s y h = inr (refl, h)
@@ -63,7 +63,7 @@ token_found t z h =
     let n = go-limits t.0 (number_of t.1) z word.1 in
     (number_found t.1 z n.0, n.1)
 
--- the first word is taken
+-- the first word is taken off
 abbrev Takes : List Token → Word → List Token → Type 0
 Takes ts word rest = words ts ≡ word ∷ words rest
 
@@ -162,7 +162,7 @@ pairs_more : (x y : Word) (p : Point) (ws : List Word) (ps : List Point) → Spe
 pairs_more x y p ws [] one more = absurd more
 pairs_more x y p ws (q ∷ qs) one more = (x, y, ws, refl, one, more)
 
--- the last pair, or one with others behind it
+-- the last pair, or one with others after it
 go-last : (ts behind : List Token) (p : Point) (after : List Token) (found : List Point × List Token) → PairFound ts (p, behind) → MoreFound behind (false, after)
     → done (p ∷ [], after) ≡ done found → RingFound ts found
 go-last ts behind p after found one last h =
@@ -178,7 +178,7 @@ go-others ts behind p after others found one comma more h =
       pairs_more one.0 one.1 p more.0 others.0 one.3 more.2,
     )
 
--- rings with one point less are found
+-- the claim for rings with one point less
 abbrev Shorter : ℕ → List Token → List Point → Type 0
 Shorter end after ps = (qs : List Point) (rest : List Token) → suc (length qs) ≡ length ps → ring_at end after ≡ Ok (qs, rest) → RingFound after (qs, rest)
 
@@ -199,7 +199,7 @@ go-ring end ts found ih h =
     let more = bind_ok (more_at end pair.0.1) (behind_pair end pair.0.0) found pair.2 in
     go-behind end ts pair.0.1 pair.0.0 more.0.0 more.0.1 found (pair_found end ts pair.0 pair.1) (more_found end pair.0.1 more.0 more.1) (ih more.0.1) more.2
 
--- by the number of points
+-- by induction on the number of points
 ring_found_of : (n end : ℕ) (ts : List Token) (found : List Point × List Token) → length found.0 ≡ n → ring_at end ts ≡ Ok found → RingFound ts found
 ring_found_of zero end ts found count h = go-ring end ts found (λ after qs rest less k. absurd (omega arith)) h
 ring_found_of (suc n) end ts found count h = go-ring end ts found (λ after qs rest less k. ring_found_of n end after (qs, rest) (omega arith) k) h
@@ -246,7 +246,7 @@ keyword_found end (t ∷ ts) k h =
     let kind = bind_ok (kind_of t) (λ x. Ok (x, ts)) k word.1 in
     subst (KeywordFound (t ∷ ts)) (ok_is (kind.0, ts) k kind.2) (t.1, refl, kind_found t kind.0 kind.1)
 
--- the words list what is read
+-- the words list the points that are read
 abbrev Lists : List Token → Listed → Type 0
 Lists all listed = SpellsListed (words all) listed
 
@@ -305,7 +305,7 @@ listing_found kinds.Point end all keyword ts listed front kind h = point_found e
 listing_found kinds.LineString end all keyword ts listed front kind h = line_string_found end all keyword ts listed front kind h
 listing_found kinds.Polygon end all keyword ts listed front kind h = polygon_found end all keyword ts listed front kind h
 
--- what a run lists is spelled
+-- what a run lists is spelled by the words
 pub run_found : (end : ℕ) (ts : List Token) (listed : Listed) → run start end ts ≡ Ok listed → SpellsListed (words ts) listed
 run_found end ts listed h =
     let k = bind_ok (keyword_at end ts) (λ k. listing k.0 end k.1) listed (sym (keyword_listing end ts) ∙ h) in

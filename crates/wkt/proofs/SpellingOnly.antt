@@ -36,7 +36,7 @@ first_of (t ∷ ts) word ws h = record { token = t; rest = ts; whole = refl; wor
 abbrev Reads : {A : Type 0} → Result (A × List Token) WktFault → A → List Word → Type 0
 Reads reading x ws = (rest : List Token) × (reading ≡ Ok (x, rest)) × (words rest ≡ ws)
 
--- the same of a field that has no value
+-- the same for a field without a value
 abbrev Passes : Result (List Token) WktFault → List Word → Type 0
 Passes reading ws = (rest : List Token) × (reading ≡ Ok rest) × (words rest ≡ ws)
 
@@ -136,7 +136,7 @@ ring_only end ts pairs (p ∷ q ∷ qs) ws h (x, y, more, whole, pair, others) =
 first_is_no_mark : (b c : ℕ) → to_ascii_lowercase b ≡ c → 97 ≤ c → is_mark b ≡ false
 first_is_no_mark b c h le = grind (arith, nat_tests)
 
--- a word that is a keyword begins with no mark
+-- a keyword does not begin with a mark
 keyword_is_unmarked : (word : Word) (c : ℕ) (cs : List ℕ) → 97 ≤ c → map to_ascii_lowercase word ≡ c ∷ cs → begins_with_mark word ≡ false
 keyword_is_unmarked [] c cs le h = refl
 keyword_is_unmarked (b ∷ bs) c cs le h = first_is_no_mark b c (cc) le

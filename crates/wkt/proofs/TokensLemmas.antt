@@ -1,4 +1,4 @@
--- What the first token is, and what follows it.
+-- The first token, and what follows it.
 use Rattle.std.proofs.Common.{◌≡◌, ℕ, suc, ◌+◌, ◌<◌, Bool, true, false, take_while, List, [], ◌∷◌, length, take, drop, refl, sym, ap, ◌∙◌, arith, one-add, add-zero}
 use Rattle.std.specs.List.{prefix_len}
 use Rattle.wkt.specs.Tokens.{token_len, Token, tokens, tokens_from, is_space, is_mark, is_word_byte}
@@ -23,7 +23,7 @@ pub tokens-spaces : (at : ℕ) (bs : List ℕ) → SkipsSpaces at bs
 tokens-spaces at [] = ap (λ (k : ℕ). tokens k []) (sym (add-zero at))
 tokens-spaces at (b ∷ bs) = go-space (is_space b) at b bs refl (tokens-spaces (at + 1) bs)
 
--- what follows the spaces is none
+-- what follows the spaces does not begin with a space
 go-past : (v : Bool) (b : ℕ) (bs : List ℕ) (c : ℕ) (cs : List ℕ) → is_space b ≡ v
     → (drop (prefix_len is_space bs) bs ≡ c ∷ cs → is_space c ≡ false) → drop (prefix_len is_space (b ∷ bs)) (b ∷ bs) ≡ c ∷ cs → is_space c ≡ false
 go-past true b bs c cs e h k =
@@ -57,7 +57,7 @@ inside-end : (at : ℕ) → tokens_from true at [] ≡ tokens_from false (at + 0
 unfolding tokens_from
 inside-end at = refl
 
--- within a word nothing is listed up to its end
+-- within a word, no token is listed before its end
 abbrev SkipsWord : ℕ → List ℕ → Type 0
 SkipsWord at bs = tokens_from true at bs ≡ tokens (at + prefix_len is_word_byte bs) (drop (prefix_len is_word_byte bs) bs)
 

@@ -4,7 +4,7 @@ use Rattle.plane.specs.FaultCodes.{code_of as shape_fault_code}
 use Rattle.wkt.specs.declared.fault.WktFault.{WktFault}
 use Rattle.wkt.specs.declared.fault.WktFault.TheVariants.{UnknownWord, LeftOut, Syntax, Number, OutOfRange, Bad}
 
--- of points that make no shape, the code of their own fault
+-- if the points make no shape, the code of their own fault
 abbrev pub code_of : WktFault → List ℕ
 code_of (UnknownWord at) = codes "K1"
 code_of (LeftOut at) = codes "K2"

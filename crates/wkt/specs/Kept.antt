@@ -1,4 +1,4 @@
--- What the reader keeps of a ring: one point more than a ring may list, at most.
+-- What the reader keeps of a ring: at most one point more than a ring may list.
 use Rattle.std.specs.Prelude.{ℕ, List, take, Result, Ok}
 use Rattle.plane.specs.declared.point.Point.{Point}
 use Rattle.plane.specs.Canonical.{polygon_of}

@@ -7,7 +7,7 @@ use Rattle.plane.specs.Coordinates.{is_coordinate}
 use Rattle.wkt.specs.declared.fault.WktFault.{WktFault}
 use Rattle.wkt.specs.declared.fault.WktFault.TheVariants.{Number, OutOfRange}
 
--- whether a minus stands before the number, and what follows its sign
+-- whether the number has a minus sign, and what follows its sign
 abbrev pub sign_of : List ℕ → Bool × List ℕ
 sign_of [] = (false, [])
 sign_of (b ∷ bs) = if b == 45 then (true, bs) else if b == 43 then (false, bs) else (false, b ∷ bs)
@@ -25,7 +25,7 @@ magnitude_of word =
     else if is_zero_fraction (drop len word) then Some (digits_value 10 (take len word))
     else None
 
--- the number that digits spell, or `cap` where it is larger
+-- the value of the digits, capped at `cap`
 abbrev pub capped_value : ℕ → List ℕ → ℕ
 capped_value cap digits = min (digits_value 10 digits) cap
 
@@ -35,7 +35,7 @@ signed negative n = if negative then neg_ℤ (pos n) else pos n
 abbrev pub number_of : List ℕ → Option ℤ
 number_of word = let parts = sign_of word in option_map (signed parts.0) (magnitude_of parts.1)
 
--- the coordinate that a word at `at` spells
+-- a number as a coordinate; `at` is the place for a fault
 abbrev pub in_limits : ℕ → Option ℤ → Result ℤ WktFault
 in_limits at None = Err (Number at)
 in_limits at (Some n) = if is_coordinate n then Ok n else Err (OutOfRange at)

@@ -12,7 +12,7 @@ pair_text p = signed_decimal p.x ++ codes " " ++ signed_decimal p.y
 abbrev pub following_text : Point → List ℕ
 following_text p = codes ", " ++ pair_text p
 
--- the text of the shape that has these corners; a ring is closed by its first one
+-- the text of the shape with these corners; a ring has its first corner again at the end
 abbrev pub printed : List Point → List ℕ
 printed [] = []
 printed (p ∷ []) = codes "POINT (" ++ pair_text p ++ codes ")"

@@ -17,16 +17,16 @@ abbrev pub ◌>>=◌ : {A B : Type 0} → Result A WktFault → (A → Result B 
 (Ok x) >>= f = f x
 (Err e) >>= f = Err e
 
--- a returned value, seen by `view`, is what the reading gives
+-- the returned value, seen through `view`, is that of the reading
 abbrev pub Gives : {X Y : Type 0} → (X → Y) → Result X WktFault → Result Y WktFault → Type 0
 Gives view (Ok x) reading = reading ≡ Ok (view x)
 Gives view (Err e) reading = reading ≡ Err e
 
--- what a token gives, and the tokens behind it
+-- what a token is read as, and the tokens after it
 abbrev pub with_rest : {A : Type 0} → Result A WktFault → List Token → Result (A × List Token) WktFault
 with_rest reading ts = reading >>= λ x. Ok (x, ts)
 
--- the same word, in any letter case of ASCII
+-- the same word, in any ASCII letter case
 abbrev pub is_word : List ℕ → List ℕ → Bool
 is_word word bytes = bytes_eq (map to_ascii_lowercase bytes) (map to_ascii_lowercase word)
 
@@ -37,16 +37,16 @@ begins_with_mark (b ∷ bs) = is_mark b
 abbrev pub is_the_mark : ℕ → List ℕ → Bool
 is_the_mark mark bytes = bytes_eq bytes (mark ∷ [])
 
--- the kinds of geometry that are left out, by their first words
+-- the words for kinds of geometry that are not supported
 abbrev pub is_left_out_kind : List ℕ → Bool
 is_left_out_kind word =
     is_word (codes "MULTIPOINT") word || is_word (codes "MULTILINESTRING") word || is_word (codes "MULTIPOLYGON") word || is_word (codes "GEOMETRYCOLLECTION") word
 
--- what may stand after a keyword in the standard, and is left out
+-- the words that the standard allows after a keyword, and that are not supported
 abbrev pub is_left_out_form : List ℕ → Bool
 is_left_out_form word = is_word (codes "EMPTY") word || is_word (codes "Z") word || is_word (codes "M") word || is_word (codes "ZM") word
 
--- what a first word announces, at its place
+-- the kind that the first word announces
 unfoldable pub kind_of : Token → Result Kind WktFault
 kind_of t =
     if is_word (codes "POINT") t.1 then Ok kinds.Point
@@ -75,7 +75,7 @@ unfoldable pub mark_at : ℕ → ℕ → List Token → Result (List Token) WktF
 mark_at mark end [] = Err (Syntax end)
 mark_at mark end (t ∷ ts) = if is_the_mark mark t.1 then Ok ts else Err (Syntax t.0)
 
--- the bracket that closes a list of fixed length; a comma there would make it longer, which is left out
+-- the bracket that closes a list of fixed length; a comma there makes the list too long
 unfoldable pub closing_at : ℕ → List Token → Result (List Token) WktFault
 closing_at end [] = Err (Syntax end)
 closing_at end (t ∷ ts) =
@@ -88,7 +88,7 @@ abbrev pub end_at : List Token → Result (Unit {0}) WktFault
 end_at [] = Ok tt
 end_at (t ∷ ts) = Err (Syntax t.0)
 
--- the coordinate that a token is
+-- the coordinate in a token
 unfoldable pub number_of_token : Token → Result ℤ WktFault
 number_of_token t = if begins_with_mark t.1 then Err (Syntax t.0) else coordinate_of t.0 t.1
 
@@ -96,7 +96,7 @@ unfoldable pub number_at : ℕ → List Token → Result (ℤ × List Token) Wkt
 number_at end [] = Err (Syntax end)
 number_at end (t ∷ ts) = with_rest (number_of_token t) ts
 
--- the point of an x, and of a y with the tokens behind it
+-- the point with this x and y, and the tokens after y
 abbrev pub pair_of : ℤ → ℤ × List Token → Result (Point × List Token) WktFault
 pair_of x y = Ok (record { x = x; y = y.0 }, y.1)
 
@@ -106,7 +106,7 @@ pair_at end ts = do
   y ← number_at end x.1
   pair_of x.0 y
 
--- behind a pair of a ring: whether a comma stands there, and not the bracket that closes the ring
+-- after a pair of a ring: true for a comma, false for the bracket that closes the ring
 unfoldable pub is_more : Token → Result Bool WktFault
 is_more t =
     if is_the_mark COMMA t.1 then Ok true
@@ -117,28 +117,28 @@ unfoldable pub more_at : ℕ → List Token → Result (Bool × List Token) WktF
 more_at end [] = Err (Syntax end)
 more_at end (t ∷ ts) = with_rest (is_more t) ts
 
--- what is due in a ring: a pair, the second number of one, or what follows it
+-- what comes next in a ring: a pair, the second number of one, or what follows it
 pub data Due : Type 0 where
   pair : Due
   second : ℤ → Due
   mark : Due
 
--- a point in front of those that are read
+-- a point in front of those that are read after it
 abbrev pub with_front : Point → Result (List Point × List Token) WktFault → Result (List Point × List Token) WktFault
 with_front p reading = reading >>= λ ring. Ok (p ∷ ring.0, ring.1)
 
--- the points that are still listed in a ring, and the tokens behind it
+-- the points that are left to read in a ring, and the tokens after it
 unfoldable pub ring_from : Due → ℕ → List Token → Result (List Point × List Token) WktFault
 ring_from due end [] = Err (Syntax end)
 ring_from pair end (t ∷ ts) = number_of_token t >>= λ x. ring_from (second x) end ts
 ring_from (second x) end (t ∷ ts) = number_of_token t >>= λ y. with_front (record { x = x; y = y }) (ring_from mark end ts)
 ring_from mark end (t ∷ ts) = is_more t >>= λ more. if more then ring_from pair end ts else Ok ([], ts)
 
--- the points of a ring from its first number on, and the tokens behind its closing bracket
+-- the points of a ring, and the tokens after its closing bracket
 abbrev pub ring_at : ℕ → List Token → Result (List Point × List Token) WktFault
 ring_at end ts = ring_from pair end ts
 
--- a whole text: its shape, or why its points make none
+-- the shape of the points, or why they make none
 abbrev pub made : Result (List Point) ShapeFault → Result (List Point) WktFault
 made (Ok corners) = Ok corners
 made (Err e) = Err (Bad e)
@@ -179,7 +179,7 @@ body_at kinds.Point end ts = point_at end ts
 body_at kinds.LineString end ts = line_string_at end ts
 body_at kinds.Polygon end ts = polygon_at end ts
 
--- the shape that a text spells, as its corners; else the first fault from the left, with its place
+-- the shape that a text spells, as its corners; otherwise the first fault from the left
 unfoldable pub shape_of : List ℕ → Result (List Point) WktFault
 shape_of text = do
   keyword ← keyword_at (length text) (tokens 0 text)

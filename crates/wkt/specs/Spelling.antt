@@ -1,4 +1,4 @@
--- The texts that spell a shape, by cases. (`Reading` says besides which fault another text has.)
+-- The texts that spell a shape, by cases. (`Reading` also says which fault any other text has.)
 use Rattle.std.specs.Prelude.{◌≡◌, ℕ, ℤ, ◌<◌, ◌⊎◌, Bool, true, false, map, List, [], ◌∷◌, ◌++◌, codes, length, Result, Ok}
 use Rattle.std.specs.Char.{to_ascii_lowercase}
 use Rattle.std.specs.List.{AllByRecursion}
@@ -11,7 +11,7 @@ use Rattle.plane.specs.Points.{IsInRange}
 use Rattle.wkt.specs.Tokens.{Token, tokens, OPENING, CLOSING, COMMA}
 use Rattle.wkt.specs.Numbers.{signed}
 
--- a word, or a mark
+-- the bytes of a word or a mark
 abbrev pub Word : Type 0
 Word = List ℕ
 
@@ -35,7 +35,7 @@ abbrev pub IsZeroFraction : List ℕ → Type 0
 IsZeroFraction [] = Unit {0}
 IsZeroFraction (b ∷ zeros) = (b ≡ 46) × AllByRecursion (λ z. z ≡ 48) zeros
 
--- a number is a sign or none, one digit or more, and a fraction of zeros or none
+-- a number is an optional sign, at least one digit, and an optional fraction of zeros
 pub record SpellsNumber (word : Word) (z : ℤ) : Type 0 where
   pub sign : List ℕ
   pub negative : Bool
@@ -56,7 +56,7 @@ pub record SpellsPair (x y : Word) (p : Point) : Type 0 where
   pub y_is : SpellsNumber y p.y
   pub in_range : IsInRange p
 
--- pairs with a comma between one and the next
+-- pairs separated by commas
 abbrev pub SpellsPairs : List Word → List Point → Type 0
 SpellsPairs ws [] = ⊥
 SpellsPairs ws (p ∷ []) = (x : Word) × (y : Word) × (ws ≡ x ∷ y ∷ []) × SpellsPair x y p
@@ -70,7 +70,7 @@ pub data Listed : Type 0 where
   two_points : Point → Point → Listed
   ring : List Point → Listed
 
--- a keyword in any letter case of ASCII
+-- a keyword in any ASCII letter case
 abbrev pub IsKeyword : List ℕ → Word → Type 0
 IsKeyword keyword word = map to_ascii_lowercase word ≡ map to_ascii_lowercase keyword
 
@@ -111,7 +111,7 @@ canonical_of (one_point p) = point_of p
 canonical_of (two_points p q) = segment_of p q
 canonical_of (ring ps) = polygon_of ps
 
--- a text spells a shape when it lists points that have it
+-- a text spells a shape if it lists points whose canonical shape it is
 pub record Spells (text : List ℕ) (corners : List Point) : Type 0 where
   pub listed : Listed
   pub spelled : SpellsListed (words (tokens 0 text)) listed

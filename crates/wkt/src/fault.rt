@@ -6,28 +6,28 @@ use plane::ShapeFault;
 use std::error::Error;
 use std::fmt;
 
-/// Why a text spells no shape. A place is the position of a byte: where the first token begins, from
-/// the left, that cannot be continued, or the text's length where a token is missing at its end.
+/// Why a text spells no shape. A place is a byte offset: that of the first token, from the left,
+/// with which no shape's text can go on, or the text's length if a token is missing at its end.
 #[derive(Clone, Copy, Debug, PartialEq, Eq)]
 pub enum WktFault {
-    /// K1: the first word names no kind of geometry that the standard's profile here knows.
+    /// K1: the first word is not a geometry keyword known here.
     UnknownWord(usize),
-    /// K2: a form of the standard that is left out here, as a collection, `EMPTY` or a third point.
+    /// K2: an unsupported form of the standard, such as a collection, `EMPTY` or a third point.
     LeftOut(usize),
-    /// K3: another token, or none, stands where one is due, or one follows the last.
+    /// K3: a token is wrong or missing, or follows after the last one.
     Syntax(usize),
-    /// K4: the word is no number.
+    /// K4: the word is not a number.
     Number(usize),
-    /// K5: the number is no coordinate, since it is too large or too small.
+    /// K5: the number is outside of the range of coordinates.
     OutOfRange(usize),
-    /// K6: the text has the form of a shape, and its points make none.
+    /// K6: the text has the form of a shape, but its points make none.
     Bad(ShapeFault),
 }
 
 impl WktFault {
     ghost use Rattle.wkt.specs.FaultCodes.{code_of};
 
-    /// The short code: `K1` to `K5`, and where the points make no shape the code of their fault, `P1` to `P9`.
+    /// The short code: `K1` to `K5`, or that of the fault of the points, `P1` to `P9`.
     pub fn code(self) -> &'static str
         ensures { result.now ≡ code_of self }
     {

@@ -1,4 +1,4 @@
-//! The parts of a text: each reader takes what stands at the front of what is left of it, and hands back the rest.
+//! Readers of a text's parts: each takes its part from the front of the text and returns the rest.
 
 ghost use Rattle.std.specs.Prelude.{◌≡◌, ◌+◌, ◌<◌, ◌^◌, Ok, IfOk, length};
 ghost use Rattle.wkt.specs.Tokens.{tokens};
@@ -10,7 +10,7 @@ use crate::number::coordinate;
 use crate::tokens::{Rest, first_token, is_mark};
 use plane::Point;
 
-/// Whether a token is this bracket or comma.
+/// Whether a token is this mark: a bracket or a comma.
 fn is_the_mark(mark: u8, bytes: &[u8]) -> bool
     ensures { result ≡ mark_test mark bytes.now }
 {
@@ -20,7 +20,7 @@ fn is_the_mark(mark: u8, bytes: &[u8]) -> bool
     }
 }
 
-/// Whether a token is a bracket or a comma, and no word.
+/// Whether a token is a bracket or a comma, not a word.
 fn begins_with_mark(bytes: &[u8]) -> bool
     ensures { result ≡ mark_first bytes.now }
 {
@@ -30,7 +30,7 @@ fn begins_with_mark(bytes: &[u8]) -> bool
     }
 }
 
-/// The keyword.
+/// Reads the keyword.
 #[tactic(auto, unfolding(crate::specs::Reading::keyword_at))]
 pub(crate) fn keyword(text: Rest<'_>) -> Result<(Kind, Rest<'_>), WktFault>
     ensures gives { Gives (λ r. (r.0, tokens r.1.at r.1.bytes.now)) result (keyword_at (text.entry.at + length text.entry.bytes.now) (tokens text.entry.at text.entry.bytes.now)) }
@@ -46,7 +46,7 @@ pub(crate) fn keyword(text: Rest<'_>) -> Result<(Kind, Rest<'_>), WktFault>
     Ok((kind, token.rest))
 }
 
-/// The opening bracket after a keyword.
+/// Reads the opening bracket after a keyword. `LeftOut` for `EMPTY`, `Z`, `M` and `ZM`.
 #[tactic(auto, unfolding(crate::specs::Reading::opening_at))]
 pub(crate) fn opening(text: Rest<'_>) -> Result<Rest<'_>, WktFault>
     ensures gives { Gives (λ r. tokens r.at r.bytes.now) result (opening_at (text.entry.at + length text.entry.bytes.now) (tokens text.entry.at text.entry.bytes.now)) }
@@ -65,7 +65,7 @@ pub(crate) fn opening(text: Rest<'_>) -> Result<Rest<'_>, WktFault>
     })
 }
 
-/// One bracket or comma.
+/// Reads this bracket or comma.
 #[tactic(auto, unfolding(crate::specs::Reading::mark_at))]
 pub(crate) fn mark(mark: u8, text: Rest<'_>) -> Result<Rest<'_>, WktFault>
     ensures gives { Gives (λ r. tokens r.at r.bytes.now) result (mark_at mark (text.entry.at + length text.entry.bytes.now) (tokens text.entry.at text.entry.bytes.now)) }
@@ -80,7 +80,7 @@ pub(crate) fn mark(mark: u8, text: Rest<'_>) -> Result<Rest<'_>, WktFault>
     Ok(token.rest)
 }
 
-/// The bracket that closes a list of fixed length.
+/// Reads the closing bracket of a list of fixed length. `LeftOut` for a comma.
 #[tactic(auto, unfolding(crate::specs::Reading::closing_at))]
 pub(crate) fn closing(text: Rest<'_>) -> Result<Rest<'_>, WktFault>
     ensures gives { Gives (λ r. tokens r.at r.bytes.now) result (closing_at (text.entry.at + length text.entry.bytes.now) (tokens text.entry.at text.entry.bytes.now)) }
@@ -99,7 +99,7 @@ pub(crate) fn closing(text: Rest<'_>) -> Result<Rest<'_>, WktFault>
     })
 }
 
-/// The end of the text.
+/// Checks that the text ends here.
 pub(crate) fn end(text: Rest<'_>) -> Result<(), WktFault>
     ensures { Gives (λ u. u) result (end_at (tokens text.entry.at text.entry.bytes.now)) }
 {
@@ -109,7 +109,7 @@ pub(crate) fn end(text: Rest<'_>) -> Result<(), WktFault>
     }
 }
 
-/// The coordinate that a token is.
+/// The coordinate in a token.
 #[tactic(auto, unfolding(crate::specs::Reading::number_of_token))]
 fn number_of_token(at: usize, bytes: &[u8]) -> Result<i32, WktFault>
     ensures { result ≡ token_number (at, bytes.now) }
@@ -120,7 +120,7 @@ fn number_of_token(at: usize, bytes: &[u8]) -> Result<i32, WktFault>
     coordinate(at, bytes)
 }
 
-/// A coordinate.
+/// Reads a coordinate.
 #[tactic(auto, unfolding(crate::specs::Reading::number_at))]
 fn number(text: Rest<'_>) -> Result<(i32, Rest<'_>), WktFault>
     ensures gives { Gives (λ r. (r.0, tokens r.1.at r.1.bytes.now)) result (number_at (text.entry.at + length text.entry.bytes.now) (tokens text.entry.at text.entry.bytes.now)) }
@@ -134,7 +134,7 @@ fn number(text: Rest<'_>) -> Result<(i32, Rest<'_>), WktFault>
     Ok((n, token.rest))
 }
 
-/// The two coordinates of a point.
+/// Reads the two coordinates of a point.
 #[tactic(auto, unfolding(crate::specs::Reading::pair_at))]
 pub(crate) fn pair(text: Rest<'_>) -> Result<(Point, Rest<'_>), WktFault>
     ensures gives { Gives (λ r. (r.0, tokens r.1.at r.1.bytes.now)) result (pair_at (text.entry.at + length text.entry.bytes.now) (tokens text.entry.at text.entry.bytes.now)) }
@@ -146,7 +146,7 @@ pub(crate) fn pair(text: Rest<'_>) -> Result<(Point, Rest<'_>), WktFault>
     Ok((Point { x, y }, rest))
 }
 
-/// Whether a comma follows a pair of a ring, and not the bracket that closes it.
+/// Reads what follows a pair of a ring: true for a comma, false for the closing bracket.
 #[tactic(auto, unfolding(crate::specs::Reading::more_at, crate::specs::Reading::is_more))]
 pub(crate) fn more(text: Rest<'_>) -> Result<(bool, Rest<'_>), WktFault>
     ensures gives { Gives (λ r. (r.0, tokens r.1.at r.1.bytes.now)) result (more_at (text.entry.at + length text.entry.bytes.now) (tokens text.entry.at text.entry.bytes.now)) }

@@ -1,11 +1,11 @@
-//! The words of the language, in any letter case of ASCII.
+//! The words of the language, in any ASCII letter case.
 
 ghost use Rattle.std.specs.Prelude.{◌≡◌};
 ghost use Rattle.wkt.specs.Reading.{is_word as word_test, is_left_out_kind as left_out_kind_test, is_left_out_form as left_out_form_test, kind_of as kind_at};
 
 use crate::fault::WktFault;
 
-/// What a keyword announces.
+/// The kind of shape that a keyword announces.
 #[derive(Clone, Copy)]
 pub(crate) enum Kind {
     Point,
@@ -13,14 +13,14 @@ pub(crate) enum Kind {
     Polygon,
 }
 
-/// Whether this is the word, in any letter case.
+/// Whether `bytes` are this word, in any letter case.
 fn is_word(word: &[u8], bytes: &[u8]) -> bool
     ensures { result ≡ word_test word.now bytes.now }
 {
     bytes.eq_ignore_ascii_case(word)
 }
 
-/// Whether this announces a kind of geometry that is left out.
+/// Whether this word announces a kind of geometry that is not supported.
 fn is_left_out_kind(word: &[u8]) -> bool
     ensures { result ≡ left_out_kind_test word.now }
 {
@@ -30,7 +30,7 @@ fn is_left_out_kind(word: &[u8]) -> bool
         || is_word(b"GEOMETRYCOLLECTION", word)
 }
 
-/// What the first word, at `at`, announces.
+/// The kind that the first word, at `at`, announces.
 #[tactic(auto, unfolding(crate::specs::Reading::kind_of))]
 pub(crate) fn kind_of(at: usize, word: &[u8]) -> Result<Kind, WktFault>
     ensures { result ≡ kind_at (at, word.now) }
@@ -51,7 +51,7 @@ pub(crate) fn kind_of(at: usize, word: &[u8]) -> Result<Kind, WktFault>
     })
 }
 
-/// Whether this is a word that the standard allows after a keyword, and that is left out.
+/// Whether the standard allows this word after a keyword, where it is not supported.
 pub(crate) fn is_left_out_form(word: &[u8]) -> bool
     ensures { result ≡ left_out_form_test word.now }
 {

@@ -1,4 +1,4 @@
-//! Numbers: a sign or none, digits, and a fraction of zeros or none.
+//! Numbers: an optional sign, digits, and an optional fraction of zeros.
 
 ghost use Rattle.std.specs.Prelude.{◌≡◌, ◌≤◌, ◌==◌, true, min, length, option_map};
 ghost use Rattle.std.specs.Char.{is_ascii_digit as digit_test};
@@ -9,10 +9,10 @@ ghost use Rattle.wkt.specs.Numbers.{sign_of, is_zero_fraction as zero_fraction_t
 use crate::fault::WktFault;
 use plane::LIMIT;
 
-/// Above every coordinate: what a larger number is taken for.
+/// Larger than every coordinate. Larger numbers are capped at it.
 const TOO_LARGE: u32 = LIMIT as u32 + 1;
 
-/// Whether a minus stands before the number, and what follows its sign.
+/// Whether the number has a minus sign, and what follows its sign.
 fn unsigned_part(word: &[u8]) -> (bool, &[u8])
     ensures { (result.0, result.1.now) ≡ sign_of word.now }
 {
@@ -23,14 +23,14 @@ fn unsigned_part(word: &[u8]) -> (bool, &[u8])
     }
 }
 
-/// Whether all bytes are zeros.
+/// Whether all bytes are the digit zero.
 fn are_zeros(bytes: &[u8]) -> bool
     ensures { result ≡ list_all (λ z. z == 48) bytes.now }
 {
     bytes.iter().all(|b| *b == b'0')
 }
 
-/// Whether the bytes are nothing, or a period and zeros.
+/// Whether the bytes are empty, or a period and zeros.
 fn is_zero_fraction(bytes: &[u8]) -> bool
     ensures { result ≡ zero_fraction_test bytes.now }
 {
@@ -41,7 +41,7 @@ fn is_zero_fraction(bytes: &[u8]) -> bool
     }
 }
 
-/// The number that digits spell, or `TOO_LARGE` where it is larger.
+/// The value of the digits, capped at `TOO_LARGE`.
 fn capped_value(digits: &[u8]) -> u32
     requires { all_ascii_digits digits.now ≡ true }
     ensures { result ≡ capped_digits TOO_LARGE digits.now }
@@ -62,7 +62,7 @@ fn digits_len(word: &[u8]) -> usize
     word.iter().take_while(|b| b.is_ascii_digit()).count()
 }
 
-/// The number without its sign, or `TOO_LARGE` where it is larger.
+/// The number without its sign, capped at `TOO_LARGE`; `None` if the word is not a number.
 #[tactic(auto, using(crate::proofs::NumbersLemmas::digits_of_word))]
 fn magnitude(word: &[u8]) -> Option<u32>
     ensures { result ≡ option_map (λ n. min n TOO_LARGE) (magnitude_of word.now) }
@@ -79,7 +79,7 @@ fn magnitude(word: &[u8]) -> Option<u32>
     }
 }
 
-/// The coordinate that the word at `at` spells.
+/// The coordinate that the word spells; `at` is the place for its fault.
 #[tactic(auto, unfolding(crate::specs::Numbers::coordinate_of))]
 pub(crate) fn coordinate(at: usize, word: &[u8]) -> Result<i32, WktFault>
     ensures { result ≡ coordinate_of at word.now }

@@ -16,10 +16,10 @@ use memory::Refused;
 use plane::{Point, Shape, corners};
 use std::alloc::Allocator;
 
-/// A printed text while it grows: the longest has 367 bytes.
+/// A text while it is printed. The longest has 367 bytes.
 type Text = ArrayString<384>;
 
-/// Prints a coordinate: 9 bytes at most.
+/// Prints a coordinate, in at most 9 bytes.
 fn push_number(text: &mut Text, n: i32)
     requires room { array_string_len text.old + 9 ≤ 384 }
     requires range { IsCoordinate n }
@@ -30,7 +30,7 @@ fn push_number(text: &mut Text, n: i32)
     text.push_str(buffer.format(n));
 }
 
-/// Prints the two coordinates of a point, with a space between them.
+/// Prints the two coordinates of a point, separated by a space.
 fn push_pair(text: &mut Text, p: Point)
     requires room { array_string_len text.old + 19 ≤ 384 }
     requires range { IsInRange p }
@@ -42,7 +42,7 @@ fn push_pair(text: &mut Text, p: Point)
     push_number(text, p.y);
 }
 
-/// Prints a point behind another one.
+/// Prints a point after another one.
 fn push_following(text: &mut Text, p: Point)
     requires room { array_string_len text.old + 21 ≤ 384 }
     requires range { IsInRange p }
@@ -53,7 +53,7 @@ fn push_following(text: &mut Text, p: Point)
     push_pair(text, p);
 }
 
-/// Prints points behind another one.
+/// Prints points after another one.
 fn push_all_following(text: &mut Text, ps: &[Point])
     requires room { array_string_len text.old + 21 * length ps.now ≤ 384 }
     requires range { All IsInRange ps.now }
@@ -65,7 +65,7 @@ fn push_all_following(text: &mut Text, ps: &[Point])
     }
 }
 
-/// Prints the shape that has these corners.
+/// Prints the shape with these corners.
 fn push_corners(text: &mut Text, corners: &[Point])
     requires empty { array_string_len text.old ≡ 0 }
     requires range { All IsInRange corners.now }
@@ -96,8 +96,9 @@ fn push_corners(text: &mut Text, corners: &[Point])
     }
 }
 
-/// The text of a shape: capitals, one space behind the keyword, behind each comma and between two coordinates, the
-/// corners in canonical order, a ring closed by its first one. It takes no memory.
+/// The text of a shape: keyword in capitals, one space after it, after each comma and between two
+/// coordinates, corners in canonical order, and the first corner of a ring again at its end.
+/// Allocates nothing.
 pub fn shape_text(shape: &Shape) -> ArrayString<384>
     ensures bytes { result.bytes ≡ printed shape.now }
     ensures spells { Spells result.bytes shape.now }
@@ -108,7 +109,7 @@ pub fn shape_text(shape: &Shape) -> ArrayString<384>
     text
 }
 
-/// The text of `shape_text` as a string of its own. The only error is want of memory.
+/// The text of `shape_text` as a `String`. Fails only when out of memory.
 pub fn print_shape<A: Allocator>(alloc: A, shape: &Shape) -> Result<String<A>, Refused>
     ensures { IfOk result (λ text. string_bytes text ≡ printed shape.now) }
 {

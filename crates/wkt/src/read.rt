@@ -1,4 +1,4 @@
-//! Reading a text.
+//! Reads a text.
 
 ghost use Rattle.std.specs.Prelude.{◌≡◌, ◌+◌, ◌<◌, ◌^◌, Ok, IfOk, List, length};
 ghost use Rattle.plane.specs.declared.point.Point.{Point};
@@ -53,7 +53,7 @@ fn polygon(text: Rest<'_>) -> Result<Shape, WktFault>
     Shape::polygon(points.as_slice()).map_err(WktFault::Bad)
 }
 
-/// The keyword, and what follows it.
+/// Reads the keyword and what follows it.
 #[tactic(auto, using(crate::proofs::KeptLemmas::kept_polygon), unfolding(crate::specs::Reading::shape_of))]
 fn read(text: &[u8]) -> Result<Shape, WktFault>
     ensures { result ≡ shape_of text.now }
@@ -66,13 +66,14 @@ fn read(text: &[u8]) -> Result<Shape, WktFault>
     }
 }
 
-/// The shape that a text spells: `POINT (x y)`, `LINESTRING (x y, x y)` or `POLYGON ((x y, x y, ..))`, as OGC 06-103r4,
-/// 7.2.2, has them. It takes no memory.
+/// Reads the shape that a text spells, as in OGC 06-103r4, 7.2.2: `POINT (x y)`,
+/// `LINESTRING (x y, x y)` or `POLYGON ((x y, x y, ..))`. Allocates nothing.
 ///
-/// A text with another first word is K1, or K2 where that word begins a kind of geometry that is left out. EMPTY, Z, M
-/// or ZM after the keyword, a third point of a line string and a second ring are K2. Any other token than the due one
-/// is K3, a word that is no number K4, a number from outside -10,000,000 to 10,000,000 K5. The first fault from the
-/// left counts, with its place. Points that make no shape are K6, where the text has no other fault.
+/// Another first word is K1, or K2 if it is the word for a kind of geometry that is not supported.
+/// `EMPTY`, `Z`, `M` or `ZM` after the keyword, a third point of a line string and a second ring
+/// are K2. Any other wrong or missing token is K3, a word that is not a number K4, and a number
+/// outside of -10,000,000 to 10,000,000 K5. The error is the first fault from the left, with its
+/// place. If there is none, but the points make no shape, the error is K6.
 #[tactic(auto, using(crate::proofs::SpellingFound::found))]
 pub fn read_shape(text: &[u8]) -> Result<Shape, WktFault>
     ensures value { result ≡ shape_of text.now }

@@ -11,10 +11,11 @@ use crate::tokens::Rest;
 use arrayvec::ArrayVec;
 use plane::{LISTED_LIMIT, Point};
 
-/// How many points of a ring are kept: one more than a ring may list, since a longer one has too many points too.
+/// How many points of a ring are kept: one more than a ring may list, which is enough to find that
+/// a longer ring has too many.
 pub(crate) const KEPT: usize = LISTED_LIMIT + 1;
 
-/// Adds a point behind the others, where there is room.
+/// Appends a point, or drops it if `KEPT` points are there.
 fn keep(listed: &mut ArrayVec<Point, KEPT>, point: Point)
     ensures { listed.new.items ≡ take KEPT (listed.old.items ++ point ∷ []) }
 {
@@ -23,7 +24,8 @@ fn keep(listed: &mut ArrayVec<Point, KEPT>, point: Point)
     }
 }
 
-/// The points of a ring from its first number on: of a longer one the first `KEPT`.
+/// Reads the points of a ring, up to its closing bracket. Of a longer ring, only the first `KEPT`
+/// points are kept.
 pub(crate) fn ring(text: Rest<'_>) -> Result<(ArrayVec<Point, KEPT>, Rest<'_>), WktFault>
     ensures gives { Gives (λ r. (r.0.items, tokens r.1.at r.1.bytes.now)) result (kept (ring_at (text.entry.at + length text.entry.bytes.now) (tokens text.entry.at text.entry.bytes.now))) }
     ensures rest { IfOk result (λ r. r.1.at + length r.1.bytes.now ≡ text.entry.at + length text.entry.bytes.now) }

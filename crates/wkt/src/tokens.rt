@@ -1,46 +1,46 @@
-//! Tokens: brackets and commas by themselves, and the words between them and the spaces.
+//! Tokens: single brackets and commas, and the words between them and the spaces.
 
 ghost use Rattle.std.specs.Prelude.{◌≡◌, ◌+◌, ◌<◌, ◌≤◌, ◌^◌, [], ◌∷◌, IfNone, IfSome, length};
 ghost use Rattle.std.specs.List.{prefix_len};
 ghost use Rattle.wkt.specs.Tokens.{tokens};
 ghost use Rattle.wkt.specs.Tokens.{is_space as space_test, is_mark as mark_test, is_word_byte as word_byte_test, token_len as len_of_token};
 
-/// What is left of a text from some place on.
+/// The rest of a text from some place on.
 #[derive(Clone, Copy)]
 pub(crate) struct Rest<'a> {
-    /// Where it begins in the whole text.
+    /// The offset in the whole text.
     pub at: usize,
     /// Its bytes.
     pub bytes: &'a [u8],
     pub ghost fits: { at + length bytes.now < 2 ^ 64 },
 }
 
-/// A token, and what is left of the text behind it.
+/// A token, and the rest of the text after it.
 #[derive(Clone, Copy)]
 pub(crate) struct Token<'a> {
-    /// Where it begins in the whole text.
+    /// The offset in the whole text.
     pub at: usize,
     /// Its bytes: one bracket or comma, or a word.
     pub bytes: &'a [u8],
-    /// What stands behind it.
+    /// The text after the token.
     pub rest: Rest<'a>,
 }
 
-/// Whether a byte parts words: a space, a tab, a line feed or a return.
+/// Whether a byte separates words: a space, a tab, a line feed or a carriage return.
 pub(crate) fn is_space(byte: u8) -> bool
     ensures { result ≡ space_test byte }
 {
     byte == b' ' || byte == b'\t' || byte == b'\n' || byte == b'\r'
 }
 
-/// Whether a byte is a token by itself: a bracket or a comma.
+/// Whether a byte is a token of its own: a bracket or a comma.
 pub(crate) fn is_mark(byte: u8) -> bool
     ensures { result ≡ mark_test byte }
 {
     byte == b'(' || byte == b')' || byte == b','
 }
 
-/// How many spaces the bytes begin with.
+/// How many spaces are at the front.
 #[tactic(auto, using(crate::proofs::DigitsLemmas::prefix_fits))]
 fn space_len(bytes: &[u8]) -> usize
     ensures value { result ≡ prefix_len space_test bytes.now }
@@ -49,7 +49,7 @@ fn space_len(bytes: &[u8]) -> usize
     bytes.iter().take_while(|b| is_space(**b)).count()
 }
 
-/// How many bytes of a word the bytes begin with.
+/// How many bytes of a word are at the front.
 #[tactic(auto, using(crate::proofs::DigitsLemmas::prefix_fits))]
 fn word_len(bytes: &[u8]) -> usize
     ensures value { result ≡ prefix_len word_byte_test bytes.now }
@@ -61,7 +61,7 @@ fn word_len(bytes: &[u8]) -> usize
         .count()
 }
 
-/// How many bytes the first token has, where no space stands before it.
+/// The length of the first token, if no space comes before it.
 fn token_len(bytes: &[u8]) -> usize
     ensures value { result ≡ len_of_token bytes.now }
     ensures fits { result ≤ length bytes.now }
@@ -72,7 +72,7 @@ fn token_len(bytes: &[u8]) -> usize
     }
 }
 
-/// The first token of what is left of a text.
+/// The first token of the rest of a text; `None` if only spaces are left.
 pub(crate) fn first_token(text: Rest<'_>) -> Option<Token<'_>>
     ensures none { IfNone result (tokens text.entry.at text.entry.bytes.now ≡ []) }
     ensures some { IfSome result (λ t. tokens text.entry.at text.entry.bytes.now ≡ (t.at, t.bytes.now) ∷ tokens t.rest.at t.rest.bytes.now) }
