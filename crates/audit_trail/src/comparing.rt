@@ -69,7 +69,8 @@ fn is_answer<A: Allocator>(
     ids: &[u64],
     versions: &[u64],
 ) -> bool
-    ensures { result ≡ same_deed (answered subject.now window.now ids.now versions.now) (deed_view deed.now) }
+    ensures { result
+        ≡ same_deed (answered subject.now window.now ids.now versions.now) (deed_view deed.now) }
 {
     match deed {
         Deed::Answered {
@@ -110,7 +111,8 @@ fn is_refused_list<A: Allocator>(
     changes: &[Change],
     refusal: &Refusal,
 ) -> bool
-    ensures { result ≡ same_deed (turned_away subject.now changes.now refusal.now) (deed_view deed.now) }
+    ensures { result
+        ≡ same_deed (turned_away subject.now changes.now refusal.now) (deed_view deed.now) }
 {
     match deed {
         Deed::Refused {

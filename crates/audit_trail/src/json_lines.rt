@@ -43,7 +43,8 @@ impl<A: Allocator + Copy> Trail<A> {
     /// All records as `json_line` gives them, by rising number. The trail's allocator holds the
     /// lines; `heap` holds the JSON values they are made from.
     pub fn lines(&self, heap: Global) -> Result<Vec<String<A>, A>, Refused>
-        ensures { IfOk result (λ lines. map string_bytes lines.items ≡ lines_from self.now.first self.now.records) }
+        ensures { IfOk result
+            (λ lines. map string_bytes lines.items ≡ lines_from self.now.first self.now.records) }
     {
         lines_of(self.alloc, heap, self.first, self.records.as_slice())
     }
@@ -58,7 +59,8 @@ fn lines_of<A: Allocator + Copy>(
 ) -> Result<Vec<String<A>, A>, Refused>
     requires first { first ≤ FIRST_LIMIT }
     requires records { length records.now ≤ RECORD_LIMIT }
-    ensures { IfOk result (λ lines. map string_bytes lines.items ≡ lines_from first (map arc_value records.now)) }
+    ensures { IfOk result
+        (λ lines. map string_bytes lines.items ≡ lines_from first (map arc_value records.now)) }
 {
     let mut lines = Vec::new(alloc);
     let mut place = 0;
@@ -96,7 +98,9 @@ fn put_deed<A: Allocator>(
     heap: Global,
     deed: &Deed<A>,
 ) -> Result<(), Refused>
-    ensures fields { OnOk result (members_view members.new.entries ≡ with_fields (members_view members.old.entries) (deed_fields (deed_view deed.now))) }
+    ensures fields { OnOk result
+        (members_view members.new.entries
+        ≡ with_fields (members_view members.old.entries) (deed_fields (deed_view deed.now))) }
     ensures documented { OnOk result (IsDocumented (deed_view deed.now)) }
 {
     match deed {
@@ -128,7 +132,10 @@ fn put_answer(
     window: &Shape,
     ids: &[u64],
 ) -> Result<(), Refused>
-    ensures { OnOk result (members_view members.new.entries ≡ with_fields (members_view members.old.entries) (answer_fields subject.now window.now ids.now)) }
+    ensures { OnOk result
+        (members_view members.new.entries
+        ≡ with_fields (members_view members.old.entries)
+        (answer_fields subject.now window.now ids.now)) }
 {
     put_text(members, heap, "kind", "answered")?;
     put_name(members, heap, "subject", &subject.name)?;
@@ -144,7 +151,10 @@ fn put_applied_list(
     version: u64,
     changes: &[Change],
 ) -> Result<(), Refused>
-    ensures { OnOk result (members_view members.new.entries ≡ with_fields (members_view members.old.entries) (deed_fields (applied subject.now version changes.now))) }
+    ensures { OnOk result
+        (members_view members.new.entries
+        ≡ with_fields (members_view members.old.entries)
+        (deed_fields (applied subject.now version changes.now))) }
 {
     put_text(members, heap, "kind", "applied")?;
     put_name(members, heap, "subject", &subject.name)?;
@@ -160,7 +170,10 @@ fn put_refused_list(
     changes: &[Change],
     refusal: &Refusal,
 ) -> Result<(), Refused>
-    ensures { OnOk result (members_view members.new.entries ≡ with_fields (members_view members.old.entries) (deed_fields (turned_away subject.now changes.now refusal.now))) }
+    ensures { OnOk result
+        (members_view members.new.entries
+        ≡ with_fields (members_view members.old.entries)
+        (deed_fields (turned_away subject.now changes.now refusal.now))) }
 {
     put_text(members, heap, "kind", "refused")?;
     put_name(members, heap, "subject", &subject.name)?;
@@ -175,7 +188,10 @@ fn put_governing(
     edition: u64,
     decider: &Decider,
 ) -> Result<(), Refused>
-    ensures fields { OnOk result (members_view members.new.entries ≡ with_fields (members_view members.old.entries) (deed_fields (governed edition decider.now))) }
+    ensures fields { OnOk result
+        (members_view members.new.entries
+        ≡ with_fields (members_view members.old.entries)
+        (deed_fields (governed edition decider.now))) }
     ensures documented { OnOk result (IsDocumented (governed edition decider.now)) }
 {
     put_text(members, heap, "kind", "governed")?;
@@ -190,7 +206,10 @@ fn put_refusal(
     heap: Global,
     refusal: &Refusal,
 ) -> Result<(), Refused>
-    ensures { OnOk result (members_view members.new.entries ≡ with_fields (with_member (codes "change") (numeral refusal.now.change) (members_view members.old.entries)) (cause_fields refusal.now.cause)) }
+    ensures { OnOk result
+        (members_view members.new.entries
+        ≡ with_fields (with_member (codes "change") (numeral refusal.now.change)
+        (members_view members.old.entries)) (cause_fields refusal.now.cause)) }
 {
     put_member(members, heap, "change", Value::from(refusal.change))?;
     put_cause(members, heap, &refusal.cause)
@@ -198,7 +217,9 @@ fn put_refusal(
 
 /// Puts the cause of a failing change.
 fn put_cause(members: &mut Map<String, Value>, heap: Global, cause: &Cause) -> Result<(), Refused>
-    ensures { OnOk result (members_view members.new.entries ≡ with_fields (members_view members.old.entries) (cause_fields cause.now)) }
+    ensures { OnOk result
+        (members_view members.new.entries
+        ≡ with_fields (members_view members.old.entries) (cause_fields cause.now)) }
 {
     match cause {
         Cause::Denied(rule) => {
@@ -250,7 +271,9 @@ fn put_change(
     heap: Global,
     change: &Change,
 ) -> Result<(), Refused>
-    ensures { OnOk result (members_view members.new.entries ≡ with_fields (members_view members.old.entries) (change_fields change.now)) }
+    ensures { OnOk result
+        (members_view members.new.entries
+        ≡ with_fields (members_view members.old.entries) (change_fields change.now)) }
 {
     match change {
         Change::Add { id, class, shape } => {
@@ -291,7 +314,9 @@ fn put_text(
     key: &str,
     text: &str,
 ) -> Result<(), Refused>
-    ensures { OnOk result (members_view members.new.entries ≡ with_member key.now (string text.now) (members_view members.old.entries)) }
+    ensures { OnOk result
+        (members_view members.new.entries
+        ≡ with_member key.now (string text.now) (members_view members.old.entries)) }
 {
     let text = json_string(heap, text)?;
     put_member(members, heap, key, text)
@@ -304,7 +329,9 @@ fn put_name(
     key: &str,
     name: &Name,
 ) -> Result<(), Refused>
-    ensures { OnOk result (members_view members.new.entries ≡ with_member key.now (string name.now) (members_view members.old.entries)) }
+    ensures { OnOk result
+        (members_view members.new.entries
+        ≡ with_member key.now (string name.now) (members_view members.old.entries)) }
 {
     put_text(members, heap, key, name_text(name))
 }
@@ -323,7 +350,9 @@ fn put_shape(
     key: &str,
     shape: &Shape,
 ) -> Result<(), Refused>
-    ensures { OnOk result (members_view members.new.entries ≡ with_member key.now (string (printed shape.now)) (members_view members.old.entries)) }
+    ensures { OnOk result
+        (members_view members.new.entries
+        ≡ with_member key.now (string (printed shape.now)) (members_view members.old.entries)) }
 {
     let text = print_shape(heap, shape)?;
     put_text(members, heap, key, text.as_str())

@@ -45,7 +45,8 @@ fn objection_to<A: Allocator>(
     subject: &Subject,
     change: &Change,
 ) -> Option<Objection>
-    ensures { Objects decider.now.document subject.now change.now (feature_with (change_id change.now) store.now) result }
+    ensures { Objects decider.now.document subject.now change.now
+        (feature_with (change_id change.now) store.now) result }
 {
     let mut meter = Meter::new();
     match store.get(change.id(), &mut meter) {

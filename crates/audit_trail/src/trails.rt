@@ -120,7 +120,8 @@ impl<A: Allocator> Trail<A> {
     /// The record with this number.
     pub fn get(&self, number: u32) -> Option<&Arc<Record<A>, A>>
         ensures value { option_map (λ r. arc_value r.now) result ≡ record_at number self.now }
-        ensures found { IsSome result ↔ (self.now.first ≤ number) × (number < self.now.first + length self.now.records) }
+        ensures found { IsSome result ↔ (self.now.first ≤ number)
+            × (number < self.now.first + length self.now.records) }
     {
         if number < self.first {
             return None;
@@ -183,8 +184,10 @@ impl<A: Allocator + Copy> Trail<A> {
         ensures number { IfOk result (λ n. n ≡ self.old.first + length self.old.records) }
         ensures err { OnErr result (self.new.records ≡ self.old.records) }
         ensures entry_returned { IfErr result (λ e. e.0 ≡ entry) }
-        ensures full { IfErr result (λ e. (e.1 ≡ TrailFault.Full) ↔ (RECORD_LIMIT ≤ length self.old.records)) }
-        ensures memory { IfErr result (λ e. length self.old.records < RECORD_LIMIT → e.1 ≡ TrailFault.Memory refused) }
+        ensures full { IfErr result
+            (λ e. (e.1 ≡ TrailFault.Full) ↔ (RECORD_LIMIT ≤ length self.old.records)) }
+        ensures memory { IfErr result
+            (λ e. length self.old.records < RECORD_LIMIT → e.1 ≡ TrailFault.Memory refused) }
         ensures below { OnOk result (length self.old.records < RECORD_LIMIT) }
     {
         let number = self.len();

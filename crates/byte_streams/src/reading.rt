@@ -12,7 +12,8 @@ use std::io::Read;
 /// then unchanged.
 pub fn read_some<R: Read>(reader: &mut R, buffer: &mut [u8]) -> Result<usize, ReadFailed>
     ensures bound { ReadsAtMost result buffer.new }
-    ensures bytes { ReadConsumes (R.remaining reader.old) (R.remaining reader.new) result buffer.new }
+    ensures bytes { ReadConsumes (R.remaining reader.old) (R.remaining reader.new) result
+        buffer.new }
 {
     match reader.read(buffer) {
         Ok(count) => Ok(count),
@@ -44,7 +45,8 @@ impl Turns {
         requires { self.old.made < u32.MAX }
         ensures counts { self.new.made ≡ self.old.made + 1 }
         ensures bound { ReadsAtMost result buffer.new }
-        ensures bytes { ReadConsumes (R.remaining reader.old) (R.remaining reader.new) result buffer.new }
+        ensures bytes { ReadConsumes (R.remaining reader.old) (R.remaining reader.new) result
+            buffer.new }
     {
         self.made += 1;
         read_some(reader, buffer)

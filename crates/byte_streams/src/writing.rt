@@ -70,7 +70,8 @@ pub fn let_go<W: Write + Drop, A: Allocator>(writer: BufWriter<W, A>) -> W
 /// Writes a value as `Display` shows it. `WriteFailed` if the writer returns an error, or the value
 /// cannot be shown.
 pub fn write_shown<T: Display, W: Write>(shown: &T, writer: &mut W) -> Result<(), WriteFailed>
-    ensures { OnOk result (IfSome (T.output shown.now) (Appends (W.contents writer.old) (W.contents writer.new))) }
+    ensures { OnOk result
+        (IfSome (T.output shown.now) (Appends (W.contents writer.old) (W.contents writer.new))) }
 {
     match write!(writer, "{shown}") {
         Ok(()) => Ok(()),

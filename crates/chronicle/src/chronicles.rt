@@ -56,7 +56,8 @@ impl<A: Allocator + Copy> Chronicle<A> {
         subjects: Subjects,
         document: Document<Global>,
     ) -> Result<Self, (Document<Global>, Fault)>
-        ensures ok { IfOk result (λ c. c ≡ opened_by (record { document = document; edition = 1 })) }
+        ensures ok { IfOk result
+            (λ c. c ≡ opened_by (record { document = document; edition = 1 })) }
         ensures err { IfErr result (λ e. e ≡ (document, Fault.Memory refused)) }
     {
         Chronicle::open_at(
@@ -85,7 +86,8 @@ impl<A: Allocator + Copy> Chronicle<A> {
         requires records { limits.records ≤ RECORD_LIMIT }
         requires features { limits.features ≤ FEATURE_LIMIT }
         requires steps { limits.steps ≤ STEP_LIMIT }
-        ensures ok { IfOk result (λ c. c ≡ opened_by (record { document = document; edition = starts.edition })) }
+        ensures ok { IfOk result
+            (λ c. c ≡ opened_by (record { document = document; edition = starts.edition })) }
         ensures err { IfErr result (λ e. e ≡ (document, Fault.Memory refused)) }
     {
         let world = World::open_at(alloc, heap, subjects, document, starts, limits)?;

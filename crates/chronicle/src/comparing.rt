@@ -17,7 +17,8 @@ impl<A: Allocator> Chronicle<A> {
     /// `None` if they are the same list.
     pub fn differs(&self, seat: u32, receipts: &[Arc<Record<A>, A>]) -> Option<usize>
         ensures same { IfNone result (calls_of seat self.now.records ≡ map arc_value receipts.now) }
-        ensures place { IfSome result (λ n. DifferFirst n (calls_of seat self.now.records) (map arc_value receipts.now)) }
+        ensures place { IfSome result
+            (λ n. DifferFirst n (calls_of seat self.now.records) (map arc_value receipts.now)) }
     {
         difference(&self.pieces, self.world.trail(), seat, receipts)
     }
@@ -31,8 +32,13 @@ fn difference<A: Allocator>(
     seat: u32,
     receipts: &[Arc<Record<A>, A>],
 ) -> Option<usize>
-    ensures same { IfNone result (calls_of seat (records_in (map arc_value pieces.now) ++ trail.now.records) ≡ map arc_value receipts.now) }
-    ensures place { IfSome result (λ n. DifferFirst n (calls_of seat (records_in (map arc_value pieces.now) ++ trail.now.records)) (map arc_value receipts.now)) }
+    ensures same { IfNone result
+        (calls_of seat (records_in (map arc_value pieces.now) ++ trail.now.records)
+        ≡ map arc_value receipts.now) }
+    ensures place { IfSome result
+        (λ n. DifferFirst n
+        (calls_of seat (records_in (map arc_value pieces.now) ++ trail.now.records))
+        (map arc_value receipts.now)) }
 {
     let mut told = 0;
     for piece in pieces {
@@ -62,8 +68,14 @@ fn follow<A: Allocator>(
     before: usize,
 ) -> Result<usize, usize>
     requires { before ≤ length receipts.now }
-    ensures ok { IfOk result (λ n. AreTold n (take before (map arc_value receipts.now) ++ calls_of seat trail.now.records) (map arc_value receipts.now)) }
-    ensures err { IfErr result (λ n. PartsAt n (take before (map arc_value receipts.now) ++ calls_of seat trail.now.records) (map arc_value receipts.now)) }
+    ensures ok { IfOk result
+        (λ n. AreTold n
+        (take before (map arc_value receipts.now) ++ calls_of seat trail.now.records)
+        (map arc_value receipts.now)) }
+    ensures err { IfErr result
+        (λ n. PartsAt n
+        (take before (map arc_value receipts.now) ++ calls_of seat trail.now.records)
+        (map arc_value receipts.now)) }
 {
     let mut told = before;
     for index in 0..trail.len() {

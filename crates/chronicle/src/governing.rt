@@ -16,7 +16,9 @@ impl<A: Allocator> Chronicle<A> {
     /// given, X7 where its subject is no steward, X8 where the edition is at its end, X10 where the
     /// trail is full. Takes no memory.
     pub fn next_edition(&self, seat: u32) -> Result<u64, Fault>
-        ensures { IfOk result (λ edition. (edition ≡ self.now.decider.edition + 1) × (self.now.decider.edition < u64.MAX)) }
+        ensures { IfOk result
+            (λ edition. (edition ≡ self.now.decider.edition + 1)
+            × (self.now.decider.edition < u64.MAX)) }
     {
         self.world.next_edition(seat)
     }
@@ -33,8 +35,10 @@ impl<A: Allocator + Copy> Chronicle<A> {
     /// its subject is no steward, X8 where the present edition is `u64::MAX` (the decider's own
     /// edition is then ignored), X10 where the trail is full, X12 where an allocation is refused.
     pub fn govern_by(&mut self, seat: u32, decider: Arc<Decider>) -> Result<u64, Fault>
-        requires { self.old.decider.edition < u64.MAX → (arc_value decider).edition ≡ self.old.decider.edition + 1 }
-        ensures ok { IfOk result (λ edition. IsGovernedBy seat (arc_value decider) edition self.old self.new) }
+        requires { self.old.decider.edition < u64.MAX
+            → (arc_value decider).edition ≡ self.old.decider.edition + 1 }
+        ensures ok { IfOk result
+            (λ edition. IsGovernedBy seat (arc_value decider) edition self.old self.new) }
         ensures err { OnErr result (self.new ≡ self.old) }
     {
         self.world.next_edition(seat)?;

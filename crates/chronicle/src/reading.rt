@@ -80,7 +80,8 @@ fn last_of<A: Allocator>(trail: &Trail<A>) -> Option<&Arc<Record<A>, A>>
 
 /// The last record of these pieces.
 fn last_in<A: Allocator>(pieces: &[Arc<Rolled<A>, A>]) -> Option<&Arc<Record<A>, A>>
-    ensures { option_map (λ r. arc_value r.now) result ≡ last_or None (records_in (map arc_value pieces.now)) }
+    ensures { option_map (λ r. arc_value r.now) result
+        ≡ last_or None (records_in (map arc_value pieces.now)) }
 {
     let mut left = pieces.len();
     while left > 0 {

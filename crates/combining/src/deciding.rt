@@ -38,7 +38,8 @@ fn decide_rule<A: Allocator>(
     rule: &Rule<A>,
     number: u32,
 ) -> Verdict
-    ensures { result ≡ part_verdict question.now met.now number (rule_part question.now met.now rule.now) }
+    ensures { result
+        ≡ part_verdict question.now met.now number (rule_part question.now met.now rule.now) }
 {
     if !rule_applies(question, met, rule) {
         return NOT_APPLICABLE;
@@ -58,7 +59,9 @@ fn gather_rules<A: Allocator>(
     next: u32,
 ) -> Gathered
     requires { next + length rules.now ≤ last_number }
-    ensures { result ≡ gathered_of question.now met.now combine next (map (rule_part question.now met.now) rules.now) }
+    ensures { result
+        ≡ gathered_of question.now met.now combine next
+        (map (rule_part question.now met.now) rules.now) }
 {
     let mut gathered = Gathered::new();
     let mut number = next;
@@ -80,7 +83,9 @@ pub(crate) fn decide_node<A: Allocator>(
     next: u32,
 ) -> Verdict
     requires { next + length (rules_of (node_view node.now)) ≤ last_number }
-    ensures { result ≡ part_verdict question.now met.now next (node_part question.now met.now (node_view node.now)) }
+    ensures { result
+        ≡ part_verdict question.now met.now next
+        (node_part question.now met.now (node_view node.now)) }
 {
     match node {
         Node::Set {
@@ -118,7 +123,9 @@ fn gather_nodes<A: Allocator>(
     next: u32,
 ) -> Gathered
     requires { next + length (rules_of_all (children_of (map node_view nodes.now))) ≤ last_number }
-    ensures { result ≡ gathered_of question.now met.now combine next (map (λ node. node_part question.now met.now (node_view node)) nodes.now) }
+    ensures { result
+        ≡ gathered_of question.now met.now combine next
+        (map (λ node. node_part question.now met.now (node_view node)) nodes.now) }
 {
     let mut gathered = Gathered::new();
     let mut next = next;

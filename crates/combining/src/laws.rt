@@ -18,31 +18,39 @@ use crate::questions::Question;
 /// first deciding rule are those of the older definitions, which have three algorithms. Each Permit
 /// and each Deny of such a document is made by a rule; none is given by default.
 pub fn older_documents_decide_as_before()
-    ensures decision { (question : Question) (met : List (List ℕ)) (root : NodeData) → uses_older root ≡ true →
-        decision_of question met root ≡ older_decision question met root }
-    ensures rule { (question : Question) (met : List (List ℕ)) (root : NodeData) → uses_older root ≡ true →
-        first_deciding question met root ≡ older_first_deciding question met root }
-    ensures made { (question : Question) (met : List (List ℕ)) (root : NodeData) → uses_older root ≡ true →
-        is_not_applicable (decision_of question met root) ≡ false → is_some (first_deciding question met root) ≡ true }
+    ensures decision { (question : Question) (met : List (List ℕ)) (root : NodeData)
+        → uses_older root ≡ true
+        → decision_of question met root ≡ older_decision question met root }
+    ensures rule { (question : Question) (met : List (List ℕ)) (root : NodeData)
+        → uses_older root ≡ true
+        → first_deciding question met root ≡ older_first_deciding question met root }
+    ensures made { (question : Question) (met : List (List ℕ)) (root : NodeData)
+        → uses_older root ≡ true → is_not_applicable (decision_of question met root) ≡ false
+        → is_some (first_deciding question met root) ≡ true }
 {}
 
 /// A shape meets the zones of one list of names, and a document has one verdict on a question.
 pub fn answers_are_one()
-    ensures met { (shape : List Point) (zones : List Zone) (a b : List (List ℕ)) → AreMet shape zones a → AreMet shape zones b → a ≡ b }
-    ensures verdict { (document : DocumentData) (question : Question) (a b : Verdict) → Answers document question a → Answers document question b → a ≡ b }
+    ensures met { (shape : List Point) (zones : List Zone) (a b : List (List ℕ))
+        → AreMet shape zones a → AreMet shape zones b → a ≡ b }
+    ensures verdict { (document : DocumentData) (question : Question) (a b : Verdict)
+        → Answers document question a → Answers document question b → a ≡ b }
 {}
 
 /// Evaluating a document and naming its rules number the rules alike: in document order, from 1.
 /// The number in a verdict is that of a rule that made the decision, and the document names that
 /// rule by this number.
 pub fn verdicts_number_as_documents_name()
-    ensures order { (question : Question) (met : List (List ℕ)) (root : NodeData) → map (λ placed. placed.rule) (placed_rules question met root) ≡ rules_of root }
-    ensures named { (question : Question) (met : List (List ℕ)) (root : NodeData) (number : ℕ) → first_deciding question met root ≡ Some number →
-        IsMadeBy question met root number }
+    ensures order { (question : Question) (met : List (List ℕ)) (root : NodeData)
+        → map (λ placed. placed.rule) (placed_rules question met root) ≡ rules_of root }
+    ensures named { (question : Question) (met : List (List ℕ)) (root : NodeData) (number : ℕ)
+        → first_deciding question met root ≡ Some number → IsMadeBy question met root number }
 {}
 
 /// The first child that settles an algorithm decides for all children.
 pub fn settled_children_decide()
-    ensures { (algorithm : Algorithm) (before : List Decision) (decision : Decision) (after : List Decision) →
-        list_any (is_settled algorithm) before ≡ false → is_settled algorithm decision ≡ true → combined algorithm (before ++ decision ∷ after) ≡ decision }
+    ensures { (algorithm : Algorithm) (before : List Decision) (decision : Decision)
+        (after : List Decision) → list_any (is_settled algorithm) before ≡ false
+        → is_settled algorithm decision ≡ true
+        → combined algorithm (before ++ decision ∷ after) ≡ decision }
 {}

@@ -59,7 +59,8 @@ impl MetZones {
 /// Adds the zone if the shape meets it.
 fn add_if_met(met: &mut MetZones, shape: &Shape, zone: Zone)
     requires { length met.old < ZONE_LIMIT }
-    ensures met { (zones : List Zone) → AreMet shape.now zones met.old → AreMet shape.now (zones ++ zone ∷ []) met.new }
+    ensures met { (zones : List Zone) → AreMet shape.now zones met.old
+        → AreMet shape.now (zones ++ zone ∷ []) met.new }
     ensures count { length met.new ≤ length met.old + 1 }
 {
     if meets(shape, &zone.shape) {

@@ -24,7 +24,9 @@ fn compile_rule<A: Allocator, B: Allocator + Copy>(
     number: u32,
     steps: &mut Vec<Step<B>, B>,
 ) -> Result<(), Refused>
-    ensures { OnOk result (Appends B known.now (λ q met. StandsFor q met number (rule_part q met rule.now)) steps.old.items steps.new.items) }
+    ensures { OnOk result
+        (Appends B known.now (λ q met. StandsFor q met number (rule_part q met rule.now))
+        steps.old.items steps.new.items) }
 {
     let Some(target) = keep_target(alloc, known, &rule.target)? else {
         return Ok(());
@@ -50,7 +52,9 @@ fn compile_rules<A: Allocator, B: Allocator + Copy>(
     steps: &mut Vec<Step<B>, B>,
 ) -> Result<(), Refused>
     requires { next + length rules.now ≤ last_number }
-    ensures { OnOk result (Appends B known.now (λ q met. AllStandFor q met next (map (rule_part q met) rules.now)) steps.old.items steps.new.items) }
+    ensures { OnOk result
+        (Appends B known.now (λ q met. AllStandFor q met next (map (rule_part q met) rules.now))
+        steps.old.items steps.new.items) }
 {
     let mut number = next;
     for rule in rules {
@@ -67,7 +71,9 @@ fn open_node<B: Allocator + Copy>(
     combine: Algorithm,
     steps: &mut Vec<Step<B>, B>,
 ) -> Result<usize, Refused>
-    ensures { IfOk result (λ place. (place ≡ length steps.old.items) × (steps.new.items ≡ steps.old.items ++ placeholder B combine ∷ [])) }
+    ensures { IfOk result
+        (λ place. (place ≡ length steps.old.items)
+        × (steps.new.items ≡ steps.old.items ++ placeholder B combine ∷ [])) }
 {
     let place = steps.len();
     steps.try_push(Step::Node {
@@ -109,7 +115,12 @@ fn compile_policy<A: Allocator, B: Allocator + Copy>(
     steps: &mut Vec<Step<B>, B>,
 ) -> Result<(), Refused>
     requires { next + length rules.now ≤ last_number }
-    ensures { (name : List ℕ) → OnOk result (Appends B known.now (λ q met. StandsFor q met next (node_part q met (policy (record { name = name; combine = combine; target = target.now }) rules.now))) steps.old.items steps.new.items) }
+    ensures { (name : List ℕ)
+        → OnOk result (Appends B known.now
+        (λ q met. StandsFor q met next
+        (node_part q met
+        (policy (record { name = name; combine = combine; target = target.now }) rules.now)))
+        steps.old.items steps.new.items) }
 {
     let Some(target) = keep_target(alloc, known, target)? else {
         return Ok(());
@@ -131,7 +142,9 @@ pub(crate) fn compile_node<A: Allocator, B: Allocator + Copy>(
     steps: &mut Vec<Step<B>, B>,
 ) -> Result<(), Refused>
     requires { next + length (rules_of (node_view node.now)) ≤ last_number }
-    ensures { OnOk result (Appends B known.now (λ q met. StandsFor q met next (node_part q met (node_view node.now))) steps.old.items steps.new.items) }
+    ensures { OnOk result
+        (Appends B known.now (λ q met. StandsFor q met next (node_part q met (node_view node.now)))
+        steps.old.items steps.new.items) }
 {
     match node {
         Node::Set {
@@ -163,7 +176,12 @@ fn compile_set<A: Allocator, B: Allocator + Copy>(
     steps: &mut Vec<Step<B>, B>,
 ) -> Result<(), Refused>
     requires { next + length (rules_of_all (children_of (map node_view of.now))) ≤ last_number }
-    ensures { (name : List ℕ) → OnOk result (Appends B known.now (λ q met. StandsFor q met next (node_part q met (set (record { name = name; combine = combine; target = target.now }) (children_of (map node_view of.now))))) steps.old.items steps.new.items) }
+    ensures { (name : List ℕ)
+        → OnOk result (Appends B known.now
+        (λ q met. StandsFor q met next
+        (node_part q met
+        (set (record { name = name; combine = combine; target = target.now })
+        (children_of (map node_view of.now))))) steps.old.items steps.new.items) }
 {
     let Some(target) = keep_target(alloc, known, target)? else {
         return Ok(());
@@ -185,7 +203,10 @@ fn compile_nodes<A: Allocator, B: Allocator + Copy>(
     steps: &mut Vec<Step<B>, B>,
 ) -> Result<(), Refused>
     requires { next + length (rules_of_all (children_of (map node_view nodes.now))) ≤ last_number }
-    ensures { OnOk result (Appends B known.now (λ q met. AllStandFor q met next (map (λ node. node_part q met (node_view node)) nodes.now)) steps.old.items steps.new.items) }
+    ensures { OnOk result
+        (Appends B known.now
+        (λ q met. AllStandFor q met next (map (λ node. node_part q met (node_view node)) nodes.now))
+        steps.old.items steps.new.items) }
 {
     let mut next = next;
     for node in nodes {

@@ -68,7 +68,8 @@ impl Decider {
         document: Document<Global>,
         edition: u64,
     ) -> Result<Decider, NotStored<Document<Global>>>
-        ensures ok { IfOk result (λ decider. decider ≡ record { document = document; edition = edition }) }
+        ensures ok { IfOk result
+            (λ decider. decider ≡ record { document = document; edition = edition }) }
         ensures document_returned { IfErr result (λ failed. failed.value ≡ document) }
     {
         match Plan::new(heap_of(&document), &Known::Nothing, &document) {
@@ -94,7 +95,9 @@ impl Decider {
     /// Specializes the decider for one subject and one action: all that these two determine is
     /// decided in advance. Fails only when out of memory.
     pub fn fold(&self, subject: &Subject, action: &Action) -> Result<Folded<'_>, Refused>
-        ensures { IfOk result (λ folded. folded ≡ record { decider = self.now; subject = subject.now; action = action.now }) }
+        ensures { IfOk result
+            (λ folded. folded
+            ≡ record { decider = self.now; subject = subject.now; action = action.now }) }
     {
         let known = Known::Asked {
             subject: *subject,

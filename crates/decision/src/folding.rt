@@ -50,7 +50,8 @@ impl<'a> Folded<'a> {
         action: Action,
         plan: Plan<Global>,
     ) -> Folded<'a>
-        requires { (q : Question) → q.subject ≡ subject → q.action ≡ action → Decides _ plan decider.now.document.root q }
+        requires { (q : Question) → q.subject ≡ subject → q.action ≡ action
+            → Decides _ plan decider.now.document.root q }
         ensures { result ≡ record { decider = decider.now; subject = subject; action = action } }
     {
         Folded {

@@ -9,5 +9,6 @@ use crate::rulings::Ruling;
 
 /// A document has one ruling on a question.
 pub fn rulings_are_one()
-    ensures { (document : DocumentData) (question : Question) (a b : Ruling) → Rules document question a → Rules document question b → a ≡ b }
+    ensures { (document : DocumentData) (question : Question) (a b : Ruling)
+        → Rules document question a → Rules document question b → a ≡ b }
 {}

@@ -39,7 +39,8 @@ impl<A: Allocator + Copy> Plan<A> {
         known: &Known,
         document: &Document<D>,
     ) -> Result<Plan<A>, Refused>
-        ensures { IfOk result (λ plan. (q : Question) → Fits known.now q → Decides A plan document.now.root q) }
+        ensures { IfOk result
+            (λ plan. (q : Question) → Fits known.now q → Decides A plan document.now.root q) }
     {
         let mut steps = Vec::new(alloc);
         compile_node(alloc, known, document.root(), 1, &mut steps)?;

@@ -25,7 +25,8 @@ pub(crate) fn run_steps<A: Allocator>(
     steps: &[Step<A>],
 ) -> Verdict
     requires { IsFlat A steps.now }
-    ensures { (row : Branches) → steps.now ≡ flat A row → result ≡ branches_verdict question.now met.now combine row }
+    ensures { (row : Branches) → steps.now ≡ flat A row
+        → result ≡ branches_verdict question.now met.now combine row }
 {
     let mut gathered = Gathered::new();
     let mut rest = steps;
@@ -50,7 +51,8 @@ fn run_step<A: Allocator>(
     below: &[Step<A>],
 ) -> Verdict
     requires { IsFlat A below.now }
-    ensures { (row : Branches) → below.now ≡ flat A row → result ≡ step_verdict question.now met.now A step.now row }
+    ensures { (row : Branches) → below.now ≡ flat A row
+        → result ≡ step_verdict question.now met.now A step.now row }
 {
     match step {
         Step::Rule {

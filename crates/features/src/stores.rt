@@ -151,7 +151,8 @@ impl<A: Allocator> Store<A> {
     #[tactic(auto, using(crate::proofs::ChangeLemmas::length_after))]
     pub fn len_after(&self, changes: &[Change]) -> usize
         requires { CanApply changes.now self.now }
-        ensures { (version : ℕ) (office : List ℕ) → result ≡ length (after version office changes.now self.now) }
+        ensures { (version : ℕ) (office : List ℕ)
+            → result ≡ length (after version office changes.now self.now) }
     {
         let added = count_additions(changes);
         let deleted = count_deletions(changes);
@@ -170,7 +171,8 @@ impl<A: Allocator> Store<A> {
         requires { CanApply changes.now self.old }
         ensures ok { OnOk result (self.new ≡ after version office changes.now self.old) }
         ensures err { OnErr result (self.new ≡ self.old) }
-        ensures full { (result ≡ Err StoreFault.Full) ↔ (FEATURE_LIMIT < length (after version office changes.now self.old)) }
+        ensures full { (result ≡ Err StoreFault.Full)
+            ↔ (FEATURE_LIMIT < length (after version office changes.now self.old)) }
     {
         let added = count_additions(changes);
         let deleted = count_deletions(changes);

@@ -41,7 +41,8 @@ struct Cut {
 impl Cut {
     /// Whether this cut's parts overlap less, or as much with smaller margins.
     fn is_better(&self, other: &Cut) -> bool
-        ensures { result ≡ is_better self.now.overlap self.now.margins other.now.overlap other.now.margins }
+        ensures { result
+            ≡ is_better self.now.overlap self.now.margins other.now.overlap other.now.margins }
     {
         self.overlap < other.overlap
             || (self.overlap == other.overlap && self.margins < other.margins)

@@ -80,13 +80,16 @@ pub(crate) fn settle<'h, L: Ledger + ListName, R: Wait + Drop, A: Allocator>(
 ) -> Result<Closed, (CloseFault, Vec<Seat<'h, L, R, A>, A>)>
     requires { L.parts ≡ 1025 }
     ensures same { guarded.new.chronicle ≡ guarded.old.chronicle }
-    ensures kept { IfOk result (λ _. All (IsKeptBy guarded.old.chronicle.records) seats.entry.items) }
-    ensures records { IfOk result (λ closed. closed.records ≡ length guarded.old.chronicle.records) }
+    ensures kept { IfOk result
+        (λ _. All (IsKeptBy guarded.old.chronicle.records) seats.entry.items) }
+    ensures records { IfOk result
+        (λ closed. closed.records ≡ length guarded.old.chronicle.records) }
     ensures sum { IfOk result (λ closed. closed.records ≡ receipts_of seats.entry.items) }
     ensures seats { IfOk result (λ closed. closed.seats ≡ length seats.entry.items) }
     ensures given { IfOk result (λ closed. closed.seats ≡ length guarded.old.chronicle.seats) }
     ensures back { IfErr result (λ e. e.1.items ≡ seats.entry.items) }
-    ensures cause { IfErr result (λ e. IsCause guarded.old.chronicle guarded.old.gathered seats.entry.items e.0) }
+    ensures cause { IfErr result
+        (λ e. IsCause guarded.old.chronicle guarded.old.gathered seats.entry.items e.0) }
 {
     let Guarded {
         chronicle,

@@ -261,7 +261,8 @@ impl<L: Ledger + ListName, R: Wait + Drop, A: Allocator + Copy> Guarded<L, R, A>
         requires { 0 < share.old.parts }
         ensures subject { IfOk result (λ done. done.0.subject ≡ subject.now) }
         ensures window { IfOk result (λ done. done.0.window ≡ window.now) }
-        ensures receipt { IfOk result (λ done. arc_value done.1 ≡ record { seat = seat; deed = told_answer done.0 }) }
+        ensures receipt { IfOk result
+            (λ done. arc_value done.1 ≡ record { seat = seat; deed = told_answer done.0 }) }
         ensures amount { OnOk result (share.new.amount ≡ share.old.amount + 1) }
         ensures err { OnErr result (share.new.amount ≡ share.old.amount) }
         ensures parts { share.new.parts ≡ share.old.parts }
@@ -289,7 +290,9 @@ impl<L: Ledger + ListName, R: Wait + Drop, A: Allocator + Copy> Guarded<L, R, A>
         changes: &[Change],
     ) -> Result<(Outcome, Arc<Record<A>, A>), Fault>
         requires { 0 < share.old.parts }
-        ensures receipt { IfOk result (λ done. arc_value done.1 ≡ record { seat = seat; deed = deed_of subject.now changes.now done.0 }) }
+        ensures receipt { IfOk result
+            (λ done. arc_value done.1
+            ≡ record { seat = seat; deed = deed_of subject.now changes.now done.0 }) }
         ensures amount { OnOk result (share.new.amount ≡ share.old.amount + 1) }
         ensures err { OnErr result (share.new.amount ≡ share.old.amount) }
         ensures parts { share.new.parts ≡ share.old.parts }
@@ -319,8 +322,14 @@ impl<L: Ledger + ListName, R: Wait + Drop, A: Allocator + Copy> Guarded<L, R, A>
         document: Document<Global>,
     ) -> Result<(Edition<L>, Arc<Record<A>, A>), HallFault>
         requires { 0 < share.old.parts }
-        ensures last { IfOk result (λ done. last_or None done.0 ≡ Some (put_in_force document done.0)) }
-        ensures receipt { IfOk result (λ done. arc_value done.1 ≡ record { seat = seat; deed = governed (length done.0) (put_in_force document done.0) }) }
+        ensures last { IfOk result
+            (λ done. last_or None done.0 ≡ Some (put_in_force document done.0)) }
+        ensures receipt { IfOk result
+            (λ done. arc_value done.1
+            ≡ record {
+              seat = seat;
+              deed = governed (length done.0) (put_in_force document done.0);
+            }) }
         ensures amount { OnOk result (share.new.amount ≡ share.old.amount + 1) }
         ensures err { OnErr result (share.new.amount ≡ share.old.amount) }
         ensures parts { share.new.parts ≡ share.old.parts }

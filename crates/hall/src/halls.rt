@@ -162,7 +162,8 @@ impl<L: Ledger + ListName, R: Wait + Drop, A: Allocator + Copy> Hall<L, R, A> {
         requires { L.parts ≡ 1025 }
         ensures records { IfOk result (λ closed. closed.records ≡ receipts_of seats.entry.items) }
         ensures seats { IfOk result (λ closed. closed.seats ≡ length seats.entry.items) }
-        ensures trail { IfOk result (λ closed. IsClosed closed.records closed.seats seats.entry.items) }
+        ensures trail { IfOk result
+            (λ closed. IsClosed closed.records closed.seats seats.entry.items) }
         ensures back { IfErr result (λ e. e.1.items ≡ seats.entry.items) }
     {
         let mut guarded = self.lock.lock(rt);

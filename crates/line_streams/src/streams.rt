@@ -228,7 +228,8 @@ fn take_byte<D: LineDesk, A: Allocator, W: Write>(
     byte: u8,
     writer: &mut W,
 ) -> Result<(), Stop>
-    ensures { (begun : List ℕ) → IsLine begun → held.old.bytes.items ≡ held_of begun → Passes D.tells result (begun ++ byte ∷ []) (world.old, desk.old) (world.new, desk.new)
+    ensures { (begun : List ℕ) → IsLine begun → held.old.bytes.items ≡ held_of begun
+        → Passes D.tells result (begun ++ byte ∷ []) (world.old, desk.old) (world.new, desk.new)
         held.new.bytes.items (W.contents writer.old) (W.contents writer.new) }
 {
     if byte != b'\n' {
@@ -248,7 +249,8 @@ fn take_bytes<D: LineDesk, A: Allocator, W: Write>(
     bytes: &[u8],
     writer: &mut W,
 ) -> Result<(), Stop>
-    ensures { (begun : List ℕ) → IsLine begun → held.old.bytes.items ≡ held_of begun → Passes D.tells result (begun ++ bytes.now) (world.old, desk.old) (world.new, desk.new)
+    ensures { (begun : List ℕ) → IsLine begun → held.old.bytes.items ≡ held_of begun
+        → Passes D.tells result (begun ++ bytes.now) (world.old, desk.old) (world.new, desk.new)
         held.new.bytes.items (W.contents writer.old) (W.contents writer.new) }
 {
     for byte in bytes {
@@ -264,7 +266,8 @@ fn end<D: LineDesk, A: Allocator, W: Write>(
     held: &Held<A>,
     writer: &mut W,
 ) -> Result<(), Stop>
-    ensures { (begun : List ℕ) → IsLine begun → held.now.bytes.items ≡ held_of begun → TookLast D.tells result (lines_of begun) (world.old, desk.old) (world.new, desk.new)
+    ensures { (begun : List ℕ) → IsLine begun → held.now.bytes.items ≡ held_of begun
+        → TookLast D.tells result (lines_of begun) (world.old, desk.old) (world.new, desk.new)
         (W.contents writer.old) (W.contents writer.new) }
 {
     if held.bytes.is_empty() {
@@ -299,8 +302,11 @@ pub fn run_lines<D: LineDesk, A: Allocator, R: Read, W: Write>(
     reader: &mut R,
     writer: &mut W,
 ) -> Result<Flushed, ServeFault>
-    ensures ran { Ran D.tells result (world.old, desk.old) (world.new, desk.new) (R.remaining reader.old) (R.remaining reader.new) (W.contents writer.old) (W.contents writer.new) }
-    ensures untouched { IfErr result (λ fault. OnMemory fault ((reader.new ≡ reader.old) × (writer.new ≡ writer.old))) }
+    ensures ran { Ran D.tells result (world.old, desk.old) (world.new, desk.new)
+        (R.remaining reader.old) (R.remaining reader.new) (W.contents writer.old)
+        (W.contents writer.new) }
+    ensures untouched { IfErr result
+        (λ fault. OnMemory fault ((reader.new ≡ reader.old) × (writer.new ≡ writer.old))) }
 {
     let mut held = Held::new(alloc)?;
     let mut chunk = [0; CHUNK];

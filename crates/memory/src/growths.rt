@@ -41,8 +41,10 @@ impl<T, A: Allocator> GrowVec<T> for Vec<T, A> {
     fn try_push(&mut self, value: T) -> Result<(), Refused>
     where
         T: Drop,
-        ensures items { self.new.items ≡ (if is_ok result then self.old.items ++ value ∷ [] else self.old.items) }
-        ensures len { vec_len self.new ≡ (if is_ok result then vec_len self.old + 1 else vec_len self.old) }
+        ensures items { self.new.items
+            ≡ (if is_ok result then self.old.items ++ value ∷ [] else self.old.items) }
+        ensures len { vec_len self.new
+            ≡ (if is_ok result then vec_len self.old + 1 else vec_len self.old) }
         ensures capacity { vec_capacity self.old ≤ vec_capacity self.new }
         ensures full { OnErr result (vec_capacity self.old ≤ vec_len self.old) }
     {
@@ -53,8 +55,10 @@ impl<T, A: Allocator> GrowVec<T> for Vec<T, A> {
     }
 
     fn store(&mut self, value: T) -> Result<(), NotStored<T>>
-        ensures items { self.new.items ≡ (if is_ok result then self.old.items ++ value ∷ [] else self.old.items) }
-        ensures len { vec_len self.new ≡ (if is_ok result then vec_len self.old + 1 else vec_len self.old) }
+        ensures items { self.new.items
+            ≡ (if is_ok result then self.old.items ++ value ∷ [] else self.old.items) }
+        ensures len { vec_len self.new
+            ≡ (if is_ok result then vec_len self.old + 1 else vec_len self.old) }
         ensures value_returned { IfErr result (λ failed. failed.value ≡ value) }
         ensures capacity { vec_capacity self.old ≤ vec_capacity self.new }
         ensures full { OnErr result (vec_capacity self.old ≤ vec_len self.old) }
@@ -115,8 +119,10 @@ impl<T, A: Allocator> GrowVec<T> for Vec<T, A> {
 
 /// Appends copies of all these values, or of none if out of memory.
 pub fn try_extend<T: Copy, A: Allocator>(list: &mut Vec<T, A>, values: &[T]) -> Result<(), Refused>
-    ensures items { list.new.items ≡ (if is_ok result then list.old.items ++ values.now else list.old.items) }
-    ensures len { vec_len list.new ≡ (if is_ok result then vec_len list.old + length values.now else vec_len list.old) }
+    ensures items { list.new.items
+        ≡ (if is_ok result then list.old.items ++ values.now else list.old.items) }
+    ensures len { vec_len list.new
+        ≡ (if is_ok result then vec_len list.old + length values.now else vec_len list.old) }
     ensures capacity { vec_capacity list.old ≤ vec_capacity list.new }
     ensures full { OnErr result (vec_capacity list.old < vec_len list.old + length values.now) }
 {
@@ -139,8 +145,10 @@ impl<A: Allocator> GrowText for String<A> {
     ghost use Rattle.std.specs.Char.{encode_utf8};
 
     fn try_push_str(&mut self, text: &str) -> Result<(), Refused>
-        ensures bytes { string_bytes self.new ≡ (if is_ok result then string_bytes self.old ++ text.now else string_bytes self.old) }
-        ensures full { OnErr result (string_capacity self.old < string_len self.old + length text.now) }
+        ensures bytes { string_bytes self.new
+            ≡ (if is_ok result then string_bytes self.old ++ text.now else string_bytes self.old) }
+        ensures full { OnErr result
+            (string_capacity self.old < string_len self.old + length text.now) }
     {
         match self.push_str(text) {
             Ok(()) => Ok(()),
@@ -149,8 +157,11 @@ impl<A: Allocator> GrowText for String<A> {
     }
 
     fn try_push_char(&mut self, character: char) -> Result<(), Refused>
-        ensures bytes { string_bytes self.new ≡ (if is_ok result then string_bytes self.old ++ encode_utf8 character else string_bytes self.old) }
-        ensures full { OnErr result (string_capacity self.old < string_len self.old + length (encode_utf8 character)) }
+        ensures bytes { string_bytes self.new
+            ≡ (if is_ok result then string_bytes self.old
+            ++ encode_utf8 character else string_bytes self.old) }
+        ensures full { OnErr result
+            (string_capacity self.old < string_len self.old + length (encode_utf8 character)) }
     {
         match self.push(character) {
             Ok(()) => Ok(()),

@@ -22,9 +22,11 @@ pub enum JsonFault {
 
 /// Reads a JSON text (RFC 8259) in UTF-8. An empty text is always the fault `Text`.
 pub fn json_value(heap: Global, bytes: &[u8]) -> Result<Value, JsonFault>
-    ensures ok { IfOk result (λ value. IsUtf8 bytes.now × (read_text bytes.now ≡ Some (view value))) }
+    ensures ok { IfOk result
+        (λ value. IsUtf8 bytes.now × (read_text bytes.now ≡ Some (view value))) }
     ensures nests { IfOk result (λ value. nesting (view value) ≤ max_depth) }
-    ensures text { IfErr result (λ fault. IsTextFault fault → IsUtf8 bytes.now → read_text bytes.now ≡ None) }
+    ensures text { IfErr result
+        (λ fault. IsTextFault fault → IsUtf8 bytes.now → read_text bytes.now ≡ None) }
     ensures empty { length bytes.now ≡ 0 → IfErr result IsTextFault }
 {
     match Value::from_slice(heap, bytes) {
@@ -39,8 +41,12 @@ pub fn json_value(heap: Global, bytes: &[u8]) -> Result<Value, JsonFault>
 /// A JSON value as text: without spaces, the keys of each object sorted. It is read as that value,
 /// if it nests no deeper than the reader allows.
 pub fn json_text(heap: Global, value: &Value) -> Result<String, Refused>
-    ensures text { IfOk result (λ text. has_float (view value.now) ≡ false → string_bytes text ≡ compact_text (view value.now)) }
-    ensures reads_back { IfOk result (λ text. nesting (view value.now) ≤ max_depth → read (string_bytes text) ≡ Some (view value.now)) }
+    ensures text { IfOk result
+        (λ text. has_float (view value.now) ≡ false
+        → string_bytes text ≡ compact_text (view value.now)) }
+    ensures reads_back { IfOk result
+        (λ text. nesting (view value.now) ≤ max_depth
+        → read (string_bytes text) ≡ Some (view value.now)) }
 {
     match value.to_string(heap) {
         Ok(text) => Ok(text),
@@ -66,7 +72,9 @@ pub fn put_member(
     key: &str,
     value: Value,
 ) -> Result<(), Refused>
-    ensures ok { OnOk result (members_view members.new.entries ≡ with_member key.now (view value) (members_view members.old.entries)) }
+    ensures ok { OnOk result
+        (members_view members.new.entries
+        ≡ with_member key.now (view value) (members_view members.old.entries)) }
     ensures err { OnErr result (members.new.entries ≡ members.old.entries) }
 {
     match serde_json::put(members, heap, key, value) {

@@ -109,9 +109,11 @@ impl<T, A: Allocator> Arena<T, A> {
     /// handle that was given out is below this number.
     pub fn slots(&self) -> u32
         ensures value { result ≡ slot_count self.now }
-        ensures used { (handle : Handle) → IsSome (value_at self.now handle) → IsUsed self.now handle }
+        ensures used { (handle : Handle) → IsSome (value_at self.now handle)
+            → IsUsed self.now handle }
         ensures below { (handle : Handle) → IsUsed self.now handle → handle.slot < result }
-        ensures given_out { (slot : ℕ) → slot < result → IsUsed self.now (record { slot = slot; generation = self.now.first }) }
+        ensures given_out { (slot : ℕ) → slot < result
+            → IsUsed self.now (record { slot = slot; generation = self.now.first }) }
         ensures taken { taken_count self.now ≤ result }
         ensures limit { result ≤ MAX_SLOTS }
     {
@@ -136,7 +138,8 @@ impl<T, A: Allocator> Arena<T, A> {
 
     /// The handle in this slot that has a value, if there is one.
     pub fn at_slot(&self, slot: u32) -> Option<Handle>
-        ensures { (handle : Handle) → (result ≡ Some handle) ↔ ((handle.slot ≡ slot) × IsSome (value_at self.now handle)) }
+        ensures { (handle : Handle) → (result ≡ Some handle)
+            ↔ ((handle.slot ≡ slot) × IsSome (value_at self.now handle)) }
     {
         match self.slots.get(slot as usize) {
             Some(Slot::Live { generation, .. }) => Some(Handle {
@@ -153,8 +156,11 @@ impl<T, A: Allocator> Arena<T, A> {
         ensures value { option_copied_mut result ≡ value_at self.old handle }
 
         // Whatever the caller leaves behind the reference, that pair changes and nothing else.
-        ensures changes { OnSome result ((value : T) → IsChangedAt self.old (with_value self.old handle value) handle (Some value)) }
-        ensures counts { OnSome result ((value : T) → SameCounts self.old (with_value self.old handle value)) }
+        ensures changes { OnSome result
+            ((value : T) → IsChangedAt self.old (with_value self.old handle value) handle
+            (Some value)) }
+        ensures counts { OnSome result
+            ((value : T) → SameCounts self.old (with_value self.old handle value)) }
     {
         if self.contains(handle) {
             Some(self.value_mut(handle))
@@ -174,7 +180,8 @@ impl<T, A: Allocator> Arena<T, A> {
         ensures rest_kept { SameButRoom self.old self.new }
         ensures places { self.old.places ≤ self.new.places }
         ensures full { (result ≡ Err ArenaFault.Full) ↔ (MAX_SLOTS < taken_count self.old + more) }
-        ensures memory_only_where_room_was_missing { result ≡ Err (ArenaFault.Memory refused) → self.old.places < taken_count self.old + more }
+        ensures memory_only_where_room_was_missing { result ≡ Err (ArenaFault.Memory refused)
+            → self.old.places < taken_count self.old + more }
         ensures err { OnErr result (self.new ≡ self.old) }
     {
         if !self.has_room(more) {
@@ -196,9 +203,12 @@ impl<T, A: Allocator> Arena<T, A> {
         ensures counts { IfOk result (CountsGiven self.old self.new) }
 
         // A free slot comes before one that was never given out.
-        ensures reuses { taken_count self.old < slot_count self.old → IfOk result (λ handle. handle.slot < slot_count self.old) }
-        ensures full { (result ≡ Err (value, ArenaFault.Full)) ↔ (taken_count self.old ≡ MAX_SLOTS) }
-        ensures memory_only_where_none_is_free { result ≡ Err (value, ArenaFault.Memory refused) → taken_count self.old ≡ slot_count self.old }
+        ensures reuses { taken_count self.old < slot_count self.old
+            → IfOk result (λ handle. handle.slot < slot_count self.old) }
+        ensures full { (result ≡ Err (value, ArenaFault.Full))
+            ↔ (taken_count self.old ≡ MAX_SLOTS) }
+        ensures memory_only_where_none_is_free { result ≡ Err (value, ArenaFault.Memory refused)
+            → taken_count self.old ≡ slot_count self.old }
         ensures value_returned { IfErr result (λ refused. refused.0 ≡ value) }
         ensures err { OnErr result (self.new ≡ self.old) }
 
@@ -238,7 +248,9 @@ impl<T, A: Allocator> Arena<T, A> {
         ensures values { OnSome result (value_count self.new + 1 ≡ value_count self.old) }
 
         // The slot is then free, or worn out if that was its last generation.
-        ensures taken { OnSome result (taken_count self.new + (if handle.generation == last_generation then 0 else 1) ≡ taken_count self.old) }
+        ensures taken { OnSome result
+            (taken_count self.new + (if handle.generation == last_generation then 0 else 1)
+            ≡ taken_count self.old) }
         ensures slots { slot_count self.new ≡ slot_count self.old }
         ensures places { self.new.places ≡ self.old.places }
         ensures none { IfNone result (self.new ≡ self.old) }

@@ -169,7 +169,9 @@ impl<A: Allocator> PlainWorld<A> {
     /// Whether the seat's own transaction takes this change. X1, X2, X6 and X5, in this order.
     pub(crate) fn may_stage(&self, seat: u32, number: u64, change: &Change) -> Result<(), Fault>
         ensures value { result ≡ may_stage seat number change.now self.now }
-        ensures may { OnOk result ((t : TransactionData) × (transaction_with number self.now.transactions ≡ Some t) × (length t.changes < CHANGE_LIMIT) × IsUnnamed (change_id change.now) t.changes) }
+        ensures may { OnOk result
+            ((t : TransactionData) × (transaction_with number self.now.transactions ≡ Some t)
+            × (length t.changes < CHANGE_LIMIT) × IsUnnamed (change_id change.now) t.changes) }
     {
         let transaction = self.may_step(seat, number)?;
         may_add(transaction.changes(), change)
@@ -201,7 +203,8 @@ impl<A: Allocator> PlainWorld<A> {
     /// The steward who puts a document in force. X1, X7, X8 and X10, in this order.
     pub(crate) fn may_govern(&self, seat: u32) -> Result<Subject, Fault>
         ensures value { result ≡ may_govern seat self.now }
-        ensures seated { IfOk result (λ subject. IsSeated seat self.now.seats subject × IsTrue subject.steward) }
+        ensures seated { IfOk result
+            (λ subject. IsSeated seat self.now.seats subject × IsTrue subject.steward) }
         ensures left { OnOk result (self.now.state.decider.edition < u64.MAX) }
         ensures below { OnOk result (length self.now.trail < self.now.limits.records) }
     {

@@ -47,8 +47,20 @@ impl<A: Allocator> Answer<A> {
         decider: Arc<Decider>,
         rows: Vec<Feature, A>,
     ) -> Self
-        requires { IsAnswer (record { subject = subject; window = window; decider = arc_value decider; rows = rows.items }) }
-        ensures { result ≡ record { subject = subject; window = window; decider = arc_value decider; rows = rows.items } }
+        requires { IsAnswer
+            (record {
+              subject = subject;
+              window = window;
+              decider = arc_value decider;
+              rows = rows.items;
+            }) }
+        ensures { result
+            ≡ record {
+              subject = subject;
+              window = window;
+              decider = arc_value decider;
+              rows = rows.items;
+            } }
     {
         Answer {
             subject,
@@ -84,7 +96,8 @@ impl<A: Allocator> Answer<A> {
     pub fn rows(&self) -> &[Feature]
         ensures value { result.now ≡ self.now.rows }
         ensures sorted { IsSortedById self.now.rows }
-        ensures shown { AreShown self.now.decider.document self.now.subject self.now.window self.now.rows }
+        ensures shown { AreShown self.now.decider.document self.now.subject self.now.window
+            self.now.rows }
     {
         self.rows.as_slice()
     }

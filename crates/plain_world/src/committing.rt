@@ -30,7 +30,8 @@ impl<A: Allocator> PlainWorld<A> {
     /// is another seat's, X6 where the list has 16 changes, X5 where it names the feature already.
     /// It takes no memory.
     pub fn stage(&mut self, seat: u32, number: u64, change: Change) -> Result<(), Fault>
-        ensures { Happens (Stage seat number change) self.old self.new (reply_of (λ _. Done) result) }
+        ensures { Happens (Stage seat number change) self.old self.new
+            (reply_of (λ _. Done) result) }
     {
         self.may_stage(seat, number, &change)?;
         stage_in(&mut self.transactions, number, change);
@@ -59,7 +60,8 @@ impl<A: Allocator> PlainWorld<A> {
     /// `transactions` calls it once the index has placed the shape.
     pub fn place_next(&mut self, number: u64)
         requires { MayPlace number self.old.transactions }
-        ensures { self.new ≡ record self.old { transactions = with_step one_placed number self.old.transactions } }
+        ensures { self.new
+            ≡ record self.old { transactions = with_step one_placed number self.old.transactions } }
     {
         place_in(&mut self.transactions, number);
     }
@@ -122,10 +124,15 @@ impl<A: Allocator + Copy> PlainWorld<A> {
         question: &Option<Question>,
     ) -> Result<Outcome, Fault>
         requires seated { IsSeated seat self.old.seats subject }
-        requires judged { Judged self.old.state subject changes.items (judgements.Refused refusal.now question.now) }
-        requires founded { IsFounded self.old.state.decider.document refusal.now.cause question.now }
+        requires judged { Judged self.old.state subject changes.items
+            (judgements.Refused refusal.now question.now) }
+        requires founded { IsFounded self.old.state.decider.document refusal.now.cause
+            question.now }
         requires below { length self.old.trail < self.old.limits.records }
-        ensures { UnlessMemory self.old self.new (reply_of Ended result) (TurnsAway seat number subject changes.items (judgements.Refused refusal.now question.now) self.old self.new (reply_of Ended result)) }
+        ensures { UnlessMemory self.old self.new (reply_of Ended result)
+            (TurnsAway seat number subject changes.items
+            (judgements.Refused refusal.now question.now) self.old self.new
+            (reply_of Ended result)) }
     {
         let told = turned_away(seat, subject, changes, refusal);
         let entry = self.trail.prepare(told)?;
@@ -147,7 +154,8 @@ impl<A: Allocator + Copy> PlainWorld<A> {
         requires accepted { Judged self.old.state subject changes.items judgements.Accepted }
         requires distinct { AreDistinct changes.items }
         requires below { length self.old.trail < self.old.limits.records }
-        ensures { UnlessMemory self.old self.new (reply_of Ended result) (Applies seat number subject changes.items self.old self.new (reply_of Ended result)) }
+        ensures { UnlessMemory self.old self.new (reply_of Ended result)
+            (Applies seat number subject changes.items self.old self.new (reply_of Ended result)) }
     {
         if self.version == u64::MAX {
             return Err(Fault::Spent);
@@ -174,7 +182,8 @@ fn turned_away<A: Allocator>(
     changes: Vec<Change, A>,
     refusal: &Refusal,
 ) -> Record<A>
-    ensures { result ≡ record { seat = seat; deed = deeds.turned_away subject changes.items refusal.now } }
+    ensures { result
+        ≡ record { seat = seat; deed = deeds.turned_away subject changes.items refusal.now } }
 {
     Record::new(
         seat,
@@ -194,7 +203,9 @@ fn applied<A: Allocator>(
     version: u64,
     changes: &[Change],
 ) -> Result<Record<A>, Refused>
-    ensures { IfOk result (λ entry. entry ≡ record { seat = seat; deed = deeds.applied subject version changes.now }) }
+    ensures { IfOk result
+        (λ entry. entry
+        ≡ record { seat = seat; deed = deeds.applied subject version changes.now }) }
 {
     let changes = copied(alloc, changes)?;
     Ok(Record::new(

@@ -72,7 +72,8 @@ pub(crate) fn denial_for(
     question: &Option<Question>,
 ) -> Result<Option<Denial>, Refused>
     requires { IsFounded (arc_value decider.now).document cause.now question.now }
-    ensures { IfOk result (λ made. made ≡ denial_of (arc_value decider.now) cause.now question.now) }
+    ensures { IfOk result
+        (λ made. made ≡ denial_of (arc_value decider.now) cause.now question.now) }
 {
     match (cause, question) {
         (Cause::Denied(rule), Some(question)) => {

@@ -19,7 +19,8 @@ impl<A: Allocator> PlainWorld<A> {
     /// given, X7 where its subject is no steward, X8 where the edition is `u64::MAX`, X10 where the
     /// trail is full. It takes no memory.
     pub fn next_edition(&self, seat: u32) -> Result<u64, Fault>
-        ensures value { result ≡ map_ok (λ _. self.now.state.decider.edition + 1) (may_govern seat self.now) }
+        ensures value { result
+            ≡ map_ok (λ _. self.now.state.decider.edition + 1) (may_govern seat self.now) }
         ensures left { OnOk result (self.now.state.decider.edition < u64.MAX) }
     {
         self.may_govern(seat)?;
@@ -33,8 +34,10 @@ impl<A: Allocator + Copy> PlainWorld<A> {
     /// edition is `u64::MAX` (the decider's own may then be any), X10 where the trail is full, X12
     /// where an allocation is refused.
     pub fn govern_by(&mut self, seat: u32, decider: Arc<Decider>) -> Result<u64, Fault>
-        requires { self.old.state.decider.edition < u64.MAX → (arc_value decider).edition ≡ self.old.state.decider.edition + 1 }
-        ensures { Happens (Govern seat (arc_value decider).document) self.old self.new (reply_of Number result) }
+        requires { self.old.state.decider.edition < u64.MAX
+            → (arc_value decider).edition ≡ self.old.state.decider.edition + 1 }
+        ensures { Happens (Govern seat (arc_value decider).document) self.old self.new
+            (reply_of Number result) }
     {
         self.may_govern(seat)?;
         let kept = another(&decider)?;
@@ -75,7 +78,8 @@ impl<A: Allocator + Copy> PlainWorld<A> {
         seat: u32,
         document: Document<Global>,
     ) -> Result<u64, (Document<Global>, Fault)>
-        ensures happens { Happens (Govern seat document) self.old self.new (reply_handing Number result) }
+        ensures happens { Happens (Govern seat document) self.old self.new
+            (reply_handing Number result) }
         ensures document_returned { IfErr result (λ e. e.0 ≡ document) }
     {
         match self.govern_copy(heap, seat, &document) {

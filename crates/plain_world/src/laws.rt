@@ -24,23 +24,27 @@ use features::Subject;
 /// world that the first leaves. So events in any order, each on the world that the one before it
 /// leaves, are a run.
 pub fn runs_go_on()
-    ensures event { (old mid new : WorldData) (steps : List (Event × Reply)) (event : Event) (reply : Reply)
-        → Run old steps mid → Happens event mid new reply → Run old (steps ++ (event, reply) ∷ []) new }
-    ensures run { (old mid new : WorldData) (before later : List (Event × Reply)) → Run old before mid → Run mid later new → Run old (before ++ later) new }
+    ensures event { (old mid new : WorldData) (steps : List (Event × Reply)) (event : Event)
+        (reply : Reply) → Run old steps mid → Happens event mid new reply
+        → Run old (steps ++ (event, reply) ∷ []) new }
+    ensures run { (old mid new : WorldData) (before later : List (Event × Reply))
+        → Run old before mid → Run mid later new → Run old (before ++ later) new }
 {}
 
 /// Over every run from a sound world, the trail is legal from its base and the state is its replay.
 pub fn every_run_is_sound()
-    ensures { (old new : WorldData) (steps : List (Event × Reply)) → IsSoundWorld old → Run old steps new → IsSoundWorld new }
+    ensures { (old new : WorldData) (steps : List (Event × Reply)) → IsSoundWorld old
+        → Run old steps new → IsSoundWorld new }
 {}
 
 /// After any run from a sound world, an answer has its seat's subject, its search's window and the
 /// decider in force, and it lists exactly the rows that are listed at that moment. The trail up to
 /// then accounts for the state.
 pub fn every_answer_is_exact()
-    ensures { (old mid new : WorldData) (before : List (Event × Reply)) (seat number : ℕ) (answer : AnswerData)
-        → IsSoundWorld old → Run old before mid → Happens (Finish seat number) mid new (Rows answer)
-        → IsExact seat number mid answer × Accounts mid }
+    ensures { (old mid new : WorldData) (before : List (Event × Reply)) (seat number : ℕ)
+        (answer : AnswerData) → IsSoundWorld old → Run old before mid
+        → Happens (Finish seat number) mid new (Rows answer) → IsExact seat number mid answer
+        × Accounts mid }
 {}
 
 /// After any run from a sound world, the outcome of a commit is the judgement of the staged list on
@@ -48,68 +52,79 @@ pub fn every_answer_is_exact()
 /// and policy stay unchanged. A denial is given exactly where the first failing change is denied by
 /// the decider in force.
 pub fn every_outcome_is_the_judgement()
-    ensures { (old mid new : WorldData) (before : List (Event × Reply)) (seat number : ℕ) (outcome : Outcome)
-        → IsSoundWorld old → Run old before mid → Happens (Commit seat number) mid new (Ended outcome)
-        → EndsAs seat number mid new outcome × Accounts mid }
+    ensures { (old mid new : WorldData) (before : List (Event × Reply)) (seat number : ℕ)
+        (outcome : Outcome) → IsSoundWorld old → Run old before mid
+        → Happens (Commit seat number) mid new (Ended outcome) → EndsAs seat number mid new outcome
+        × Accounts mid }
 {}
 
 /// After any run from a sound world, only a steward puts a document in force, under the next
 /// edition.
 pub fn every_policy_is_a_stewards()
-    ensures { (old mid new : WorldData) (before : List (Event × Reply)) (seat : ℕ) (document : DocumentData) (edition : ℕ)
-        → IsSoundWorld old → Run old before mid → Happens (Govern seat document) mid new (Number edition)
+    ensures { (old mid new : WorldData) (before : List (Event × Reply)) (seat : ℕ)
+        (document : DocumentData) (edition : ℕ) → IsSoundWorld old → Run old before mid
+        → Happens (Govern seat document) mid new (Number edition)
         → IsStewards seat document edition mid new × Accounts mid }
 {}
 
 /// After any run from a sound world, a piece that is rolled out is legal from its base, and its
 /// replay is the base of the trail that follows.
 pub fn every_piece_leads_on()
-    ensures { (old mid new : WorldData) (before : List (Event × Reply)) (seat : ℕ) (piece : RolledData)
-        → IsSoundWorld old → Run old before mid → Happens (Roll seat) mid new (TakenOut piece) → LeadsOn mid new piece }
+    ensures { (old mid new : WorldData) (before : List (Event × Reply)) (seat : ℕ)
+        (piece : RolledData) → IsSoundWorld old → Run old before mid
+        → Happens (Roll seat) mid new (TakenOut piece) → LeadsOn mid new piece }
 {}
 
 /// Only a steward rolls the trail.
 pub fn every_roll_is_a_stewards()
-    ensures { (old new : WorldData) (seat : ℕ) (piece : RolledData) → Happens (Roll seat) old new (TakenOut piece)
-        → (subject : Subject) × IsSeated seat old.seats subject × IsTrue subject.steward }
+    ensures { (old new : WorldData) (seat : ℕ) (piece : RolledData)
+        → Happens (Roll seat) old new (TakenOut piece) → (subject : Subject)
+        × IsSeated seat old.seats subject × IsTrue subject.steward }
 {}
 
 /// No number of a search or of a transaction is given twice: what opens gets the next number, and
 /// the next one is then one higher. No event changes the subjects, the opening decider, where
 /// numbers started, or the limits.
 pub fn numbers_are_given_once()
-    ensures { (event : Event) (old new : WorldData) (reply : Reply) → Happens event old new reply → IsSettled event old new reply }
+    ensures { (event : Event) (old new : WorldData) (reply : Reply) → Happens event old new reply
+        → IsSettled event old new reply }
 {}
 
 /// An answer, an outcome and a governed edition each add their own record to the trail, and change
 /// the state as that record says. A roll takes the trail out. Every other event, and every refused
 /// one, leaves features, version, document, edition and trail unchanged.
 pub fn records_are_added_alone()
-    ensures { (event : Event) (old new : WorldData) (reply : Reply) → Happens event old new reply → AddsAlone event old new reply }
+    ensures { (event : Event) (old new : WorldData) (reply : Reply) → Happens event old new reply
+        → AddsAlone event old new reply }
 {}
 
 /// A refused event leaves the whole world unchanged, except that an overrun (S7) ends its search or
 /// transaction.
 pub fn every_refusal_changes_nothing()
-    ensures { (event : Event) (old new : WorldData) (fault : Fault) → Happens event old new (Refused fault) → Leaves event old new fault }
+    ensures { (event : Event) (old new : WorldData) (fault : Fault)
+        → Happens event old new (Refused fault) → Leaves event old new fault }
 {}
 
 /// A world that has just been opened is sound; its features are sorted by id, and no staged list
 /// names a feature twice. Every run keeps the latter two, so the rows of an answer are sorted by
 /// id.
 pub fn every_run_is_ordered()
-    ensures opened { (subjects : List Subject) (decider : DeciderData) (starts : Starts) (limits : Limits)
-        → IsSoundWorld (opened subjects decider starts limits) × IsOrdered (opened subjects decider starts limits) }
-    ensures run { (old new : WorldData) (steps : List (Event × Reply)) → IsOrdered old → Run old steps new → IsOrdered new }
-    ensures rising { (old mid new : WorldData) (before : List (Event × Reply)) (seat number : ℕ) (answer : AnswerData)
-        → IsOrdered old → Run old before mid → Happens (Finish seat number) mid new (Rows answer) → IsSortedById answer.rows }
+    ensures opened { (subjects : List Subject) (decider : DeciderData) (starts : Starts)
+        (limits : Limits) → IsSoundWorld (opened subjects decider starts limits)
+        × IsOrdered (opened subjects decider starts limits) }
+    ensures run { (old new : WorldData) (steps : List (Event × Reply)) → IsOrdered old
+        → Run old steps new → IsOrdered new }
+    ensures rising { (old mid new : WorldData) (before : List (Event × Reply)) (seat number : ℕ)
+        (answer : AnswerData) → IsOrdered old → Run old before mid
+        → Happens (Finish seat number) mid new (Rows answer) → IsSortedById answer.rows }
 {}
 
 /// Over every run from a sound world, the pieces that were rolled out and the present trail are one
 /// legal trail from the base at the start of the run, and its replay is the state.
 pub fn pieces_and_trail_join()
-    ensures { (old new : WorldData) (steps : List (Event × Reply)) → IsSoundWorld old → Run old steps new
-        → IsLegal new.seats old.base (records_out steps ++ new.trail) × (replay old.base (records_out steps ++ new.trail) ≡ new.state) }
+    ensures { (old new : WorldData) (steps : List (Event × Reply)) → IsSoundWorld old
+        → Run old steps new → IsLegal new.seats old.base (records_out steps ++ new.trail)
+        × (replay old.base (records_out steps ++ new.trail) ≡ new.state) }
 {}
 
 /// Over every run, the document and edition in force are those of the last `govern` that succeeded,
@@ -123,8 +138,10 @@ pub fn policy_in_force_is_the_last()
 /// run keeps them so: their numbers rise and are below the next ones, so no number occurs twice,
 /// and each staged list is within its limits.
 pub fn what_is_under_way_is_in_order()
-    ensures opened { (subjects : List Subject) (decider : DeciderData) (starts : Starts) (limits : Limits) → IsUnderWay (opened subjects decider starts limits) }
-    ensures run { (old new : WorldData) (steps : List (Event × Reply)) → IsUnderWay old → Run old steps new → IsUnderWay new }
+    ensures opened { (subjects : List Subject) (decider : DeciderData) (starts : Starts)
+        (limits : Limits) → IsUnderWay (opened subjects decider starts limits) }
+    ensures run { (old new : WorldData) (steps : List (Event × Reply)) → IsUnderWay old
+        → Run old steps new → IsUnderWay new }
 {}
 
 /// What is open was asked for. A search that is open after an event was opened by it, for the
@@ -134,14 +151,17 @@ pub fn what_is_under_way_is_in_order()
 /// and transaction. Seats stay given; at most one more is given, to the subject that the event
 /// names.
 pub fn what_is_under_way_was_asked()
-    ensures { (event : Event) (old new : WorldData) (reply : Reply) → Happens event old new reply → IsAsked event old new reply }
+    ensures { (event : Event) (old new : WorldData) (reply : Reply) → Happens event old new reply
+        → IsAsked event old new reply }
 {}
 
 /// A commit that is not refused ends as its judgement says: an accepted list is applied, and a
 /// failing one is rejected for its first failing change.
 pub fn every_commit_ends_as_judged()
-    ensures { (old new : WorldData) (seat number : ℕ) (subject : Subject) (t : TransactionData) (judgement : Judgement) (reply : Reply)
-        → IsSeated seat old.seats subject → transaction_with number old.transactions ≡ Some t → Judged old.state subject t.changes judgement
-        → Happens (Commit seat number) old new reply
-        → ((fault : Fault) × (reply ≡ Refused fault)) ⊎ (reply ≡ Ended (outcome_of old.state judgement)) }
+    ensures { (old new : WorldData) (seat number : ℕ) (subject : Subject) (t : TransactionData)
+        (judgement : Judgement) (reply : Reply) → IsSeated seat old.seats subject
+        → transaction_with number old.transactions ≡ Some t
+        → Judged old.state subject t.changes judgement → Happens (Commit seat number) old new reply
+        → ((fault : Fault) × (reply ≡ Refused fault))
+        ⊎ (reply ≡ Ended (outcome_of old.state judgement)) }
 {}

@@ -22,7 +22,8 @@ pub(crate) fn ids_found<A: Allocator>(
     found: &[(u64, Shape)],
 ) -> Result<Vec<u64, A>, Refused>
     ensures rises { IfOk result (λ ids. IsStrictlyIncreasing ids.items) }
-    ensures keeps { IfOk result (λ ids. (id : ℕ) → Contains (map (λ pair. pair.0) found.now) id → Contains ids.items id) }
+    ensures keeps { IfOk result
+        (λ ids. (id : ℕ) → Contains (map (λ pair. pair.0) found.now) id → Contains ids.items id) }
     ensures few { IfOk result (λ ids. length ids.items ≤ length found.now) }
 {
     let mut ids = first_parts(alloc, found)?;
@@ -65,7 +66,9 @@ pub(crate) fn listed<A: Allocator>(
     requires reads { folded.now.action ≡ Action.Read }
     requires rise { IsStrictlyIncreasing ids.now }
     requires all { NamesAll store.now window.now ids.now }
-    ensures listed { IfOk result (λ rows. IsListed folded.now.decider.document folded.now.subject window.now store.now rows.items) }
+    ensures listed { IfOk result
+        (λ rows. IsListed folded.now.decider.document folded.now.subject window.now store.now
+        rows.items) }
     ensures sorted { IsSortedById store.now }
     ensures metered { meter.new ≤ meter.old + length ids.now }
     ensures raised { meter.old ≤ meter.new }
@@ -101,7 +104,8 @@ fn count_to_the_greatest(meter: &Meter)
 /// Whether a feature is shown: its shape meets the window, and the subject may read it.
 fn shows(folded: &Folded<'_>, window: &Shape, feature: &Feature) -> bool
     requires { folded.now.action ≡ Action.Read }
-    ensures { IsTrue result ↔ IsShown folded.now.decider.document folded.now.subject window.now feature.now }
+    ensures { IsTrue result
+        ↔ IsShown folded.now.decider.document folded.now.subject window.now feature.now }
 {
     meets(&feature.shape, window) && permits(folded, feature)
 }
@@ -109,7 +113,9 @@ fn shows(folded: &Folded<'_>, window: &Shape, feature: &Feature) -> bool
 /// Whether the subject may read the feature.
 fn permits(folded: &Folded<'_>, feature: &Feature) -> bool
     requires { folded.now.action ≡ Action.Read }
-    ensures { IsTrue result ↔ Permits folded.now.decider.document (question_on folded.now.subject Action.Read feature.now feature.now.shape) }
+    ensures { IsTrue result
+        ↔ Permits folded.now.decider.document
+        (question_on folded.now.subject Action.Read feature.now feature.now.shape) }
 {
     match folded.decide(feature.office, feature.class, feature.shape) {
         Ruling::Permit(_) => true,
@@ -124,7 +130,13 @@ pub(crate) fn answered<A: Allocator + Copy>(
     seat: u32,
     answer: &Answer<A>,
 ) -> Result<Record<A>, Refused>
-    ensures { IfOk result (λ entry. entry ≡ record { seat = seat; deed = answered answer.now.subject answer.now.window (map (λ row. row.id) answer.now.rows) (map (λ row. row.version) answer.now.rows) }) }
+    ensures { IfOk result
+        (λ entry. entry
+        ≡ record {
+          seat = seat;
+          deed = answered answer.now.subject answer.now.window (map (λ row. row.id) answer.now.rows)
+              (map (λ row. row.version) answer.now.rows);
+        }) }
 {
     let ids = ids_of(alloc, answer.rows())?;
     let versions = versions_of(alloc, answer.rows())?;

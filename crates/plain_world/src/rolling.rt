@@ -72,7 +72,8 @@ impl<A: Allocator + Copy> PlainWorld<A> {
     /// where the new trail's first number would be above `FIRST_LIMIT`, X12 where an allocation is
     /// refused.
     pub fn roll(&mut self, heap: Global, seat: u32) -> Result<Arc<Rolled<A>, A>, Fault>
-        ensures { Happens (Roll seat) self.old self.new (reply_of (λ piece. TakenOut (arc_value piece)) result) }
+        ensures { Happens (Roll seat) self.old self.new
+            (reply_of (λ piece. TakenOut (arc_value piece)) result) }
     {
         self.may_roll(seat)?;
         let lines = self.trail.lines(heap)?;
@@ -91,7 +92,9 @@ impl<A: Allocator + Copy> PlainWorld<A> {
         requires state { next ≡ self.old.state }
         requires lines { map string_bytes lines.items ≡ lines_from self.old.first self.old.trail }
         requires numbers { self.old.first + length self.old.trail ≤ FIRST_LIMIT }
-        ensures { UnlessMemory self.old self.new (reply_of (λ piece. TakenOut (arc_value piece)) result) (Rolls self.old self.new (reply_of (λ piece. TakenOut (arc_value piece)) result)) }
+        ensures { UnlessMemory self.old self.new
+            (reply_of (λ piece. TakenOut (arc_value piece)) result)
+            (Rolls self.old self.new (reply_of (λ piece. TakenOut (arc_value piece)) result)) }
     {
         let first = self.trail.first() + self.trail.len();
         let base = mem::replace(&mut self.base, next);

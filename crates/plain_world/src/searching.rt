@@ -37,7 +37,13 @@ impl<A: Allocator> PlainWorld<A> {
     pub fn enter_search(&mut self, seat: u32, window: Shape)
         requires few { length self.old.searches < SEARCH_LIMIT }
         requires left { self.old.next_search < u64.MAX }
-        ensures { self.new ≡ record self.old { searches = self.old.searches ++ record { number = self.old.next_search; seat = seat; window = window; ready = false } ∷ []; next_search = self.old.next_search + 1 } }
+        ensures { self.new
+            ≡ record self.old {
+              searches = self.old.searches
+                  ++ record { number = self.old.next_search; seat = seat; window = window; ready = false }
+                  ∷ [];
+              next_search = self.old.next_search + 1;
+            } }
     {
         self.searches.push(Search {
             number: self.next_search,
@@ -93,7 +99,8 @@ impl<A: Allocator + Copy> PlainWorld<A> {
         found: &[(u64, Shape)],
         meter: &mut Meter,
     ) -> Result<Answer<A>, Fault>
-        requires found { (s : Search) → search_with number self.old.searches ≡ Some s → IsTrue s.ready → FindsAll self.old.state.features s.window found.now }
+        requires found { (s : Search) → search_with number self.old.searches ≡ Some s
+            → IsTrue s.ready → FindsAll self.old.state.features s.window found.now }
         ensures happens { Happens (Finish seat number) self.old self.new (reply_of Rows result) }
         ensures metered { meter.new ≤ meter.old + length found.now }
         ensures raised { meter.old ≤ meter.new }

@@ -41,7 +41,8 @@ impl<A: Allocator> Model for Transaction<A> {
 impl<A: Allocator> Transaction<A> {
     /// A transaction of a seat, with nothing staged and room for `CHANGE_LIMIT` changes.
     pub(crate) fn new(alloc: A, number: u64, seat: u32) -> Result<Self, Refused>
-        ensures { IfOk result (λ t. t ≡ record { number = number; seat = seat; changes = []; placed = 0 }) }
+        ensures { IfOk result
+            (λ t. t ≡ record { number = number; seat = seat; changes = []; placed = 0 }) }
     {
         let changes = vec_with_room(alloc, CHANGE_LIMIT)?;
         Ok(Transaction {
@@ -108,8 +109,11 @@ impl<A: Allocator> Transaction<A> {
 
 /// The pair that a change puts into the index: an added or reshaped feature's id and new shape.
 fn brought_by(change: &Change) -> Option<(u64, Shape)>
-    ensures some { IfSome result (λ placement. (later : List (ℕ × List Point)) → brought_by change.now later ≡ placement ∷ later) }
-    ensures none { IfNone result ((later : List (ℕ × List Point)) → brought_by change.now later ≡ later) }
+    ensures some { IfSome result
+        (λ placement. (later : List (ℕ × List Point))
+        → brought_by change.now later ≡ placement ∷ later) }
+    ensures none { IfNone result
+        ((later : List (ℕ × List Point)) → brought_by change.now later ≡ later) }
 {
     match change {
         Change::Add { id, shape, .. } => Some((*id, *shape)),

@@ -188,7 +188,9 @@ impl<A: Allocator + Copy> PlainWorld<A> {
         requires records { limits.records ≤ RECORD_LIMIT }
         requires features { limits.features ≤ FEATURE_LIMIT }
         requires steps { limits.steps ≤ STEP_LIMIT }
-        ensures ok { IfOk result (λ w. w ≡ opened subjects (record { document = document; edition = starts.edition }) starts limits) }
+        ensures ok { IfOk result
+            (λ w. w ≡ opened subjects (record { document = document; edition = starts.edition })
+            starts limits) }
         ensures err { IfErr result (λ e. e ≡ (document, Fault.Memory refused)) }
     {
         let decider = match made_decider(heap, &document, starts.edition) {
@@ -248,7 +250,8 @@ pub(crate) fn made_decider(
     document: &Document<Global>,
     edition: u64,
 ) -> Result<Arc<Decider>, Refused>
-    ensures { IfOk result (λ decider. arc_value decider ≡ record { document = document.now; edition = edition }) }
+    ensures { IfOk result
+        (λ decider. arc_value decider ≡ record { document = document.now; edition = edition }) }
 {
     let copy = document.copy(heap)?;
     match Decider::new(copy, edition) {

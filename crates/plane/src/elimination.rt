@@ -140,7 +140,8 @@ fn narrowed_by_pair(gap: Gap, first: Row, second: Row) -> Option<Gap>
     requires first { IsSmallRow first }
     requires second { IsSmallRow second }
     requires above { pos 0 <ℤ first.a }
-    ensures some { IfSome result (Narrows (PairAllows first second) (CrossesBoth first second) gap) }
+    ensures some { IfSome result
+        (Narrows (PairAllows first second) (CrossesBoth first second) gap) }
     ensures none { IfNone result (IsNowhere (CrossesBoth first second)) }
 {
     if second.a < 0 {
@@ -156,7 +157,9 @@ fn narrowed_by_pairs(mut gap: Gap, row: Row, rows: &[Row]) -> Option<Gap>
     requires row { IsSmallRow row }
     requires rows { All IsSmallRow rows.now }
     requires above { pos 0 <ℤ row.a }
-    ensures some { IfSome result (Narrows (λ y w. All (λ other. PairAllows row other y w) rows.now) (CrossesAll row rows.now) gap) }
+    ensures some { IfSome result
+        (Narrows (λ y w. All (λ other. PairAllows row other y w) rows.now) (CrossesAll row rows.now)
+        gap) }
     ensures none { IfNone result (IsNowhere (CrossesAll row rows.now)) }
 {
     for other in rows {
@@ -200,7 +203,8 @@ fn first_gap(rows: &[Row]) -> Gap
 fn height(rows: &[Row]) -> Option<Height>
     requires small { All IsSmallRow rows.now }
     requires frame { HasFrame rows.now }
-    ensures some { IfSome result (λ found. All (λ row. RowAllows rows.now row found.y found.w) rows.now) }
+    ensures some { IfSome result
+        (λ found. All (λ row. RowAllows rows.now row found.y found.w) rows.now) }
     ensures none { IfNone result ((x y w : ℤ) → pos 0 <ℤ w → All (Satisfies x y w) rows.now → ⊥) }
 {
     let mut gap = first_gap(rows);

@@ -19,7 +19,8 @@ use arrayvec::ArrayVec;
 
 /// A fraction point that lies in both shapes; `None` if there is none.
 pub fn common_point(first: &Shape, second: &Shape) -> Option<Fraction>
-    ensures common { IfSome result (λ p. LiesIn p.x p.y p.w first.now × LiesIn p.x p.y p.w second.now) }
+    ensures common { IfSome result
+        (λ p. LiesIn p.x p.y p.w first.now × LiesIn p.x p.y p.w second.now) }
     ensures found { IsSome result ↔ Meet first.now second.now }
 {
     let first_frame = frame_of(first);
@@ -77,7 +78,8 @@ fn corner_in(shape: &Shape, other: &Shape, frame: Frame) -> Option<Fraction>
 
 /// A common point of the rows of both shapes.
 fn by_elimination(first: &Shape, second: &Shape) -> Option<Fraction>
-    ensures common { IfSome result (λ p. LiesIn p.x p.y p.w first.now × LiesIn p.x p.y p.w second.now) }
+    ensures common { IfSome result
+        (λ p. LiesIn p.x p.y p.w first.now × LiesIn p.x p.y p.w second.now) }
     ensures none { IfNone result (Meet first.now second.now → ⊥) }
 {
     let mut rows = ArrayVec::new();

@@ -89,7 +89,8 @@ impl<T: PartialEq, A: Allocator> PartialEq for Items<T, A> {
     /// Compares part by part. Exact if `==` on the parts is exact.
     fn eq(&self, other: &Self) -> bool
         ensures tested { result ≡ pointwise T.eq self.now other.now }
-        ensures exact { ((a b : T) → IsTrue (T.eq a b) ↔ (a ≡ b)) → (IsTrue result ↔ (self.now ≡ other.now)) }
+        ensures exact { ((a b : T) → IsTrue (T.eq a b) ↔ (a ≡ b))
+            → (IsTrue result ↔ (self.now ≡ other.now)) }
     {
         self.as_slice() == other.as_slice()
     }

@@ -148,7 +148,8 @@ fn same_head<A: Allocator>(node: &Node<A>, other: &Node<A>) -> bool
 
 /// The node's name, algorithm and target.
 fn head<A: Allocator>(node: &Node<A>) -> (Name, Algorithm, &Target<A>)
-    ensures { head_of (node_view node.now) ≡ record { name = result.0; combine = result.1; target = result.2.now } }
+    ensures { head_of (node_view node.now)
+        ≡ record { name = result.0; combine = result.1; target = result.2.now } }
 {
     match node {
         Node::Set {
@@ -169,7 +170,9 @@ fn head<A: Allocator>(node: &Node<A>) -> (Name, Algorithm, &Target<A>)
 /// Whether two lists of nodes are equal.
 #[cycle(same)]
 fn same_nodes<A: Allocator>(nodes: &[Node<A>], others: &[Node<A>]) -> bool
-    ensures { result ≡ same_children (children_of (map node_view nodes.now)) (children_of (map node_view others.now)) }
+    ensures { result
+        ≡ same_children (children_of (map node_view nodes.now))
+        (children_of (map node_view others.now)) }
 {
     if nodes.len() != others.len() {
         return false;

@@ -40,7 +40,8 @@ fn put_zone<A: Allocator + Copy>(
     shape: Shape,
     zones: &mut Zones<A>,
 ) -> Result<(), TextFault>
-    ensures value { Gives (λ _. map zone_of zones.new.entries) result (with_zone name shape (map zone_of zones.old.entries)) }
+    ensures value { Gives (λ _. map zone_of zones.new.entries) result
+        (with_zone name shape (map zone_of zones.old.entries)) }
     ensures told { Tells result (with_zone name shape (map zone_of zones.old.entries)) }
 {
     if has_zone(zones, name) {
@@ -61,7 +62,8 @@ fn zone_at<A: Allocator + Copy>(
     zones: &mut Zones<A>,
 ) -> Result<(), TextFault>
     requires { length path < STEP_LIMIT }
-    ensures value { Gives (λ _. map zone_of zones.new.entries) result (zone_at path (map zone_of zones.old.entries) (view value.now)) }
+    ensures value { Gives (λ _. map zone_of zones.new.entries) result
+        (zone_at path (map zone_of zones.old.entries) (view value.now)) }
     ensures told { Tells result (zone_at path (map zone_of zones.old.entries) (view value.now)) }
 {
     object_in(value, &ZONE_KEYS, path)?;

@@ -23,7 +23,8 @@ fn is_listed(listed: &[Key], text: &str) -> bool
 
 /// The text under a key, if there is one.
 fn text_at(value: &Value, key: Key) -> Option<&str>
-    ensures { option_map (λ text. text.now) result ≡ option_and_then as_str (value_of key (view value.now)) }
+    ensures { option_map (λ text. text.now) result
+        ≡ option_and_then as_str (value_of key (view value.now)) }
 {
     value.get(key.text())?.as_str()
 }
@@ -64,7 +65,8 @@ pub(crate) fn text_in(value: &Value, key: Key, path: Path) -> Result<&str, TextF
 /// The value under a key.
 pub(crate) fn value_in(value: &Value, key: Key, path: Path) -> Result<&Value, TextFault>
     requires { length path < STEP_LIMIT }
-    ensures { Shows (λ v. view v.now) result (ok_or (value_of key (view value.now)) (Form (at_key path key))) }
+    ensures { Shows (λ v. view v.now) result
+        (ok_or (value_of key (view value.now)) (Form (at_key path key))) }
 {
     match value.get(key.text()) {
         Some(value) => Ok(value),
@@ -198,7 +200,8 @@ pub(crate) fn array_in(value: &Value, key: Key, path: Path) -> Result<&[Value], 
 #[tactic(auto, unfolding(crate::specs::Reading::optional_array_in))]
 pub(crate) fn optional_array_in(value: &Value, key: Key, path: Path) -> Result<&[Value], TextFault>
     requires { length path < STEP_LIMIT }
-    ensures { Shows (λ items. items_view items.now) result (optional_array_in key path (view value.now)) }
+    ensures { Shows (λ items. items_view items.now) result
+        (optional_array_in key path (view value.now)) }
 {
     let Some(items) = value.get(key.text()) else {
         return Ok(&[]);

@@ -104,7 +104,8 @@ fn node_value<A: Allocator>(heap: Global, node: &Node<A>) -> Result<Value, Refus
 /// The children of a set. Fails only when out of memory.
 #[cycle(print)]
 fn node_values<A: Allocator>(heap: Global, nodes: &Vec<Node<A>, A>) -> Result<Vec<Value>, Refused>
-    ensures { IfOk result (λ values. map view values.items ≡ map (λ n. node_data (node_view n)) nodes.now.items) }
+    ensures { IfOk result
+        (λ values. map view values.items ≡ map (λ n. node_data (node_view n)) nodes.now.items) }
 {
     let mut values = Vec::new(heap);
     for node in nodes {
@@ -115,7 +116,8 @@ fn node_values<A: Allocator>(heap: Global, nodes: &Vec<Node<A>, A>) -> Result<Ve
 
 /// A zone. Fails only when out of memory.
 fn zone_value(heap: Global, name: &Name, shape: &Shape) -> Result<Value, Refused>
-    ensures { IfOk result (λ v. view v ≡ zone_data (record { name = name.now; shape = shape.now })) }
+    ensures { IfOk result
+        (λ v. view v ≡ zone_data (record { name = name.now; shape = shape.now })) }
 {
     let shape = Value::from(print_shape(heap, shape)?);
     let name = name_value(heap, name)?;
@@ -127,7 +129,8 @@ fn zone_value(heap: Global, name: &Name, shape: &Shape) -> Result<Value, Refused
 
 /// The zones, in their order. Fails only when out of memory.
 fn zone_values<A: Allocator>(heap: Global, zones: &Zones<A>) -> Result<Vec<Value>, Refused>
-    ensures { IfOk result (λ values. items_view values.items ≡ zones_items (map zone_of zones.now.entries)) }
+    ensures { IfOk result
+        (λ values. items_view values.items ≡ zones_items (map zone_of zones.now.entries)) }
 {
     let mut values = Vec::new(heap);
     for (key, shape) in zones.iter() {

@@ -34,7 +34,8 @@ pub(crate) trait Part<A: Allocator + Copy>: Drop {
         tests: u32,
     ) -> Result<(Self, u32), TextFault>
         requires { length path + steps ≤ STEP_LIMIT }
-        ensures { Gives (λ r. (r.0, r.1)) result (reads (map zone_of zones.now.entries) path tests (view value.now)) };
+        ensures { Gives (λ r. (r.0, r.1)) result
+            (reads (map zone_of zones.now.entries) path tests (view value.now)) };
 }
 
 /// The items of an array; `Form` if the value is no array, or an empty one.
@@ -59,7 +60,8 @@ pub(crate) fn parts_at<T: Part<A>, A: Allocator + Copy, B: Allocator>(
     tests: u32,
 ) -> Result<(Items<T, A>, u32), TextFault>
     requires { length path + T.steps < STEP_LIMIT }
-    ensures { Gives (λ r. (r.0, r.1)) result (each_at (T.reads (map zone_of zones.now.entries)) path 0 tests (items_view items.now)) }
+    ensures { Gives (λ r. (r.0, r.1)) result
+        (each_at (T.reads (map zone_of zones.now.entries)) path 0 tests (items_view items.now)) }
 {
     let mut parts = Vec::new(alloc);
     let mut tests = tests;

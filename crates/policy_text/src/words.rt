@@ -78,7 +78,9 @@ pub(crate) fn put_array(
     key: Key,
     items: Vec<Value>,
 ) -> Result<(), Refused>
-    ensures { OnOk result (members_view members.new.entries ≡ put_items key (items_view items.items) (members_view members.old.entries)) }
+    ensures { OnOk result
+        (members_view members.new.entries
+        ≡ put_items key (items_view items.items) (members_view members.old.entries)) }
 {
     if items.is_empty() {
         return Ok(());

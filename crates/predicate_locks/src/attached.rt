@@ -71,7 +71,9 @@ impl<A: Allocator + Copy> Attached<A> {
         ensures ok { OnOk result (HasRoomFor self.new more) }
         ensures numbers { self.new.numbers ≡ self.old.numbers }
         ensures places { self.old.places ≤ self.new.places }
-        ensures memory_only_where_room_was_missing { IfErr result (λ fault. (fault ≡ LockFault.Memory refused) × (self.old.places < length self.old.numbers + more)) }
+        ensures memory_only_where_room_was_missing { IfErr result
+            (λ fault. (fault ≡ LockFault.Memory refused)
+            × (self.old.places < length self.old.numbers + more)) }
         ensures err { OnErr result (self.new ≡ self.old) }
     {
         self.numbers.make_room(more)?;

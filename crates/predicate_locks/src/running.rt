@@ -82,11 +82,18 @@ impl<Q: Copy, A: Allocator> Running<Q, A> {
     /// L1 where `MAX_RUNNING` searches run, else L2 where the next number is `u64::MAX`. It takes
     /// no memory.
     pub fn enter(&mut self, query: Q, begun: u64) -> Result<u64, LockFault>
-        ensures ok { IfOk result (λ number. IsEntered self.old self.new (record { number = number; query = query; begun = begun })) }
-        ensures listed { IfOk result (λ number. self.new.running ≡ self.old.running ++ record { number = number; query = query; begun = begun } ∷ []) }
-        ensures too_many { (result ≡ Err LockFault.TooMany) ↔ (length self.old.running ≡ MAX_RUNNING) }
-        ensures spent { (result ≡ Err LockFault.Spent) ↔ ((length self.old.running < MAX_RUNNING) × (self.old.next ≡ last_number)) }
-        ensures certain { length self.old.running < MAX_RUNNING → self.old.next < last_number → IsOk result }
+        ensures ok { IfOk result
+            (λ number. IsEntered self.old self.new
+            (record { number = number; query = query; begun = begun })) }
+        ensures listed { IfOk result
+            (λ number. self.new.running ≡ self.old.running
+            ++ record { number = number; query = query; begun = begun } ∷ []) }
+        ensures too_many { (result ≡ Err LockFault.TooMany)
+            ↔ (length self.old.running ≡ MAX_RUNNING) }
+        ensures spent { (result ≡ Err LockFault.Spent)
+            ↔ ((length self.old.running < MAX_RUNNING) × (self.old.next ≡ last_number)) }
+        ensures certain { length self.old.running < MAX_RUNNING → self.old.next < last_number
+            → IsOk result }
         ensures err { OnErr result (self.new ≡ self.old) }
     {
         if self.searches.len() == MAX_RUNNING {
@@ -161,8 +168,11 @@ impl<Q: Copy, A: Allocator> Running<Q, A> {
         accepts: &F,
     ) -> Option<u64>
         requires { F.IsAlwaysCallable accepts.now }
-        ensures first { IfSome result (λ number. IsFirstMeeting (FnReturnsAt F.Fn accepts.now) self.now attached.now.numbers number) }
-        ensures none { IfNone result (NoneMeets (FnReturnsAt F.Fn accepts.now) self.now attached.now.numbers) }
+        ensures first { IfSome result
+            (λ number. IsFirstMeeting (FnReturnsAt F.Fn accepts.now) self.now attached.now.numbers
+            number) }
+        ensures none { IfNone result
+            (NoneMeets (FnReturnsAt F.Fn accepts.now) self.now attached.now.numbers) }
     {
         for search in &self.searches {
             if meets(search, attached, accepts) {
@@ -180,7 +190,8 @@ impl<Q: Copy, A: Allocator> Running<Q, A> {
         accepts: &F,
     ) -> ArrayVec<u64, MAX_RUNNING>
         requires { F.IsAlwaysCallable accepts.now }
-        ensures meeting { AreMeeting (FnReturnsAt F.Fn accepts.now) self.now attached.now.numbers result.items }
+        ensures meeting { AreMeeting (FnReturnsAt F.Fn accepts.now) self.now attached.now.numbers
+            result.items }
         ensures rising { IsStrictlyIncreasing result.items }
         ensures limit { length result.items ≤ MAX_RUNNING }
     {
@@ -195,7 +206,10 @@ impl<Q: Copy, A: Allocator> Running<Q, A> {
 
     /// The index of the search with this number.
     fn position(&self, number: u64) -> Option<usize>
-        ensures found { IfSome result (λ at. (at < length self.now.running) × ((none : RunningSearch Q) → (slice_index_or self.now.running at none).number ≡ number)) }
+        ensures found { IfSome result
+            (λ at. (at < length self.now.running)
+            × ((none : RunningSearch Q)
+            → (slice_index_or self.now.running at none).number ≡ number)) }
         ensures runs { is_some result ≡ does_run self.now number }
     {
         for (at, search) in self.searches.iter().enumerate() {
@@ -214,8 +228,10 @@ fn meets<Q, F: Fn(&Q) -> bool, A: Allocator>(
     accepts: &F,
 ) -> bool
     requires { F.IsAlwaysCallable accepts.now }
-    ensures met { IsTrue result → Contains attached.now.numbers search.now.number × FnReturnsAt F.Fn accepts.now search.now.query true }
-    ensures not_met { result ≡ false → Contains attached.now.numbers search.now.number → FnReturnsAt F.Fn accepts.now search.now.query false }
+    ensures met { IsTrue result → Contains attached.now.numbers search.now.number
+        × FnReturnsAt F.Fn accepts.now search.now.query true }
+    ensures not_met { result ≡ false → Contains attached.now.numbers search.now.number
+        → FnReturnsAt F.Fn accepts.now search.now.query false }
 {
     if attached.holds(search.number) {
         accepts(&search.query)

@@ -67,7 +67,8 @@ impl SeenList {
     /// unless this one is longer.
     fn begins(&self, other: &SeenList)
         requires { other.now.book ≡ self.now.book }
-        ensures { length self.now.list ≤ length other.now.list → IsPrefix self.now.list other.now.list }
+        ensures { length self.now.list ≤ length other.now.list
+            → IsPrefix self.now.list other.now.list }
     {
         let mut both = self.seen.again();
         both.learn(&other.seen);

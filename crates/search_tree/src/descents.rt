@@ -33,10 +33,17 @@ impl<C: KeyClass, A: Allocator + Copy> Tree<C, A> {
     /// the searches that are done with the parent and that only the union leads on. Nothing changes
     /// where an allocation is refused, except that spare capacity may grow.
     pub(crate) fn descend(&mut self, way: &WayDown<C::Key>, key: C::Key) -> Result<(), Refused>
-        requires { MayDescend (class_of C.covered C.may_match C.is_match C.key_with C.united) self.old way.now key }
-        ensures ok { OnOk result (IsAlike (class_of C.covered C.may_match C.is_match C.key_with C.united) self.old self.new) }
-        ensures step { OnOk result (HasDescended (class_of C.covered C.may_match C.is_match C.key_with C.united) self.old self.new way.now.parent way.now.child way.now.key key) }
-        ensures err { OnErr result (IsUntouched (class_of C.covered C.may_match C.is_match C.key_with C.united) self.old self.new) }
+        requires { MayDescend (class_of C.covered C.may_match C.is_match C.key_with C.united)
+            self.old way.now key }
+        ensures ok { OnOk result
+            (IsAlike (class_of C.covered C.may_match C.is_match C.key_with C.united) self.old
+            self.new) }
+        ensures step { OnOk result
+            (HasDescended (class_of C.covered C.may_match C.is_match C.key_with C.united) self.old
+            self.new way.now.parent way.now.child way.now.key key) }
+        ensures err { OnErr result
+            (IsUntouched (class_of C.covered C.may_match C.is_match C.key_with C.united) self.old
+            self.new) }
     {
         let led = self.led_by(way, C::union(way.key, key));
         self.join_below(way.child, led.as_slice())?;
@@ -47,7 +54,10 @@ impl<C: KeyClass, A: Allocator + Copy> Tree<C, A> {
     /// The searches that are done with the parent and that only the wider key leads on to the
     /// child.
     fn led_by(&self, way: &WayDown<C::Key>, wider: C::Key) -> ArrayVec<u64, MAX_RUNNING>
-        ensures led { (node : PlainNode C.Key C.Item) → value_at self.now.nodes way.now.parent ≡ Some node → AreLed (class_of C.covered C.may_match C.is_match C.key_with C.united) self.now.running way.now.key wider node.attached result.items }
+        ensures led { (node : PlainNode C.Key C.Item)
+            → value_at self.now.nodes way.now.parent ≡ Some node
+            → AreLed (class_of C.covered C.may_match C.is_match C.key_with C.united)
+            self.now.running way.now.key wider node.attached result.items }
         ensures few { length result.items ≤ MAX_RUNNING }
     {
         match self.nodes.get(way.parent) {

@@ -38,14 +38,26 @@ impl<C: KeyClass, A: Allocator + Copy> Tree<C, A> {
     /// S4 where fewer than two slots are left, else S5 where the root is at `TOP_LEVEL`: nothing
     /// changes. Else S8 where an allocation is refused: only spare capacity may grow.
     pub(crate) fn grow(&mut self) -> Result<(), TreeFault>
-        requires { MayGrow (class_of C.covered C.may_match C.is_match C.key_with C.united) self.old }
-        ensures ok { OnOk result (HasMoreNodes (class_of C.covered C.may_match C.is_match C.key_with C.united) self.old self.new 2 1) }
-        ensures grown { OnOk result (HasGrown (class_of C.covered C.may_match C.is_match C.key_with C.united) C.picks self.old.nodes self.new.nodes self.old.root self.old.counter) }
-        ensures full { (result ≡ Err TreeFault.Full) ↔ (MAX_SLOTS < taken_count self.old.nodes + 2) }
-        ensures too_high { (result ≡ Err TreeFault.TooHigh) ↔ ((taken_count self.old.nodes + 2 ≤ MAX_SLOTS) × (root_level self.old ≡ TOP_LEVEL)) }
-        ensures untouched { (result ≡ Err TreeFault.Full) ⊎ (result ≡ Err TreeFault.TooHigh) → self.new ≡ self.old }
-        ensures faults { IfErr result (λ fault. (fault ≡ TreeFault.TooHigh) ⊎ (fault ≡ TreeFault.Full) ⊎ (fault ≡ TreeFault.Memory refused)) }
-        ensures err { OnErr result (IsUntouched (class_of C.covered C.may_match C.is_match C.key_with C.united) self.old self.new) }
+        requires { MayGrow (class_of C.covered C.may_match C.is_match C.key_with C.united)
+            self.old }
+        ensures ok { OnOk result
+            (HasMoreNodes (class_of C.covered C.may_match C.is_match C.key_with C.united) self.old
+            self.new 2 1) }
+        ensures grown { OnOk result
+            (HasGrown (class_of C.covered C.may_match C.is_match C.key_with C.united) C.picks
+            self.old.nodes self.new.nodes self.old.root self.old.counter) }
+        ensures full { (result ≡ Err TreeFault.Full)
+            ↔ (MAX_SLOTS < taken_count self.old.nodes + 2) }
+        ensures too_high { (result ≡ Err TreeFault.TooHigh)
+            ↔ ((taken_count self.old.nodes + 2 ≤ MAX_SLOTS) × (root_level self.old ≡ TOP_LEVEL)) }
+        ensures untouched { (result ≡ Err TreeFault.Full) ⊎ (result ≡ Err TreeFault.TooHigh)
+            → self.new ≡ self.old }
+        ensures faults { IfErr result
+            (λ fault. (fault ≡ TreeFault.TooHigh) ⊎ (fault ≡ TreeFault.Full)
+            ⊎ (fault ≡ TreeFault.Memory refused)) }
+        ensures err { OnErr result
+            (IsUntouched (class_of C.covered C.may_match C.is_match C.key_with C.united) self.old
+            self.new) }
     {
         grow_in::<C, A>(&mut self.nodes, self.alloc, self.root, self.counter)
     }
@@ -59,11 +71,18 @@ fn grow_in<C: KeyClass, A: Allocator + Copy>(
     seq: u64,
 ) -> Result<(), TreeFault>
     requires { IsFullRoot nodes.old root }
-    ensures ok { OnOk result (HasGrown (class_of C.covered C.may_match C.is_match C.key_with C.united) C.picks nodes.old nodes.new root seq) }
+    ensures ok { OnOk result
+        (HasGrown (class_of C.covered C.may_match C.is_match C.key_with C.united) C.picks nodes.old
+        nodes.new root seq) }
     ensures full { (result ≡ Err TreeFault.Full) ↔ (MAX_SLOTS < taken_count nodes.old + 2) }
-    ensures too_high { (result ≡ Err TreeFault.TooHigh) ↔ ((taken_count nodes.old + 2 ≤ MAX_SLOTS) × (level_of (value_at nodes.old root) ≡ TOP_LEVEL)) }
-    ensures untouched { (result ≡ Err TreeFault.Full) ⊎ (result ≡ Err TreeFault.TooHigh) → nodes.new ≡ nodes.old }
-    ensures faults { IfErr result (λ fault. (fault ≡ TreeFault.TooHigh) ⊎ (fault ≡ TreeFault.Full) ⊎ (fault ≡ TreeFault.Memory refused)) }
+    ensures too_high { (result ≡ Err TreeFault.TooHigh)
+        ↔ ((taken_count nodes.old + 2 ≤ MAX_SLOTS)
+        × (level_of (value_at nodes.old root) ≡ TOP_LEVEL)) }
+    ensures untouched { (result ≡ Err TreeFault.Full) ⊎ (result ≡ Err TreeFault.TooHigh)
+        → nodes.new ≡ nodes.old }
+    ensures faults { IfErr result
+        (λ fault. (fault ≡ TreeFault.TooHigh) ⊎ (fault ≡ TreeFault.Full)
+        ⊎ (fault ≡ TreeFault.Memory refused)) }
     ensures err { OnErr result (AreSame nodes.old nodes.new) }
 {
     if !nodes.has_room(2) {
@@ -98,7 +117,9 @@ fn grow_root<C: KeyClass, A: Allocator + Copy>(
     requires full { IsFullRoot nodes.old root }
     requires level { level_of (value_at nodes.old root) ≢ TOP_LEVEL }
     requires room { HasRoomFor nodes.old 2 }
-    ensures ok { OnOk result (HasGrown (class_of C.covered C.may_match C.is_match C.key_with C.united) C.picks nodes.old nodes.new root seq) }
+    ensures ok { OnOk result
+        (HasGrown (class_of C.covered C.may_match C.is_match C.key_with C.united) C.picks nodes.old
+        nodes.new root seq) }
     ensures err { OnErr result (AreSame nodes.old nodes.new) }
 {
     let Some(node) = nodes.get(root) else {
@@ -123,7 +144,8 @@ fn put_below<C: KeyClass, A: Allocator + Copy>(
     requires none { entries ≡ [] }
     requires room { HasRoomFor nodes.old 2 }
     requires rise { MayRise nodes.old root }
-    ensures { HasPutBelow nodes.old nodes.new root one.node one.children.items one.key two.node two.children.items two.key }
+    ensures { HasPutBelow nodes.old nodes.new root one.node one.children.items one.key two.node
+        two.children.items two.key }
 {
     let Lower {
         key,
@@ -151,7 +173,9 @@ fn lower_half<C: KeyClass, A: Allocator + Copy>(
     alloc: A,
 ) -> Result<Lower<C::Key, C::Item, A>, Refused>
     requires { 0 < size_of (plain_body body) }
-    ensures { IfOk result (λ made. IsLower (class_of C.covered C.may_match C.is_match C.key_with C.united) (below node.now root seq (plain_body body)) made.node made.children.items made.key) }
+    ensures { IfOk result
+        (λ made. IsLower (class_of C.covered C.may_match C.is_match C.key_with C.united)
+        (below node.now root seq (plain_body body)) made.node made.children.items made.key) }
 {
     let node = node.lower_half(root, seq, body)?;
     let children = copied(alloc, node.children())?;

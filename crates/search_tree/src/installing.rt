@@ -30,11 +30,17 @@ impl<C: KeyClass, A: Allocator> Tree<C, A> {
     /// Gives a right node its entry. The left node loses its mark, and gets the counter's next
     /// value as its number: so a search with a lesser memo still goes on to the right node.
     pub(crate) fn install(&mut self, entry: &NewEntry<C::Key>, seq: u64)
-        requires may { MayInstall (class_of C.covered C.may_match C.is_match C.key_with C.united) self.old entry.now }
+        requires may { MayInstall (class_of C.covered C.may_match C.is_match C.key_with C.united)
+            self.old entry.now }
         requires seq { seq ≡ self.old.counter + 1 }
-        ensures tended { HasTended (class_of C.covered C.may_match C.is_match C.key_with C.united) self.old self.new Tending.Installed }
-        ensures contents { SameContents (class_of C.covered C.may_match C.is_match C.key_with C.united) self.old self.new }
-        ensures step { IsInstalled (tree_of (class_of C.covered C.may_match C.is_match C.key_with C.united) self.old) (tree_of (class_of C.covered C.may_match C.is_match C.key_with C.united) self.new) entry.now.parent entry.now.left entry.now.right }
+        ensures tended { HasTended (class_of C.covered C.may_match C.is_match C.key_with C.united)
+            self.old self.new Tending.Installed }
+        ensures contents { SameContents
+            (class_of C.covered C.may_match C.is_match C.key_with C.united) self.old self.new }
+        ensures step { IsInstalled
+            (tree_of (class_of C.covered C.may_match C.is_match C.key_with C.united) self.old)
+            (tree_of (class_of C.covered C.may_match C.is_match C.key_with C.united) self.new)
+            entry.now.parent entry.now.left entry.now.right }
     {
         let place = Place::Linked {
             parent: entry.parent,

@@ -20,9 +20,12 @@ impl<C: KeyClass, A: Allocator + Copy> Tree<C, A> {
     /// Attaches searches to a node in which they have nothing to look for. Nothing changes where an
     /// allocation is refused.
     fn join(&mut self, at: Handle, searches: &[u64]) -> Result<(), Refused>
-        requires may { MayJoinAll (class_of C.covered C.may_match C.is_match C.key_with C.united) self.old at searches.now }
+        requires may { MayJoinAll (class_of C.covered C.may_match C.is_match C.key_with C.united)
+            self.old at searches.now }
         requires few { length searches.now ≤ MAX_ROOM }
-        ensures ok { OnOk result (HasJoined (class_of C.covered C.may_match C.is_match C.key_with C.united) self.old self.new at searches.now) }
+        ensures ok { OnOk result
+            (HasJoined (class_of C.covered C.may_match C.is_match C.key_with C.united) self.old
+            self.new at searches.now) }
         ensures err { OnErr result (self.new ≡ self.old) }
     {
         let list = joined(self.alloc, &self.nodes, &self.running, at, searches)?;
@@ -33,9 +36,12 @@ impl<C: KeyClass, A: Allocator + Copy> Tree<C, A> {
     /// Attaches searches to a child whose entry does not lead them on, and to its right node where
     /// the child is marked. Nothing changes where an allocation is refused.
     pub(crate) fn join_below(&mut self, child: Handle, searches: &[u64]) -> Result<(), Refused>
-        requires may { MayJoinBelow (class_of C.covered C.may_match C.is_match C.key_with C.united) self.old child searches.now }
+        requires may { MayJoinBelow (class_of C.covered C.may_match C.is_match C.key_with C.united)
+            self.old child searches.now }
         requires few { length searches.now ≤ MAX_ROOM }
-        ensures ok { OnOk result (HasJoinedBelow (class_of C.covered C.may_match C.is_match C.key_with C.united) self.old self.new child searches.now) }
+        ensures ok { OnOk result
+            (HasJoinedBelow (class_of C.covered C.may_match C.is_match C.key_with C.united) self.old
+            self.new child searches.now) }
         ensures err { OnErr result (self.new ≡ self.old) }
     {
         // Most descents lead nobody on, and copy no list.
@@ -51,10 +57,13 @@ impl<C: KeyClass, A: Allocator + Copy> Tree<C, A> {
     /// As `join_below`, for a marked child and its right node. Both lists are made before the first
     /// change.
     fn join_both(&mut self, child: Handle, right: Handle, searches: &[u64]) -> Result<(), Refused>
-        requires may { MayJoinBelow (class_of C.covered C.may_match C.is_match C.key_with C.united) self.old child searches.now }
+        requires may { MayJoinBelow (class_of C.covered C.may_match C.is_match C.key_with C.united)
+            self.old child searches.now }
         requires leads { right_of_marked (value_at self.old.nodes child) ≡ Some right }
         requires few { length searches.now ≤ MAX_ROOM }
-        ensures ok { OnOk result (HasJoinedBelow (class_of C.covered C.may_match C.is_match C.key_with C.united) self.old self.new child searches.now) }
+        ensures ok { OnOk result
+            (HasJoinedBelow (class_of C.covered C.may_match C.is_match C.key_with C.united) self.old
+            self.new child searches.now) }
         ensures err { OnErr result (self.new ≡ self.old) }
     {
         let of_right = joined(self.alloc, &self.nodes, &self.running, right, searches)?;
@@ -75,9 +84,12 @@ impl<C: KeyClass, A: Allocator> Tree<C, A> {
         key: C::Key,
         child: Handle,
     )
-        requires { MayEnlarge (class_of C.covered C.may_match C.is_match C.key_with C.united) self.old parent place old key child }
-        ensures alike { IsAlike (class_of C.covered C.may_match C.is_match C.key_with C.united) self.old self.new }
-        ensures step { HasEnlarged (class_of C.covered C.may_match C.is_match C.key_with C.united) self.old self.new parent old key child }
+        requires { MayEnlarge (class_of C.covered C.may_match C.is_match C.key_with C.united)
+            self.old parent place old key child }
+        ensures alike { IsAlike (class_of C.covered C.may_match C.is_match C.key_with C.united)
+            self.old self.new }
+        ensures step { HasEnlarged (class_of C.covered C.may_match C.is_match C.key_with C.united)
+            self.old self.new parent old key child }
     {
         let union = C::union(old, key);
         set_key(&mut self.nodes, parent, place, union);

@@ -16,8 +16,10 @@ use tree_theory::KeyClass;
 /// walk holds for a tree, a node and an item. (Of entries with equal penalties, the walk may
 /// descend by any.)
 pub fn steps_answer_alike<C: KeyClass>()
-    ensures { (t u v : PlainTree C.Key C.Query C.Item) (at one other : Handle) (pair : ℕ × C.Item) (a b : Result Step TreeFault)
-        → HasEnds u → HasEnds v
-        → TakesStep (class_of C.covered C.may_match C.is_match C.key_with C.united) t u at one C.growth C.second_growth C.picks pair a
-        → TakesStep (class_of C.covered C.may_match C.is_match C.key_with C.united) t v at other C.growth C.second_growth C.picks pair b → AnswersAlike a b }
+    ensures { (t u v : PlainTree C.Key C.Query C.Item) (at one other : Handle) (pair : ℕ × C.Item)
+        (a b : Result Step TreeFault) → HasEnds u → HasEnds v
+        → TakesStep (class_of C.covered C.may_match C.is_match C.key_with C.united) t u at one
+        C.growth C.second_growth C.picks pair a
+        → TakesStep (class_of C.covered C.may_match C.is_match C.key_with C.united) t v at other
+        C.growth C.second_growth C.picks pair b → AnswersAlike a b }
 {}

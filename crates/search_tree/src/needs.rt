@@ -35,8 +35,11 @@ pub(crate) enum Due<K> {
 impl<C: KeyClass, A: Allocator> Tree<C, A> {
     /// What is due at a node: the first case that holds.
     pub(crate) fn first_due<K: Keeper<C::Item>>(&self, at: Handle, keeper: &K) -> Due<C::Key>
-        ensures may { MayDo (class_of C.covered C.may_match C.is_match C.key_with C.united) self.now at result }
-        ensures first { IsSome (value_at self.now.nodes at) → IsFirstDue (class_of C.covered C.may_match C.is_match C.key_with C.united) self.now (λ pair. IsTrue (K.kept keeper.now pair.0 pair.1)) at result }
+        ensures may { MayDo (class_of C.covered C.may_match C.is_match C.key_with C.united) self.now
+            at result }
+        ensures first { IsSome (value_at self.now.nodes at)
+            → IsFirstDue (class_of C.covered C.may_match C.is_match C.key_with C.united) self.now
+            (λ pair. IsTrue (K.kept keeper.now pair.0 pair.1)) at result }
     {
         match stamp_of(&self.nodes, at) {
             Some(stamp) => {
@@ -52,8 +55,11 @@ impl<C: KeyClass, A: Allocator> Tree<C, A> {
 
     /// What is to be done at a node that is not retired.
     fn due_in_place<K: Keeper<C::Item>>(&self, at: Handle, keeper: &K) -> Due<C::Key>
-        ensures may { MayDo (class_of C.covered C.may_match C.is_match C.key_with C.united) self.now at result }
-        ensures first { stamp_at (value_at self.now.nodes at) ≡ None → IsFirstDue (class_of C.covered C.may_match C.is_match C.key_with C.united) self.now (λ pair. IsTrue (K.kept keeper.now pair.0 pair.1)) at result }
+        ensures may { MayDo (class_of C.covered C.may_match C.is_match C.key_with C.united) self.now
+            at result }
+        ensures first { stamp_at (value_at self.now.nodes at) ≡ None
+            → IsFirstDue (class_of C.covered C.may_match C.is_match C.key_with C.united) self.now
+            (λ pair. IsTrue (K.kept keeper.now pair.0 pair.1)) at result }
     {
         if let Some(entry) = self.lacking(at) {
             return Due::Install(entry);
@@ -69,10 +75,15 @@ impl<C: KeyClass, A: Allocator> Tree<C, A> {
 
     /// The entry that the right node of a marked node lacks, where their parent has room for it.
     pub(crate) fn lacking(&self, at: Handle) -> Option<NewEntry<C::Key>>
-        ensures may { IfSome result (MayInstall (class_of C.covered C.may_match C.is_match C.key_with C.united) self.now) }
-        ensures due { IfSome result (λ entry. LacksEntry (class_of C.covered C.may_match C.is_match C.key_with C.united) self.now at) }
+        ensures may { IfSome result
+            (MayInstall (class_of C.covered C.may_match C.is_match C.key_with C.united) self.now) }
+        ensures due { IfSome result
+            (λ entry. LacksEntry (class_of C.covered C.may_match C.is_match C.key_with C.united)
+            self.now at) }
         ensures left { IfSome result (λ entry. entry.left ≡ at) }
-        ensures none { IfNone result (LacksEntry (class_of C.covered C.may_match C.is_match C.key_with C.united) self.now at → ⊥) }
+        ensures none { IfNone result
+            (LacksEntry (class_of C.covered C.may_match C.is_match C.key_with C.united) self.now at
+            → ⊥) }
     {
         let left = self.nodes.get(at)?;
         let parent = parent_of(left.place(), true)?;
@@ -96,8 +107,11 @@ impl<C: KeyClass, A: Allocator> Tree<C, A> {
 
     /// Whether a leaf has a pair that is not kept.
     fn has_unkept<K: Keeper<C::Item>>(&self, at: Handle, keeper: &K) -> bool
-        ensures may { IsTrue result → MayClean (class_of C.covered C.may_match C.is_match C.key_with C.united) self.now at }
-        ensures due { IsTrue result ↔ HasUnkept (class_of C.covered C.may_match C.is_match C.key_with C.united) self.now (λ pair. IsTrue (K.kept keeper.now pair.0 pair.1)) at }
+        ensures may { IsTrue result
+            → MayClean (class_of C.covered C.may_match C.is_match C.key_with C.united) self.now at }
+        ensures due { IsTrue result
+            ↔ HasUnkept (class_of C.covered C.may_match C.is_match C.key_with C.united) self.now
+            (λ pair. IsTrue (K.kept keeper.now pair.0 pair.1)) at }
     {
         let Some(node) = self.nodes.get(at) else {
             return false;
@@ -111,9 +125,15 @@ impl<C: KeyClass, A: Allocator> Tree<C, A> {
     /// The parent of an empty unmarked leaf that is not its only child, and the index of the leaf's
     /// entry.
     fn empty_below(&self, at: Handle) -> Option<(Handle, usize)>
-        ensures may { IfSome result (λ found. MayRetire (class_of C.covered C.may_match C.is_match C.key_with C.united) self.now at found.0 found.1) }
-        ensures due { IfSome result (λ found. IsUnneeded (class_of C.covered C.may_match C.is_match C.key_with C.united) self.now at) }
-        ensures none { IfNone result (IsUnneeded (class_of C.covered C.may_match C.is_match C.key_with C.united) self.now at → ⊥) }
+        ensures may { IfSome result
+            (λ found. MayRetire (class_of C.covered C.may_match C.is_match C.key_with C.united)
+            self.now at found.0 found.1) }
+        ensures due { IfSome result
+            (λ found. IsUnneeded (class_of C.covered C.may_match C.is_match C.key_with C.united)
+            self.now at) }
+        ensures none { IfNone result
+            (IsUnneeded (class_of C.covered C.may_match C.is_match C.key_with C.united) self.now at
+            → ⊥) }
     {
         let leaf = self.nodes.get(at)?;
         if !is_empty_leaf(leaf) {
@@ -151,8 +171,10 @@ fn stamp_in_place(place: Place) -> Option<u64>
 
 /// Whether one of the pairs is not kept.
 fn is_one_unkept<I: Copy, K: Keeper<I>>(pairs: &[(u64, I)], keeper: &K) -> bool
-    ensures some { IsTrue result → (place : ℕ) × (pair : ℕ × I) × (slice_get pairs.now place ≡ Some pair) × (K.kept keeper.now pair.0 pair.1 ≡ false) }
-    ensures none { result ≡ false → (place : ℕ) (pair : ℕ × I) → slice_get pairs.now place ≡ Some pair → IsTrue (K.kept keeper.now pair.0 pair.1) }
+    ensures some { IsTrue result → (place : ℕ) × (pair : ℕ × I)
+        × (slice_get pairs.now place ≡ Some pair) × (K.kept keeper.now pair.0 pair.1 ≡ false) }
+    ensures none { result ≡ false → (place : ℕ) (pair : ℕ × I)
+        → slice_get pairs.now place ≡ Some pair → IsTrue (K.kept keeper.now pair.0 pair.1) }
 {
     for pair in pairs {
         if !keeper.keeps(pair.0, &pair.1) {

@@ -38,8 +38,10 @@ pub(crate) enum Next<K> {
 impl<C: KeyClass, A: Allocator> Tree<C, A> {
     /// What is next for a walk of this item at this node: the first case that holds.
     pub(crate) fn next_for(&self, at: Handle, item: C::Item) -> Next<C::Key>
-        ensures may { MayGo (class_of C.covered C.may_match C.is_match C.key_with C.united) self.now at item result }
-        ensures first { IsNext (class_of C.covered C.may_match C.is_match C.key_with C.united) self.now C.growth C.second_growth at item result }
+        ensures may { MayGo (class_of C.covered C.may_match C.is_match C.key_with C.united) self.now
+            at item result }
+        ensures first { IsNext (class_of C.covered C.may_match C.is_match C.key_with C.united)
+            self.now C.growth C.second_growth at item result }
     {
         match standing_at::<C, A>(&self.nodes, at, C::key_of(item)) {
             Standing::Nowhere => Next::Restart,
@@ -51,9 +53,12 @@ impl<C: KeyClass, A: Allocator> Tree<C, A> {
 
     /// What is next at a node that may take the item.
     fn next_here(&self, at: Handle, item: C::Item) -> Next<C::Key>
-        requires { IsHere (class_of C.covered C.may_match C.is_match C.key_with C.united) self.now.nodes at (C.key_with item) }
-        ensures may { MayGo (class_of C.covered C.may_match C.is_match C.key_with C.united) self.now at item result }
-        ensures first { IsNext (class_of C.covered C.may_match C.is_match C.key_with C.united) self.now C.growth C.second_growth at item result }
+        requires { IsHere (class_of C.covered C.may_match C.is_match C.key_with C.united)
+            self.now.nodes at (C.key_with item) }
+        ensures may { MayGo (class_of C.covered C.may_match C.is_match C.key_with C.united) self.now
+            at item result }
+        ensures first { IsNext (class_of C.covered C.may_match C.is_match C.key_with C.united)
+            self.now C.growth C.second_growth at item result }
     {
         let Some(node) = self.nodes.get(at) else {
             unreachable!();
@@ -66,9 +71,13 @@ impl<C: KeyClass, A: Allocator> Tree<C, A> {
 
     /// What is next at a leaf that may take the item.
     fn next_at_leaf(&self, at: Handle, item: C::Item) -> Next<C::Key>
-        requires { (leaf : PlainNode C.Key C.Item) × IsAtLeaf (class_of C.covered C.may_match C.is_match C.key_with C.united) self.now at item leaf }
-        ensures may { MayGo (class_of C.covered C.may_match C.is_match C.key_with C.united) self.now at item result }
-        ensures first { IsNext (class_of C.covered C.may_match C.is_match C.key_with C.united) self.now C.growth C.second_growth at item result }
+        requires { (leaf : PlainNode C.Key C.Item)
+            × IsAtLeaf (class_of C.covered C.may_match C.is_match C.key_with C.united) self.now at
+            item leaf }
+        ensures may { MayGo (class_of C.covered C.may_match C.is_match C.key_with C.united) self.now
+            at item result }
+        ensures first { IsNext (class_of C.covered C.may_match C.is_match C.key_with C.united)
+            self.now C.growth C.second_growth at item result }
     {
         let Some(node) = self.nodes.get(at) else {
             unreachable!();
@@ -81,9 +90,13 @@ impl<C: KeyClass, A: Allocator> Tree<C, A> {
 
     /// What is next at a leaf where no search holds the item back.
     fn next_when_free(&self, at: Handle, item: C::Item) -> Next<C::Key>
-        requires { (leaf : PlainNode C.Key C.Item) × IsFree (class_of C.covered C.may_match C.is_match C.key_with C.united) self.now at item leaf }
-        ensures may { MayGo (class_of C.covered C.may_match C.is_match C.key_with C.united) self.now at item result }
-        ensures first { IsNext (class_of C.covered C.may_match C.is_match C.key_with C.united) self.now C.growth C.second_growth at item result }
+        requires { (leaf : PlainNode C.Key C.Item)
+            × IsFree (class_of C.covered C.may_match C.is_match C.key_with C.united) self.now at
+            item leaf }
+        ensures may { MayGo (class_of C.covered C.may_match C.is_match C.key_with C.united) self.now
+            at item result }
+        ensures first { IsNext (class_of C.covered C.may_match C.is_match C.key_with C.united)
+            self.now C.growth C.second_growth at item result }
     {
         let Some(node) = self.nodes.get(at) else {
             unreachable!();
@@ -96,11 +109,15 @@ impl<C: KeyClass, A: Allocator> Tree<C, A> {
 
     /// The entry of an inner node to go down by: one that grows least by the key.
     fn best_way(&self, at: Handle, key: C::Key) -> WayDown<C::Key>
-        requires here { IsHere (class_of C.covered C.may_match C.is_match C.key_with C.united) self.now.nodes at key }
-        requires inner { (node : PlainNode C.Key C.Item) × (value_at self.now.nodes at ≡ Some node) × IsInner node.body }
-        ensures may { MayDescend (class_of C.covered C.may_match C.is_match C.key_with C.united) self.now result key }
+        requires here { IsHere (class_of C.covered C.may_match C.is_match C.key_with C.united)
+            self.now.nodes at key }
+        requires inner { (node : PlainNode C.Key C.Item) × (value_at self.now.nodes at ≡ Some node)
+            × IsInner node.body }
+        ensures may { MayDescend (class_of C.covered C.may_match C.is_match C.key_with C.united)
+            self.now result key }
         ensures from { result.parent ≡ at }
-        ensures best { IsWayDown (class_of C.covered C.may_match C.is_match C.key_with C.united) self.now C.growth C.second_growth at key result.child result.key }
+        ensures best { IsWayDown (class_of C.covered C.may_match C.is_match C.key_with C.united)
+            self.now C.growth C.second_growth at key result.child result.key }
     {
         let Some(node) = self.nodes.get(at) else {
             unreachable!();

@@ -22,11 +22,18 @@ impl<C: KeyClass, A: Allocator + Copy> Tree<C, A> {
     /// S2 where `MAX_RUNNING` searches run, else S6 where the next number is `u64::MAX`, else S8
     /// where an allocation is refused.
     pub fn open_search(&mut self, query: C::Query) -> Result<u64, TreeFault>
-        ensures ok { IfOk result (IsOpen (class_of C.covered C.may_match C.is_match C.key_with C.united) self.old self.new query) }
-        ensures too_many { (result ≡ Err TreeFault.TooMany) ↔ (length self.old.running.running ≡ MAX_RUNNING) }
-        ensures spent { (result ≡ Err TreeFault.Spent) ↔ ((length self.old.running.running ≢ MAX_RUNNING) × (self.old.running.next ≡ last_number)) }
+        ensures ok { IfOk result
+            (IsOpen (class_of C.covered C.may_match C.is_match C.key_with C.united) self.old
+            self.new query) }
+        ensures too_many { (result ≡ Err TreeFault.TooMany)
+            ↔ (length self.old.running.running ≡ MAX_RUNNING) }
+        ensures spent { (result ≡ Err TreeFault.Spent)
+            ↔ ((length self.old.running.running ≢ MAX_RUNNING)
+            × (self.old.running.next ≡ last_number)) }
         ensures err { OnErr result (self.new ≡ self.old) }
-        ensures why { IfErr result (λ fault. (fault ≡ TreeFault.TooMany) ⊎ ((fault ≡ TreeFault.Spent) ⊎ (fault ≡ TreeFault.Memory refused))) }
+        ensures why { IfErr result
+            (λ fault. (fault ≡ TreeFault.TooMany)
+            ⊎ ((fault ≡ TreeFault.Spent) ⊎ (fault ≡ TreeFault.Memory refused))) }
     {
         if self.running.searches().len() == MAX_RUNNING {
             return Err(TreeFault::TooMany);
@@ -48,7 +55,8 @@ impl<C: KeyClass, A: Allocator + Copy> Tree<C, A> {
 impl<C: KeyClass, A: Allocator> Tree<C, A> {
     /// Ends a search. Nothing changes where none runs under the number.
     pub fn close_search(&mut self, search: u64)
-        ensures { IsShut (class_of C.covered C.may_match C.is_match C.key_with C.united) self.old self.new search }
+        ensures { IsShut (class_of C.covered C.may_match C.is_match C.key_with C.united) self.old
+            self.new search }
     {
         self.running.leave(search);
         drop_progress(&mut self.progress, search);
@@ -58,7 +66,9 @@ impl<C: KeyClass, A: Allocator> Tree<C, A> {
     /// is ready, they include every pair of the tree whose item matches its query.
     pub fn found(&self, search: u64) -> &[(u64, C::Item)]
         ensures value { result.now ≡ found_in self.now search }
-        ensures complete { IsComplete (class_of C.covered C.may_match C.is_match C.key_with C.united) self.now search result.now }
+        ensures complete { IsComplete
+            (class_of C.covered C.may_match C.is_match C.key_with C.united) self.now search
+            result.now }
     {
         match place_of(&self.progress, search) {
             Some(at) => self.progress[at].found(),

@@ -36,10 +36,16 @@ pub(crate) enum Room<K> {
 impl<C: KeyClass, A: Allocator> Tree<C, A> {
     /// The first change to make where others have to come before `wanted`.
     pub(crate) fn nearest(&self, wanted: Room<C::Key>) -> Room<C::Key>
-        requires { MayMake (class_of C.covered C.may_match C.is_match C.key_with C.united) self.now wanted }
-        ensures may { MayMake (class_of C.covered C.may_match C.is_match C.key_with C.united) self.now result }
-        ensures first { (change : Change) → ComesTo (class_of C.covered C.may_match C.is_match C.key_with C.united) self.now result change → ComesTo (class_of C.covered C.may_match C.is_match C.key_with C.united) self.now wanted change }
-        ensures last { LooksFrom (class_of C.covered C.may_match C.is_match C.key_with C.united) self.now 0 wanted → IsChange result }
+        requires { MayMake (class_of C.covered C.may_match C.is_match C.key_with C.united) self.now
+            wanted }
+        ensures may { MayMake (class_of C.covered C.may_match C.is_match C.key_with C.united)
+            self.now result }
+        ensures first { (change : Change)
+            → ComesTo (class_of C.covered C.may_match C.is_match C.key_with C.united) self.now
+            result change → ComesTo (class_of C.covered C.may_match C.is_match C.key_with C.united)
+            self.now wanted change }
+        ensures last { LooksFrom (class_of C.covered C.may_match C.is_match C.key_with C.united)
+            self.now 0 wanted → IsChange result }
     {
         let mut room = wanted;
         for _turn in 0..=TOP_LEVEL {
@@ -54,9 +60,16 @@ impl<C: KeyClass, A: Allocator> Tree<C, A> {
     /// What gives the right node of a marked node its entry: its install, or what makes room in
     /// their parent first.
     fn room_behind(&self, left: Handle) -> Room<C::Key>
-        ensures may { MayMake (class_of C.covered C.may_match C.is_match C.key_with C.united) self.now result }
-        ensures first { (change : Change) → ComesTo (class_of C.covered C.may_match C.is_match C.key_with C.united) self.now result change → BeginsWith (class_of C.covered C.may_match C.is_match C.key_with C.united) self.now change left }
-        ensures higher { (level : ℕ) → IsMarkedFrom (class_of C.covered C.may_match C.is_match C.key_with C.united) self.now level left → LooksFrom (class_of C.covered C.may_match C.is_match C.key_with C.united) self.now (level + 1) result }
+        ensures may { MayMake (class_of C.covered C.may_match C.is_match C.key_with C.united)
+            self.now result }
+        ensures first { (change : Change)
+            → ComesTo (class_of C.covered C.may_match C.is_match C.key_with C.united) self.now
+            result change → BeginsWith
+            (class_of C.covered C.may_match C.is_match C.key_with C.united) self.now change left }
+        ensures higher { (level : ℕ)
+            → IsMarkedFrom (class_of C.covered C.may_match C.is_match C.key_with C.united) self.now
+            level left → LooksFrom (class_of C.covered C.may_match C.is_match C.key_with C.united)
+            self.now (level + 1) result }
     {
         match self.lacking(left) {
             Some(entry) => Room::Install(entry),
@@ -66,10 +79,18 @@ impl<C: KeyClass, A: Allocator> Tree<C, A> {
 
     /// What makes room in the full parent of a marked node.
     fn room_above(&self, left: Handle) -> Room<C::Key>
-        requires { LacksEntry (class_of C.covered C.may_match C.is_match C.key_with C.united) self.now left → ⊥ }
-        ensures may { MayMake (class_of C.covered C.may_match C.is_match C.key_with C.united) self.now result }
-        ensures first { (change : Change) → ComesTo (class_of C.covered C.may_match C.is_match C.key_with C.united) self.now result change → BeginsWith (class_of C.covered C.may_match C.is_match C.key_with C.united) self.now change left }
-        ensures higher { (level : ℕ) → IsMarkedFrom (class_of C.covered C.may_match C.is_match C.key_with C.united) self.now level left → LooksFrom (class_of C.covered C.may_match C.is_match C.key_with C.united) self.now (level + 1) result }
+        requires { LacksEntry (class_of C.covered C.may_match C.is_match C.key_with C.united)
+            self.now left → ⊥ }
+        ensures may { MayMake (class_of C.covered C.may_match C.is_match C.key_with C.united)
+            self.now result }
+        ensures first { (change : Change)
+            → ComesTo (class_of C.covered C.may_match C.is_match C.key_with C.united) self.now
+            result change → BeginsWith
+            (class_of C.covered C.may_match C.is_match C.key_with C.united) self.now change left }
+        ensures higher { (level : ℕ)
+            → IsMarkedFrom (class_of C.covered C.may_match C.is_match C.key_with C.united) self.now
+            level left → LooksFrom (class_of C.covered C.may_match C.is_match C.key_with C.united)
+            self.now (level + 1) result }
     {
         let Some(node) = self.nodes.get(left) else {
             return Room::Nothing;
@@ -82,9 +103,18 @@ impl<C: KeyClass, A: Allocator> Tree<C, A> {
 
     /// What makes room in a full node.
     pub(crate) fn room_at(&self, at: Handle) -> Room<C::Key>
-        ensures may { MayMake (class_of C.covered C.may_match C.is_match C.key_with C.united) self.now result }
-        ensures first { (change : Change) → ComesTo (class_of C.covered C.may_match C.is_match C.key_with C.united) self.now result change → (node : PlainNode C.Key C.Item) × (value_at self.now.nodes at ≡ Some node) × (size_of node.body ≡ NODE_SIZE) × MakesRoom (class_of C.covered C.may_match C.is_match C.key_with C.united) self.now at node.place change }
-        ensures looks { (node : PlainNode C.Key C.Item) → value_at self.now.nodes at ≡ Some node → size_of node.body ≡ NODE_SIZE → LooksFrom (class_of C.covered C.may_match C.is_match C.key_with C.united) self.now node.level result }
+        ensures may { MayMake (class_of C.covered C.may_match C.is_match C.key_with C.united)
+            self.now result }
+        ensures first { (change : Change)
+            → ComesTo (class_of C.covered C.may_match C.is_match C.key_with C.united) self.now
+            result change → (node : PlainNode C.Key C.Item)
+            × (value_at self.now.nodes at ≡ Some node) × (size_of node.body ≡ NODE_SIZE)
+            × MakesRoom (class_of C.covered C.may_match C.is_match C.key_with C.united) self.now at
+            node.place change }
+        ensures looks { (node : PlainNode C.Key C.Item) → value_at self.now.nodes at ≡ Some node
+            → size_of node.body ≡ NODE_SIZE
+            → LooksFrom (class_of C.covered C.may_match C.is_match C.key_with C.united) self.now
+            node.level result }
     {
         let Some(node) = self.nodes.get(at) else {
             return Room::Nothing;

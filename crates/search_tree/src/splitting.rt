@@ -26,14 +26,23 @@ impl<C: KeyClass, A: Allocator + Copy> Tree<C, A> {
     /// S4 where no slot is left: nothing changes. S8 where an allocation is refused: only spare
     /// capacity may grow.
     pub(crate) fn split(&mut self, at: Handle) -> Result<Handle, TreeFault>
-        requires { MaySplit (class_of C.covered C.may_match C.is_match C.key_with C.united) self.old at }
-        ensures ok { OnOk result (HasMoreNodes (class_of C.covered C.may_match C.is_match C.key_with C.united) self.old self.new 1 0) }
-        ensures right { IfOk result (λ right. right_of_marked (value_at self.new.nodes at) ≡ Some right) }
-        ensures parted { IfOk result (HasSplit C.key_with C.picks self.old.nodes self.new.nodes at) }
-        ensures full { (result ≡ Err TreeFault.Full) ↔ (MAX_SLOTS < taken_count self.old.nodes + 1) }
-        ensures faults { IfErr result (λ fault. (fault ≡ TreeFault.Full) ⊎ (fault ≡ TreeFault.Memory refused)) }
+        requires { MaySplit (class_of C.covered C.may_match C.is_match C.key_with C.united) self.old
+            at }
+        ensures ok { OnOk result
+            (HasMoreNodes (class_of C.covered C.may_match C.is_match C.key_with C.united) self.old
+            self.new 1 0) }
+        ensures right { IfOk result
+            (λ right. right_of_marked (value_at self.new.nodes at) ≡ Some right) }
+        ensures parted { IfOk result
+            (HasSplit C.key_with C.picks self.old.nodes self.new.nodes at) }
+        ensures full { (result ≡ Err TreeFault.Full)
+            ↔ (MAX_SLOTS < taken_count self.old.nodes + 1) }
+        ensures faults { IfErr result
+            (λ fault. (fault ≡ TreeFault.Full) ⊎ (fault ≡ TreeFault.Memory refused)) }
         ensures untouched { result ≡ Err TreeFault.Full → self.new ≡ self.old }
-        ensures err { OnErr result (IsUntouched (class_of C.covered C.may_match C.is_match C.key_with C.united) self.old self.new) }
+        ensures err { OnErr result
+            (IsUntouched (class_of C.covered C.may_match C.is_match C.key_with C.united) self.old
+            self.new) }
     {
         split_in::<C, A>(&mut self.nodes, self.alloc, at)
     }
@@ -48,7 +57,8 @@ fn split_in<C: KeyClass, A: Allocator + Copy>(
     requires { IsFullLinked nodes.old at }
     ensures ok { IfOk result (HasSplit C.key_with C.picks nodes.old nodes.new at) }
     ensures full { (result ≡ Err TreeFault.Full) ↔ (MAX_SLOTS < taken_count nodes.old + 1) }
-    ensures faults { IfErr result (λ fault. (fault ≡ TreeFault.Full) ⊎ (fault ≡ TreeFault.Memory refused)) }
+    ensures faults { IfErr result
+        (λ fault. (fault ≡ TreeFault.Full) ⊎ (fault ≡ TreeFault.Memory refused)) }
     ensures untouched { result ≡ Err TreeFault.Full → nodes.new ≡ nodes.old }
     ensures err { OnErr result (AreSame nodes.old nodes.new) }
 {
@@ -66,7 +76,8 @@ pub(crate) fn make_slots<K, I, A: Allocator>(
     ensures ok { OnOk result (HasRoomFor nodes.new more) }
     ensures fits { OnOk result (taken_count nodes.old + more ≤ MAX_SLOTS) }
     ensures full { (result ≡ Err TreeFault.Full) ↔ (MAX_SLOTS < taken_count nodes.old + more) }
-    ensures faults { IfErr result (λ fault. (fault ≡ TreeFault.Full) ⊎ (fault ≡ TreeFault.Memory refused)) }
+    ensures faults { IfErr result
+        (λ fault. (fault ≡ TreeFault.Full) ⊎ (fault ≡ TreeFault.Memory refused)) }
     ensures untouched { OnErr result (nodes.new ≡ nodes.old) }
     ensures same { AreSame nodes.old nodes.new }
 {

@@ -31,13 +31,24 @@ impl<C: KeyClass, A: Allocator> Tree<C, A> {
     /// It takes no memory, and changes no search. S6 where a node is to be installed or retired and
     /// the counter is `u64::MAX`: nothing changes.
     pub fn tend<K: Keeper<C::Item>>(&mut self, slot: u32, keeper: &K) -> Result<Tending, TreeFault>
-        ensures tended { IfOk result (HasTended (class_of C.covered C.may_match C.is_match C.key_with C.united) self.old self.new) }
-        ensures contents { IfOk result (ContentsTended (class_of C.covered C.may_match C.is_match C.key_with C.united) self.old (λ pair. IsTrue (K.kept keeper.now pair.0 pair.1)) self.new) }
-        ensures first { (at : Handle) → at.slot ≡ slot → IsSome (value_at self.old.nodes at) → AnswersFirst (class_of C.covered C.may_match C.is_match C.key_with C.united) self.old (λ pair. IsTrue (K.kept keeper.now pair.0 pair.1)) at result }
-        ensures step { (at : Handle) → at.slot ≡ slot → IsSome (value_at self.old.nodes at) → IfOk result (StepsAt (class_of C.covered C.may_match C.is_match C.key_with C.united) self.old (λ pair. IsTrue (K.kept keeper.now pair.0 pair.1)) at self.new) }
-        ensures nobody { ((at : Handle) → at.slot ≡ slot → IsSome (value_at self.old.nodes at) → ⊥) → result ≡ Ok Tending.Idle }
-        ensures untouched { ((at : Handle) → at.slot ≡ slot → IsSome (value_at self.old.nodes at) → ⊥) → self.new ≡ self.old }
-        ensures spent { IfErr result (λ fault. (fault ≡ TreeFault.Spent) × (self.old.counter ≡ last_number)) }
+        ensures tended { IfOk result
+            (HasTended (class_of C.covered C.may_match C.is_match C.key_with C.united) self.old
+            self.new) }
+        ensures contents { IfOk result
+            (ContentsTended (class_of C.covered C.may_match C.is_match C.key_with C.united) self.old
+            (λ pair. IsTrue (K.kept keeper.now pair.0 pair.1)) self.new) }
+        ensures first { (at : Handle) → at.slot ≡ slot → IsSome (value_at self.old.nodes at)
+            → AnswersFirst (class_of C.covered C.may_match C.is_match C.key_with C.united) self.old
+            (λ pair. IsTrue (K.kept keeper.now pair.0 pair.1)) at result }
+        ensures step { (at : Handle) → at.slot ≡ slot → IsSome (value_at self.old.nodes at)
+            → IfOk result (StepsAt (class_of C.covered C.may_match C.is_match C.key_with C.united)
+            self.old (λ pair. IsTrue (K.kept keeper.now pair.0 pair.1)) at self.new) }
+        ensures nobody { ((at : Handle) → at.slot ≡ slot → IsSome (value_at self.old.nodes at) → ⊥)
+            → result ≡ Ok Tending.Idle }
+        ensures untouched { ((at : Handle) → at.slot ≡ slot → IsSome (value_at self.old.nodes at)
+            → ⊥) → self.new ≡ self.old }
+        ensures spent { IfErr result
+            (λ fault. (fault ≡ TreeFault.Spent) × (self.old.counter ≡ last_number)) }
         ensures err { OnErr result (self.new ≡ self.old) }
     {
         match self.nodes.at_slot(slot) {
@@ -48,11 +59,20 @@ impl<C: KeyClass, A: Allocator> Tree<C, A> {
 
     /// Does the first thing that is due at a node.
     fn tend_at<K: Keeper<C::Item>>(&mut self, at: Handle, keeper: &K) -> Result<Tending, TreeFault>
-        ensures tended { IfOk result (HasTended (class_of C.covered C.may_match C.is_match C.key_with C.united) self.old self.new) }
-        ensures contents { IfOk result (ContentsTended (class_of C.covered C.may_match C.is_match C.key_with C.united) self.old (λ pair. IsTrue (K.kept keeper.now pair.0 pair.1)) self.new) }
-        ensures first { IsSome (value_at self.old.nodes at) → AnswersFirst (class_of C.covered C.may_match C.is_match C.key_with C.united) self.old (λ pair. IsTrue (K.kept keeper.now pair.0 pair.1)) at result }
-        ensures step { IfOk result (StepsAt (class_of C.covered C.may_match C.is_match C.key_with C.united) self.old (λ pair. IsTrue (K.kept keeper.now pair.0 pair.1)) at self.new) }
-        ensures spent { IfErr result (λ fault. (fault ≡ TreeFault.Spent) × (self.old.counter ≡ last_number)) }
+        ensures tended { IfOk result
+            (HasTended (class_of C.covered C.may_match C.is_match C.key_with C.united) self.old
+            self.new) }
+        ensures contents { IfOk result
+            (ContentsTended (class_of C.covered C.may_match C.is_match C.key_with C.united) self.old
+            (λ pair. IsTrue (K.kept keeper.now pair.0 pair.1)) self.new) }
+        ensures first { IsSome (value_at self.old.nodes at)
+            → AnswersFirst (class_of C.covered C.may_match C.is_match C.key_with C.united) self.old
+            (λ pair. IsTrue (K.kept keeper.now pair.0 pair.1)) at result }
+        ensures step { IfOk result
+            (StepsAt (class_of C.covered C.may_match C.is_match C.key_with C.united) self.old
+            (λ pair. IsTrue (K.kept keeper.now pair.0 pair.1)) at self.new) }
+        ensures spent { IfErr result
+            (λ fault. (fault ≡ TreeFault.Spent) × (self.old.counter ≡ last_number)) }
         ensures err { OnErr result (self.new ≡ self.old) }
     {
         match self.first_due(at, keeper) {
@@ -81,7 +101,8 @@ impl<C: KeyClass, A: Allocator> Tree<C, A> {
     /// The counter's next value. S6 where the counter is `u64::MAX`.
     pub(crate) fn next_count(&self) -> Result<u64, TreeFault>
         ensures ok { IfOk result (λ next. next ≡ self.now.counter + 1) }
-        ensures err { IfErr result (λ fault. (fault ≡ TreeFault.Spent) × (self.now.counter ≡ last_number)) }
+        ensures err { IfErr result
+            (λ fault. (fault ≡ TreeFault.Spent) × (self.now.counter ≡ last_number)) }
     {
         match self.counter.checked_add(1) {
             Some(next) => Ok(next),
@@ -91,10 +112,15 @@ impl<C: KeyClass, A: Allocator> Tree<C, A> {
 
     /// Removes a retired node.
     fn free(&mut self, at: Handle)
-        requires { MayFree (class_of C.covered C.may_match C.is_match C.key_with C.united) self.old at }
-        ensures tended { HasTended (class_of C.covered C.may_match C.is_match C.key_with C.united) self.old self.new Tending.Freed }
-        ensures contents { SameContents (class_of C.covered C.may_match C.is_match C.key_with C.united) self.old self.new }
-        ensures step { IsFreed (tree_of (class_of C.covered C.may_match C.is_match C.key_with C.united) self.old) (tree_of (class_of C.covered C.may_match C.is_match C.key_with C.united) self.new) at }
+        requires { MayFree (class_of C.covered C.may_match C.is_match C.key_with C.united) self.old
+            at }
+        ensures tended { HasTended (class_of C.covered C.may_match C.is_match C.key_with C.united)
+            self.old self.new Tending.Freed }
+        ensures contents { SameContents
+            (class_of C.covered C.may_match C.is_match C.key_with C.united) self.old self.new }
+        ensures step { IsFreed
+            (tree_of (class_of C.covered C.may_match C.is_match C.key_with C.united) self.old)
+            (tree_of (class_of C.covered C.may_match C.is_match C.key_with C.united) self.new) at }
         ensures freed { taken_count self.new.nodes + slots_freed at ≡ taken_count self.old.nodes }
     {
         self.nodes.remove(at);
@@ -103,11 +129,17 @@ impl<C: KeyClass, A: Allocator> Tree<C, A> {
     /// Retires an empty leaf: removes its entry, at index `place` of its parent. Searches whose
     /// stacks name it may still visit it.
     fn retire(&mut self, at: Handle, parent: Handle, place: usize, stamp: u64)
-        requires may { MayRetire (class_of C.covered C.may_match C.is_match C.key_with C.united) self.old at parent place }
+        requires may { MayRetire (class_of C.covered C.may_match C.is_match C.key_with C.united)
+            self.old at parent place }
         requires stamp { stamp ≡ self.old.counter + 1 }
-        ensures tended { HasTended (class_of C.covered C.may_match C.is_match C.key_with C.united) self.old self.new Tending.Retired }
-        ensures contents { SameContents (class_of C.covered C.may_match C.is_match C.key_with C.united) self.old self.new }
-        ensures step { IsRetired (tree_of (class_of C.covered C.may_match C.is_match C.key_with C.united) self.old) (tree_of (class_of C.covered C.may_match C.is_match C.key_with C.united) self.new) at parent }
+        ensures tended { HasTended (class_of C.covered C.may_match C.is_match C.key_with C.united)
+            self.old self.new Tending.Retired }
+        ensures contents { SameContents
+            (class_of C.covered C.may_match C.is_match C.key_with C.united) self.old self.new }
+        ensures step { IsRetired
+            (tree_of (class_of C.covered C.may_match C.is_match C.key_with C.united) self.old)
+            (tree_of (class_of C.covered C.may_match C.is_match C.key_with C.united) self.new) at
+            parent }
     {
         set_place(&mut self.nodes, at, Place::Retired { stamp });
         remove_entry(&mut self.nodes, parent, place);
@@ -116,10 +148,17 @@ impl<C: KeyClass, A: Allocator> Tree<C, A> {
 
     /// Removes the pairs of a leaf that are not kept.
     fn clean<K: Keeper<C::Item>>(&mut self, at: Handle, keeper: &K)
-        requires { MayClean (class_of C.covered C.may_match C.is_match C.key_with C.united) self.old at }
-        ensures tended { HasTended (class_of C.covered C.may_match C.is_match C.key_with C.united) self.old self.new Tending.Cleaned }
-        ensures contents { ContentsLess (class_of C.covered C.may_match C.is_match C.key_with C.united) self.old self.new (λ pair. IsTrue (K.kept keeper.now pair.0 pair.1)) }
-        ensures step { IsCleaned (tree_of (class_of C.covered C.may_match C.is_match C.key_with C.united) self.old) (tree_of (class_of C.covered C.may_match C.is_match C.key_with C.united) self.new) (λ pair. IsTrue (K.kept keeper.now pair.0 pair.1)) at }
+        requires { MayClean (class_of C.covered C.may_match C.is_match C.key_with C.united) self.old
+            at }
+        ensures tended { HasTended (class_of C.covered C.may_match C.is_match C.key_with C.united)
+            self.old self.new Tending.Cleaned }
+        ensures contents { ContentsLess
+            (class_of C.covered C.may_match C.is_match C.key_with C.united) self.old self.new
+            (λ pair. IsTrue (K.kept keeper.now pair.0 pair.1)) }
+        ensures step { IsCleaned
+            (tree_of (class_of C.covered C.may_match C.is_match C.key_with C.united) self.old)
+            (tree_of (class_of C.covered C.may_match C.is_match C.key_with C.united) self.new)
+            (λ pair. IsTrue (K.kept keeper.now pair.0 pair.1)) at }
     {
         keep(&mut self.nodes, at, keeper);
     }

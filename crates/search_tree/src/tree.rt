@@ -59,7 +59,9 @@ impl<C: KeyClass, A: Allocator> Model for Tree<C, A> {
 impl<C: KeyClass, A: Allocator + Copy> Tree<C, A> {
     /// A tree with no pairs and no searches. S8 where an allocation is refused.
     pub fn new(alloc: A) -> Result<Self, TreeFault>
-        ensures ok { IfOk result (IsFirst (class_of C.covered C.may_match C.is_match C.key_with C.united) 0 0 1 MAX_STEPS) }
+        ensures ok { IfOk result
+            (IsFirst (class_of C.covered C.may_match C.is_match C.key_with C.united) 0 0 1
+            MAX_STEPS) }
         ensures memory { IfErr result (λ fault. fault ≡ TreeFault.Memory refused) }
     {
         Self::starting_at(alloc, 0, 0, 1, MAX_STEPS)
@@ -75,7 +77,9 @@ impl<C: KeyClass, A: Allocator + Copy> Tree<C, A> {
         steps: u64,
     ) -> Result<Self, TreeFault>
         requires { steps ≤ MAX_STEPS }
-        ensures ok { IfOk result (IsFirst (class_of C.covered C.may_match C.is_match C.key_with C.united) generation counter search steps) }
+        ensures ok { IfOk result
+            (IsFirst (class_of C.covered C.may_match C.is_match C.key_with C.united) generation
+            counter search steps) }
         ensures memory { IfErr result (λ fault. fault ≡ TreeFault.Memory refused) }
     {
         let first = TreeNode::first(alloc, counter)?;

@@ -37,7 +37,8 @@ impl<C: KeyClass, A: Allocator + Copy> Tree<C, A> {
     /// refused: nothing changes, the nodes and the search's stack included, except that spare
     /// capacity may grow.
     pub fn visit(&mut self, search: u64) -> Result<Visit, TreeFault>
-        ensures { IsVisit (class_of C.covered C.may_match C.is_match C.key_with C.united) self.old self.new search result }
+        ensures { IsVisit (class_of C.covered C.may_match C.is_match C.key_with C.united) self.old
+            self.new search result }
     {
         match self.state_of(search) {
             State::Gone => Err(TreeFault::NoSearch),
@@ -81,8 +82,12 @@ impl<C: KeyClass, A: Allocator + Copy> Tree<C, A> {
     /// Makes one step of the search whose progress is at this index.
     fn visit_at(&mut self, at: usize, search: u64) -> Result<Visit, Refused>
         requires { MayStep self.old search at }
-        ensures ok { IfOk result (λ visit. IsFurther (class_of C.covered C.may_match C.is_match C.key_with C.united) self.old self.new search (is_ready visit)) }
-        ensures err { OnErr result (IsUntouched (class_of C.covered C.may_match C.is_match C.key_with C.united) self.old self.new) }
+        ensures ok { IfOk result
+            (λ visit. IsFurther (class_of C.covered C.may_match C.is_match C.key_with C.united)
+            self.old self.new search (is_ready visit)) }
+        ensures err { OnErr result
+            (IsUntouched (class_of C.covered C.may_match C.is_match C.key_with C.united) self.old
+            self.new) }
     {
         let Some(query) = self.running.query(search) else {
             unreachable!();

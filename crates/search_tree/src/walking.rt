@@ -21,8 +21,12 @@ pub(crate) fn holder_of<C: KeyClass, A: Allocator>(
     attached: &Attached<A>,
     item: C::Item,
 ) -> Option<u64>
-    ensures held { IfSome result (IsHolder (class_of C.covered C.may_match C.is_match C.key_with C.united) running.now attached.now.numbers item) }
-    ensures free { IfNone result (NoneHolds (class_of C.covered C.may_match C.is_match C.key_with C.united) running.now attached.now.numbers item) }
+    ensures held { IfSome result
+        (IsHolder (class_of C.covered C.may_match C.is_match C.key_with C.united) running.now
+        attached.now.numbers item) }
+    ensures free { IfNone result
+        (NoneHolds (class_of C.covered C.may_match C.is_match C.key_with C.united) running.now
+        attached.now.numbers item) }
 {
     running.first_meeting(attached, &|query: &C::Query| C::matches(item, *query))
 }
@@ -30,9 +34,15 @@ pub(crate) fn holder_of<C: KeyClass, A: Allocator>(
 impl<C: KeyClass, A: Allocator> Tree<C, A> {
     /// Adds a pair to a leaf that may take it. No ready search looks for the pair.
     pub(crate) fn place(&mut self, at: Handle, key: u64, item: C::Item)
-        requires { MayPlace (class_of C.covered C.may_match C.is_match C.key_with C.united) self.old at (key, item) }
-        ensures placed { HasPlacedBehindNone (class_of C.covered C.may_match C.is_match C.key_with C.united) self.old self.new (key, item) }
-        ensures step { IsPlaced (tree_of (class_of C.covered C.may_match C.is_match C.key_with C.united) self.old) (tree_of (class_of C.covered C.may_match C.is_match C.key_with C.united) self.new) at (key, item) }
+        requires { MayPlace (class_of C.covered C.may_match C.is_match C.key_with C.united) self.old
+            at (key, item) }
+        ensures placed { HasPlacedBehindNone
+            (class_of C.covered C.may_match C.is_match C.key_with C.united) self.old self.new
+            (key, item) }
+        ensures step { IsPlaced
+            (tree_of (class_of C.covered C.may_match C.is_match C.key_with C.united) self.old)
+            (tree_of (class_of C.covered C.may_match C.is_match C.key_with C.united) self.new) at
+            (key, item) }
     {
         push_pair(&mut self.nodes, at, key, item);
     }

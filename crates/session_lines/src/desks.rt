@@ -70,7 +70,8 @@ impl Staged {
 
     /// Commits the staged list, and drops it once it is judged. E7 where nothing is staged.
     fn commit<S: Service>(&mut self, service: &mut S) -> Reply
-        ensures { Closes S.serves (desk self.old service.old) (desk self.new service.new) (line result) }
+        ensures { Closes S.serves (desk self.old service.old) (desk self.new service.new)
+            (line result) }
     {
         if self.changes.len() == 0 {
             return Reply::Error(Fault::NothingStaged);
@@ -104,7 +105,8 @@ pub fn answer<S: Service>(
     staged: &mut Staged,
     text: &[u8],
 ) -> Said<S::Memory>
-    ensures { Answers S.subject_of S.serves text.now (desk staged.old service.old) (desk staged.new service.new) (said_view result) }
+    ensures { Answers S.subject_of S.serves text.now (desk staged.old service.old)
+        (desk staged.new service.new) (said_view result) }
 {
     match read_verb(service.subject().is_some(), text) {
         Err(fault) => Said::Line(Reply::Error(fault)),
@@ -120,7 +122,8 @@ fn take_command<S: Service>(
     verb: Verb,
     rest: &[u8],
 ) -> Said<S::Memory>
-    ensures { Does S.subject_of S.serves verb rest.now (desk staged.old service.old) (desk staged.new service.new) (said_view result) }
+    ensures { Does S.subject_of S.serves verb rest.now (desk staged.old service.old)
+        (desk staged.new service.new) (said_view result) }
 {
     if is_policy(&verb) {
         return Said::Line(govern(service, heap, rest));
@@ -133,7 +136,9 @@ fn take_command<S: Service>(
 
 /// Puts in force the document that a text spells. The staged list stays.
 fn govern<S: Service>(service: &mut S, heap: Global, text: &[u8]) -> Reply
-    ensures { (staged : List Change) → Governs S.serves text.now (desk staged service.old) (desk staged service.new) (line result) }
+    ensures { (staged : List Change)
+        → Governs S.serves text.now (desk staged service.old) (desk staged service.new)
+        (line result) }
 {
     match read_document(heap, heap, text) {
         Err(fault) => policy_reply(fault),
@@ -143,7 +148,9 @@ fn govern<S: Service>(service: &mut S, heap: Global, text: &[u8]) -> Reply
 
 /// The ruling of the policy in force on what the session's subject asks. The staged list stays.
 fn explain<S: Service>(service: &mut S, asking: &Asking) -> Reply
-    ensures { (staged : List Change) → Asks S.subject_of S.serves asking.now (desk staged service.old) (desk staged service.new) (line result) }
+    ensures { (staged : List Change)
+        → Asks S.subject_of S.serves asking.now (desk staged service.old) (desk staged service.new)
+        (line result) }
 {
     match service.subject() {
         None => Reply::Error(Fault::BeforeHello),
@@ -159,7 +166,8 @@ fn explain<S: Service>(service: &mut S, asking: &Asking) -> Reply
 
 /// Does what a command asks.
 fn obey<S: Service>(service: &mut S, staged: &mut Staged, command: Command) -> Said<S::Memory>
-    ensures { Obeys S.subject_of S.serves command (desk staged.old service.old) (desk staged.new service.new) (said_view result) }
+    ensures { Obeys S.subject_of S.serves command (desk staged.old service.old)
+        (desk staged.new service.new) (said_view result) }
 {
     match command {
         Command::Hello(name) => Said::Line(service.hello(name)),

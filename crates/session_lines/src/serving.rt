@@ -78,12 +78,19 @@ pub fn serve<S: Service, A: Allocator, R: Read, W: Write>(
     reader: &mut R,
     writer: &mut W,
 ) -> Result<Flushed, ServeFault>
-    ensures served_text { OnOk result (IfSome (R.remaining reader.old) (λ input. (said : List ℕ) × Appends (W.contents writer.old) (W.contents writer.new) said
+    ensures served_text { OnOk result
+        (IfSome (R.remaining reader.old)
+        (λ input. (said : List ℕ) × Appends (W.contents writer.old) (W.contents writer.new) said
         × IsServedText S.subject_of S.serves service.old input service.new said)) }
-    ensures ran { (staged : List Change) × Ran (LineTells S.subject_of S.serves) result (desk [] service.old) (desk staged service.new)
-        (R.remaining reader.old) (R.remaining reader.new) (W.contents writer.old) (W.contents writer.new) }
-    ensures calls { (calls : List (Call × SaidData)) × Calls S.serves calls service.old service.new }
-    ensures untouched { IfErr result (λ fault. OnMemory fault ((service.new ≡ service.old) × (reader.new ≡ reader.old) × (writer.new ≡ writer.old))) }
+    ensures ran { (staged : List Change)
+        × Ran (LineTells S.subject_of S.serves) result (desk [] service.old)
+        (desk staged service.new) (R.remaining reader.old) (R.remaining reader.new)
+        (W.contents writer.old) (W.contents writer.new) }
+    ensures calls { (calls : List (Call × SaidData))
+        × Calls S.serves calls service.old service.new }
+    ensures untouched { IfErr result
+        (λ fault. OnMemory fault
+        ((service.new ≡ service.old) × (reader.new ≡ reader.old) × (writer.new ≡ writer.old))) }
 {
     let mut alone = Alone {
         heap,

@@ -120,7 +120,8 @@ fn push_verdict(line: &mut Line, verdict: &[u8], rule: &Option<Name>, word: &[u8
     requires room { array_vec_len line.old ≤ 34 }
     requires verdict { length verdict.now ≤ 14 }
     requires word { length word.now ≤ 14 }
-    ensures items { line.new.items ≡ line.old.items ++ (verdict.now ++ rule_text rule.now ++ word.now ++ decimal number) }
+    ensures items { line.new.items ≡ line.old.items
+        ++ (verdict.now ++ rule_text rule.now ++ word.now ++ decimal number) }
     ensures len { array_vec_len line.new ≤ 160 }
 {
     push_bytes(line, verdict);
@@ -132,7 +133,8 @@ fn push_two(line: &mut Line, word: &[u8], number: u64, then: &[u8], further: u64
     requires room { array_vec_len line.old ≤ 34 }
     requires word { length word.now ≤ 14 }
     requires then { length then.now ≤ 14 }
-    ensures items { line.new.items ≡ line.old.items ++ (word.now ++ decimal number ++ then.now ++ decimal further) }
+    ensures items { line.new.items ≡ line.old.items
+        ++ (word.now ++ decimal number ++ then.now ++ decimal further) }
     ensures len { array_vec_len line.new ≤ 160 }
 {
     push_numbered(line, word, number);
@@ -211,7 +213,8 @@ fn push_number_field(line: &mut Line, number: u64)
 /// Writes a line and its end in one piece.
 fn finish<W: Write>(mut line: Line, writer: &mut W) -> Result<(), WriteFailed>
     requires { array_vec_len line ≤ 511 }
-    ensures { Took result (W.contents writer.old) (W.contents writer.new) (line.items ++ codes "\n") }
+    ensures { Took result (W.contents writer.old) (W.contents writer.new)
+        (line.items ++ codes "\n") }
 {
     push_bytes(&mut line, b"\n");
     write_whole(line.as_slice(), writer)
@@ -225,7 +228,8 @@ pub fn write_said<A: Allocator, W: Write>(
     writer: &mut W,
 ) -> Result<(), WriteFailed>
     requires { length lead.now ≤ LEAD_LIMIT }
-    ensures { Took result (W.contents writer.old) (W.contents writer.new) (said_text lead.now (said_view said.now)) }
+    ensures { Took result (W.contents writer.old) (W.contents writer.new)
+        (said_text lead.now (said_view said.now)) }
 {
     match said {
         Said::Line(reply) => write_line(lead, reply, writer),
@@ -237,7 +241,8 @@ pub fn write_said<A: Allocator, W: Write>(
 /// Writes a reply of one line. Takes no memory. An error is the writer's.
 pub fn write_line<W: Write>(lead: &[u8], reply: &Reply, writer: &mut W) -> Result<(), WriteFailed>
     requires { length lead.now ≤ LEAD_LIMIT }
-    ensures { Took result (W.contents writer.old) (W.contents writer.new) (led lead.now (reply_text reply.now)) }
+    ensures { Took result (W.contents writer.old) (W.contents writer.new)
+        (led lead.now (reply_text reply.now)) }
 {
     let mut line = begin(lead);
     push_reply(&mut line, reply);
@@ -253,7 +258,8 @@ fn write_count<W: Write>(
 ) -> Result<(), WriteFailed>
     requires lead { length lead.now ≤ LEAD_LIMIT }
     requires word { length word.now ≤ 14 }
-    ensures { Took result (W.contents writer.old) (W.contents writer.new) (led lead.now (word.now ++ decimal count)) }
+    ensures { Took result (W.contents writer.old) (W.contents writer.new)
+        (led lead.now (word.now ++ decimal count)) }
 {
     let mut line = begin(lead);
     push_numbered(&mut line, word, count);
@@ -263,7 +269,8 @@ fn write_count<W: Write>(
 /// Writes the number of rows, and then the rows.
 fn write_rows<W: Write>(lead: &[u8], rows: &[Feature], writer: &mut W) -> Result<(), WriteFailed>
     requires { length lead.now ≤ LEAD_LIMIT }
-    ensures { Took result (W.contents writer.old) (W.contents writer.new) (rows_text lead.now rows.now) }
+    ensures { Took result (W.contents writer.old) (W.contents writer.new)
+        (rows_text lead.now rows.now) }
 {
     write_count(lead, b"rows ", rows.len() as u64, writer)?;
     write_each(lead, rows, writer)
@@ -276,7 +283,8 @@ fn write_texts<A: Allocator, W: Write>(
     writer: &mut W,
 ) -> Result<(), WriteFailed>
     requires { length lead.now ≤ LEAD_LIMIT }
-    ensures { Took result (W.contents writer.old) (W.contents writer.new) (texts_text lead.now (map string_bytes texts.now)) }
+    ensures { Took result (W.contents writer.old) (W.contents writer.new)
+        (texts_text lead.now (map string_bytes texts.now)) }
 {
     write_count(lead, b"rolled ", texts.len() as u64, writer)?;
     write_each_text(lead, texts, writer)
@@ -289,7 +297,8 @@ fn write_each_text<A: Allocator, W: Write>(
     writer: &mut W,
 ) -> Result<(), WriteFailed>
     requires lead { length lead.now ≤ LEAD_LIMIT }
-    ensures { Took result (W.contents writer.old) (W.contents writer.new) (flat_map (λ text. led lead.now (string_bytes text)) texts.now) }
+    ensures { Took result (W.contents writer.old) (W.contents writer.new)
+        (flat_map (λ text. led lead.now (string_bytes text)) texts.now) }
 {
     for text in texts {
         write_text(lead, text.as_bytes(), writer)?;
@@ -318,7 +327,8 @@ fn write_ended<W: Write>(text: &[u8], writer: &mut W) -> Result<(), WriteFailed>
 /// Writes a line for each row.
 fn write_each<W: Write>(lead: &[u8], rows: &[Feature], writer: &mut W) -> Result<(), WriteFailed>
     requires lead { length lead.now ≤ LEAD_LIMIT }
-    ensures { Took result (W.contents writer.old) (W.contents writer.new) (flat_map (λ row. led lead.now (row_text row)) rows.now) }
+    ensures { Took result (W.contents writer.old) (W.contents writer.new)
+        (flat_map (λ row. led lead.now (row_text row)) rows.now) }
 {
     for row in rows {
         write_row(lead, row, writer)?;
@@ -329,7 +339,8 @@ fn write_each<W: Write>(lead: &[u8], rows: &[Feature], writer: &mut W) -> Result
 /// Writes the line of a feature.
 fn write_row<W: Write>(lead: &[u8], feature: &Feature, writer: &mut W) -> Result<(), WriteFailed>
     requires { length lead.now ≤ LEAD_LIMIT }
-    ensures { Took result (W.contents writer.old) (W.contents writer.new) (led lead.now (row_text feature.now)) }
+    ensures { Took result (W.contents writer.old) (W.contents writer.new)
+        (led lead.now (row_text feature.now)) }
 {
     let mut line = begin(lead);
     push_row(&mut line, feature);

@@ -24,7 +24,8 @@ fn subject(name: &[u8], office: &[u8], role: &[u8], steward: bool) -> Subject
     requires name { is_name name.now ≡ true }
     requires office { is_name office.now ≡ true }
     requires role { is_name role.now ≡ true }
-    ensures { result ≡ record { name = name.now; office = office.now; role = role.now; steward = steward } }
+    ensures { result
+        ≡ record { name = name.now; office = office.now; role = role.now; steward = steward } }
 {
     Subject {
         name: Name::new(name).unwrap(),

@@ -39,7 +39,8 @@ pub(crate) fn search<A: Allocator + Copy>(
     seat: u32,
     window: Shape,
 ) -> Result<Answer<A>, Fault>
-    ensures searches { WhereAtRest world.old.plain world.new.plain (Searches seat window world.old.plain world.new.plain (reply_of Rows result)) }
+    ensures searches { WhereAtRest world.old.plain world.new.plain
+        (Searches seat window world.old.plain world.new.plain (reply_of Rows result)) }
     ensures index { SearchesIn seat window world.old world.new result }
 {
     let number = world.open_search(seat, window)?;
@@ -59,7 +60,8 @@ pub(crate) fn seek<A: Allocator + Copy>(
     number: u64,
 ) -> Result<Answer<A>, Fault>
     ensures seeks { Seeks seat number world.old.plain world.new.plain (reply_of Rows result) }
-    ensures index { SeeksIn (may_go_on seat number world.old.plain) number world.old.index world.new.index result }
+    ensures index { SeeksIn (may_go_on seat number world.old.plain) number world.old.index
+        world.new.index result }
     ensures walks { world.new.walks ≡ world.old.walks }
 {
     for _ in 0..SEARCH_STEPS {
@@ -86,8 +88,10 @@ pub(crate) fn commit<A: Allocator + Copy>(
 ) -> Result<Outcome, Fault>
     requires distinct { AreDistinct changes.now }
     requires few { length changes.now ≤ CHANGE_LIMIT }
-    ensures commits { WhereAtRest world.old.plain world.new.plain (Commits seat changes.now world.old.plain world.new.plain (reply_of Ended result)) }
-    ensures index { IsAtRest world.old.plain → CommitsIn seat changes.now world.old world.new result }
+    ensures commits { WhereAtRest world.old.plain world.new.plain
+        (Commits seat changes.now world.old.plain world.new.plain (reply_of Ended result)) }
+    ensures index { IsAtRest world.old.plain
+        → CommitsIn seat changes.now world.old world.new result }
 {
     let number = world.begin(seat)?;
     match conclude(world, seat, number, changes) {
@@ -108,8 +112,10 @@ fn conclude<A: Allocator + Copy>(
 ) -> Result<Outcome, Fault>
     requires distinct { AreDistinct changes.now }
     requires few { length changes.now ≤ CHANGE_LIMIT }
-    ensures concludes { Concludes seat number changes.now world.old.plain world.new.plain (reply_of Ended result) }
-    ensures index { (w : WorldData) (subject : Subject) → subject_at seat w ≡ Ok subject → world.old.plain ≡ under number seat [] 0 w
+    ensures concludes { Concludes seat number changes.now world.old.plain world.new.plain
+        (reply_of Ended result) }
+    ensures index { (w : WorldData) (subject : Subject) → subject_at seat w ≡ Ok subject
+        → world.old.plain ≡ under number seat [] 0 w
         → ConcludesIn seat number changes.now w world.old.index world.old.walks world.new result }
 {
     stage_all(world, seat, number, changes)?;
@@ -159,7 +165,8 @@ pub(crate) fn govern<A: Allocator + Copy>(
     seat: u32,
     document: Document<Global>,
 ) -> Result<u64, Fault>
-    ensures happens { Happens (Govern seat document) world.old.plain world.new.plain (reply_of Number result) }
+    ensures happens { Happens (Govern seat document) world.old.plain world.new.plain
+        (reply_of Number result) }
     ensures beside { StayBeside world.old world.new }
 {
     match world.govern(heap, seat, document) {
@@ -175,7 +182,8 @@ pub(crate) fn roll<A: Allocator + Copy>(
     heap: Global,
     seat: u32,
 ) -> Result<Arc<Rolled<A>, A>, Fault>
-    ensures happens { Happens (Roll seat) world.old.plain world.new.plain (reply_of (λ piece. TakenOut (arc_value piece)) result) }
+    ensures happens { Happens (Roll seat) world.old.plain world.new.plain
+        (reply_of (λ piece. TakenOut (arc_value piece)) result) }
     ensures beside { StayBeside world.old world.new }
 {
     world.roll(heap, seat)

@@ -19,7 +19,8 @@ use transactions::{Limits, Starts};
 
 /// A world that has just been opened has no open search and no open transaction.
 pub fn opened_world_is_idle()
-    ensures { (subjects : List Subject) (decider : DeciderData) (starts : Starts) (limits : Limits) → IsIdle (opened subjects decider starts limits) }
+    ensures { (subjects : List Subject) (decider : DeciderData) (starts : Starts) (limits : Limits)
+        → IsIdle (opened subjects decider starts limits) }
 {}
 
 /// A world with no open search and no open transaction is at rest. A line, of a script or of a
@@ -27,8 +28,11 @@ pub fn opened_world_is_idle()
 /// worlds at rest holds at each line of a run.
 pub fn lines_leave_worlds_at_rest()
     ensures idle { (world : WorldData) → IsIdle world → IsAtRest world }
-    ensures line { (text : List ℕ) (old new : Script) (said : List ℕ) → LineTells text old new said → IsAtRest old.world → IsAtRest new.world }
-    ensures alone { (text : List ℕ) (old new : Desk SoloState) (said : List ℕ) (next : Next) → AloneTells solo_subject Serves text old new said next → IsAtRest old.service.world → IsAtRest new.service.world }
+    ensures line { (text : List ℕ) (old new : Script) (said : List ℕ) → LineTells text old new said
+        → IsAtRest old.world → IsAtRest new.world }
+    ensures alone { (text : List ℕ) (old new : Desk SoloState) (said : List ℕ) (next : Next)
+        → AloneTells solo_subject Serves text old new said next → IsAtRest old.service.world
+        → IsAtRest new.service.world }
 {}
 
 /// The limits that the definitions name, in numbers. Of lines: labels of a script, bytes of a line

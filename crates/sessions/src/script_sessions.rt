@@ -65,8 +65,10 @@ impl Session {
         heap: Global,
         text: &[u8],
     ) -> Said<A>
-        ensures answers { SessionAnswers text.now self.old world.old.plain self.new world.new.plain (said_view result) }
-        ensures there { SessionThere text.now self.old world.old self.new world.new (said_view result) }
+        ensures answers { SessionAnswers text.now self.old world.old.plain self.new world.new.plain
+            (said_view result) }
+        ensures there { SessionThere text.now self.old world.old self.new world.new
+            (said_view result) }
     {
         match read_step_verb(text) {
             None => self.take_plain(world, heap, text),
@@ -83,8 +85,10 @@ impl Session {
         text: &[u8],
     ) -> Said<A>
         ensures label { self.new.label ≡ self.old.label }
-        ensures takes { TakesPlain text.now self.old world.old.plain self.new world.new.plain (said_view result) }
-        ensures there { TakesThere text.now self.old world.old self.new world.new (said_view result) }
+        ensures takes { TakesPlain text.now self.old world.old.plain self.new world.new.plain
+            (said_view result) }
+        ensures there { TakesThere text.now self.old world.old self.new world.new
+            (said_view result) }
     {
         let seat = self.seat;
         let said = self.be_served(world, heap, text);
@@ -95,9 +99,12 @@ impl Session {
     /// Drops the open search, unless the session still has the seat that it had `before`.
     fn settle<A: Allocator + Copy>(&mut self, world: &mut World<A>, before: Option<u32>)
         ensures kept { self.new ≡ record self.old { search = self.new.search } }
-        ensures settles { MatchBool (keeps_seat before self.old.seat) ((self.new.search ≡ self.old.search) × (world.new.plain ≡ world.old.plain))
-            ((self.new.search ≡ None) × Drops before self.old.search world.old.plain world.new.plain) }
-        ensures shuts { MatchBool (keeps_seat before self.old.seat) (world.new ≡ world.old) (Shuts before self.old.search world.old world.new) }
+        ensures settles { MatchBool (keeps_seat before self.old.seat)
+            ((self.new.search ≡ self.old.search) × (world.new.plain ≡ world.old.plain))
+            ((self.new.search ≡ None)
+            × Drops before self.old.search world.old.plain world.new.plain) }
+        ensures shuts { MatchBool (keeps_seat before self.old.seat) (world.new ≡ world.old)
+            (Shuts before self.old.search world.old world.new) }
     {
         if keeps_seat(before, self.seat) {
             return;
@@ -115,8 +122,11 @@ impl Session {
     ) -> Said<A>
         ensures label { self.new.label ≡ self.old.label }
         ensures search { self.new.search ≡ self.old.search }
-        ensures answers { Answers solo_subject Serves text.now (desk_of world.old.plain self.old) (desk_of world.new.plain self.new) (said_view result) }
-        ensures there { Answers asks_for ServesThere text.now (desk self.old.staged (server world.old self.old.seat)) (desk self.new.staged (server world.new self.new.seat)) (said_view result) }
+        ensures answers { Answers solo_subject Serves text.now (desk_of world.old.plain self.old)
+            (desk_of world.new.plain self.new) (said_view result) }
+        ensures there { Answers asks_for ServesThere text.now
+            (desk self.old.staged (server world.old self.old.seat))
+            (desk self.new.staged (server world.new self.new.seat)) (said_view result) }
     {
         let mut solo = Solo::at(world, heap, self.seat);
         let said = answer(&mut solo, heap, &mut self.staged, text);
@@ -133,8 +143,10 @@ impl Session {
         rest: &[u8],
     ) -> Said<A>
         ensures label { self.new.label ≡ self.old.label }
-        ensures takes { TakesStep verb rest.now self.old world.old.plain self.new world.new.plain (said_view result) }
-        ensures there { TakesStepThere verb rest.now self.old world.old world.new (said_view result) }
+        ensures takes { TakesStep verb rest.now self.old world.old.plain self.new world.new.plain
+            (said_view result) }
+        ensures there { TakesStepThere verb rest.now self.old world.old world.new
+            (said_view result) }
     {
         let Some(seat) = self.seat else {
             return Said::Line(Reply::Error(Fault::BeforeHello));
@@ -153,7 +165,8 @@ impl Session {
         command: StepCommand,
     ) -> Said<A>
         ensures label { self.new.label ≡ self.old.label }
-        ensures obeys { ObeysStep seat command self.old world.old.plain self.new world.new.plain (said_view result) }
+        ensures obeys { ObeysStep seat command self.old world.old.plain self.new world.new.plain
+            (said_view result) }
         ensures there { StepsThere seat command world.old world.new (said_view result) }
     {
         match command {
@@ -173,8 +186,10 @@ impl Session {
         window: Shape,
     ) -> Reply
         ensures label { self.new.label ≡ self.old.label }
-        ensures opens { Opens seat window self.old world.old.plain self.new world.new.plain (said_in_line result) }
-        ensures there { StepsThere seat (StepCommand.Open window) world.old world.new (said_in_line result) }
+        ensures opens { Opens seat window self.old world.old.plain self.new world.new.plain
+            (said_in_line result) }
+        ensures there { StepsThere seat (StepCommand.Open window) world.old world.new
+            (said_in_line result) }
     {
         match world.open_search(seat, window) {
             Ok(number) => {
@@ -197,8 +212,10 @@ impl Session {
         count: u32,
     ) -> Reply
         ensures label { self.new.label ≡ self.old.label }
-        ensures steps { Steps seat search count self.old world.old.plain self.new world.new.plain (said_in_line result) }
-        ensures there { StepsThere seat (StepCommand.Step search count) world.old world.new (said_in_line result) }
+        ensures steps { Steps seat search count self.old world.old.plain self.new world.new.plain
+            (said_in_line result) }
+        ensures there { StepsThere seat (StepCommand.Step search count) world.old world.new
+            (said_in_line result) }
     {
         match go_on(world, seat, search, count) {
             Ok(visit) => {
@@ -220,8 +237,10 @@ impl Session {
         search: u64,
     ) -> Said<A>
         ensures label { self.new.label ≡ self.old.label }
-        ensures ends { Ends seat search self.old world.old.plain self.new world.new.plain (said_view result) }
-        ensures there { StepsThere seat (StepCommand.Finish search) world.old world.new (said_view result) }
+        ensures ends { Ends seat search self.old world.old.plain self.new world.new.plain
+            (said_view result) }
+        ensures there { StepsThere seat (StepCommand.Finish search) world.old world.new
+            (said_view result) }
     {
         match finish_open(world, seat, search) {
             Ok(answer) => {

@@ -121,9 +121,14 @@ impl<A: Allocator + Copy> Table<A> {
     fn answer_at(&mut self, world: &mut World<A>, at: usize, text: &[u8]) -> Said<A>
         requires { at < length self.old.sessions.items }
         ensures turn { self.new.next_slot ≡ self.old.next_slot }
-        ensures answers { (session : SessionState) × (self.new.sessions.items ≡ slice_set self.old.sessions.items at session)
-            × ((d : SessionState) → SessionAnswers text.now (slice_index_or self.old.sessions.items at d) world.old.plain session world.new.plain (said_view result))
-            × ((d : SessionState) → SessionThere text.now (slice_index_or self.old.sessions.items at d) world.old session world.new (said_view result)) }
+        ensures answers { (session : SessionState)
+            × (self.new.sessions.items ≡ slice_set self.old.sessions.items at session)
+            × ((d : SessionState)
+            → SessionAnswers text.now (slice_index_or self.old.sessions.items at d) world.old.plain
+            session world.new.plain (said_view result))
+            × ((d : SessionState)
+            → SessionThere text.now (slice_index_or self.old.sessions.items at d) world.old session
+            world.new (said_view result)) }
     {
         let heap = self.heap;
         let session = &mut self.sessions[at];
@@ -135,8 +140,10 @@ impl<A: Allocator + Copy> Table<A> {
         ensures sessions { self.new.sessions.items ≡ self.old.sessions.items }
         ensures world { world.new.plain ≡ world.old.plain }
         ensures walks { world.new.walks ≡ world.old.walks }
-        ensures index { (answer : Result Tending WorldFault) × Happens (Tend self.old.next_slot) world.old.plain world.new.plain (reply_of Tended answer)
-            × IfErr answer (RefusesGrowth world.old.index) × TendsIndex world.old.plain self.old.next_slot world.old.index world.new.index answer }
+        ensures index { (answer : Result Tending WorldFault)
+            × Happens (Tend self.old.next_slot) world.old.plain world.new.plain
+            (reply_of Tended answer) × IfErr answer (RefusesGrowth world.old.index)
+            × TendsIndex world.old.plain self.old.next_slot world.old.index world.new.index answer }
         ensures turn { self.new.next_slot ≡ behind self.old.next_slot (slots_of world.new.index) }
     {
         let _ = world.tend_next(&mut self.next_slot);
@@ -151,9 +158,12 @@ impl<A: Allocator + Copy> Table<A> {
         writer: &mut W,
     ) -> Result<(), WriteFailed>
         ensures turn { self.new.next_slot ≡ self.old.next_slot }
-        ensures takes { (said : List ℕ) × Took result (W.contents writer.old) (W.contents writer.new) said
-            × LineTells line.now (script world.old.plain self.old.sessions.items) (script world.new.plain self.new.sessions.items) said
-            × LineThere line.now (indexed world.old self.old.sessions.items self.old.next_slot) self.new.sessions.items world.new said }
+        ensures takes { (said : List ℕ)
+            × Took result (W.contents writer.old) (W.contents writer.new) said
+            × LineTells line.now (script world.old.plain self.old.sessions.items)
+            (script world.new.plain self.new.sessions.items) said
+            × LineThere line.now (indexed world.old self.old.sessions.items self.old.next_slot)
+            self.new.sessions.items world.new said }
     {
         if line.len() > LINE_LIMIT {
             return refuse(Fault::LineTooLong, writer);
@@ -179,9 +189,13 @@ impl<A: Allocator + Copy> Table<A> {
         writer: &mut W,
     ) -> Result<(), WriteFailed>
         ensures turn { self.new.next_slot ≡ self.old.next_slot }
-        ensures takes { (said : List ℕ) × Took result (W.contents writer.old) (W.contents writer.new) said
-            × LabelTells label text.now (script world.old.plain self.old.sessions.items) (script world.new.plain self.new.sessions.items) said
-            × LabelThere label text.now (indexed world.old self.old.sessions.items self.old.next_slot) self.new.sessions.items world.new said }
+        ensures takes { (said : List ℕ)
+            × Took result (W.contents writer.old) (W.contents writer.new) said
+            × LabelTells label text.now (script world.old.plain self.old.sessions.items)
+            (script world.new.plain self.new.sessions.items) said
+            × LabelThere label text.now
+            (indexed world.old self.old.sessions.items self.old.next_slot) self.new.sessions.items
+            world.new said }
     {
         let at = place_of(&self.sessions, &label);
         if at >= LABEL_LIMIT {
@@ -195,7 +209,8 @@ impl<A: Allocator + Copy> Table<A> {
 
 /// Writes a fault of a line that belongs to no session, with `?` for a label.
 fn refuse<W: Write>(fault: Fault, writer: &mut W) -> Result<(), WriteFailed>
-    ensures { Took result (W.contents writer.old) (W.contents writer.new) (led (codes "?") (reply_text (Reply.Error fault))) }
+    ensures { Took result (W.contents writer.old) (W.contents writer.new)
+        (led (codes "?") (reply_text (Reply.Error fault))) }
 {
     write_line(b"?", &Reply::Error(fault), writer)
 }
@@ -237,14 +252,22 @@ pub fn run_script<A: Allocator + Copy, R: Read, W: Write>(
     reader: &mut R,
     writer: &mut W,
 ) -> Result<Flushed, ServeFault>
-    ensures script_text { OnOk result (IfSome (R.remaining reader.old) (λ input. (said : List ℕ) × Appends (W.contents writer.old) (W.contents writer.new) said
+    ensures script_text { OnOk result
+        (IfSome (R.remaining reader.old)
+        (λ input. (said : List ℕ) × Appends (W.contents writer.old) (W.contents writer.new) said
         × IsScriptText world.old.plain input world.new.plain said)) }
-    ensures ran { (sessions : List SessionState) × (last : WorldData) × Ran (NeverEnds LineTells) result (script world.old.plain []) (script last sessions)
-        (R.remaining reader.old) (R.remaining reader.new) (W.contents writer.old) (W.contents writer.new) × AllDrop sessions last world.new.plain }
-    ensures runs { (sessions : List SessionState) × (slot : ℕ) × (last : IndexedWorld) × Ran (NeverEnds LineRuns) result (indexed world.old [] 0) (indexed last sessions slot)
-        (R.remaining reader.old) (R.remaining reader.new) (W.contents writer.old) (W.contents writer.new) × AllShut sessions last world.new }
+    ensures ran { (sessions : List SessionState) × (last : WorldData)
+        × Ran (NeverEnds LineTells) result (script world.old.plain []) (script last sessions)
+        (R.remaining reader.old) (R.remaining reader.new) (W.contents writer.old)
+        (W.contents writer.new) × AllDrop sessions last world.new.plain }
+    ensures runs { (sessions : List SessionState) × (slot : ℕ) × (last : IndexedWorld)
+        × Ran (NeverEnds LineRuns) result (indexed world.old [] 0) (indexed last sessions slot)
+        (R.remaining reader.old) (R.remaining reader.new) (W.contents writer.old)
+        (W.contents writer.new) × AllShut sessions last world.new }
     ensures idle { IsIdle world.old.plain → IsIdle world.new.plain }
-    ensures untouched { IfErr result (λ fault. OnMemory fault ((world.new ≡ world.old) × (reader.new ≡ reader.old) × (writer.new ≡ writer.old))) }
+    ensures untouched { IfErr result
+        (λ fault. OnMemory fault
+        ((world.new ≡ world.old) × (reader.new ≡ reader.old) × (writer.new ≡ writer.old))) }
 {
     let mut table = Table::new(alloc, heap)?;
     let end = run_lines(alloc, &mut table, world, reader, writer);

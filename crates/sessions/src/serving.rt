@@ -28,14 +28,23 @@ pub fn serve_world<A: Allocator + Copy, R: Read, W: Write>(
     reader: &mut R,
     writer: &mut W,
 ) -> Result<Flushed, ServeFault>
-    ensures served_text { (seat : Option ℕ) × OnOk result (IfSome (R.remaining reader.old) (λ input. (said : List ℕ) × Appends (W.contents writer.old) (W.contents writer.new) said
-        × IsServedText solo_subject Serves (solo world.old.plain None) input (solo world.new.plain seat) said)) }
-    ensures ran { (staged : List Change) × (seat : Option ℕ) × Ran (LineTells solo_subject Serves) result (desk [] (solo world.old.plain None)) (desk staged (solo world.new.plain seat))
-        (R.remaining reader.old) (R.remaining reader.new) (W.contents writer.old) (W.contents writer.new) }
-    ensures runs { (staged : List Change) × (seat : Option ℕ) × Ran (LineTells asks_for ServesThere) result (desk [] (server world.old None)) (desk staged (server world.new seat))
-        (R.remaining reader.old) (R.remaining reader.new) (W.contents writer.old) (W.contents writer.new) }
+    ensures served_text { (seat : Option ℕ)
+        × OnOk result (IfSome (R.remaining reader.old)
+        (λ input. (said : List ℕ) × Appends (W.contents writer.old) (W.contents writer.new) said
+        × IsServedText solo_subject Serves (solo world.old.plain None) input
+        (solo world.new.plain seat) said)) }
+    ensures ran { (staged : List Change) × (seat : Option ℕ)
+        × Ran (LineTells solo_subject Serves) result (desk [] (solo world.old.plain None))
+        (desk staged (solo world.new.plain seat)) (R.remaining reader.old) (R.remaining reader.new)
+        (W.contents writer.old) (W.contents writer.new) }
+    ensures runs { (staged : List Change) × (seat : Option ℕ)
+        × Ran (LineTells asks_for ServesThere) result (desk [] (server world.old None))
+        (desk staged (server world.new seat)) (R.remaining reader.old) (R.remaining reader.new)
+        (W.contents writer.old) (W.contents writer.new) }
     ensures idle { IsIdle world.old.plain → IsIdle world.new.plain }
-    ensures untouched { IfErr result (λ fault. OnMemory fault ((world.new ≡ world.old) × (reader.new ≡ reader.old) × (writer.new ≡ writer.old))) }
+    ensures untouched { IfErr result
+        (λ fault. OnMemory fault
+        ((world.new ≡ world.old) × (reader.new ≡ reader.old) × (writer.new ≡ writer.old))) }
 {
     let mut solo = Solo::new(world, heap);
     serve(alloc, heap, &mut solo, reader, writer)

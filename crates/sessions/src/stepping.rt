@@ -115,7 +115,8 @@ pub(crate) fn go_on<A: Allocator + Copy>(
     steps: u32,
 ) -> Result<Visit, WorldFault>
     ensures happens { GoesOn seat number steps world.old.plain world.new.plain result }
-    ensures index { VisitsOn (may_go_on seat number world.old.plain) number steps world.old.index world.new.index result }
+    ensures index { VisitsOn (may_go_on seat number world.old.plain) number steps world.old.index
+        world.new.index result }
     ensures walks { world.new.walks ≡ world.old.walks }
 {
     for _ in 0..steps {

@@ -21,7 +21,8 @@ impl<A: Allocator> World<A> {
     /// is another seat's, X6 where the list has 16 changes, X5 where it names the feature already.
     /// Takes no memory.
     pub fn stage(&mut self, seat: u32, number: u64, change: Change) -> Result<(), Fault>
-        ensures happens { Happens (Stage seat number change) self.old.plain self.new.plain (reply_of (λ _. Done) result) }
+        ensures happens { Happens (Stage seat number change) self.old.plain self.new.plain
+            (reply_of (λ _. Done) result) }
         ensures index { self.new.index ≡ self.old.index }
         ensures walks { self.new.walks ≡ self.old.walks }
     {
@@ -31,9 +32,11 @@ impl<A: Allocator> World<A> {
     /// Aborts a transaction. X1 where the seat was not given or no such transaction is open, X2
     /// where it is another seat's. Takes no memory.
     pub fn abort(&mut self, seat: u32, number: u64) -> Result<(), Fault>
-        ensures happens { Happens (Abort seat number) self.old.plain self.new.plain (reply_of (λ _. Done) result) }
+        ensures happens { Happens (Abort seat number) self.old.plain self.new.plain
+            (reply_of (λ _. Done) result) }
         ensures index { self.new.index ≡ self.old.index }
-        ensures walks { self.new.walks ≡ if_done result self.old.walks (λ _. ended number self.old.walks) }
+        ensures walks { self.new.walks
+            ≡ if_done result self.old.walks (λ _. ended number self.old.walks) }
     {
         self.plain.abort(seat, number)?;
         self.walks.end(number);
@@ -45,9 +48,11 @@ impl<A: Allocator + Copy> World<A> {
     /// Opens a transaction of a seat, and returns its number. X1 where the seat was not given, X15
     /// where 64 are open, X8 where the number is at its end, X12 where an allocation is refused.
     pub fn begin(&mut self, seat: u32) -> Result<u64, Fault>
-        ensures happens { Happens (Begin seat) self.old.plain self.new.plain (reply_of Number result) }
+        ensures happens { Happens (Begin seat) self.old.plain self.new.plain
+            (reply_of Number result) }
         ensures index { self.new.index ≡ self.old.index }
-        ensures walks { self.new.walks ≡ if_done result self.old.walks (λ number. begun number self.old.walks) }
+        ensures walks { self.new.walks
+            ≡ if_done result self.old.walks (λ number. begun number self.old.walks) }
     {
         let number = self.plain.begin(seat)?;
         self.walks.begin(number);
@@ -62,7 +67,8 @@ impl<A: Allocator + Copy> World<A> {
     /// is refused. S7 ends the transaction; any other fault leaves it open and its walk where it
     /// was.
     pub fn advance(&mut self, seat: u32, number: u64) -> Result<Advance, Fault>
-        ensures happens { Happens (AdvanceWalk seat number) self.old.plain self.new.plain (reply_of Advanced result) }
+        ensures happens { Happens (AdvanceWalk seat number) self.old.plain self.new.plain
+            (reply_of Advanced result) }
         ensures refused { IfErr result (RefusesGrowth self.old.index) }
         ensures walked { WalksOn seat number self.old self.new result }
     {
@@ -100,9 +106,11 @@ impl<A: Allocator + Copy> World<A> {
     /// first failing change, or X12 where there is no memory for its record or its denial. A fault
     /// leaves the transaction open.
     pub fn commit(&mut self, seat: u32, number: u64) -> Result<Outcome, Fault>
-        ensures happens { Happens (Commit seat number) self.old.plain self.new.plain (reply_of Ended result) }
+        ensures happens { Happens (Commit seat number) self.old.plain self.new.plain
+            (reply_of Ended result) }
         ensures index { self.new.index ≡ self.old.index }
-        ensures walks { self.new.walks ≡ if_done result self.old.walks (λ _. ended number self.old.walks) }
+        ensures walks { self.new.walks
+            ≡ if_done result self.old.walks (λ _. ended number self.old.walks) }
     {
         let outcome = self.plain.commit(seat, number)?;
         self.walks.end(number);

@@ -17,8 +17,10 @@ impl<A: Allocator + Copy> World<A> {
     /// the present edition is `u64::MAX` (the decider's own edition is then ignored), X10 where the
     /// trail is full, X12 where an allocation is refused.
     pub fn govern_by(&mut self, seat: u32, decider: Arc<Decider>) -> Result<u64, Fault>
-        requires { self.old.plain.state.decider.edition < u64.MAX → (arc_value decider).edition ≡ self.old.plain.state.decider.edition + 1 }
-        ensures happens { Happens (Govern seat (arc_value decider).document) self.old.plain self.new.plain (reply_of Number result) }
+        requires { self.old.plain.state.decider.edition < u64.MAX
+            → (arc_value decider).edition ≡ self.old.plain.state.decider.edition + 1 }
+        ensures happens { Happens (Govern seat (arc_value decider).document) self.old.plain
+            self.new.plain (reply_of Number result) }
         ensures index { self.new.index ≡ self.old.index }
         ensures walks { self.new.walks ≡ self.old.walks }
     {
@@ -34,7 +36,8 @@ impl<A: Allocator + Copy> World<A> {
         seat: u32,
         document: Document<Global>,
     ) -> Result<u64, (Document<Global>, Fault)>
-        ensures happens { Happens (Govern seat document) self.old.plain self.new.plain (reply_handing Number result) }
+        ensures happens { Happens (Govern seat document) self.old.plain self.new.plain
+            (reply_handing Number result) }
         ensures document_returned { IfErr result (λ e. e.0 ≡ document) }
         ensures index { self.new.index ≡ self.old.index }
         ensures walks { self.new.walks ≡ self.old.walks }
@@ -46,7 +49,8 @@ impl<A: Allocator + Copy> World<A> {
     /// the next number. X1 where the seat was not given, X7 where its subject is no steward, X8
     /// where the numbers of the new trail would not fit, X12 where an allocation is refused.
     pub fn roll(&mut self, heap: Global, seat: u32) -> Result<Arc<Rolled<A>, A>, Fault>
-        ensures happens { Happens (Roll seat) self.old.plain self.new.plain (reply_of (λ piece. TakenOut (arc_value piece)) result) }
+        ensures happens { Happens (Roll seat) self.old.plain self.new.plain
+            (reply_of (λ piece. TakenOut (arc_value piece)) result) }
         ensures index { self.new.index ≡ self.old.index }
         ensures walks { self.new.walks ≡ self.old.walks }
     {

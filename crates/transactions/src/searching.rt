@@ -20,7 +20,8 @@ impl<A: Allocator> World<A> {
     /// where there is no such subject, X14 where all seats are given, X12 where an allocation is
     /// refused.
     pub fn seat(&mut self, name: Name) -> Result<u32, Fault>
-        ensures happens { Happens (TakeSeat name) self.old.plain self.new.plain (reply_of Number result) }
+        ensures happens { Happens (TakeSeat name) self.old.plain self.new.plain
+            (reply_of Number result) }
         ensures few { IfOk result (λ number. number ≤ SEAT_LIMIT) }
         ensures index { self.new.index ≡ self.old.index }
         ensures walks { self.new.walks ≡ self.old.walks }
@@ -31,7 +32,8 @@ impl<A: Allocator> World<A> {
     /// Drops a search. X1 where the seat was not given or no such search is open, X2 where it is
     /// another seat's. Takes no memory.
     pub fn drop_search(&mut self, seat: u32, number: u64) -> Result<(), Fault>
-        ensures happens { Happens (DropSearch seat number) self.old.plain self.new.plain (reply_of (λ _. Done) result) }
+        ensures happens { Happens (DropSearch seat number) self.old.plain self.new.plain
+            (reply_of (λ _. Done) result) }
         ensures index { EndsInIndex number self.old.index self.new.index result }
         ensures walks { self.new.walks ≡ self.old.walks }
     {
@@ -46,7 +48,8 @@ impl<A: Allocator + Copy> World<A> {
     /// 16 searches are open (S2) or the number is at its end (S6), X12 where an allocation is
     /// refused.
     pub fn open_search(&mut self, seat: u32, window: Shape) -> Result<u64, Fault>
-        ensures happens { Happens (OpenSearch seat window) self.old.plain self.new.plain (reply_of Number result) }
+        ensures happens { Happens (OpenSearch seat window) self.old.plain self.new.plain
+            (reply_of Number result) }
         ensures index { OpensInIndex window self.old.index self.new.index result }
         ensures walks { self.new.walks ≡ self.old.walks }
     {
@@ -67,10 +70,12 @@ impl<A: Allocator + Copy> World<A> {
     /// given or no such search is open, X2 where it is another seat's, X9 where it has made all its
     /// steps (S7), X12 where an allocation is refused. S7 ends the search.
     pub fn visit(&mut self, seat: u32, number: u64) -> Result<Visit, Fault>
-        ensures happens { Happens (VisitNext seat number) self.old.plain self.new.plain (reply_of Visited result) }
+        ensures happens { Happens (VisitNext seat number) self.old.plain self.new.plain
+            (reply_of Visited result) }
         ensures refused { IfErr result (GivesUp self.old.index number) }
         ensures walks { self.new.walks ≡ self.old.walks }
-        ensures index { VisitsIndex (may_go_on seat number self.old.plain) number self.old.index self.new.index result }
+        ensures index { VisitsIndex (may_go_on seat number self.old.plain) number self.old.index
+            self.new.index result }
     {
         let search = self.plain.may_go_on(seat, number)?;
         match self.index.visit(number) {
@@ -96,7 +101,8 @@ impl<A: Allocator + Copy> World<A> {
     /// an allocation is refused. The meter counts at most one look-up for each pair that the search
     /// has found in the index, and none where the call is refused before X12.
     pub fn finish(&mut self, seat: u32, number: u64, meter: &mut Meter) -> Result<Answer<A>, Fault>
-        ensures happens { Happens (Finish seat number) self.old.plain self.new.plain (reply_of Rows result) }
+        ensures happens { Happens (Finish seat number) self.old.plain self.new.plain
+            (reply_of Rows result) }
         ensures index { EndsInIndex number self.old.index self.new.index result }
         ensures metered { meter.new ≤ meter.old + length (found_in self.old.index number) }
         ensures raised { meter.old ≤ meter.new }

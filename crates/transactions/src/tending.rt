@@ -18,7 +18,8 @@ impl<A: Allocator> World<A> {
     /// where a node is to be installed or retired and the index's counter is at its end (S6). Takes
     /// no memory.
     pub fn tend(&mut self, slot: u32) -> Result<Tending, Fault>
-        ensures happens { Happens (Tend slot) self.old.plain self.new.plain (reply_of Tended result) }
+        ensures happens { Happens (Tend slot) self.old.plain self.new.plain
+            (reply_of Tended result) }
         ensures refused { IfErr result (RefusesGrowth self.old.index) }
         ensures walks { self.new.walks ≡ self.old.walks }
         ensures index { TendsIndex self.old.plain slot self.old.index self.new.index result }
@@ -32,7 +33,8 @@ impl<A: Allocator> World<A> {
     /// Tends the slot whose turn it is, with the result of `tend`. The turn passes on even if the
     /// index refuses: to the next slot, and after the last one to 0. Takes no memory.
     pub fn tend_next(&mut self, turn: &mut u32) -> Result<Tending, Fault>
-        ensures happens { Happens (Tend turn.old) self.old.plain self.new.plain (reply_of Tended result) }
+        ensures happens { Happens (Tend turn.old) self.old.plain self.new.plain
+            (reply_of Tended result) }
         ensures plain { self.new.plain ≡ self.old.plain }
         ensures refused { IfErr result (RefusesGrowth self.old.index) }
         ensures walks { self.new.walks ≡ self.old.walks }

@@ -115,7 +115,8 @@ fn make_all<A: Allocator + Copy>(
 /// Makes a call of a world, and drops what it returns. The call is left out only where there is no
 /// memory for a copy of its document.
 fn make<A: Allocator + Copy>(world: &mut World<A>, heap: Global, call: &Call) -> Result<(), Refused>
-    ensures { OnOk result ((reply : Reply) × Happens (event_of call.now) world.old.plain world.new.plain reply) }
+    ensures { OnOk result
+        ((reply : Reply) × Happens (event_of call.now) world.old.plain world.new.plain reply) }
 {
     match call {
         Call::Seat { name } => drop(world.seat(*name)),

@@ -98,7 +98,9 @@ impl<A: Allocator> World<A> {
     /// given, X7 where its subject is no steward, X8 where the edition is at its end, X10 where the
     /// trail is full. Takes no memory.
     pub fn next_edition(&self, seat: u32) -> Result<u64, Fault>
-        ensures value { result ≡ map_ok (λ _. self.now.plain.state.decider.edition + 1) (may_govern seat self.now.plain) }
+        ensures value { result
+            ≡ map_ok (λ _. self.now.plain.state.decider.edition + 1)
+            (may_govern seat self.now.plain) }
         ensures left { OnOk result (self.now.plain.state.decider.edition < u64.MAX) }
     {
         self.plain.next_edition(seat)
@@ -198,9 +200,17 @@ impl<A: Allocator + Copy> World<A> {
         subjects: Subjects,
         document: Document<Global>,
     ) -> Result<Self, (Document<Global>, Fault)>
-        ensures ok { IfOk result (λ w. w.plain ≡ opened subjects (record { document = document; edition = 1 })
-            (record { generation = 0; counter = 0; search = 1; version = 0; edition = 1; rolled = 0 })
-            (record { steps = STEP_LIMIT; records = RECORD_LIMIT; features = FEATURE_LIMIT })) }
+        ensures ok { IfOk result
+            (λ w. w.plain ≡ opened subjects (record { document = document; edition = 1 })
+            (record {
+              generation = 0;
+              counter = 0;
+              search = 1;
+              version = 0;
+              edition = 1;
+              rolled = 0;
+            }) (record
+            { steps = STEP_LIMIT; records = RECORD_LIMIT; features = FEATURE_LIMIT })) }
         ensures index { IfOk result (λ w. IsFirst frames 0 0 1 STEP_LIMIT w.index) }
         ensures walks { IfOk result (λ w. w.walks ≡ []) }
         ensures err { IfErr result (λ e. e ≡ (document, Fault.Memory refused)) }
@@ -230,8 +240,12 @@ impl<A: Allocator + Copy> World<A> {
         requires records { limits.records ≤ RECORD_LIMIT }
         requires features { limits.features ≤ FEATURE_LIMIT }
         requires steps { limits.steps ≤ STEP_LIMIT }
-        ensures ok { IfOk result (λ w. w.plain ≡ opened subjects (record { document = document; edition = starts.edition }) starts limits) }
-        ensures index { IfOk result (λ w. IsFirst frames starts.generation starts.counter starts.search limits.steps w.index) }
+        ensures ok { IfOk result
+            (λ w. w.plain ≡ opened subjects
+            (record { document = document; edition = starts.edition }) starts limits) }
+        ensures index { IfOk result
+            (λ w. IsFirst frames starts.generation starts.counter starts.search limits.steps
+            w.index) }
         ensures walks { IfOk result (λ w. w.walks ≡ []) }
         ensures err { IfErr result (λ e. e ≡ (document, Fault.Memory refused)) }
     {
@@ -259,7 +273,8 @@ fn first_index<A: Allocator + Copy>(
     limits: Limits,
 ) -> Result<Tree<Frames, A>, Refused>
     requires { limits.steps ≤ STEP_LIMIT }
-    ensures { IfOk result (IsFirst frames starts.generation starts.counter starts.search limits.steps) }
+    ensures { IfOk result
+        (IsFirst frames starts.generation starts.counter starts.search limits.steps) }
 {
     let steps = limits.steps as u64;
     match Tree::starting_at(

@@ -22,7 +22,8 @@ pub fn led_searches<C: KeyClass, A: Allocator>(
     old: C::Key,
     wider: C::Key,
 ) -> ArrayVec<u64, MAX_RUNNING>
-    ensures led { AreLed (class_of C.covered C.may_match C.is_match C.key_with C.united) running.now old wider attached.now.numbers result.items }
+    ensures led { AreLed (class_of C.covered C.may_match C.is_match C.key_with C.united) running.now
+        old wider attached.now.numbers result.items }
     ensures few { length result.items ≤ MAX_RUNNING }
 {
     running.meeting(

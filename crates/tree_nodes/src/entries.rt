@@ -80,7 +80,8 @@ impl<K: Copy, A: Allocator> Entries<K, A> {
     /// Gives an entry another key.
     pub(crate) fn set_key(&mut self, place: usize, key: K)
         requires { place < length self.old }
-        ensures { (old : K) (child : Handle) → slice_get self.old place ≡ Some (old, child) → self.new ≡ slice_set self.old place (key, child) }
+        ensures { (old : K) (child : Handle) → slice_get self.old place ≡ Some (old, child)
+            → self.new ≡ slice_set self.old place (key, child) }
     {
         self.keys[place] = key;
     }
@@ -155,7 +156,8 @@ impl<I: Copy, A: Allocator> Pairs<I, A> {
 
 /// Removes the pairs that the keeper does not keep.
 fn sift<I: Copy, K: Keeper<I>, A: Allocator>(pairs: &mut Vec<(u64, I), A>, keeper: &K)
-    ensures kept { pairs.new.items ≡ filter (λ pair. K.kept keeper.now pair.0 pair.1) pairs.old.items }
+    ensures kept { pairs.new.items
+        ≡ filter (λ pair. K.kept keeper.now pair.0 pair.1) pairs.old.items }
     ensures fewer { length pairs.new.items ≤ length pairs.old.items }
     ensures places { vec_capacity pairs.new ≡ vec_capacity pairs.old }
 {

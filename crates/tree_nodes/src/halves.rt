@@ -31,8 +31,11 @@ pub fn shared_out<C: KeyClass, A: Allocator + Copy>(
     alloc: A,
 ) -> Result<Halves<C::Key, C::Item, A>, Refused>
     requires { size_of node.now.body ≡ NODE_SIZE }
-    ensures halved { IfOk result (λ made. IsHalved node.now.body (plain_body made.left) (plain_body made.right)) }
-    ensures picked { IfOk result (λ made. IsPickedOut C.key_with C.picks node.now.body (plain_body made.left) (plain_body made.right)) }
+    ensures halved { IfOk result
+        (λ made. IsHalved node.now.body (plain_body made.left) (plain_body made.right)) }
+    ensures picked { IfOk result
+        (λ made. IsPickedOut C.key_with C.picks node.now.body (plain_body made.left)
+        (plain_body made.right)) }
 {
     if node.is_leaf() {
         halves_of_pairs::<C, A>(node.pairs(), alloc)
@@ -47,8 +50,11 @@ fn halves_of_pairs<C: KeyClass, A: Allocator + Copy>(
     alloc: A,
 ) -> Result<Halves<C::Key, C::Item, A>, Refused>
     requires { length pairs.now ≡ NODE_SIZE }
-    ensures halved { IfOk result (λ made. IsHalved (Leaf pairs.now) (plain_body made.left) (plain_body made.right)) }
-    ensures picked { IfOk result (λ made. IsPickedOut C.key_with C.picks (Leaf pairs.now) (plain_body made.left) (plain_body made.right)) }
+    ensures halved { IfOk result
+        (λ made. IsHalved (Leaf pairs.now) (plain_body made.left) (plain_body made.right)) }
+    ensures picked { IfOk result
+        (λ made. IsPickedOut C.key_with C.picks (Leaf pairs.now) (plain_body made.left)
+        (plain_body made.right)) }
 {
     let keys = keys_of::<C, A>(pairs, alloc)?;
     let mut left = Pairs::with_places(alloc)?;
@@ -68,8 +74,12 @@ fn halves_of_entries<C: KeyClass, A: Allocator + Copy>(
 ) -> Result<Halves<C::Key, C::Item, A>, Refused>
     requires keys { length keys.now ≡ NODE_SIZE }
     requires children { length children.now ≡ NODE_SIZE }
-    ensures halved { IfOk result (λ made. IsHalved (Inner (zip keys.now children.now)) (plain_body made.left) (plain_body made.right)) }
-    ensures picked { IfOk result (λ made. IsPickedOut C.key_with C.picks (Inner (zip keys.now children.now)) (plain_body made.left) (plain_body made.right)) }
+    ensures halved { IfOk result
+        (λ made. IsHalved (Inner (zip keys.now children.now)) (plain_body made.left)
+        (plain_body made.right)) }
+    ensures picked { IfOk result
+        (λ made. IsPickedOut C.key_with C.picks (Inner (zip keys.now children.now))
+        (plain_body made.left) (plain_body made.right)) }
 {
     let mut left = Entries::with_places(alloc)?;
     let mut right = Entries::with_places(alloc)?;

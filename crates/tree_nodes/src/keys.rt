@@ -15,7 +15,8 @@ pub fn key_for<C: KeyClass, A: Allocator>(
     node: &TreeNode<C::Key, C::Item, A>,
     old: C::Key,
 ) -> C::Key
-    ensures { IsKeyFor (class_of C.covered C.may_match C.is_match C.key_with C.united) node.now.body old result }
+    ensures { IsKeyFor (class_of C.covered C.may_match C.is_match C.key_with C.united) node.now.body
+        old result }
 {
     if node.is_leaf() {
         union_of_items::<C>(node.pairs(), old)
@@ -26,7 +27,8 @@ pub fn key_for<C: KeyClass, A: Allocator>(
 
 /// The union of these keys, or the old key where there are none.
 fn union_of<C: KeyClass>(keys: &[C::Key], old: C::Key) -> C::Key
-    ensures { IsUnionFor (class_of C.covered C.may_match C.is_match C.key_with C.united) keys.now old result }
+    ensures { IsUnionFor (class_of C.covered C.may_match C.is_match C.key_with C.united) keys.now
+        old result }
 {
     if keys.is_empty() {
         return old;
@@ -40,7 +42,8 @@ fn union_of<C: KeyClass>(keys: &[C::Key], old: C::Key) -> C::Key
 
 /// The union of the keys of these pairs' items, or the old key where there are none.
 fn union_of_items<C: KeyClass>(pairs: &[(u64, C::Item)], old: C::Key) -> C::Key
-    ensures { IsUnionFor (class_of C.covered C.may_match C.is_match C.key_with C.united) (map (λ pair. C.key_with pair.1) pairs.now) old result }
+    ensures { IsUnionFor (class_of C.covered C.may_match C.is_match C.key_with C.united)
+        (map (λ pair. C.key_with pair.1) pairs.now) old result }
 {
     if pairs.is_empty() {
         return old;

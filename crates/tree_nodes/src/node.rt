@@ -259,7 +259,8 @@ impl<K: Copy, I: Copy, A: Allocator> TreeNode<K, I, A> {
     pub(crate) fn push_pair(&mut self, key: u64, item: I)
         requires leaf { IsLeaf self.old.body }
         requires room { size_of self.old.body < NODE_SIZE }
-        ensures { self.new ≡ record self.old { body = Leaf (pairs_of self.old.body ++ (key, item) ∷ []) } }
+        ensures { self.new
+            ≡ record self.old { body = Leaf (pairs_of self.old.body ++ (key, item) ∷ []) } }
     {
         match &mut self.body {
             Body::Pairs(pairs) => pairs.push(key, item),
@@ -271,7 +272,8 @@ impl<K: Copy, I: Copy, A: Allocator> TreeNode<K, I, A> {
     pub(crate) fn push_entry(&mut self, key: K, child: Handle)
         requires inner { IsInner self.old.body }
         requires room { size_of self.old.body < NODE_SIZE }
-        ensures { self.new ≡ record self.old { body = Inner (entries_of self.old.body ++ (key, child) ∷ []) } }
+        ensures { self.new
+            ≡ record self.old { body = Inner (entries_of self.old.body ++ (key, child) ∷ []) } }
     {
         match &mut self.body {
             Body::Pairs(_) => unreachable!(),
@@ -283,7 +285,10 @@ impl<K: Copy, I: Copy, A: Allocator> TreeNode<K, I, A> {
     pub(crate) fn set_key(&mut self, place: usize, key: K)
         requires inner { IsInner self.old.body }
         requires place { place < size_of self.old.body }
-        ensures { (old : K) (child : Handle) → slice_get (entries_of self.old.body) place ≡ Some (old, child) → self.new ≡ record self.old { body = Inner (slice_set (entries_of self.old.body) place (key, child)) } }
+        ensures { (old : K) (child : Handle)
+            → slice_get (entries_of self.old.body) place ≡ Some (old, child)
+            → self.new ≡ record self.old
+            { body = Inner (slice_set (entries_of self.old.body) place (key, child)) } }
     {
         match &mut self.body {
             Body::Pairs(_) => unreachable!(),
@@ -295,7 +300,8 @@ impl<K: Copy, I: Copy, A: Allocator> TreeNode<K, I, A> {
     pub(crate) fn remove_entry(&mut self, place: usize)
         requires inner { IsInner self.old.body }
         requires place { place < size_of self.old.body }
-        ensures { self.new ≡ record self.old { body = Inner (remove (entries_of self.old.body) place) } }
+        ensures { self.new
+            ≡ record self.old { body = Inner (remove (entries_of self.old.body) place) } }
     {
         match &mut self.body {
             Body::Pairs(_) => unreachable!(),
@@ -306,7 +312,11 @@ impl<K: Copy, I: Copy, A: Allocator> TreeNode<K, I, A> {
     /// Removes the pairs of a leaf that the keeper does not keep.
     pub(crate) fn keep<T: Keeper<I>>(&mut self, keeper: &T)
         requires { IsLeaf self.old.body }
-        ensures { self.new ≡ record self.old { body = Leaf (filter (λ pair. T.kept keeper.now pair.0 pair.1) (pairs_of self.old.body)) } }
+        ensures { self.new
+            ≡ record self.old {
+              body = Leaf (filter (λ pair. T.kept keeper.now pair.0 pair.1)
+                  (pairs_of self.old.body));
+            } }
     {
         match &mut self.body {
             Body::Pairs(pairs) => pairs.keep(keeper),
@@ -323,7 +333,9 @@ impl<K: Copy, I: Copy, A: Allocator> TreeNode<K, I, A> {
     ) -> Result<(), Refused>
     where
         A: Copy,
-        ensures ok { OnOk result (self.new ≡ record self.old { attached = filter (does_run running.now) (with_number search self.old.attached) }) }
+        ensures ok { OnOk result
+            (self.new ≡ record self.old
+            { attached = filter (does_run running.now) (with_number search self.old.attached) }) }
         ensures err { OnErr result (self.new ≡ self.old) }
     {
         match self.attached.attach(search) {
@@ -345,7 +357,9 @@ impl<K: Copy, I: Copy, A: Allocator> TreeNode<K, I, A> {
     where
         A: Copy,
         requires { length searches.now ≤ MAX_ROOM }
-        ensures { IfOk result (λ list. list.numbers ≡ filter (does_run running.now) (with_numbers searches.now self.now.attached)) }
+        ensures { IfOk result
+            (λ list. list.numbers
+            ≡ filter (does_run running.now) (with_numbers searches.now self.now.attached)) }
     {
         let mut list = same_numbers(&self.attached)?;
         match list.attach_all(searches) {

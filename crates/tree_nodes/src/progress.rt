@@ -42,7 +42,9 @@ impl<I: Copy, A: Allocator> Progress<I, A> {
     pub fn at_root(alloc: A, number: u64, root: Handle, counter: u64) -> Result<Self, Refused>
     where
         A: Copy,
-        ensures { IfOk result (λ made. (made.number ≡ number) × (made.steps ≡ 0) × (made.stack ≡ (root, counter) ∷ []) × (made.found ≡ [])) }
+        ensures { IfOk result
+            (λ made. (made.number ≡ number) × (made.steps ≡ 0) × (made.stack ≡ (root, counter) ∷ [])
+            × (made.found ≡ [])) }
     {
         let mut stack = vec_with_places(alloc, NODE_SIZE)?;
         stack.push_reserved((root, counter));
@@ -104,7 +106,9 @@ impl<I: Copy, A: Allocator> Progress<I, A> {
     pub fn step(&mut self)
         requires stack { self.old.stack ≢ [] }
         requires steps { self.old.steps < last_number }
-        ensures { (rest : List (Handle × ℕ)) (last : Handle × ℕ) → self.old.stack ≡ rest ++ last ∷ [] → self.new ≡ record self.old { stack = rest; steps = self.old.steps + 1 } }
+        ensures { (rest : List (Handle × ℕ)) (last : Handle × ℕ)
+            → self.old.stack ≡ rest ++ last ∷ []
+            → self.new ≡ record self.old { stack = rest; steps = self.old.steps + 1 } }
     {
         self.stack.pop();
         self.steps += 1;

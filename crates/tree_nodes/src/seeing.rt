@@ -29,7 +29,9 @@ pub fn visit_last<C: KeyClass, A: Allocator + Copy>(
 ) -> Result<(), Refused>
     requires stack { progress.old.stack ≢ [] }
     requires steps { progress.old.steps < last_number }
-    ensures ok { OnOk result (HasVisited (class_of C.covered C.may_match C.is_match C.key_with C.united) query counter running.now nodes.old nodes.new progress.old progress.new) }
+    ensures ok { OnOk result
+        (HasVisited (class_of C.covered C.may_match C.is_match C.key_with C.united) query counter
+        running.now nodes.old nodes.new progress.old progress.new) }
     ensures nodes_kept { OnErr result (AreSame nodes.old nodes.new) }
     ensures progress_kept { OnErr result (SameButRoom progress.old progress.new) }
 {
@@ -53,7 +55,8 @@ fn see<C: KeyClass, A: Allocator>(
     counter: u64,
 )
     requires { HasVisitRoom progress.old }
-    ensures { HasSeen (class_of C.covered C.may_match C.is_match C.key_with C.united) query counter memo node.now progress.old progress.new }
+    ensures { HasSeen (class_of C.covered C.may_match C.is_match C.key_with C.united) query counter
+        memo node.now progress.old progress.new }
 {
     go_right(progress, node, memo);
     push_children::<C, A>(progress, node, query, counter);
@@ -67,7 +70,8 @@ fn go_right<K: Copy, I: Copy, A: Allocator>(
     memo: u64,
 )
     requires { length progress.old.stack < progress.old.stack_places }
-    ensures { progress.new ≡ record progress.old { stack = progress.old.stack ++ followed node.now memo } }
+    ensures { progress.new
+        ≡ record progress.old { stack = progress.old.stack ++ followed node.now memo } }
 {
     if is_followed(node.place(), node.seq(), memo) {
         if let Some(right) = node.right() {
@@ -91,7 +95,8 @@ fn push_children<C: KeyClass, A: Allocator>(
     counter: u64,
 )
     requires { length progress.old.stack + NODE_SIZE ≤ progress.old.stack_places }
-    ensures { HasChildren (class_of C.covered C.may_match C.is_match C.key_with C.united) query counter (entries_of node.now.body) progress.old progress.new }
+    ensures { HasChildren (class_of C.covered C.may_match C.is_match C.key_with C.united) query
+        counter (entries_of node.now.body) progress.old progress.new }
 {
     let mask = C::consistent_mask(node.keys(), query);
     for (i, child) in node.children().iter().enumerate() {
@@ -109,7 +114,8 @@ fn add_matching<C: KeyClass, A: Allocator>(
 )
     requires { length progress.old.found + NODE_SIZE ≤ progress.old.found_places }
     ensures most { length (pairs_of node.now.body) ≤ NODE_SIZE }
-    ensures matching { HasMatching (class_of C.covered C.may_match C.is_match C.key_with C.united) query (pairs_of node.now.body) progress.old progress.new }
+    ensures matching { HasMatching (class_of C.covered C.may_match C.is_match C.key_with C.united)
+        query (pairs_of node.now.body) progress.old progress.new }
 {
     for pair in node.pairs() {
         if C::matches(pair.1, query) {

@@ -55,7 +55,8 @@ pub fn push_pair<K: Copy, I: Copy, A: Allocator>(
 )
     requires leaf { Holds nodes.old at (λ node. IsLeaf node.body) }
     requires room { Holds nodes.old at (λ node. size_of node.body < NODE_SIZE) }
-    ensures { IsChanged nodes.old nodes.new at (λ node. record node { body = Leaf (pairs_of node.body ++ (key, item) ∷ []) }) }
+    ensures { IsChanged nodes.old nodes.new at
+        (λ node. record node { body = Leaf (pairs_of node.body ++ (key, item) ∷ []) }) }
 {
     if let Some(node) = nodes.get_mut(at) {
         node.push_pair(key, item);
@@ -71,7 +72,8 @@ pub fn push_entry<K: Copy, I: Copy, A: Allocator>(
 )
     requires inner { Holds nodes.old at (λ node. IsInner node.body) }
     requires room { Holds nodes.old at (λ node. size_of node.body < NODE_SIZE) }
-    ensures { IsChanged nodes.old nodes.new at (λ node. record node { body = Inner (entries_of node.body ++ (key, child) ∷ []) }) }
+    ensures { IsChanged nodes.old nodes.new at
+        (λ node. record node { body = Inner (entries_of node.body ++ (key, child) ∷ []) }) }
 {
     if let Some(node) = nodes.get_mut(at) {
         node.push_entry(key, child);
@@ -87,7 +89,11 @@ pub fn set_key<K: Copy, I: Copy, A: Allocator>(
 )
     requires inner { Holds nodes.old at (λ node. IsInner node.body) }
     requires place { Holds nodes.old at (λ node. place < size_of node.body) }
-    ensures { (old : K) (child : Handle) → Holds nodes.old at (λ node. slice_get (entries_of node.body) place ≡ Some (old, child)) → IsChanged nodes.old nodes.new at (λ node. record node { body = Inner (slice_set (entries_of node.body) place (key, child)) }) }
+    ensures { (old : K) (child : Handle)
+        → Holds nodes.old at (λ node. slice_get (entries_of node.body) place ≡ Some (old, child))
+        → IsChanged nodes.old nodes.new at
+        (λ node. record node
+        { body = Inner (slice_set (entries_of node.body) place (key, child)) }) }
 {
     if let Some(node) = nodes.get_mut(at) {
         node.set_key(place, key);
@@ -102,7 +108,8 @@ pub fn remove_entry<K: Copy, I: Copy, A: Allocator>(
 )
     requires inner { Holds nodes.old at (λ node. IsInner node.body) }
     requires place { Holds nodes.old at (λ node. place < size_of node.body) }
-    ensures { IsChanged nodes.old nodes.new at (λ node. record node { body = Inner (remove (entries_of node.body) place) }) }
+    ensures { IsChanged nodes.old nodes.new at
+        (λ node. record node { body = Inner (remove (entries_of node.body) place) }) }
 {
     if let Some(node) = nodes.get_mut(at) {
         node.remove_entry(place);
@@ -116,7 +123,9 @@ pub fn keep<K: Copy, I: Copy, T: Keeper<I>, A: Allocator>(
     keeper: &T,
 )
     requires { Holds nodes.old at (λ node. IsLeaf node.body) }
-    ensures { IsChanged nodes.old nodes.new at (λ node. record node { body = Leaf (filter (λ pair. T.kept keeper.now pair.0 pair.1) (pairs_of node.body)) }) }
+    ensures { IsChanged nodes.old nodes.new at
+        (λ node. record node
+        { body = Leaf (filter (λ pair. T.kept keeper.now pair.0 pair.1) (pairs_of node.body)) }) }
 {
     if let Some(node) = nodes.get_mut(at) {
         node.keep(keeper);
@@ -131,7 +140,10 @@ pub fn attach<K: Copy, I: Copy, Q: Copy, A: Allocator + Copy>(
     at: Handle,
     search: u64,
 ) -> Result<(), Refused>
-    ensures ok { OnOk result (IsChanged nodes.old nodes.new at (λ node. record node { attached = filter (does_run running.now) (with_number search node.attached) })) }
+    ensures ok { OnOk result
+        (IsChanged nodes.old nodes.new at
+        (λ node. record node
+        { attached = filter (does_run running.now) (with_number search node.attached) })) }
     ensures err { OnErr result (AreSame nodes.old nodes.new) }
 {
     match nodes.get_mut(at) {
@@ -150,7 +162,10 @@ pub fn joined<K: Copy, I: Copy, Q: Copy, A: Allocator + Copy>(
     searches: &[u64],
 ) -> Result<Attached<A>, Refused>
     requires { length searches.now ≤ MAX_ROOM }
-    ensures { IfOk result (λ list. Holds nodes.now at (λ node. list.numbers ≡ filter (does_run running.now) (with_numbers searches.now node.attached))) }
+    ensures { IfOk result
+        (λ list. Holds nodes.now at
+        (λ node. list.numbers
+        ≡ filter (does_run running.now) (with_numbers searches.now node.attached))) }
 {
     match nodes.get(at) {
         Some(node) => node.joined(running, searches),
@@ -180,7 +195,8 @@ pub fn leave_left<K: Copy, I: Copy, A: Allocator>(
     right: Handle,
     body: Body<K, I, A>,
 )
-    ensures { IsChanged nodes.old nodes.new at (λ node. left_of node parent right (plain_body body)) }
+    ensures { IsChanged nodes.old nodes.new at
+        (λ node. left_of node parent right (plain_body body)) }
 {
     if let Some(node) = nodes.get_mut(at) {
         node.become_left(parent, right, body);
@@ -194,7 +210,8 @@ pub fn rise<K: Copy, I: Copy, A: Allocator>(
     entries: Entries<K, A>,
 )
     requires { Holds nodes.old at (λ node. node.level < TOP_LEVEL) }
-    ensures { IsChanged nodes.old nodes.new at (λ node. record node { level = node.level + 1; body = Inner entries }) }
+    ensures { IsChanged nodes.old nodes.new at
+        (λ node. record node { level = node.level + 1; body = Inner entries }) }
 {
     if let Some(node) = nodes.get_mut(at) {
         node.rise(entries);

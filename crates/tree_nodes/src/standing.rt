@@ -31,9 +31,13 @@ pub fn standing_at<C: KeyClass, A: Allocator>(
     key: C::Key,
 ) -> Standing
     ensures nowhere { result ≡ Standing.Nowhere → IsNowhere nodes.now at }
-    ensures aside { ChildrenDiffer nodes.now → (parent : Handle) → result ≡ Standing.Aside parent → IsAside (class_of C.covered C.may_match C.is_match C.key_with C.united) nodes.now at parent key }
-    ensures here { result ≡ Standing.Here → IsHere (class_of C.covered C.may_match C.is_match C.key_with C.united) nodes.now at key }
-    ensures unlinked { (left : Handle) → result ≡ Standing.Unlinked left → IsUnlinked nodes.now at left }
+    ensures aside { ChildrenDiffer nodes.now → (parent : Handle) → result ≡ Standing.Aside parent
+        → IsAside (class_of C.covered C.may_match C.is_match C.key_with C.united) nodes.now at
+        parent key }
+    ensures here { result ≡ Standing.Here
+        → IsHere (class_of C.covered C.may_match C.is_match C.key_with C.united) nodes.now at key }
+    ensures unlinked { (left : Handle) → result ≡ Standing.Unlinked left
+        → IsUnlinked nodes.now at left }
 {
     let Some(node) = nodes.get(at) else {
         return Standing::Nowhere;
@@ -59,8 +63,12 @@ fn is_covered<C: KeyClass, A: Allocator>(
     child: Handle,
     key: C::Key,
 ) -> bool
-    ensures covered { IsTrue result → IsCoveredBy (class_of C.covered C.may_match C.is_match C.key_with C.united) nodes.now parent child key }
-    ensures other { ChildrenDiffer nodes.now → result ≡ false → IsCoveredBy (class_of C.covered C.may_match C.is_match C.key_with C.united) nodes.now parent child key → ⊥ }
+    ensures covered { IsTrue result
+        → IsCoveredBy (class_of C.covered C.may_match C.is_match C.key_with C.united) nodes.now
+        parent child key }
+    ensures other { ChildrenDiffer nodes.now → result ≡ false
+        → IsCoveredBy (class_of C.covered C.may_match C.is_match C.key_with C.united) nodes.now
+        parent child key → ⊥ }
 {
     let Some(node) = nodes.get(parent) else {
         return false;

@@ -68,7 +68,8 @@ pub trait KeyClass {
     /// beyond the keys are clear.
     fn consistent_mask(keys: &[Self::Key], query: Self::Query) -> u16
         requires { length keys.now ≤ NODE_SIZE }
-        ensures each { (i : ℕ) (key : Self.Key) → slice_get keys.now i ≡ Some key → (IsBitSet result i ↔ may_match key query) }
+        ensures each { (i : ℕ) (key : Self.Key) → slice_get keys.now i ≡ Some key
+            → (IsBitSet result i ↔ may_match key query) }
         ensures no_other { (i : ℕ) → IsBitSet result i → i < length keys.now };
 
     /// Whether the item matches the query.

@@ -33,8 +33,11 @@ fn begins_with_mark(bytes: &[u8]) -> bool
 /// Reads the keyword.
 #[tactic(auto, unfolding(crate::specs::Reading::keyword_at))]
 pub(crate) fn keyword(text: Rest<'_>) -> Result<(Kind, Rest<'_>), WktFault>
-    ensures gives { Gives (λ r. (r.0, tokens r.1.at r.1.bytes.now)) result (keyword_at (text.entry.at + length text.entry.bytes.now) (tokens text.entry.at text.entry.bytes.now)) }
-    ensures rest { IfOk result (λ r. r.1.at + length r.1.bytes.now ≡ text.entry.at + length text.entry.bytes.now) }
+    ensures gives { Gives (λ r. (r.0, tokens r.1.at r.1.bytes.now)) result
+        (keyword_at (text.entry.at + length text.entry.bytes.now)
+        (tokens text.entry.at text.entry.bytes.now)) }
+    ensures rest { IfOk result
+        (λ r. r.1.at + length r.1.bytes.now ≡ text.entry.at + length text.entry.bytes.now) }
 {
     let Some(token) = first_token(text) else {
         return Err(WktFault::Syntax(text.at + text.bytes.len()));
@@ -49,8 +52,11 @@ pub(crate) fn keyword(text: Rest<'_>) -> Result<(Kind, Rest<'_>), WktFault>
 /// Reads the opening bracket after a keyword. `LeftOut` for `EMPTY`, `Z`, `M` and `ZM`.
 #[tactic(auto, unfolding(crate::specs::Reading::opening_at))]
 pub(crate) fn opening(text: Rest<'_>) -> Result<Rest<'_>, WktFault>
-    ensures gives { Gives (λ r. tokens r.at r.bytes.now) result (opening_at (text.entry.at + length text.entry.bytes.now) (tokens text.entry.at text.entry.bytes.now)) }
-    ensures rest { IfOk result (λ r. r.at + length r.bytes.now ≡ text.entry.at + length text.entry.bytes.now) }
+    ensures gives { Gives (λ r. tokens r.at r.bytes.now) result
+        (opening_at (text.entry.at + length text.entry.bytes.now)
+        (tokens text.entry.at text.entry.bytes.now)) }
+    ensures rest { IfOk result
+        (λ r. r.at + length r.bytes.now ≡ text.entry.at + length text.entry.bytes.now) }
 {
     let Some(token) = first_token(text) else {
         return Err(WktFault::Syntax(text.at + text.bytes.len()));
@@ -68,8 +74,11 @@ pub(crate) fn opening(text: Rest<'_>) -> Result<Rest<'_>, WktFault>
 /// Reads this bracket or comma.
 #[tactic(auto, unfolding(crate::specs::Reading::mark_at))]
 pub(crate) fn mark(mark: u8, text: Rest<'_>) -> Result<Rest<'_>, WktFault>
-    ensures gives { Gives (λ r. tokens r.at r.bytes.now) result (mark_at mark (text.entry.at + length text.entry.bytes.now) (tokens text.entry.at text.entry.bytes.now)) }
-    ensures rest { IfOk result (λ r. r.at + length r.bytes.now ≡ text.entry.at + length text.entry.bytes.now) }
+    ensures gives { Gives (λ r. tokens r.at r.bytes.now) result
+        (mark_at mark (text.entry.at + length text.entry.bytes.now)
+        (tokens text.entry.at text.entry.bytes.now)) }
+    ensures rest { IfOk result
+        (λ r. r.at + length r.bytes.now ≡ text.entry.at + length text.entry.bytes.now) }
 {
     let Some(token) = first_token(text) else {
         return Err(WktFault::Syntax(text.at + text.bytes.len()));
@@ -83,8 +92,11 @@ pub(crate) fn mark(mark: u8, text: Rest<'_>) -> Result<Rest<'_>, WktFault>
 /// Reads the closing bracket of a list of fixed length. `LeftOut` for a comma.
 #[tactic(auto, unfolding(crate::specs::Reading::closing_at))]
 pub(crate) fn closing(text: Rest<'_>) -> Result<Rest<'_>, WktFault>
-    ensures gives { Gives (λ r. tokens r.at r.bytes.now) result (closing_at (text.entry.at + length text.entry.bytes.now) (tokens text.entry.at text.entry.bytes.now)) }
-    ensures rest { IfOk result (λ r. r.at + length r.bytes.now ≡ text.entry.at + length text.entry.bytes.now) }
+    ensures gives { Gives (λ r. tokens r.at r.bytes.now) result
+        (closing_at (text.entry.at + length text.entry.bytes.now)
+        (tokens text.entry.at text.entry.bytes.now)) }
+    ensures rest { IfOk result
+        (λ r. r.at + length r.bytes.now ≡ text.entry.at + length text.entry.bytes.now) }
 {
     let Some(token) = first_token(text) else {
         return Err(WktFault::Syntax(text.at + text.bytes.len()));
@@ -123,8 +135,11 @@ fn number_of_token(at: usize, bytes: &[u8]) -> Result<i32, WktFault>
 /// Reads a coordinate.
 #[tactic(auto, unfolding(crate::specs::Reading::number_at))]
 fn number(text: Rest<'_>) -> Result<(i32, Rest<'_>), WktFault>
-    ensures gives { Gives (λ r. (r.0, tokens r.1.at r.1.bytes.now)) result (number_at (text.entry.at + length text.entry.bytes.now) (tokens text.entry.at text.entry.bytes.now)) }
-    ensures rest { IfOk result (λ r. r.1.at + length r.1.bytes.now ≡ text.entry.at + length text.entry.bytes.now) }
+    ensures gives { Gives (λ r. (r.0, tokens r.1.at r.1.bytes.now)) result
+        (number_at (text.entry.at + length text.entry.bytes.now)
+        (tokens text.entry.at text.entry.bytes.now)) }
+    ensures rest { IfOk result
+        (λ r. r.1.at + length r.1.bytes.now ≡ text.entry.at + length text.entry.bytes.now) }
     ensures shorter { IfOk result (λ r. length r.1.bytes.now < length text.entry.bytes.now) }
 {
     let Some(token) = first_token(text) else {
@@ -137,8 +152,11 @@ fn number(text: Rest<'_>) -> Result<(i32, Rest<'_>), WktFault>
 /// Reads the two coordinates of a point.
 #[tactic(auto, unfolding(crate::specs::Reading::pair_at))]
 pub(crate) fn pair(text: Rest<'_>) -> Result<(Point, Rest<'_>), WktFault>
-    ensures gives { Gives (λ r. (r.0, tokens r.1.at r.1.bytes.now)) result (pair_at (text.entry.at + length text.entry.bytes.now) (tokens text.entry.at text.entry.bytes.now)) }
-    ensures rest { IfOk result (λ r. r.1.at + length r.1.bytes.now ≡ text.entry.at + length text.entry.bytes.now) }
+    ensures gives { Gives (λ r. (r.0, tokens r.1.at r.1.bytes.now)) result
+        (pair_at (text.entry.at + length text.entry.bytes.now)
+        (tokens text.entry.at text.entry.bytes.now)) }
+    ensures rest { IfOk result
+        (λ r. r.1.at + length r.1.bytes.now ≡ text.entry.at + length text.entry.bytes.now) }
     ensures shorter { IfOk result (λ r. length r.1.bytes.now < length text.entry.bytes.now) }
 {
     let (x, text) = number(text)?;
@@ -149,8 +167,11 @@ pub(crate) fn pair(text: Rest<'_>) -> Result<(Point, Rest<'_>), WktFault>
 /// Reads what follows a pair of a ring: true for a comma, false for the closing bracket.
 #[tactic(auto, unfolding(crate::specs::Reading::more_at, crate::specs::Reading::is_more))]
 pub(crate) fn more(text: Rest<'_>) -> Result<(bool, Rest<'_>), WktFault>
-    ensures gives { Gives (λ r. (r.0, tokens r.1.at r.1.bytes.now)) result (more_at (text.entry.at + length text.entry.bytes.now) (tokens text.entry.at text.entry.bytes.now)) }
-    ensures rest { IfOk result (λ r. r.1.at + length r.1.bytes.now ≡ text.entry.at + length text.entry.bytes.now) }
+    ensures gives { Gives (λ r. (r.0, tokens r.1.at r.1.bytes.now)) result
+        (more_at (text.entry.at + length text.entry.bytes.now)
+        (tokens text.entry.at text.entry.bytes.now)) }
+    ensures rest { IfOk result
+        (λ r. r.1.at + length r.1.bytes.now ≡ text.entry.at + length text.entry.bytes.now) }
     ensures shorter { IfOk result (λ r. length r.1.bytes.now < length text.entry.bytes.now) }
 {
     let Some(token) = first_token(text) else {

@@ -17,7 +17,9 @@ use plane::Shape;
 /// `( pair )`
 #[tactic(auto, unfolding(crate::specs::Reading::point_at))]
 fn point(text: Rest<'_>) -> Result<Shape, WktFault>
-    ensures { result ≡ point_at (text.entry.at + length text.entry.bytes.now) (tokens text.entry.at text.entry.bytes.now) }
+    ensures { result
+        ≡ point_at (text.entry.at + length text.entry.bytes.now)
+        (tokens text.entry.at text.entry.bytes.now) }
 {
     let text = opening(text)?;
     let (point, text) = pair(text)?;
@@ -29,7 +31,9 @@ fn point(text: Rest<'_>) -> Result<Shape, WktFault>
 /// `( pair , pair )`
 #[tactic(auto, unfolding(crate::specs::Reading::line_string_at))]
 fn line_string(text: Rest<'_>) -> Result<Shape, WktFault>
-    ensures { result ≡ line_string_at (text.entry.at + length text.entry.bytes.now) (tokens text.entry.at text.entry.bytes.now) }
+    ensures { result
+        ≡ line_string_at (text.entry.at + length text.entry.bytes.now)
+        (tokens text.entry.at text.entry.bytes.now) }
 {
     let text = opening(text)?;
     let (first, text) = pair(text)?;
@@ -43,7 +47,9 @@ fn line_string(text: Rest<'_>) -> Result<Shape, WktFault>
 /// `( ( pair , pair .. ) )`
 #[tactic(auto, unfolding(crate::specs::Kept::kept_polygon_at))]
 fn polygon(text: Rest<'_>) -> Result<Shape, WktFault>
-    ensures { result ≡ kept_polygon_at (text.entry.at + length text.entry.bytes.now) (tokens text.entry.at text.entry.bytes.now) }
+    ensures { result
+        ≡ kept_polygon_at (text.entry.at + length text.entry.bytes.now)
+        (tokens text.entry.at text.entry.bytes.now) }
 {
     let text = opening(text)?;
     let text = mark(b'(', text)?;

@@ -27,8 +27,11 @@ fn keep(listed: &mut ArrayVec<Point, KEPT>, point: Point)
 /// Reads the points of a ring, up to its closing bracket. Of a longer ring, only the first `KEPT`
 /// points are kept.
 pub(crate) fn ring(text: Rest<'_>) -> Result<(ArrayVec<Point, KEPT>, Rest<'_>), WktFault>
-    ensures gives { Gives (λ r. (r.0.items, tokens r.1.at r.1.bytes.now)) result (kept (ring_at (text.entry.at + length text.entry.bytes.now) (tokens text.entry.at text.entry.bytes.now))) }
-    ensures rest { IfOk result (λ r. r.1.at + length r.1.bytes.now ≡ text.entry.at + length text.entry.bytes.now) }
+    ensures gives { Gives (λ r. (r.0.items, tokens r.1.at r.1.bytes.now)) result
+        (kept (ring_at (text.entry.at + length text.entry.bytes.now)
+        (tokens text.entry.at text.entry.bytes.now))) }
+    ensures rest { IfOk result
+        (λ r. r.1.at + length r.1.bytes.now ≡ text.entry.at + length text.entry.bytes.now) }
 {
     let mut listed = ArrayVec::new();
     let mut text = text;

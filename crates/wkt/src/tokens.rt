@@ -75,9 +75,12 @@ fn token_len(bytes: &[u8]) -> usize
 /// The first token of the rest of a text; `None` if only spaces are left.
 pub(crate) fn first_token(text: Rest<'_>) -> Option<Token<'_>>
     ensures none { IfNone result (tokens text.entry.at text.entry.bytes.now ≡ []) }
-    ensures some { IfSome result (λ t. tokens text.entry.at text.entry.bytes.now ≡ (t.at, t.bytes.now) ∷ tokens t.rest.at t.rest.bytes.now) }
+    ensures some { IfSome result
+        (λ t. tokens text.entry.at text.entry.bytes.now ≡ (t.at, t.bytes.now)
+        ∷ tokens t.rest.at t.rest.bytes.now) }
     ensures shorter { IfSome result (λ t. length t.rest.bytes.now < length text.entry.bytes.now) }
-    ensures length { IfSome result (λ t. t.rest.at + length t.rest.bytes.now ≡ text.entry.at + length text.entry.bytes.now) }
+    ensures length { IfSome result
+        (λ t. t.rest.at + length t.rest.bytes.now ≡ text.entry.at + length text.entry.bytes.now) }
 {
     let (front, found) = text.bytes.split_at(space_len(text.bytes));
     let at = text.at + front.len();
