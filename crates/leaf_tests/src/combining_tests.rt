@@ -9,9 +9,9 @@ use std::fmt::Display;
 use std::process::Abort;
 use std::test::Fail;
 
-// In these tables each document has behind it, until an empty line, what is asked of it: may a subject of the office north
-// take this action, in this role, of a feature of this owner and class, at this point? It is told with the number and the
-// name of the deciding rule, where there is one.
+// In these tables each document is followed by its questions, up to an empty line. A question has
+// an action, the role of a subject of the office north, and the owner, the class and the point of a
+// feature. Its answer has the number and the name of the deciding rule, if there is one.
 const WORKED: &str =
     r#"{"root":{"combine":"deny-overrides","of":[{"combine":"permit-overrides","policy":"soft","rules":[{"effect":"deny","rule":"early"},{"effect":"permit","rule":"grant"}]},{"combine":"deny-overrides","policy":"hard","rules":[{"effect":"deny","rule":"late"}]}],"set":"top"}}
 read editor north parcel 2 2 => Deny 3 late
@@ -42,7 +42,7 @@ read editor south road 2 2 => Deny
 read editor north road 2 2 => Deny
 "#;
 
-/// Sets whose target does not hold.
+/// Sets with a target, which holds for a road and fails for a parcel.
 const TARGETS: &str =
     r#"{"root":{"set":"top","combine":"deny-overrides","of":[{"set":"roads","combine":"deny-overrides","target":[[[{"class":"road"}]]],"of":[{"policy":"a","combine":"deny-overrides","rules":[{"rule":"go","effect":"permit"},{"rule":"stop","effect":"deny"}]},{"policy":"b","combine":"permit-unless-deny","rules":[{"rule":"drive","effect":"permit"}]}]},{"policy":"others","combine":"deny-overrides","rules":[{"rule":"walk","effect":"permit"}]}]}}
 read editor north road 2 2 => Deny 2 stop
@@ -57,7 +57,7 @@ read editor north road 2 2 => Permit 1 go
 read editor north parcel 2 2 => NotApplicable
 "#;
 
-// examples/policies/harbour.json: the harbour is the square from (0, 0) to (40, 30).
+/// `examples/policies/harbour.json`: the harbour is the rectangle from (0, 0) to (40, 30).
 const HARBOUR: &str =
     r#"{"root":{"combine":"deny-overrides","of":[{"combine":"deny-overrides","policy":"harbour","rules":[{"effect":"deny","rule":"harbour-is-closed","target":[[[{"action":"add"}],[{"action":"reshape"}],[{"action":"delete"}]]],"when":[{"not":{"role":"harbour-master"}}]}],"target":[[[{"zone":"harbour"}]]]},{"combine":"first-applicable","policy":"offices","rules":[{"effect":"permit","rule":"own-features","when":[{"own":true}]},{"effect":"permit","rule":"all-may-read","target":[[[{"action":"read"}]]]}]}],"set":"agency"},"zones":[{"shape":"POLYGON ((0 0, 40 0, 40 30, 0 30, 0 0))","zone":"harbour"}]}
 add editor north road 40 7 => Deny 1 harbour-is-closed
@@ -70,7 +70,7 @@ add editor north road 41 7 => Permit 2 own-features
 add editor south road 41 7 => NotApplicable
 "#;
 
-/// Each action asked beside a match of each.
+/// Each action, asked of a rule for each action.
 const ACTIONS: &str =
     r#"{"root":{"combine":"deny-overrides","policy":"p","rules":[{"effect":"permit","rule":"r","target":[[[{"action":"read"}]]]}]}}
 read editor north road 2 2 => Permit 1 r
@@ -97,7 +97,7 @@ reshape editor north road 2 2 => NotApplicable
 delete editor north road 2 2 => Permit 1 r
 "#;
 
-/// Inside, at an edge, at a corner, and one unit outside.
+/// Points inside a zone, on its edge, at its corners, and one unit outside.
 const ZONES: &str =
     r#"{"root":{"combine":"deny-overrides","policy":"p","rules":[{"effect":"permit","rule":"r","target":[[[{"zone":"square"}]]]}]},"zones":[{"shape":"POLYGON ((0 0, 4 0, 4 4, 0 4, 0 0))","zone":"square"}]}
 read editor north road 2 2 => Permit 1 r
@@ -109,7 +109,7 @@ read editor north road 2 -1 => NotApplicable
 read editor north road 5 5 => NotApplicable
 "#;
 
-/// Matches, and whether each holds for the subject.
+/// Matches, and whether each holds for the question of `check_rule`.
 const MATCHES: &str = r#"{"role":"editor"} => holds
 {"role":"north"} => fails
 {"office":"north"} => holds
@@ -123,7 +123,7 @@ const MATCHES: &str = r#"{"role":"editor"} => holds
 {"zone":"square"} => holds
 "#;
 
-/// Targets and conditions, and whether a rule of both applies.
+/// Targets and conditions, and whether a rule with both applies.
 const CONDITIONS: &str = r#" |  => holds
  | {"own":true} => fails
  | {"not":{"own":true}} => holds
@@ -144,8 +144,8 @@ const OWN_CONDITIONS: &str = r#" | {"own":true} => holds
  | {"not":{"own":true}} => fails
 "#;
 
-/// Decisions, and what each algorithm makes of them, in the order of `ALGORITHMS`: the tables of XACML 3.0, C.2, C.4, C.6,
-/// C.7 and C.8, without Indeterminate.
+/// Decisions, and what each algorithm combines them to, in the order of `ALGORITHMS`: the tables of
+/// XACML 3.0, C.2, C.4, C.6, C.7 and C.8, without Indeterminate.
 const COMBINED: &str = r#" => none none deny permit none
 none => none none deny permit none
 permit => permit permit permit permit permit
@@ -190,7 +190,8 @@ fn shape(rt: &impl Abort, text: &str) -> Shape {
     shape.unwrap()
 }
 
-/// The question of a text such as `read editor south road 2 2`: its action, role, owner, class and point.
+/// The question of a text such as `read editor south road 2 2`: action, role, owner, class and
+/// point.
 fn question(rt: &impl Abort, text: &str) -> Question {
     let (asked, rest) = parted(rt, text, " ");
     let (role, rest) = parted(rt, rest, " ");
@@ -233,7 +234,7 @@ fn shown(
     }
 }
 
-/// The document answers each question as its line tells.
+/// Checks the document's verdict on the question of each line.
 fn check_answers(
     rt: &impl Abort,
     heap: Global,
@@ -248,7 +249,7 @@ fn check_answers(
     Ok(())
 }
 
-/// Each document of a table answers as the lines behind it tell.
+/// Checks each document of a table against the lines that follow it.
 fn check_documents(rt: &impl Abort, heap: Global, table: &str) -> Result<(), AllocError> {
     for part in table.split("\n\n") {
         let (text, lines) = parted(rt, part, "\n");
@@ -281,7 +282,8 @@ fn settling_decisions(rt: HostRuntime) -> Result<(), Fail> {
     Ok(())
 }
 
-/// The text of a document with one rule of this target and these conditions, and one zone, the square from (0, 0) to (4, 4).
+/// The text of a document with one rule, which has this target and these conditions, and with one
+/// zone, the square from (0, 0) to (4, 4).
 fn one_rule(
     heap: Global,
     target: impl Display + Drop,
@@ -295,7 +297,7 @@ fn one_rule(
     )
 }
 
-/// The one rule of a document permits, or does not apply.
+/// Checks whether the one rule of a document applies, and then permits.
 fn check_rule(rt: &impl Abort, heap: Global, text: &str, owner: &str, applies: bool) {
     let mut asked = question(rt, "read editor south road 2 2");
     asked.owner = name(rt, owner);
@@ -308,7 +310,7 @@ fn check_rule(rt: &impl Abort, heap: Global, text: &str, owner: &str, applies: b
     assert_eq!(rt; (verdict.decision, verdict.rule), expected, "{text}");
 }
 
-/// A match holds as a target, as a condition, and in the opposite case where it is negated.
+/// Checks a match as a target, as a condition, and as a negated condition, which is the opposite.
 fn check_match(rt: &impl Abort, heap: Global, line: &str) -> Result<(), AllocError> {
     let (test, told) = parted(rt, line, " => ");
     let holds = is_first(rt, told, "holds", "fails");
@@ -321,7 +323,7 @@ fn check_match(rt: &impl Abort, heap: Global, line: &str) -> Result<(), AllocErr
     Ok(())
 }
 
-/// A rule of this target and these conditions applies for this owner's feature, or does not.
+/// Checks whether a rule with the line's target and conditions applies to a feature of this owner.
 fn check_condition(
     rt: &impl Abort,
     heap: Global,
@@ -360,7 +362,7 @@ fn decision(rt: &impl Abort, word: &str) -> Decision {
     }
 }
 
-/// The algorithms make of these decisions what the line tells.
+/// Checks what each algorithm combines the decisions of a line to.
 fn check_combined(rt: &impl Abort, line: &str) {
     let (given, told) = parted(rt, line, " => ");
     let mut decisions = [Decision::NotApplicable; 3];

@@ -1,4 +1,4 @@
-//! Documents that are made up, each compiled, folded, and asked in both forms what `evaluate` answers.
+//! Random documents: compiled, and folded, each rules as `evaluate` does.
 use combining::{Decision, Question, Verdict, evaluate};
 use decision::{Decider, Folded, Ruling};
 use features::{Action, Name, Subject};
@@ -8,10 +8,10 @@ use std::alloc::{AllocError, Global};
 use std::process::Abort;
 use std::test::Fail;
 
-/// How many documents are made up.
+/// How many documents are generated.
 const DOCUMENTS: u64 = 5_000;
 
-/// For how many subjects and actions each of them is folded.
+/// How many times each document is folded, each time for a subject and an action.
 const FOLDS: u64 = 4;
 
 /// How many questions are asked of each folded document.
@@ -20,14 +20,14 @@ const QUESTIONS: u64 = 5;
 const ZONES: &str =
     r#""zones":[{"shape":"POLYGON ((0 0, 4 0, 0 4, 0 0))","zone":"field"},{"shape":"POINT (9 9)","zone":"post"}]"#;
 
-/// Numbers that look like chance, from a linear congruence.
+/// Pseudo-random numbers, from a linear congruence.
 #[derive(Drop)]
 struct Dice {
     state: u64,
 }
 
 impl Dice {
-    /// A number below this one, or 0 where that is 0.
+    /// A number below `sides`, or 0 if that is 0.
     fn below(&mut self, sides: u64) -> u64 {
         self.state = self
             .state
@@ -42,7 +42,7 @@ impl Dice {
     }
 }
 
-/// The text of a document that is being made up, and how many names stand in it.
+/// The text of a document that is being generated, and how many names it has.
 #[derive(Drop)]
 struct Draft {
     heap: Global,
@@ -55,7 +55,7 @@ impl Draft {
         self.text.push_str(part)
     }
 
-    /// A name that stands nowhere else in the document, under a key.
+    /// Appends a key with a name that occurs nowhere else in the document.
     fn push_name(&mut self, key: &str) -> Result<(), AllocError> {
         self.names = self.names.wrapping_add(1);
         let number = self.names;
@@ -162,7 +162,7 @@ fn push_head(draft: &mut Draft, dice: &mut Dice, kind: &str) -> Result<(), Alloc
     push_target(draft, dice)
 }
 
-/// A policy of no rule up to three.
+/// A policy of at most three rules.
 fn push_policy(draft: &mut Draft, dice: &mut Dice) -> Result<(), AllocError> {
     push_head(draft, dice, "policy")?;
     draft.push(r#","rules":["#)?;
@@ -175,7 +175,7 @@ fn push_policy(draft: &mut Draft, dice: &mut Dice) -> Result<(), AllocError> {
     draft.push("]}")
 }
 
-/// A set of no policy up to two.
+/// A set of at most two policies.
 fn push_inner_set(draft: &mut Draft, dice: &mut Dice) -> Result<(), AllocError> {
     push_head(draft, dice, "set")?;
     draft.push(r#","of":["#)?;
@@ -188,7 +188,7 @@ fn push_inner_set(draft: &mut Draft, dice: &mut Dice) -> Result<(), AllocError> 
     draft.push("]}")
 }
 
-/// A set of no child up to two, which are policies or sets of policies.
+/// A set of at most two children, which are policies or sets of policies.
 fn push_set(draft: &mut Draft, dice: &mut Dice) -> Result<(), AllocError> {
     push_head(draft, dice, "set")?;
     draft.push(r#","of":["#)?;
@@ -205,7 +205,7 @@ fn push_set(draft: &mut Draft, dice: &mut Dice) -> Result<(), AllocError> {
     draft.push("]}")
 }
 
-/// A document of sets and policies within one another.
+/// A document of nested sets and policies.
 fn push_document(draft: &mut Draft, dice: &mut Dice) -> Result<(), AllocError> {
     draft.push(r#"{"root":"#)?;
     push_head(draft, dice, "set")?;
@@ -225,7 +225,7 @@ fn push_document(draft: &mut Draft, dice: &mut Dice) -> Result<(), AllocError> {
     draft.push("}")
 }
 
-/// The text of a document that is made up.
+/// The text of a random document.
 fn document_text(heap: Global, dice: &mut Dice) -> Result<String, AllocError> {
     let mut draft = Draft {
         heap,
@@ -242,7 +242,7 @@ fn name(rt: &impl Abort, text: &str) -> Name {
     name.unwrap()
 }
 
-/// A point of the field, the post, or a point that lies in the field's frame and not in the field.
+/// A point in the field, the post, or a point in the field's frame but not in the field.
 fn shape(rt: &impl Abort, dice: &mut Dice) -> Shape {
     let point = match dice.below(3) {
         0 => Point { x: 1, y: 1 },
@@ -305,7 +305,7 @@ fn folded<'a>(rt: &impl Abort, decider: &'a Decider, question: &Question) -> Fol
     }
 }
 
-/// That the document, its decider and the folded document answer alike.
+/// Asserts that the document, its decider and the folded decider rule alike.
 fn assert_alike(
     rt: &impl Abort,
     decider: &Decider,
@@ -319,7 +319,7 @@ fn assert_alike(
     assert_eq!(rt; told, wanted, "{text}");
 }
 
-/// Questions of one subject who asks for one action.
+/// Folds a decider for one subject and one action, and asks questions with these.
 fn ask(rt: &impl Abort, dice: &mut Dice, decider: &Decider, text: &str) {
     let first = question(rt, dice);
     let folded = folded(rt, decider, &first);

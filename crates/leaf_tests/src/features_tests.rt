@@ -1,3 +1,5 @@
+//! Names, subjects, and the store of features.
+
 ghost use Rattle.std.specs.Prelude.{◌≡◌};
 ghost use Rattle.features.specs.Changes.{change_id};
 
@@ -52,7 +54,7 @@ fn deletion(id: u64) -> Change
     Change::Delete { id, version: 1 }
 }
 
-/// Makes a list of one change, after a look-up that shows that it can be made.
+/// Applies a list of one change. The look-up before it asserts what `Store::apply` requires.
 fn make<A: Allocator>(
     rt: &impl Abort,
     store: &mut Store<A>,
@@ -75,7 +77,7 @@ north
 a-0-z
 abcdefghijklmnopqrstuvwxyz-01234";
 
-/// Texts that are none: the first is empty, and the last too long by one.
+/// Texts that are no names: the first is empty, and the last too long by one.
 const NO_NAMES: &str = "
 North
 a b
@@ -142,14 +144,14 @@ fn faults_are_shown_by_their_codes(rt: HostRuntime) -> Result<(), Fail> {
     Ok(())
 }
 
-/// Adds these ids.
+/// Adds features with these ids.
 fn fill<A: Allocator>(rt: &impl Abort, store: &mut Store<A>, ids: &[u64]) {
     for id in ids {
         assert!(rt; make(rt, store, 1, addition(rt, *id)).is_ok());
     }
 }
 
-/// A store of the ids 3, 5, 7 and 9, which were put in out of order.
+/// A store of the ids 3, 5, 7 and 9, added in another order.
 fn four<A: Allocator + Copy>(rt: &impl Abort, alloc: A) -> Store<A> {
     let mut store = Store::new(alloc);
     fill(rt, &mut store, &[7, 3, 9, 5]);
@@ -166,7 +168,8 @@ fn assert_ids<A: Allocator>(rt: &impl Abort, store: &Store<A>, ids: &[u64]) {
     assert!(rt; store.row_at(ids.len()).is_none());
 }
 
-/// These are all rows in the order of their ids, for a tick each, and so they are looked up.
+/// Checks that these are all rows by rising id, read at one tick each, and that a look-up takes one
+/// tick.
 fn check_rows<A: Allocator>(
     rt: &impl Abort,
     store: &Store<A>,
@@ -192,7 +195,7 @@ fn store(rt: HostRuntime) -> Result<(), Fail> {
     Ok(())
 }
 
-/// Feature 5 is reshaped, and nothing else.
+/// Reshapes feature 5, and checks that its neighbour is unchanged.
 fn check_reshaped<A: Allocator>(rt: &impl Abort, store: &mut Store<A>) {
     let mut meter = Meter::new();
     let before = store.get(5, &mut meter).copied();
@@ -215,13 +218,13 @@ fn reshaped(rt: HostRuntime) -> Result<(), Fail> {
     Ok(())
 }
 
-/// One id is deleted, and these are left.
+/// Deletes one id, and checks which ids are left.
 fn check_deleted<A: Allocator>(rt: &impl Abort, store: &mut Store<A>, id: u64, left: &[u64]) {
     assert!(rt; make(rt, store, 2, deletion(id)).is_ok());
     assert_ids(rt, store, left);
 }
 
-/// All ids are deleted in turn, and one is added.
+/// Deletes all ids one after the other, and adds one.
 fn check_emptied<A: Allocator>(rt: &impl Abort, store: &mut Store<A>) {
     for (id, left) in [(7, 3), (3, 2), (9, 1), (5, 0)] {
         assert!(rt; make(rt, store, 2, deletion(id)).is_ok());
@@ -253,7 +256,7 @@ fn next_random(state: &mut u64) -> u64 {
     *state >> 33
 }
 
-/// Whether the id is in a plain list, which changes as the store does: in at its place, or out.
+/// Whether the id was in a sorted list: it is removed if it was, and inserted otherwise.
 fn toggle<A: Allocator>(rt: &impl Abort, plain: &mut Vec<u64, A>, id: u64) -> bool {
     match plain.binary_search(&id) {
         Ok(at) => {
@@ -267,7 +270,8 @@ fn toggle<A: Allocator>(rt: &impl Abort, plain: &mut Vec<u64, A>, id: u64) -> bo
     }
 }
 
-/// 5,000 lists of one change at random ids: beside a plain sorted list, the store has the same ids.
+/// 5,000 additions and deletions of random ids, with reshapes among them: the store has the ids of
+/// a plain sorted list.
 #[test]
 fn as_a_plain_list(rt: HostRuntime) -> Result<(), Fail> {
     let mut store = Store::new(rt.alloc());
@@ -293,7 +297,7 @@ fn as_a_plain_list(rt: HostRuntime) -> Result<(), Fail> {
     Ok(())
 }
 
-/// A store over this memory in which the ids 5, 6, 8 and 9 fill all room.
+/// A store of the ids 5, 6, 8 and 9, which fill its capacity.
 fn full_of_four<A: Allocator + Copy>(rt: &impl Abort, alloc: A) -> Store<A> {
     let mut store = Store::new(alloc);
     fill(rt, &mut store, &[5, 6, 8, 9]);
@@ -319,7 +323,7 @@ fn each_allocation_refused(rt: HostRuntime) -> Result<(), Fail> {
     Ok(())
 }
 
-/// A reshape and a deletion take no memory, and an addition takes the room of what was deleted.
+/// A reshape and a deletion allocate nothing, nor does an addition after a deletion.
 fn change_without_memory<A: Allocator>(rt: &impl Abort, store: &mut Store<A>) {
     assert!(rt; make(rt, store, 2, reshape(rt, 6)).is_ok());
     assert!(rt; make(rt, store, 3, deletion(5)).is_ok());
@@ -327,7 +331,7 @@ fn change_without_memory<A: Allocator>(rt: &impl Abort, store: &mut Store<A>) {
     assert_ids(rt, store, &[1, 6, 8, 9]);
 }
 
-/// Where no memory is to be had, what takes none succeeds.
+/// With the next allocation refused, a change that allocates nothing succeeds, and `dump` fails.
 #[test]
 fn without_memory(rt: HostRuntime) -> Result<(), Fail> {
     let memory = Refusing::new(rt.alloc(), 0);
@@ -341,7 +345,7 @@ fn without_memory(rt: HostRuntime) -> Result<(), Fail> {
     Ok(())
 }
 
-/// One more than fit is refused, and where one is deleted another is taken.
+/// A full store rejects one more feature, and accepts one after a deletion.
 fn check_full<A: Allocator>(rt: &impl Abort, store: &mut Store<A>) {
     assert_eq!(rt; store.len(), FEATURE_LIMIT);
     assert_eq!(rt;

@@ -1,4 +1,5 @@
-//! Tests of the crates that rest on no other crate of this repository, or on few. Each has a file of its own.
+//! Tests of the crates that use no other crate of this repository, or few. Each of these crates has
+//! a file here.
 #![tactic(auto)]
 
 #[cfg(test)]

@@ -2,7 +2,7 @@
 use plane::Point;
 use std::process::Abort;
 
-/// The two parts of a text, before and behind a mark that stands in it.
+/// The parts of a text before and after the first occurrence of a mark, which it has to contain.
 pub(crate) fn parted<'a>(rt: &impl Abort, text: &'a str, mark: &'static str) -> (&'a str, &'a str) {
     let Some(parts) = text.split_once(mark) else {
         panic!(rt; "no {mark} in {text}");
@@ -10,7 +10,7 @@ pub(crate) fn parted<'a>(rt: &impl Abort, text: &'a str, mark: &'static str) -> 
     parts
 }
 
-/// Whether the first of two words is told, and not the second.
+/// Whether `told` is the first of two words. It has to be one of them.
 pub(crate) fn is_first(
     rt: &impl Abort,
     told: &str,

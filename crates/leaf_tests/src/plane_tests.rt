@@ -9,8 +9,9 @@ use std::alloc::{AllocError, Global};
 use std::process::Abort;
 use std::test::Fail;
 
-/// Listed points, each with the corners of their shape, or with the code of their fault, and the fault. Every turn of the
-/// star of five points, the first of P8, is to the left. The bowls have the points x, x * x, and turn at each.
+/// Listed points, with the corners of their shape, or with the code of their fault and the fault.
+/// The star of five points, the first line of P8, turns left at every point. The long rings have
+/// the points `x, x * x` and turn at each of them.
 const SHAPES: &str = r#"0 0, 0 4, 4 4, 4 2, 4 0, 0 0 => 0 0, 4 0, 4 4, 0 4
 4 4, 0 4, 0 0, 4 0, 4 4 => 0 0, 4 0, 4 4, 0 4
 0 0, 1 1, 2 4, 3 9, 4 16, 5 25, 6 36, 7 49, 8 64, 9 81, 10 100, 11 121, 12 144, 13 169, 14 196, 15 225, 0 0 => 0 0, 1 1, 2 4, 3 9, 4 16, 5 25, 6 36, 7 49, 8 64, 9 81, 10 100, 11 121, 12 144, 13 169, 14 196, 15 225
@@ -30,9 +31,10 @@ const SHAPES: &str = r#"0 0, 0 4, 4 4, 4 2, 4 0, 0 0 => 0 0, 4 0, 4 4, 0 4
 0 0, 1 1, 2 4, 3 9, 4 16, 5 25, 6 36, 7 49, 8 64, 9 81, 10 100, 11 121, 12 144, 13 169, 14 196, 15 225, 16 256, 0 0 => P9 TooManyCorners
 "#;
 
-/// Pairs of shapes that meet, or lie apart: parallels; a square and what touches it, crosses it, or overlaps its frame alone;
-/// stretches of one line; at the greatest coordinates, by one unit; and a tilted square, of which a corner of the other
-/// shape lies in it, a side parts them, or neither.
+/// Pairs of shapes that meet or are apart: long parallel segments; a square with shapes that touch
+/// it, cross it or only overlap its frame; a segment with segments of its line and with points;
+/// shapes at the greatest coordinates that meet or miss by one unit; and a tilted square with
+/// shapes that have a corner in it, are separated from it by a side, or neither.
 const MEETINGS: &str =
     r#"-10000000 -10000000, 10000000 9999999 | -10000000 -9999999, 10000000 10000000 => apart
 0 0, 4 0, 4 4, 0 4, 0 0 | 4 4 => meet
@@ -63,7 +65,8 @@ const MEETINGS: &str =
 0 -6, 6 0, 0 6, -6 0, 0 -6 | 0 6, 7 0 => meet
 "#;
 
-/// Pairs of shapes that are equal, however they were listed, or differ in a corner, or in how many they have.
+/// Pairs of shapes that are equal, in whatever order they are listed, or differ in a corner or in
+/// the number of corners.
 const EQUALITIES: &str = r#"0 0, 4 0, 0 4, 0 0 | 0 4, 0 0, 4 0, 0 4 => equal
 0 0, 4 0, 0 4, 0 0 | 0 4, 4 0, 0 0, 0 4 => equal
 0 0, 4 0, 0 4, 0 0 | 0 0, 4 0, 0 5, 0 0 => unequal
@@ -75,7 +78,7 @@ const EQUALITIES: &str = r#"0 0, 4 0, 0 4, 0 0 | 0 4, 0 0, 4 0, 0 4 => equal
 0 0, 0 4, 4 4, 4 2, 4 0, 0 0 | 4 4, 0 4, 0 0, 4 0, 4 4 => equal
 "#;
 
-/// What the frames of two shapes are to one another.
+/// Pairs of shapes, and whether their frames are in a relation.
 const FRAMES: &str = r#"1 -1, 9 -1, 9 7, 1 7, 1 -1 | covers | 1 2, 5 3, 2 7, 1 2 => yes
 1 -1, 9 -1, 9 7, 1 7, 1 -1 | covers | 9 -1 => yes
 1 2, 5 3, 2 7, 1 2 | covers | 1 -1, 9 -1, 9 7, 1 7, 1 -1 => no
@@ -99,7 +102,7 @@ fn points(rt: &impl Abort, text: &str) -> ArrayVec<Point, 64> {
     points
 }
 
-/// The shape of a point, of the two ends of a segment, or of a ring.
+/// The shape of listed points: one is a point, two are the ends of a segment, others are a ring.
 fn shape(rt: &impl Abort, text: &str) -> Result<Shape, ShapeFault> {
     let points = points(rt, text);
     match points.as_slice() {
@@ -109,14 +112,14 @@ fn shape(rt: &impl Abort, text: &str) -> Result<Shape, ShapeFault> {
     }
 }
 
-/// The shape of a text that has one.
+/// The shape of a text, which has to have one.
 fn worked(rt: &impl Abort, text: &str) -> Shape {
     let shape = shape(rt, text);
     assert!(rt; shape.is_ok(), "{text}");
     shape.unwrap()
 }
 
-/// The listed points have these corners, or this fault.
+/// Checks the corners or the fault of the listed points of a line.
 fn check_shape(rt: &impl Abort, alloc: Global, line: &str) -> Result<(), AllocError> {
     let (listed, told) = parted(rt, line, " => ");
     match shape(rt, listed) {
@@ -141,7 +144,7 @@ fn corners_and_faults(rt: HostRuntime) -> Result<(), Fail> {
     Ok(())
 }
 
-/// No point is too few, 64 are as many as may be listed, and the range comes before the number.
+/// No point is too few, at most 64 points may be listed, and the range is checked before the count.
 #[test]
 fn limits_of_rings(rt: HostRuntime) -> Result<(), Fail> {
     let none = Shape::polygon(&[]);
@@ -158,7 +161,7 @@ fn limits_of_rings(rt: HostRuntime) -> Result<(), Fail> {
     Ok(())
 }
 
-/// The two shapes meet, or do not, whichever of them is named first.
+/// Checks whether the two shapes of a line meet, in both orders.
 fn check_meeting(rt: &impl Abort, line: &str) {
     let (pair, told) = parted(rt, line, " => ");
     let (first, second) = parted(rt, pair, " | ");
@@ -177,14 +180,14 @@ fn touching_and_missing(rt: HostRuntime) -> Result<(), Fail> {
     Ok(())
 }
 
-/// A point that the shapes of two texts have in common.
+/// A common point of the shapes of two texts.
 fn common(rt: &impl Abort, first: &str, second: &str) -> Fraction {
     let common = common_point(&worked(rt, first), &worked(rt, second));
     assert!(rt; common.is_some(), "{first} {second}");
     common.unwrap()
 }
 
-/// Where segments cross; and where a corner of the first shape lies in the second, such a corner.
+/// The point where two segments cross; for a shape with a corner in the other one, such a corner.
 #[test]
 fn common_points(rt: HostRuntime) -> Result<(), Fail> {
     let p = common(&rt, "0 0, 3 1", "0 1, 3 0");
@@ -214,7 +217,7 @@ fn equal_shapes(rt: HostRuntime) -> Result<(), Fail> {
     Ok(())
 }
 
-/// Whether the first frame is this to the second.
+/// Whether the first frame is in this relation to the second.
 fn stands(rt: &impl Abort, first: Frame, relation: &str, second: Frame) -> bool {
     match relation {
         "covers" => covers(first, second),
@@ -238,7 +241,7 @@ fn frame(rt: &impl Abort, text: &str) -> Frame {
     frame_of(&worked(rt, text))
 }
 
-/// The ends of a frame.
+/// `x0`, `y0`, `x1` and `y1` of a frame.
 fn ends(frame: Frame) -> (i32, i32, i32, i32) {
     (frame.x0(), frame.y0(), frame.x1(), frame.y1())
 }

@@ -9,7 +9,7 @@ use std::process::Abort;
 use std::test::Fail;
 use wkt::shape_text;
 
-// A set of two policies, with three rules.
+/// A set of two policies, with three rules in all.
 const TWO_POLICIES: &str =
     r#"{"root":{"combine":"deny-overrides","of":[{"combine":"permit-overrides","policy":"soft","rules":[{"effect":"deny","rule":"early"},{"effect":"permit","rule":"grant"}]},{"combine":"deny-overrides","policy":"hard","rules":[{"effect":"deny","rule":"late"}]}],"set":"top"}}"#;
 
@@ -19,7 +19,8 @@ const NO_PARCEL: &str =
 const ROADS: &str =
     r#"{"root":{"combine":"first-applicable","policy":"p","rules":[{"effect":"permit","rule":"roads","target":[[[{"class":"road"}]]]}]}}"#;
 
-// Each kind of thing that may stand in a document, in keys out of order and shapes of other spelling.
+/// Each kind of part that a document may have, with keys out of order and other spellings of the
+/// shapes.
 const EACH_KIND: &str = r#"
     {"zones": [{"zone": "harbour", "shape": " polygon ((4 0, 4 4, 0 4, 0 0, 2 0, 4 0)) "},
                {"shape": "point(+1 02.0)", "zone": "post"},
@@ -39,7 +40,8 @@ const EACH_KIND: &str = r#"
 const EACH_KIND_PRINTED: &str =
     r#"{"root":{"combine":"permit-overrides","of":[{"combine":"deny-unless-permit","policy":"empty","rules":[]},{"combine":"permit-unless-deny","of":[],"set":"inner","target":[[[{"zone":"harbour"}]],[[{"role":"editor"},{"office":"north"}],[{"action":"add"}]]]},{"combine":"first-applicable","policy":"rest","rules":[{"effect":"permit","rule":"one","target":[[[{"action":"read"}],[{"action":"reshape"}]]],"when":[{"class":"mast"},{"not":{"zone":"post"}},{"own":true},{"not":{"own":true}},{"not":{"action":"delete"}}]},{"effect":"deny","rule":"two"}],"target":[[[{"owner":"south"}]]]}],"set":"top"},"zones":[{"shape":"POLYGON ((0 0, 4 0, 4 4, 0 4, 0 0))","zone":"harbour"},{"shape":"POINT (1 2)","zone":"post"},{"shape":"LINESTRING (0 0, 3 1)","zone":"road"}]}"#;
 
-// What stands around a node, the rules of a policy, a match of its target, an atom of its rule, and its zones.
+// Each pair is the text before and after a part: a node, the rules of a policy, a match of its
+// target, an atom of its rule, and the zones.
 const NODE: (&str, &str) = (r#"{"root":"#, "}");
 
 const RULES: (&str, &str) = (
@@ -62,7 +64,7 @@ const ZONES: (&str, &str) = (
     "]}",
 );
 
-// What stands around the target of a policy, and around the children of the set s.
+// The same for the target of a policy, and for the children of the set `s`.
 const TARGET: (&str, &str) = (
     r#"{"root":{"combine":"deny-overrides","policy":"p","rules":[],"target":"#,
     "}}",
@@ -73,7 +75,7 @@ const CHILDREN: (&str, &str) = (
     "]}}",
 );
 
-// Tables of texts: each line has what reading one says, a colon, a space, and the text.
+// Tables of texts: each line has the result of reading its text, a colon, a space, and the text.
 const TEXTS: &str = r#"D1: {
 D1: {"root":01}
 D2 at : 1
@@ -122,7 +124,7 @@ D2 at /root/set: {"combine":1,"of":1,"set":1,"target":1}
 D2 at /root/combine: {"combine":1,"of":1,"set":"s","target":1}
 D2 at /root/target/0: {"combine":"deny-overrides","of":[1],"set":"s","target":[1]}"#;
 
-// The form of an object comes before its name, and this before what stands in it.
+/// The form of an object is checked before its name, and its name before its contents.
 const CHILD_TEXTS: &str = r#"D2 at /root/of/0/rules: {"combine":"deny-overrides","policy":"s"}
 D4 s: {"combine":"deny-overrides","policy":"s","rules":[1],"target":[1]}
 D2 at /root/of/0/rules/0: {"combine":"deny-overrides","policy":"p","rules":[1]},1
@@ -203,8 +205,9 @@ D2 at /zones/0/zone: {"shape":1,"zone":1}
 D6 z Syntax(5): {"shape":"POINT (1 2)","zone":"z"},{"shape":"POINT","zone":"z"}
 D2 at /zones/1: {"shape":"POINT (1 2)","zone":"z"},[]"#;
 
-// Of equal keys the last one counts; an object with the key `set` is a set, whatever stands there; escapes spell the
-// same text (RFC 8259, section 7), and an unpaired surrogate none; a number is within a double's range.
+/// Of equal keys the last one counts. An object with the key `set` is a set, whatever its value. An
+/// escape is the same text as its character (RFC 8259, section 7), and an unpaired surrogate is no
+/// text. A number has to be in the range of a double.
 const JSON_TEXTS: &str =
     r#"read: {"root":1,"root":{"combine":"deny-overrides","policy":"p","rules":[]}}
 D2 at /root: {"root":{"combine":"deny-overrides","policy":"p","rules":[]},"root":1}
@@ -222,7 +225,8 @@ D2 at /root: {"root":1e300}
 D1: {"root":1,}
 D1: {'root':1}"#;
 
-/// A fault in words: its code, with its path, its name, or its name and what is wrong with the shape.
+/// A fault in words: its code, and its path, its name, or its name and the fault of the zone's
+/// shape.
 fn told(heap: Global, fault: TextFault) -> Result<String, AllocError> {
     match fault {
         TextFault::Form(path) => format!(in heap; "{fault} at {path}"),
@@ -234,7 +238,7 @@ fn told(heap: Global, fault: TextFault) -> Result<String, AllocError> {
     }
 }
 
-/// What reading a text gives, in words.
+/// The result of reading a text: `read`, or the fault in words.
 fn answer(heap: Global, text: &[u8]) -> Result<String, AllocError> {
     match read_document(heap, heap, text).err() {
         None => String::from_str(heap, "read"),
@@ -242,14 +246,14 @@ fn answer(heap: Global, text: &[u8]) -> Result<String, AllocError> {
     }
 }
 
-/// A text is read or refused so.
+/// Checks the result of reading a text.
 fn check_answer(rt: &impl Abort, heap: Global, text: &[u8], want: &str) -> Result<(), AllocError> {
     let told = answer(heap, text)?;
     assert_eq!(rt; told.as_str(), want, "{text:?}");
     Ok(())
 }
 
-/// Each text of a table, put between two others, is read or refused as its line says.
+/// Checks the result of reading each text of a table, put between the two texts of `around`.
 fn check_answers(
     rt: &impl Abort,
     heap: Global,
@@ -272,7 +276,7 @@ fn read_whole(rt: &impl Abort, heap: Global, text: &str) -> Document<Global> {
     }
 }
 
-/// Of several faults the first is told, by the order of the grammar and not of the text.
+/// Of several faults the first is reported, in the order of the grammar and not of the text.
 #[test]
 fn first_faults(rt: HostRuntime) -> Result<(), Fail> {
     for (around, table) in [
@@ -290,7 +294,7 @@ fn first_faults(rt: HostRuntime) -> Result<(), Fail> {
     Ok(())
 }
 
-/// A text again and again, each time with its number between its two parts, and with a mark between one and the next.
+/// `count` items, each with its number between the two parts of `item`, and `mark` between them.
 #[derive(Clone, Copy)]
 struct Numbered {
     count: usize,
@@ -311,7 +315,7 @@ impl Display for Numbered {
     }
 }
 
-/// A text again and again.
+/// A text, `count` times.
 #[derive(Clone, Copy)]
 struct Repeated {
     count: usize,
@@ -356,7 +360,7 @@ fn bytes_that_are_no_text(rt: HostRuntime) -> Result<(), Fail> {
     Ok(())
 }
 
-/// Arrays within one another, between two texts.
+/// `count` nested arrays, between two texts.
 fn nested_arrays(heap: Global, around: (&str, &str), count: usize) -> Result<String, AllocError> {
     let (before, after) = around;
     let opened = Repeated { count, text: "[" };
@@ -364,7 +368,7 @@ fn nested_arrays(heap: Global, around: (&str, &str), count: usize) -> Result<Str
     format!(in heap; "{before}{opened}{closed}{after}")
 }
 
-/// At most 127 arrays and objects within one another are read as JSON.
+/// JSON is read with at most 127 nested arrays and objects.
 #[test]
 fn depth_of_json(rt: HostRuntime) -> Result<(), Fail> {
     let heap = rt.alloc();
@@ -382,8 +386,9 @@ fn depth_of_json(rt: HostRuntime) -> Result<(), Fail> {
     Ok(())
 }
 
-/// How many parts of a kind stand in a document, each with its own number in its name, and what stands behind them; and what
-/// reading it gives. What stands in a `not` comes before the count of its own match, and behind that of the `not`.
+/// How many parts of a kind a document has, each with its number in its name; what follows them;
+/// and the result of reading it. The content of a `not` is checked after the `not` is counted, and
+/// before its own match is counted.
 const LIMITS: &str = r#"512 rules  => read
 513 rules  => D8
 512 rules ,{"effect":"deny","rule":"r7"} => D4 r7
@@ -411,7 +416,7 @@ const LIMITS: &str = r#"512 rules  => read
 4096 atoms ,{"not":1} => D8
 "#;
 
-/// What stands around the parts of a kind, and in each of them around its number.
+/// The texts around the parts of a kind, and those around the number in each part.
 fn kind(
     rt: &impl Abort,
     word: &str,
@@ -463,7 +468,7 @@ fn limits_of_documents(rt: HostRuntime) -> Result<(), Fail> {
     Ok(())
 }
 
-/// How many sets stand within one another, with what in the innermost; and what reading it gives.
+/// How many sets are nested, the content of the innermost, and the result of reading the document.
 const DEPTHS: &str = r#"8  => read
 9  => D7
 7 {"combine":"deny-overrides","policy":"p","rules":[]} => read
@@ -500,7 +505,7 @@ fn depth_of_documents(rt: HostRuntime) -> Result<(), Fail> {
     Ok(())
 }
 
-/// A document is printed so.
+/// Checks the printed form of a document.
 fn check_text(
     rt: &impl Abort,
     heap: Global,
@@ -513,7 +518,7 @@ fn check_text(
     Ok(())
 }
 
-/// What is read of a document's printed form is equal to it, and printed so.
+/// Checks that the document read from a printed form is equal to this one and printed alike.
 fn check_again(
     rt: &impl Abort,
     heap: Global,
@@ -525,7 +530,7 @@ fn check_again(
     check_text(rt, heap, &again, printed)
 }
 
-/// A document's copy is equal to it, and printed so.
+/// Checks that a document's copy is equal to it and printed alike.
 fn check_copy(
     rt: &impl Abort,
     heap: Global,
@@ -539,7 +544,8 @@ fn check_copy(
     check_text(rt, heap, &copy, printed)
 }
 
-/// A text is read and printed so, and so are what is read of this, and a copy.
+/// Checks the printed form of a text's document, of the document that is read from that form, and
+/// of a copy.
 fn check_printed(rt: &impl Abort, heap: Global, text: &str, want: &str) -> Result<(), AllocError> {
     let document = read_whole(rt, heap, text);
     check_text(rt, heap, &document, want)?;
@@ -566,7 +572,8 @@ fn printed_forms(rt: HostRuntime) -> Result<(), Fail> {
     Ok(())
 }
 
-/// The name of the zone at this place, and its shape by its name, are these; an empty text stands for none.
+/// Checks the name and the shape of the zone at an index, and that the name finds the shape. An
+/// empty name means that there is no zone.
 fn check_zone(rt: &impl Abort, document: &Document<Global>, index: usize, name: &str, shape: &str) {
     let want = Name::new(name.as_bytes());
     let Some(zone) = document.zone_at(index) else {

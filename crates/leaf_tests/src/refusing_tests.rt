@@ -1,8 +1,9 @@
+//! Which allocation a `Refusing` refuses.
 use refusing::Refusing;
 use std::alloc::Global;
 use std::test::Fail;
 
-/// Whether the next allocation is refused. What it gives is let go at once.
+/// Whether the next allocation is refused. What it allocates is dropped at once.
 fn is_refused(memory: &Refusing<Global>) -> bool {
     Box::new(memory, 0u8).is_err()
 }

@@ -1,4 +1,4 @@
-//! Texts of shapes: how each is read and printed, or the fault by which it is refused.
+//! Texts of shapes: how each is read and printed, or the fault with which it is rejected.
 use crate::lines::parted;
 use plane::{Point, Shape, ShapeFault};
 use std::alloc::{AllocError, Global};
@@ -6,7 +6,7 @@ use std::process::Abort;
 use std::test::Fail;
 use wkt::{WktFault, print_shape, read_shape, shape_text};
 
-/// Texts, each with the printed form of the shape that it is read as.
+/// Texts, each with the printed form of its shape.
 const SHAPES: &str = r#"POINT (3 4) => POINT (3 4)
 point(3 4) => POINT (3 4)
 POINT (+3 -4) => POINT (3 -4)
@@ -22,8 +22,8 @@ point(+3.00 -0) => POINT (3 0)
 polygon((0 0,0 4,4 4,4 2,4 0,0 0)) => POLYGON ((0 0, 4 0, 4 4, 0 4, 0 0))
 "#;
 
-/// Texts that are refused, each with the code of its fault, and the fault: the place, or what is wrong with the ring. Every
-/// turn of the pentagram, the second of P8, is to the left.
+/// Texts that are rejected, each with the code of its fault and the fault: a byte offset, or the
+/// fault of the listed points. The pentagram, the second line of P8, turns left at every point.
 const REFUSED: &str = r#" => K3 Syntax(0)
    => K3 Syntax(2)
 (3 4) => K3 Syntax(0)
@@ -101,11 +101,11 @@ POLYGON EMPTY => K2 LeftOut(8)
 POLYGON ((0 0, 1 1, 2 4, 3 9, 4 16, 5 25, 6 36, 7 49, 8 64, 9 81, 10 100, 11 121, 12 144, 13 169, 14 196, 15 225, 16 256, 0 0)) => P9 Bad(TooManyCorners)
 "#;
 
-/// A shape of sixteen corners, the most that there may be.
+/// A shape of sixteen corners, the most that a polygon has.
 const SIXTEEN_CORNERS: &str =
     "POLYGON ((-9999999 -9999998, -9999998 -9999999, -9999996 -10000000, -9999993 -10000000, -9999989 -9999999, -9999985 -9999997, -9999982 -9999994, -9999980 -9999990, -9999980 -9999987, -9999981 -9999984, -9999983 -9999981, -9999986 -9999979, -9999989 -9999978, -9999993 -9999980, -9999996 -9999984, -9999998 -9999989, -9999999 -9999998))";
 
-/// The printed form of the shape that is read, or the code of the fault, and the fault.
+/// The printed form of the shape that is read, or the code of the fault and the fault.
 fn told(alloc: Global, text: &str) -> Result<String, AllocError> {
     match read_shape(text.as_bytes()) {
         Ok(shape) => String::from_str(alloc, shape_text(&shape).as_str()),
@@ -118,7 +118,7 @@ fn check_text(rt: &impl Abort, alloc: Global, text: &str, want: &str) -> Result<
     Ok(())
 }
 
-/// Each text of the table is read as its line tells, and its printed form as itself.
+/// Each text of the table has the printed form of its line, which is read and printed as itself.
 #[test]
 fn texts_read_and_printed(rt: HostRuntime) -> Result<(), Fail> {
     for line in SHAPES.lines() {
@@ -156,7 +156,7 @@ fn faults_and_their_places(rt: HostRuntime) -> Result<(), Fail> {
     Ok(())
 }
 
-/// The shape's printed form, in memory of its own.
+/// Checks the shape's printed form, as `print_shape` allocates it.
 fn check_printed(rt: &impl Abort, alloc: Global, shape: &Shape, want: &str) {
     match print_shape(alloc, shape) {
         Ok(text) => assert_eq!(rt; text.as_str(), want),
@@ -190,25 +190,26 @@ fn sixteen_corners(rt: HostRuntime) -> Result<(), Fail> {
     Ok(())
 }
 
-/// The text is refused for this fault.
+/// Checks that the text is rejected with this fault.
 fn check_fault(rt: &impl Abort, text: &str, fault: WktFault) {
     assert_eq!(rt; read_shape(text.as_bytes()).err(), Some(fault), "{text}");
 }
 
-/// The text of a ring of so many points behind its first, with a letter behind it.
+/// The text of a ring of `1 + more` points, followed by a letter.
 fn ring_text(alloc: Global, more: usize) -> Result<String, AllocError> {
     let points = ", 7 7".repeat(alloc, more)?;
     format!(in alloc; "POLYGON ((0 0{points})) x")
 }
 
-/// The text without its letter is refused for this fault of its ring, and with it for the letter.
+/// Checks that the text is rejected for the letter at its end, and without the letter for this
+/// fault of its ring.
 fn check_ring(rt: &impl Abort, text: &str, fault: ShapeFault) {
     let ring = text.strip_suffix(" x").unwrap_or("");
     check_fault(rt, ring, WktFault::Bad(fault));
     check_fault(rt, text, WktFault::Syntax(ring.len().saturating_add(1)));
 }
 
-/// As many points as a ring may list, 64, one more, two more, and many more.
+/// Rings of 64 points, the most that may be listed, of one and two more, and of many more.
 #[test]
 fn long_rings(rt: HostRuntime) -> Result<(), Fail> {
     for (more, fault) in [

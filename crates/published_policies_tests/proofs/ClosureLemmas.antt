@@ -1,4 +1,4 @@
--- A closure over two values may go to another thread where they may.
+-- A closure over two values can be sent to another thread if both values can.
 use mathlib.Core.List.{[], ◌∷◌}
 use mir.Syntax.{Sym}
 use denote.RattleType.{RattleType}

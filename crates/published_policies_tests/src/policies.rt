@@ -13,10 +13,11 @@ use std::alloc::Global;
 use std::process::Abort;
 use std::sync::Arc;
 
-/// What a policy's text begins with, up to its one rule.
+/// The beginning of each policy's text, up to the effect of its one rule.
 const HEAD: &str = r#"{"root":{"combine":"first-applicable","policy":"p","rules":[{"effect":"#;
 
-/// The policy of an edition: it permits at even editions and denies at odd ones, by a rule that is named by the edition.
+/// The policy of an edition: it permits at even editions and denies at odd ones, by a rule that is
+/// named after the edition.
 pub fn policy(rt: &impl Abort, heap: Global, edition: u64) -> Arc<Decider>
     ensures { (arc_value result).edition ≡ edition }
 {
@@ -40,7 +41,7 @@ fn name(rt: &impl Abort, text: &str) -> Name {
     Name::new(text.as_bytes()).expect(rt, "a name")
 }
 
-/// A question that each of these policies rules by its one rule.
+/// A question on which each of these policies rules by its one rule.
 pub fn question(rt: &impl Abort) -> Question {
     let Ok(shape) = Shape::point(Point { x: 1, y: 1 }) else {
         panic!(rt; "a point")
@@ -59,7 +60,7 @@ pub fn question(rt: &impl Abort) -> Question {
     }
 }
 
-/// The number in a name, read off its digits.
+/// The number that the digits of a name make.
 fn number_in(name: &Name) -> u64 {
     let mut number: u64 = 0;
     for byte in name.as_bytes() {
@@ -72,7 +73,7 @@ fn number_in(name: &Name) -> u64 {
     number
 }
 
-/// Whether this is how the policy of its edition rules.
+/// Whether this is the ruling of its edition's policy, by that policy's rule.
 pub fn is_right(explained: &Explained) -> bool {
     let named = match &explained.rule {
         Some(name) => number_in(name),

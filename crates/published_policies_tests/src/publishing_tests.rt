@@ -13,7 +13,7 @@ use std::test::*;
 use std::thread;
 use std::thread::{Threads, join};
 
-/// How many policies are published beside the views.
+/// How many policies are published, the one that opens the list included.
 const POLICIES: u64 = 1_000;
 
 /// How many views explain, each in a thread of its own.
@@ -22,22 +22,22 @@ const VIEWS: usize = 4;
 /// How often a view explains at most, so that the test ends.
 const ROUNDS: u64 = 20_000_000;
 
-/// What came of a view that explains until it has read the last policy.
+/// The result of a view that explains until it has read the last policy.
 #[derive(Debug, PartialEq, Eq, Drop)]
 enum Watched {
-    /// It was ruled rightly each time, by an edition that was never below the one before.
+    /// Each explanation was that of its edition's policy, and no edition was below the one before.
     Well,
-    /// An edition came that was below the one before.
+    /// An edition was below the one before.
     WentBack,
-    /// It was not ruled as the policy of that edition rules.
+    /// An explanation was not that of its edition's policy.
     RuledWrongly,
     /// There was nothing to read.
     NothingToRead,
-    /// The last policy did not come.
+    /// The last policy was not read within `ROUNDS` explanations.
     TooLong,
 }
 
-/// Explains until the last policy has come.
+/// Explains until the last policy is read, at most `ROUNDS` times.
 fn watch<L: ListName>(mut view: View<L>, question: &Question) -> Watched {
     let mut edition = view.edition();
     for _ in 0..ROUNDS {
@@ -58,7 +58,7 @@ fn watch<L: ListName>(mut view: View<L>, question: &Question) -> Watched {
     Watched::TooLong
 }
 
-/// Publishes policies up to the last, where the first stands.
+/// Publishes the second policy and those after it, up to the last.
 fn publish_all<L: ListName, R: Wait + Drop>(
     rt: &impl Abort,
     heap: Global,
@@ -73,7 +73,7 @@ fn publish_all<L: ListName, R: Wait + Drop>(
     publisher
 }
 
-/// Views of the list, as many as are read beside the publisher.
+/// `VIEWS` views of the list.
 fn views_of<L: ListName, W: Wait + Drop>(
     rt: &impl Abort,
     heap: Global,
@@ -89,7 +89,7 @@ fn views_of<L: ListName, W: Wait + Drop>(
     views
 }
 
-/// Explains by each view, in a thread of its own, until the last policy has come.
+/// Explains by each view, in a thread of its own, until the last policy is read.
 fn watch_all<L: ListName + Send, R: Threads + Abort + Sync>(
     rt: &R,
     views: Vec<View<L>>,

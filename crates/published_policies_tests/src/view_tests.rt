@@ -1,4 +1,5 @@
-//! Views of a list, on one thread: what they are told, how many there can be, and when there is nothing to read.
+//! Views of a list, on one thread: what they are told, how many there can be, and when there is
+//! nothing to read.
 
 ghost use Rattle.std.specs.Prelude.{◌≡◌, length};
 
@@ -26,7 +27,7 @@ fn opened<L: ListName, W: Wait + Drop>(
     publisher
 }
 
-/// A view of the list, which knows so many policies.
+/// A new view of the list, which knows the policies up to this edition.
 fn view_of<L: ListName, W: Wait + Drop>(
     rt: &impl Abort,
     publisher: &mut Publisher<L, W>,
@@ -39,7 +40,7 @@ fn view_of<L: ListName, W: Wait + Drop>(
     view
 }
 
-/// The view explains, by the policy of this edition.
+/// Asserts that the view explains by the policy of this edition.
 fn assert_explains<L: ListName>(
     rt: &impl Abort,
     view: &mut View<L>,
@@ -52,7 +53,8 @@ fn assert_explains<L: ListName>(
     assert_eq!(rt; view.edition(), edition);
 }
 
-/// A view that is told of an edition knows it at once; one that is not told knows it when it has read it.
+/// A view that is told of an edition knows it at once; one that is not told knows it when it has
+/// read it.
 fn told_and_not_told<L: ListName, W: Wait + Drop>(
     rt: &impl Abort,
     own: W,
@@ -82,7 +84,8 @@ fn told_views_know_the_edition(rt: HostRuntime) -> Result<(), Fail> {
     Ok(())
 }
 
-/// There are as many views at a time as were asked for, and once the publisher is gone they have nothing to read.
+/// There are at most as many views at a time as were asked for. Once the publisher is dropped, they
+/// have nothing to read.
 fn places_and_end<L: ListName, W: Wait + Drop>(
     rt: &impl Abort,
     own: W,

@@ -1,4 +1,4 @@
--- `refuses` at a call: what it is handed, and what a caller has of it. Assumes `Logic`.
+-- A call of `refuses`: what it is given, and what the caller gets from it. Assumes `Logic`.
 use Rattle.std.proofs.Common.{Bool, zero, suc, ◌≡◌, ℕ, List, [], ◌∷◌, refl, ap}
 use seplogic.Ra.Ura.{Ura}
 use mir.Syntax.{Body, seq}

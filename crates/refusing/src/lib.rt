@@ -1,20 +1,24 @@
-//! An allocator for tests, which passes its calls on and refuses one allocation of a caller's choice.
+//! An allocator for tests, which refuses one allocation of the caller's choice and passes all other
+//! calls on.
 #![tactic(auto)]
 
 use std::alloc::{AllocError, Allocator};
 use std::cell::Cell;
 
-/// Passes each call on to `inner`, and refuses one allocation: the one whose number, counted from the last call of `new` or `refuse`, was asked for there.
+/// Passes each call on to `inner`, but refuses one allocation. The last call of `new` or `refuse`
+/// gives the number of that allocation, counted from there.
 ///
-/// It is not `Copy`: a test makes one, and hands `&Refusing` to what it tests. A growing of a block counts as one allocation.
+/// It is not `Copy`: a test makes one, and passes `&Refusing` to what it tests. Growing a block
+/// counts as one allocation.
 pub struct Refusing<B: Allocator> {
     inner: B,
-    // The number of the allocation to be refused, counted down at each one; 0 refuses none.
+    /// The number of the allocation to be refused, counted down at each one; 0 refuses none.
     left: Cell<u64>,
 }
 
 impl<B: Allocator> Refusing<B> {
-    /// An allocator over `inner` that refuses its allocation number `at`, counted from 1; with 0 it refuses none.
+    /// An allocator over `inner` that refuses its allocation number `at`, counted from 1; with 0 it
+    /// refuses none.
     pub fn new(inner: B, at: u64) -> Self {
         Self {
             inner,
@@ -22,12 +26,13 @@ impl<B: Allocator> Refusing<B> {
         }
     }
 
-    /// From here on, refuses the allocation number `at`, counted from 1; with 0 it refuses none.
+    /// From now on, refuses the allocation number `at`, counted from 1; with 0 it refuses none.
     pub fn refuse(&self, at: u64) {
         self.left.set(at);
     }
 
-    /// Whether the last number asked for, not 0, has been reached: that allocation was refused.
+    /// Whether the allocation that is to be refused has been asked for. If its number is 0 this is
+    /// true, though no allocation is refused.
     pub fn has_refused(&self) -> bool {
         self.left.get() == 0
     }
@@ -39,7 +44,8 @@ impl<B: Allocator> Drop for Refusing<B> {
     }
 }
 
-/// Whether the allocation that is asked for now is the one to be refused. It counts down, and stays at 0.
+/// Whether the allocation that is asked for now is the one to be refused. Counts down, and stays at
+/// 0.
 fn refuses(left: &Cell<u64>) -> bool {
     let now = left.get();
     left.set(now.saturating_sub(1));

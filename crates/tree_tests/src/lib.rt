@@ -1,4 +1,4 @@
-//! Tests of the search tree and of what it stands on.
+//! Tests of the search tree and of the crates below it.
 #![tactic(auto)]
 
 #[cfg(test)]

@@ -1,3 +1,4 @@
+//! The arena: handles, worn-out slots, refused allocations, and the limit of slots.
 use crate::tree_steps::Dice;
 use node_arena::{Arena, ArenaFault, Handle, MAX_SLOTS};
 use refusing::Refusing;
@@ -5,7 +6,7 @@ use std::alloc::{AllocError, Allocator, Global};
 use std::process::Abort;
 use std::test::Fail;
 
-/// Puts a value in, which has to succeed.
+/// Inserts a value, which has to succeed.
 fn inserted<A: Allocator + Drop>(rt: &impl Abort, arena: &mut Arena<u64, A>, value: u64) -> Handle {
     let given = arena.insert(value);
     assert!(rt; given.is_ok(), "no room for {value}");
@@ -42,7 +43,7 @@ fn as_a_list_of_pairs(rt: HostRuntime) -> Result<(), Fail> {
     let mut dice = Dice { state: 2_026 };
     for step in 0..100_000u64 {
         let draw = dice.draw() as usize;
-        // In turn, mostly inserts and mostly removals.
+        // 10,000 steps of mostly inserts, then 10,000 of mostly removals, and so on.
         let inserts = if step / 10_000 % 2 == 0 { 7 } else { 4 };
         if draw % 10 < inserts || pairs.is_empty() {
             pairs.push((inserted(&rt, &mut arena, step), step))?;
@@ -65,7 +66,7 @@ fn as_a_list_of_pairs(rt: HostRuntime) -> Result<(), Fail> {
     Ok(())
 }
 
-/// Fills so many slots. The handles, in the order in which they were given.
+/// Inserts the values from 0 to `count - 1`, and returns their handles in this order.
 fn filled(
     rt: &impl Abort,
     alloc: Global,
@@ -79,7 +80,7 @@ fn filled(
     Ok(handles)
 }
 
-/// Takes out what was put in under these handles.
+/// Removes the values under these handles, which are 0, 1, 2 and so on.
 fn empty(rt: &impl Abort, arena: &mut Arena<u64, Global>, handles: &[Handle]) {
     for (value, handle) in handles.iter().enumerate() {
         assert_eq!(rt; arena.get(*handle).copied(), Some(value as u64));
@@ -87,7 +88,7 @@ fn empty(rt: &impl Abort, arena: &mut Arena<u64, Global>, handles: &[Handle]) {
     }
 }
 
-/// Under none of these handles anything is found.
+/// Checks that none of these handles has a value.
 fn check_stale(rt: &impl Abort, arena: &mut Arena<u64, Global>, handles: &[Handle]) {
     for handle in handles {
         assert_eq!(rt; arena.get(*handle).copied(), None);
@@ -113,7 +114,7 @@ fn filled_and_emptied_again(rt: HostRuntime) -> Result<(), Fail> {
     Ok(())
 }
 
-/// How many of the arena's first slots hold their own number.
+/// How many of the first `slots` slots hold their own number, in generation 0.
 fn held<A: Allocator + Drop>(arena: &Arena<u64, A>, slots: u32) -> u32 {
     let mut held = 0u32;
     for slot in 0..slots {
@@ -128,7 +129,7 @@ fn held<A: Allocator + Drop>(arena: &Arena<u64, A>, slots: u32) -> u32 {
     held
 }
 
-/// Puts the numbers 0 to 3 in. The first one's handle.
+/// Inserts the values 0 to 3, and returns the handle of 0.
 fn put_four<A: Allocator + Drop>(rt: &impl Abort, arena: &mut Arena<u64, A>) -> Handle {
     let first = inserted(rt, arena, 0);
     for value in 1..4 {
@@ -137,8 +138,9 @@ fn put_four<A: Allocator + Drop>(rt: &impl Abort, arena: &mut Arena<u64, A>) -> 
     first
 }
 
-/// A fifth is put in beside four with the allocation of this number refused. Whether that was reached: then the four
-/// stand, and a slot that is free is used again with no memory.
+/// Inserts a fifth value with allocation number `at` refused, and returns whether that was asked
+/// for. If it was, checks that the four others are unchanged, and that a free slot is reused
+/// without an allocation.
 fn insert_refused<B: Allocator>(rt: &impl Abort, memory: &Refusing<B>, at: u64) -> bool {
     memory.refuse(0);
     let mut arena = Arena::new(memory);
@@ -221,7 +223,7 @@ fn each_allocation_of_reserve_refused(rt: HostRuntime) -> Result<(), Fail> {
         let answer = arena.reserve(2);
         if !memory.has_refused() {
             assert!(rt; answer.is_ok() && at > 1, "nothing was refused");
-            // What was reserved is there: two inserts take no memory.
+            // Room was made for two: they are inserted without an allocation.
             memory.refuse(1);
             inserted(&rt, &mut arena, 4);
             inserted(&rt, &mut arena, 5);
@@ -253,7 +255,7 @@ fn reserve_counts_free_slots(rt: HostRuntime) -> Result<(), Fail> {
     for handle in &handles {
         assert!(rt; arena.remove(*handle).is_some());
     }
-    // Four slots are free, so room for four is there.
+    // Four slots are free: room for four values needs no allocation.
     memory.refuse(1);
     assert!(rt; arena.reserve(4).is_ok() && !memory.has_refused());
     for value in 4..8 {
@@ -272,7 +274,7 @@ fn reserve_passes_worn_out_slots(rt: HostRuntime) -> Result<(), Fail> {
         let handle = inserted(&rt, &mut arena, value);
         assert_eq!(rt; arena.remove(handle), Some(value));
     }
-    // Four slots are worn out, so none is free.
+    // Four slots are worn out, and none is free.
     assert_eq!(rt; (arena.len(), arena.slots()), (0, 4));
     memory.refuse(1);
     assert!(rt; arena.reserve(1).is_err() && memory.has_refused());

@@ -1,3 +1,5 @@
+//! Running searches and attached numbers: their calls, limits and refused allocations.
+
 ghost use Rattle.std.specs.Prelude.{◌<◌, length, IfSome};
 
 use crate::tree_steps::Dice;
@@ -162,7 +164,7 @@ fn each_allocation_refused(rt: HostRuntime) -> Result<(), Fail> {
     let memory = Refusing::new(rt.alloc(), 1);
     let made: Result<Running<u64, _>, LockFault> = Running::new(&memory, 0);
     assert!(rt; matches!(&made, Err(LockFault::Memory(_))) && memory.has_refused());
-    // Its room is made at once: sixteen searches are entered without memory.
+    // `new` makes room for all: sixteen searches are entered without an allocation.
     memory.refuse(0);
     let made = Running::new(&memory, 0);
     assert!(rt; made.is_ok());
@@ -175,7 +177,9 @@ fn each_allocation_refused(rt: HostRuntime) -> Result<(), Fail> {
     Ok(())
 }
 
-// Where memory is refused, numbers that have no room are not attached, and the numbers 1 to 4 stay; room that was made is there. `attached` has these four, and room for no more.
+/// Takes the numbers 1 to 4 attached, with no room for more. Checks that they are unchanged where
+/// an allocation is refused, and that once room is made more numbers are attached without an
+/// allocation.
 fn check_grown<B: Allocator>(
     rt: &impl Abort,
     memory: &Refusing<B>,
@@ -213,7 +217,7 @@ fn each_allocation_of_attach_refused(rt: HostRuntime) -> Result<(), Fail> {
             attached.holds(1) && attached.holds(4) && !attached.holds(5),
             "at {at}"
         );
-        // One that is attached takes no memory, and room that was made is there.
+        // A number that is attached already needs no allocation.
         memory.refuse(1);
         assert!(rt;
             attached.attach(4).is_ok() && !memory.has_refused(),
@@ -225,7 +229,7 @@ fn each_allocation_of_attach_refused(rt: HostRuntime) -> Result<(), Fail> {
     Ok(())
 }
 
-/// The number of the first pair with this number, if there is one.
+/// The index of the first pair with this number, if there is one.
 fn place(pairs: &[(u64, u64)], number: u64) -> Option<usize>
     ensures { IfSome result (λ at. at < length pairs.now) }
 {

@@ -9,15 +9,16 @@ use std::alloc::Allocator;
 use std::process::Abort;
 use std::test::Fail;
 
-// So many pairs have inner nodes that split.
+/// With so many pairs inner nodes have split.
 const MANY: u64 = 250;
 
-// A band along the whole line, from one height to another.
+/// A window from x 0 to 300, where all pairs are, and between two heights.
 fn band(rt: &impl Abort, low: i32, high: i32) -> Shape {
     window(rt, 300, low, high)
 }
 
-// Advances a walk once. Where that is refused it is for want of memory, the walk stands where it stood, the same pairs are there and no slot more is used, and the same step is made where there is memory.
+/// Advances a walk once. If that fails, checks that the fault is S8, that the walk, the pairs and
+/// the number of slots are unchanged, and that the step succeeds once no allocation is refused.
 fn step<B: Allocator>(
     rt: &impl Abort,
     memory: &Refusing<B>,
@@ -41,7 +42,7 @@ fn step<B: Allocator>(
     assert!(rt; tree.advance(walk).is_ok());
 }
 
-// Advances a walk by steps as above until its pair is placed.
+/// Advances a walk with `step` until its pair is placed.
 fn finish<B: Allocator>(
     rt: &impl Abort,
     memory: &Refusing<B>,
@@ -57,7 +58,7 @@ fn finish<B: Allocator>(
     panic!(rt; "a walk makes more than 100 steps");
 }
 
-// Places the pairs of the numbers from first to last, each at its number's place on the line.
+/// Places the pairs `first` to `last`. Pair `n` is the point at `n` on the x axis.
 fn fill<B: Allocator>(
     rt: &impl Abort,
     memory: &Refusing<B>,
@@ -75,7 +76,7 @@ fn fill<B: Allocator>(
     }
 }
 
-// Whether these are, in some order, the pairs from 1 to the last, each once.
+/// Whether these are the pairs 1 to `last`, each once, in some order.
 fn is_whole(found: &[(u64, Shape)], last: u64) -> bool {
     if found.len() as u64 != last {
         return false;
@@ -88,7 +89,7 @@ fn is_whole(found: &[(u64, Shape)], last: u64) -> bool {
     true
 }
 
-// Whether a search for everything finds the pairs from 1 to the last.
+/// Whether a search for everything finds exactly the pairs 1 to `last`, each once.
 fn finds<A: Allocator + Copy>(rt: &impl Abort, tree: &mut Tree<Frames, A>, last: u64) -> bool {
     let opened = tree.open_search(band(rt, -1, 100));
     assert!(rt; opened.is_ok());
@@ -99,7 +100,7 @@ fn finds<A: Allocator + Copy>(rt: &impl Abort, tree: &mut Tree<Frames, A>, last:
     whole
 }
 
-// A tree of the pairs from 1 to the last.
+/// A tree of the pairs 1 to `last`, made while no allocation is refused.
 fn filled<'m, B: Allocator>(
     rt: &impl Abort,
     memory: &'m Refusing<B>,
@@ -113,7 +114,7 @@ fn filled<'m, B: Allocator>(
     tree
 }
 
-// Opens so many searches, each for this window, and visits them until they are ready.
+/// Opens `count` searches, each for this window, and visits them until they are ready.
 fn look<A: Allocator + Copy>(
     rt: &impl Abort,
     tree: &mut Tree<Frames, A>,
@@ -127,7 +128,8 @@ fn look<A: Allocator + Copy>(
     }
 }
 
-// Makes a tree where allocation number `at` is refused, by `new` or by `starting_at`; whether that came about.
+/// Makes a tree by `new` or by `starting_at` with allocation number `at` refused, and returns
+/// whether that was asked for. If it was, checks that the call fails with S8.
 fn new_refused<B: Allocator>(
     rt: &impl Abort,
     memory: &Refusing<B>,
@@ -160,14 +162,15 @@ fn each_allocation_of_new_refused(rt: HostRuntime) -> Result<(), Fail> {
                 break;
             }
             assert!(rt; at < 19, "each allocation was refused");
-            // The same call succeeds now.
+            // `new` succeeds once no allocation is refused.
             assert!(rt; finds(&rt, &mut filled(&rt, &memory, 1), 1));
         }
     }
     Ok(())
 }
 
-// Opens a search where allocation number `at` is refused; whether that came about.
+/// Opens a search with allocation number `at` refused, and returns whether that was asked for. If
+/// it was, checks that the call fails with S8, leaves the pairs unchanged, and then succeeds.
 fn open_refused<B: Allocator>(rt: &impl Abort, memory: &Refusing<B>, at: u64) -> bool {
     let mut tree = filled(rt, memory, 40);
     memory.refuse(at);
@@ -197,7 +200,9 @@ fn each_allocation_of_open_search_refused(rt: HostRuntime) -> Result<(), Fail> {
     panic!(rt; "each allocation was refused");
 }
 
-// Visits once, as `step` advances: a visit that is refused succeeds where there is memory. Whether the search is ready.
+/// Visits once, and returns whether the search is ready. If the visit fails, checks that the fault
+/// is S8, that the pairs and the number of those found are unchanged, and that the visit succeeds
+/// once no allocation is refused.
 fn visit<B: Allocator>(
     rt: &impl Abort,
     memory: &Refusing<B>,
@@ -223,7 +228,8 @@ fn visit<B: Allocator>(
     again == Ok(Visit::Ready)
 }
 
-// Visits until a search is ready, where allocation number `at` is refused; whether that came about.
+/// Visits until a search is ready, with allocation number `at` refused, and returns whether that
+/// was asked for.
 fn visit_refused<B: Allocator>(rt: &impl Abort, memory: &Refusing<B>, at: u64) -> bool {
     let mut tree = filled(rt, memory, 40);
     look(rt, &mut tree, band(rt, -1, 1), 8);
@@ -253,7 +259,8 @@ fn each_allocation_of_visit_refused(rt: HostRuntime) -> Result<(), Fail> {
     panic!(rt; "each allocation was refused");
 }
 
-// Places forty pairs in a new tree, of which a full root grows and full leaves split, where allocation number `at` is refused; whether that came about.
+/// Places the pairs 2 to 40, by which the root grows and leaves split, with allocation number `at`
+/// refused. Returns whether that was asked for.
 fn fill_refused<B: Allocator>(rt: &impl Abort, memory: &Refusing<B>, at: u64) -> bool {
     let mut tree = filled(rt, memory, 1);
     memory.refuse(at);
@@ -276,7 +283,9 @@ fn each_allocation_of_splits_refused(rt: HostRuntime) -> Result<(), Fail> {
     panic!(rt; "each allocation was refused");
 }
 
-// A walk above the line leads searches for what lies between to a leaf that they have not seen, which takes memory to note there. Allocation number `at` is refused; whether that came about.
+/// Advances a walk one step down with allocation number `at` refused, and returns whether that was
+/// asked for. The walk's point is above all pairs. Twelve searches look for what is between; the
+/// step attaches them to a leaf that they have not seen, which allocates.
 fn descend_refused<B: Allocator>(rt: &impl Abort, memory: &Refusing<B>, at: u64) -> bool {
     let mut tree = filled(rt, memory, 40);
     look(rt, &mut tree, band(rt, 5, 8), 12);
@@ -287,7 +296,7 @@ fn descend_refused<B: Allocator>(rt: &impl Abort, memory: &Refusing<B>, at: u64)
     step(rt, memory, &mut tree, &mut walk);
     let refused = memory.has_refused();
     memory.refuse(0);
-    // That step led down, and split nothing.
+    // The step went down, and split nothing.
     assert!(rt; walk.slot() != root && tree.slots() == slots);
     finish(rt, memory, &mut tree, &mut walk);
     assert!(rt; finds(rt, &mut tree, 41));
@@ -306,18 +315,21 @@ fn each_allocation_of_descents_refused(rt: HostRuntime) -> Result<(), Fail> {
     panic!(rt; "each allocation was refused");
 }
 
-// One allocation that is refused in each step of a kind, and what comes of it in a tree with two searches: one for the pairs from 1 to 8, which is ready, and one for all pairs, which has seen the root alone.
+/// Which allocation is refused in each step of a kind, how often that happened, and the tree's two
+/// searches: `near`, for the pairs 1 to 8, is ready, and `far`, for all pairs, has seen only the
+/// root.
 #[derive(Clone, Copy, Debug)]
 struct Trial {
     at: u64,
     near: u64,
     far: u64,
-    // How often a split, which takes one slot, and a growth of the root, which takes two, was refused.
+    /// How many splits were refused, each of which takes one slot.
     splits: u32,
+    /// How many growths of the root were refused, each of which takes two slots.
     growths: u32,
 }
 
-// Opens the two searches.
+/// Opens the two searches.
 fn begin<A: Allocator + Copy>(rt: &impl Abort, tree: &mut Tree<Frames, A>, at: u64) -> Trial {
     let near = tree.open_search(window(rt, 8, -1, 1));
     let far = tree.open_search(band(rt, -1, 1));
@@ -334,7 +346,9 @@ fn begin<A: Allocator + Copy>(rt: &impl Abort, tree: &mut Tree<Frames, A>, at: u
     }
 }
 
-// Advances a walk once, where the trial's allocation is refused; the answer, and whether that came about. A refusal changes neither the walk, nor the pairs, nor the slots used, nor what the two searches have found, and the step is made where there is memory.
+/// Advances a walk once with the trial's allocation refused. Returns the step, and whether that
+/// allocation was asked for. If it was, checks that the walk, the pairs, the number of slots and
+/// what the two searches have found are unchanged, and that the step then succeeds.
 fn refused_step<B: Allocator>(
     rt: &impl Abort,
     memory: &Refusing<B>,
@@ -359,7 +373,8 @@ fn refused_step<B: Allocator>(
     (answer.unwrap(), refused)
 }
 
-// Advances a walk whose last step parted a node as above. Where this one parts a node too, that is an inner one: the parent of the other, which is full. Whether it does.
+/// Advances a walk whose last step split a node, by `refused_step`, and counts a refusal. Returns
+/// whether this step splits a node too, which is then an inner one: the full parent of the other.
 fn part_above<B: Allocator>(
     rt: &impl Abort,
     memory: &Refusing<B>,
@@ -380,7 +395,7 @@ fn part_above<B: Allocator>(
     step == Step::Split
 }
 
-// Advances a walk until its pair is placed, as above wherever its last step parted a node.
+/// Advances a walk until its pair is placed, by `part_above` where its last step split a node.
 fn place_refused<B: Allocator>(
     rt: &impl Abort,
     memory: &Refusing<B>,
@@ -404,7 +419,8 @@ fn place_refused<B: Allocator>(
     panic!(rt; "a walk makes more than 100 steps");
 }
 
-// Places so many pairs that a full root with nodes below it grows, and inner nodes split, where allocation number `at` of each such step is refused.
+/// Places the pairs 41 to `MANY` with allocation number `at` refused in each step in which an inner
+/// node splits or the root, which has leaves below it, grows.
 fn rise_refused<B: Allocator>(rt: &impl Abort, memory: &Refusing<B>, at: u64) -> Trial {
     let mut tree = filled(rt, memory, 40);
     let mut trial = begin(rt, &mut tree, at);
@@ -424,7 +440,8 @@ fn each_allocation_of_inner_splits_refused(rt: HostRuntime) -> Result<(), Fail> 
     let memory = Refusing::new(rt.alloc(), 0);
     for at in 1..20 {
         let trial = rise_refused(&rt, &memory, at);
-        // A split takes memory for the keys and for the children of one node, a growth for those of two.
+        // A split allocates for the keys and for the children of one node, a growth for those of
+        // two.
         assert!(rt; 2 < at || 0 < trial.splits, "no split was refused");
         assert!(rt; 4 < at || 0 < trial.growths, "no growth was refused");
         if trial.splits == 0 && trial.growths == 0 {
@@ -434,7 +451,9 @@ fn each_allocation_of_inner_splits_refused(rt: HostRuntime) -> Result<(), Fail> 
     panic!(rt; "each allocation was refused");
 }
 
-// A walk leads searches for what lies above the line to a leaf that was left marked, and to its right node. Allocation number `at` is refused; whether that came about.
+/// Advances a walk one step down with allocation number `at` refused, and returns whether that was
+/// asked for. The step attaches twelve searches, for what is above all pairs, to a leaf that was
+/// left marked and to its right node.
 fn join_marked_refused<B: Allocator>(rt: &impl Abort, memory: &Refusing<B>, at: u64) -> bool {
     let mut tree = filled(rt, memory, 40);
     let last = place_until_split(rt, &mut tree);
@@ -457,7 +476,7 @@ fn each_allocation_of_joins_refused(rt: HostRuntime) -> Result<(), Fail> {
     let memory = Refusing::new(rt.alloc(), 0);
     for at in 1..20 {
         if !join_marked_refused(&rt, &memory, at) {
-            // The right node and the leaf want memory, each for the searches that join it.
+            // The right node and the leaf each allocate for the searches that are attached to them.
             assert!(rt; at > 2, "nothing was refused");
             return Ok(());
         }
@@ -465,7 +484,8 @@ fn each_allocation_of_joins_refused(rt: HostRuntime) -> Result<(), Fail> {
     panic!(rt; "each allocation was refused");
 }
 
-// Tends all slots again and again, with a keeper of nothing, beside a search that began before. How many leaves that has retired: none of them is freed.
+/// Tends all slots ten times with a keeper of nothing, while a search runs that began before.
+/// Returns how many leaves are retired, and checks that none is freed.
 fn tend_beside<A: Allocator>(rt: &impl Abort, tree: &mut Tree<Frames, A>) -> u32 {
     let keeper = KeepOne { key: 0 };
     let (mut installed, mut cleaned, mut retired) = (0u32, 0u32, 0u32);

@@ -1,4 +1,4 @@
-//! A hundred thousand steps of a tree over frames, in an order that nobody chose, beside a plain list of its pairs.
+//! A hundred thousand random steps of a tree over frames, beside a plain list of its pairs.
 use crate::tree_steps::{Dice, see_all};
 use frame_keys::Frames;
 use plane::{Point, Shape};
@@ -7,28 +7,31 @@ use std::alloc::Global;
 use std::process::Abort;
 use std::test::Fail;
 
-// How many steps are tried.
+/// How many random steps are made.
 const STEPS: u32 = 100_000;
 
-// How many searches run at most, and how many walks are under way.
+/// How many searches run at once at most.
 const SEARCHES: usize = 16;
 
+/// How many walks are open at once at most.
 const WALKS: usize = 64;
 
-// The plane is so wide and high, and the sides of items and windows are shorter than these.
+/// The x and the y of each random square are below this.
 const WIDTH: u32 = 64;
 
+/// The side of an item is below this.
 const ITEM: u32 = 4;
 
+/// The side of a window is below this.
 const WINDOW: u32 = 20;
 
-// How often nodes split once more at the end, in slots that were freed.
+/// How many more splits there are at the end, when the empty tree is filled again.
 const MORE_SPLITS: u32 = 20;
 
-// The step of what has not come about.
+/// The step of what has not happened.
 const NEVER: u32 = u32::MAX;
 
-// Keeps the pairs from this number on.
+/// Keeps the pairs from this number on.
 #[derive(Clone, Copy)]
 struct KeepFrom {
     first: u64,
@@ -45,7 +48,7 @@ impl<I> Keeper<I> for KeepFrom {
 }
 
 impl Dice {
-    // A square in the plane, with a side below this one.
+    /// A random square, with a side below this one.
     fn square(&mut self, side: u32) -> Square {
         Square {
             x: i32::try_from(self.below(WIDTH)).unwrap_or(0),
@@ -55,7 +58,7 @@ impl Dice {
     }
 }
 
-// A square with its border; where its side is 0 it is a point.
+/// A square with its border; a point if its side is 0.
 #[derive(Clone, Copy, Debug, PartialEq, Eq)]
 struct Square {
     x: i32,
@@ -96,17 +99,17 @@ fn shape(rt: &impl Abort, square: &Square) -> Shape {
     made.unwrap()
 }
 
-// A pair of the list: from one step to another it stood in the tree.
+/// A pair of the list: it is in the tree from the step `placed` to the step `dropped`.
 #[derive(Clone, Copy, Debug)]
 struct Pair {
     square: Square,
     placed: u32,
     dropped: u32,
-    // The last search that was seen to have found it.
+    /// The last search that is known to have found it.
     seen: u64,
 }
 
-// A search.
+/// A running search.
 #[derive(Clone, Copy, Debug)]
 struct Look {
     number: u64,
@@ -115,7 +118,7 @@ struct Look {
     ready: bool,
 }
 
-// How often things came about, and how many searches ran and walks were under way at the same time.
+/// How often things happened, and the greatest numbers of searches and of walks at a time.
 #[derive(Clone, Copy, Debug)]
 struct Tally {
     searches: usize,
@@ -134,7 +137,7 @@ struct Tally {
     freed: u32,
 }
 
-// Counts one more.
+/// Counts one more.
 fn count(number: &mut u32) {
     *number = number.saturating_add(1);
 }
@@ -156,7 +159,8 @@ const NOTHING: Tally = Tally {
     freed: 0,
 };
 
-// What stands beside the tree: all pairs by their numbers, those that are in the tree, searches, and walks.
+/// What the tree is compared with: all pairs by number, the numbers of those in the tree, the
+/// searches and the walks.
 #[derive(Drop)]
 struct Plain {
     pairs: Vec<Pair>,
@@ -196,7 +200,8 @@ fn new_tree(rt: &impl Abort, heap: Global) -> Tree<Frames, Global> {
     made.unwrap()
 }
 
-// Notes what a search has found: each of these stood in the tree at some time since it was opened.
+/// Notes what a search has found. Checks that each of these pairs meets the search's window and was
+/// in the tree at some time since the search was opened.
 fn note_found(rt: &impl Abort, plain: &mut Plain, look: &Look, found: &[(u64, Shape)]) {
     for (key, item) in found {
         let known = plain.pairs.get_mut(*key as usize);
@@ -212,7 +217,7 @@ fn note_found(rt: &impl Abort, plain: &mut Plain, look: &Look, found: &[(u64, Sh
     }
 }
 
-// Each pair of the list that the window meets was noted as found.
+/// Checks that each pair in the tree that the window meets was noted as found.
 fn check_complete(rt: &impl Abort, plain: &Plain, look: &Look) {
     for key in &plain.live {
         let known = plain.pair(*key);
@@ -225,7 +230,7 @@ fn check_complete(rt: &impl Abort, plain: &Plain, look: &Look) {
     }
 }
 
-// What a search that is ready has found.
+/// Notes what a ready search has found, and checks that nothing is missing.
 fn check_ready(rt: &impl Abort, plain: &mut Plain, tree: &Tree<Frames, Global>, look: &Look) {
     note_found(rt, plain, look, tree.found(look.number));
     check_complete(rt, plain, look);
@@ -270,7 +275,7 @@ fn try_visit(rt: &impl Abort, dice: &mut Dice, plain: &mut Plain, tree: &mut Tre
     }
 }
 
-// Closes this search. One that is ready misses nothing even now.
+/// Closes the search at an index, if there is one. One that is ready still misses nothing.
 fn close(rt: &impl Abort, plain: &mut Plain, tree: &mut Tree<Frames, Global>, at: usize) {
     let Some(look) = plain.looks.get(at).copied() else {
         return;
@@ -300,7 +305,7 @@ fn try_start(rt: &impl Abort, dice: &mut Dice, plain: &mut Plain, tree: &Tree<Fr
     plain.tally.walks = plain.tally.walks.max(plain.walks.len());
 }
 
-// A pair is in the tree from now on. No search that is ready looks for it.
+/// Notes that a pair is in the tree from now on. Checks that no ready search looks for it.
 fn note_placed(rt: &impl Abort, plain: &mut Plain, key: u64) {
     let step = plain.step;
     let known = plain.pairs.get_mut(key as usize);
@@ -319,7 +324,7 @@ fn note_placed(rt: &impl Abort, plain: &mut Plain, key: u64) {
     count(&mut plain.tally.placed);
 }
 
-// A search that holds a pair back runs, and looks for it.
+/// Checks that the search that holds a pair back is running and looks for it.
 fn check_held(rt: &impl Abort, plain: &Plain, key: u64, search: u64) {
     let known = plain.pair(key);
     assert!(rt; known.is_some());
@@ -360,7 +365,7 @@ fn try_advance(
     }
 }
 
-// A search for everything, opened and ready at this step.
+/// Opens a search for everything, and visits until it is ready.
 fn everything(rt: &impl Abort, plain: &Plain, tree: &mut Tree<Frames, Global>) -> Look {
     let window = Square {
         x: -1,
@@ -379,7 +384,8 @@ fn everything(rt: &impl Abort, plain: &Plain, tree: &mut Tree<Frames, Global>) -
     }
 }
 
-// Lets the pairs go that a search for everything no longer finds. Each is one that is not kept; how many went.
+/// Drops the pairs that a search for everything has not found, and returns how many. Checks that
+/// the keeper keeps none of them.
 fn drop_lost(rt: &impl Abort, plain: &mut Plain, search: u64) -> usize {
     let before = plain.live.len();
     let first = plain.keeper.first;
@@ -401,7 +407,7 @@ fn drop_lost(rt: &impl Abort, plain: &mut Plain, search: u64) -> usize {
     before.saturating_sub(plain.live.len())
 }
 
-// Before another keeper comes: no pair of the list has gone unnoticed, whatever steps led here.
+/// Checks, before the keeper changes, that every pair of the list is still in the tree.
 fn check_list(rt: &impl Abort, plain: &mut Plain, tree: &mut Tree<Frames, Global>) {
     if plain.looks.len() >= SEARCHES {
         close(rt, plain, tree, 0);
@@ -412,7 +418,7 @@ fn check_list(rt: &impl Abort, plain: &mut Plain, tree: &mut Tree<Frames, Global
     count(&mut plain.tally.listed);
 }
 
-// After a cleaning: some pairs are gone, no more than a leaf has.
+/// Notes a cleaning. Checks that it removed at least one pair, and at most as many as a leaf has.
 fn note_cleaned(rt: &impl Abort, plain: &mut Plain, tree: &mut Tree<Frames, Global>) {
     if plain.looks.len() >= SEARCHES {
         close_after(rt, plain, tree);
@@ -425,7 +431,7 @@ fn note_cleaned(rt: &impl Abort, plain: &mut Plain, tree: &mut Tree<Frames, Glob
     count(&mut plain.tally.cleaned);
 }
 
-// Closes a search before it is known which pairs went.
+/// Closes a search without a check, since the list does not know yet which pairs were removed.
 fn close_after(rt: &impl Abort, plain: &mut Plain, tree: &mut Tree<Frames, Global>) {
     let Some(look) = plain.looks.pop() else {
         return;
@@ -458,7 +464,7 @@ fn try_tend(rt: &impl Abort, dice: &mut Dice, plain: &mut Plain, tree: &mut Tree
     tend_slot(rt, plain, tree, slot);
 }
 
-// Another keeper: of all, of the later pairs, or of none that is placed.
+/// Changes the keeper. It keeps all pairs, the last 300 or 600, or none that has a number yet.
 fn change_keeper(dice: &mut Dice, plain: &mut Plain) {
     let next = plain.next_key();
     let first = match dice.below(4) {
@@ -471,7 +477,7 @@ fn change_keeper(dice: &mut Dice, plain: &mut Plain) {
 }
 
 fn try_one(rt: &impl Abort, dice: &mut Dice, plain: &mut Plain, tree: &mut Tree<Frames, Global>) {
-    // At times many searches run, and hold pairs back.
+    // In 4,000 of each 20,000 steps more searches are opened, which hold pairs back.
     let most = if plain.step / 4_000 % 5 == 4 {
         1_100
     } else {
@@ -495,7 +501,7 @@ fn try_one(rt: &impl Abort, dice: &mut Dice, plain: &mut Plain, tree: &mut Tree<
     }
 }
 
-// Closes all searches, and advances the walks until there are none.
+/// Closes all searches, and advances the walks until none is left.
 fn finish_all(
     rt: &impl Abort,
     dice: &mut Dice,
@@ -515,7 +521,7 @@ fn finish_all(
     assert!(rt; plain.looks.is_empty() && plain.walks.is_empty());
 }
 
-// Tends all slots in turn until a whole round answers Idle alone.
+/// Tends all slots in turn until a whole round returns only `Idle`.
 fn tend_until_idle(rt: &impl Abort, plain: &mut Plain, tree: &mut Tree<Frames, Global>) {
     for _ in 0..100 {
         let mut idle = true;
@@ -532,7 +538,7 @@ fn tend_until_idle(rt: &impl Abort, plain: &mut Plain, tree: &mut Tree<Frames, G
     panic!(rt; "tending has no end");
 }
 
-// With a keeper of nothing, tends until nothing is left. How many slots were used so far.
+/// Tends with a keeper of nothing until no pair is left, and returns how many slots were ever used.
 fn clear(rt: &impl Abort, plain: &mut Plain, tree: &mut Tree<Frames, Global>) -> u32 {
     plain.keeper = KeepFrom { first: u64::MAX };
     tend_until_idle(rt, plain, tree);
@@ -543,7 +549,7 @@ fn clear(rt: &impl Abort, plain: &mut Plain, tree: &mut Tree<Frames, Global>) ->
     tree.slots()
 }
 
-// Places pairs until nodes have split as often as this.
+/// Places pairs until `splits` splits have been counted.
 fn refill(
     rt: &impl Abort,
     dice: &mut Dice,
@@ -581,7 +587,8 @@ fn beside_a_list_of_pairs(rt: HostRuntime) -> Result<(), Fail> {
     Ok(())
 }
 
-// Enough has happened: at some time as many searches ran and as many walks were under way as may, and right nodes got their entries from walks (installed) and from tending (completed).
+/// Checks that enough has happened: the greatest numbers of searches and of walks were reached, and
+/// right nodes got their entries both from walks (`installed`) and from tending (`completed`).
 fn check_tally(rt: &impl Abort, tally: &Tally) {
     let searched = tally.ready > 100 && tally.closed > 100 && tally.listed > 50;
     let walked = tally.placed > 1_000 && tally.split > 50;

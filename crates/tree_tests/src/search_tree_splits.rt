@@ -7,33 +7,36 @@ use std::alloc::{Allocator, Global};
 use std::process::Abort;
 use std::test::Fail;
 
-// The square begins here, and is so wide and high. A window is a tenth of that: of the points about one in a hundred lies in it.
+/// The least x and the least y of the square.
 const LOW: i32 = -10_000_000;
 
+/// The side of the square.
 const WIDTH: u32 = 20_000_000;
 
+/// The side of a window. It is a tenth of the square's: about one point in a hundred is in a
+/// window.
 const SIDE: i32 = 2_000_000;
 
-// A window whose lower left corner is nearer than this to the square's lies within the square.
+/// A window is inside the square if its lower left corner is less than this above `LOW` in x and y.
 const ROOM: u32 = 18_000_001;
 
 const POINTS: u64 = 1_000;
 
 const WINDOWS: u32 = 100;
 
-// A coordinate above the lowest, by less than this.
+/// A random coordinate, less than `room` above `LOW`.
 fn coordinate(dice: &mut Dice, room: u32) -> i32 {
     LOW.saturating_add(i32::try_from(dice.below(room)).unwrap_or(0))
 }
 
-// A point of the square, nearer than this to its lower left corner along both axes.
+/// A random point, less than `room` above `LOW` in x and y.
 fn place(dice: &mut Dice, room: u32) -> Point {
     let x = coordinate(dice, room);
     let y = coordinate(dice, room);
     Point { x, y }
 }
 
-// Places points spread over the square.
+/// Places `POINTS` random points of the square.
 fn spread<A: Allocator + Copy>(rt: &impl Abort, dice: &mut Dice, tree: &mut Tree<Frames, A>) {
     for key in 0..POINTS {
         let point = Shape::point(place(dice, WIDTH));
@@ -43,7 +46,8 @@ fn spread<A: Allocator + Copy>(rt: &impl Abort, dice: &mut Dice, tree: &mut Tree
     }
 }
 
-// Searches by a window somewhere in the square. How many nodes that visits, and how many points it finds.
+/// Searches by a random window in the square, and returns how many nodes it visits and how many
+/// points it finds.
 fn search<A: Allocator + Copy>(
     rt: &impl Abort,
     dice: &mut Dice,
@@ -82,7 +86,7 @@ fn few_nodes_are_visited(rt: HostRuntime) -> Result<(), Fail> {
         visited = visited.saturating_add(more);
         found = found.saturating_add(many);
     }
-    // About ten a window, and at most six nodes.
+    // On average about ten points a window, and at most six nodes.
     assert!(rt; 900 <= found && found <= 1_100, "{found} are found");
     assert!(rt; visited <= 600, "{visited} nodes are visited");
     Ok(())

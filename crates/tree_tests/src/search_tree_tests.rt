@@ -1,3 +1,5 @@
+//! The tree over frames: searches beside splits and retirements, walks that are held or restarted,
+//! and the ends of counters and slots.
 use crate::tree_steps::{finish, pin, see_all, window};
 use frame_keys::Frames;
 use node_arena::MAX_SLOTS;
@@ -9,7 +11,7 @@ use std::process::Abort;
 use std::test::Fail;
 use tree_theory::{NODE_SIZE, TOP_LEVEL};
 
-// Keeps the pair of one number alone.
+/// Keeps only the pair of one number.
 #[derive(Clone, Copy)]
 pub(crate) struct KeepOne {
     pub(crate) key: u64,
@@ -25,7 +27,7 @@ impl<I> Keeper<I> for KeepOne {
     }
 }
 
-// What a round of tending did, slot by slot.
+/// At how many slots a round of tending did what.
 #[derive(Clone, Copy, PartialEq, Eq, Debug)]
 pub(crate) struct Round {
     pub(crate) idle: u32,
@@ -35,12 +37,12 @@ pub(crate) struct Round {
     pub(crate) retired: u32,
 }
 
-// The shape of all that is searched for: a long band along the axis across.
+/// A window around the x axis, from 0 to 500.
 fn band(rt: &impl Abort) -> Shape {
     window(rt, 500, -1, 1)
 }
 
-// Places pairs of the numbers from first to last, each at its number's place along a line.
+/// Places the pairs `first` to `last`. Pair `n` is the point at `n * apart` on the x axis.
 fn fill<A: Allocator + Copy>(
     rt: &impl Abort,
     tree: &mut Tree<Frames, A>,
@@ -58,7 +60,7 @@ fn fill<A: Allocator + Copy>(
     }
 }
 
-// Whether the numbers found are, as a set, those from first to last.
+/// Whether the search has found exactly the numbers `first` to `last`, each at least once.
 fn has_found<A: Allocator>(tree: &Tree<Frames, A>, search: u64, first: u64, last: u64) -> bool {
     let found = tree.found(search);
     for pair in found {
@@ -74,7 +76,7 @@ fn has_found<A: Allocator>(tree: &Tree<Frames, A>, search: u64, first: u64, last
     true
 }
 
-// Tends each slot once.
+/// Tends each slot once.
 pub(crate) fn tend_all<A: Allocator>(
     rt: &impl Abort,
     tree: &mut Tree<Frames, A>,
@@ -101,7 +103,7 @@ pub(crate) fn tend_all<A: Allocator>(
     round
 }
 
-// A tree of the numbers 1 to 40, this far apart.
+/// A tree of the pairs 1 to 40, this far apart.
 fn forty<A: Allocator + Copy>(rt: &impl Abort, alloc: A, apart: i32) -> Tree<Frames, A> {
     let made = Tree::new(alloc);
     assert!(rt; made.is_ok());
@@ -110,7 +112,7 @@ fn forty<A: Allocator + Copy>(rt: &impl Abort, alloc: A, apart: i32) -> Tree<Fra
     tree
 }
 
-// The same, where a slot is worn out once its first node is taken out.
+/// The same, with slots that are worn out once their first node is removed.
 fn forty_used_once<A: Allocator + Copy>(rt: &impl Abort, alloc: A, apart: i32) -> Tree<Frames, A> {
     let made = Tree::starting_at(alloc, u32::MAX, 0, 1, 1_000);
     assert!(rt; made.is_ok());
@@ -119,7 +121,7 @@ fn forty_used_once<A: Allocator + Copy>(rt: &impl Abort, alloc: A, apart: i32) -
     tree
 }
 
-// A search for the band that has made one step, and has more to see.
+/// Opens a search for the band and visits once, after which it has more to see.
 fn begun<A: Allocator + Copy>(rt: &impl Abort, tree: &mut Tree<Frames, A>) -> u64 {
     let opened = tree.open_search(band(rt));
     assert!(rt; opened.is_ok());
@@ -128,7 +130,8 @@ fn begun<A: Allocator + Copy>(rt: &impl Abort, tree: &mut Tree<Frames, A>) -> u6
     search
 }
 
-// Advances walks of rising numbers from 41 on, until one answers Split, and gives that one up. The last number that was placed.
+/// Places the pairs from 41 on until a walk returns `Split`, and drops that walk. Returns the last
+/// number that was placed.
 pub(crate) fn place_until_split<A: Allocator + Copy>(
     rt: &impl Abort,
     tree: &mut Tree<Frames, A>,
@@ -195,7 +198,8 @@ fn held_by_ready_search(rt: HostRuntime) -> Result<(), Fail> {
     Ok(())
 }
 
-// Retires leaves of the numbers 1 to 40 under a search, and frees them once that is closed.
+/// Given a tree of the pairs 1 to 40, retires leaves while a search runs, and frees them once it is
+/// closed.
 fn retire_and_free_leaves<A: Allocator + Copy>(rt: &impl Abort, tree: &mut Tree<Frames, A>) {
     let search = begun(rt, tree);
     fill(rt, tree, 41, 120, 1);
@@ -225,7 +229,8 @@ fn retire_and_free(rt: HostRuntime) -> Result<(), Fail> {
     Ok(())
 }
 
-// Takes away the leaf where a walk stands, of the numbers 1 to 40. The walk begins anew, and its pair is placed.
+/// Given a tree of the pairs 1 to 40, frees the leaf where a walk is. The walk restarts, and its
+/// pair is placed.
 fn restart_a_walk<A: Allocator + Copy>(rt: &impl Abort, tree: &mut Tree<Frames, A>) {
     let mut walk = tree.start_walk(41, pin(rt, 41, 0));
     assert!(rt; tree.advance(&mut walk) == Ok(Step::Moved));
@@ -289,7 +294,8 @@ fn walks_make_their_steps_and_no_more(rt: HostRuntime) -> Result<(), Fail> {
     Ok(())
 }
 
-// Advances a walk until its pair is placed, or a step is refused. The step that it made last.
+/// Advances a walk until its pair is placed or a step is refused, at most 20 times. Returns the
+/// last step that it made.
 fn last_step<A: Allocator + Copy>(
     tree: &mut Tree<Frames, A>,
     walk: &mut Walk<Shape>,
@@ -305,7 +311,7 @@ fn last_step<A: Allocator + Copy>(
     last
 }
 
-// At how many slots a round of tending is refused with S6. No pair is kept.
+/// At how many slots a round of tending, which keeps no pair, is refused with S6.
 fn slots_at_the_counters_end<A: Allocator>(tree: &mut Tree<Frames, A>) -> u32 {
     let mut refused: u32 = 0;
     for slot in 0..tree.slots() {
@@ -327,11 +333,13 @@ fn no_install_at_the_counters_end(rt: HostRuntime) -> Result<(), Fail> {
         if walk.placed() {
             continue;
         }
-        // The root, the two leaves below it since it has grown, and the right node of one of them, whose entry is refused.
+        // The four are the root, two leaves below it, since it has grown, and the right node of one
+        // of them, whose entry is refused.
         assert_eq!(rt; (last, tree.slots()), (Some(Step::Split), 4));
         assert!(rt; tree.advance(&mut walk) == Err(TreeFault::Spent));
         assert!(rt; tree.advance(&mut walk) == Err(TreeFault::Spent));
-        // Tending is refused the same entry. The other leaf loses its pairs, and then is not retired either.
+        // Tending cannot install the entry either. The other leaf loses its pairs, and then cannot
+        // be retired.
         assert_eq!(rt; slots_at_the_counters_end(&mut tree), 1);
         assert_eq!(rt; slots_at_the_counters_end(&mut tree), 2);
         return Ok(());
@@ -344,7 +352,7 @@ fn limits_of_every_tree(rt: HostRuntime) -> Result<(), Fail> {
     assert_eq!(rt; (NODE_SIZE, TOP_LEVEL), (16, 31));
     assert_eq!(rt; (MAX_SLOTS, MAX_RUNNING), (1_048_576, 16));
     assert_eq!(rt; MAX_STEPS, 1_000_000);
-    // A fault is shown by its code.
+    // A fault is displayed as its code.
     let refused = format!(in rt.alloc();
         "{} {} {} {}",
         TreeFault::NoSearch,

@@ -1,18 +1,18 @@
-//! What the tests do again and again.
+//! Helpers of several test files.
 use frame_keys::Frames;
 use plane::{Point, Shape};
 use search_tree::{Tree, Visit, Walk};
 use std::alloc::Allocator;
 use std::process::Abort;
 
-// A point.
+/// The shape of a point.
 pub(crate) fn pin(rt: &impl Abort, x: i32, y: i32) -> Shape {
     let made = Shape::point(Point { x, y });
     assert!(rt; made.is_ok());
     made.unwrap()
 }
 
-// The rectangle from the line's beginning to a place across, from one height to another.
+/// The rectangle from x 0 to `right` and from y `low` to `high`.
 pub(crate) fn window(rt: &impl Abort, right: i32, low: i32, high: i32) -> Shape {
     let made = Shape::polygon(&[
         Point { x: 0, y: low },
@@ -25,7 +25,7 @@ pub(crate) fn window(rt: &impl Abort, right: i32, low: i32, high: i32) -> Shape 
     made.unwrap()
 }
 
-// Advances a walk until its pair is placed.
+/// Advances a walk until its pair is placed.
 pub(crate) fn finish<A: Allocator + Copy>(
     rt: &impl Abort,
     tree: &mut Tree<Frames, A>,
@@ -40,7 +40,7 @@ pub(crate) fn finish<A: Allocator + Copy>(
     panic!(rt; "a walk makes more than 100 steps");
 }
 
-// Visits until the search is ready, one node at a time. How many visits that takes.
+/// Visits until the search is ready, and returns the number of visits.
 pub(crate) fn see_all<A: Allocator + Copy>(
     rt: &impl Abort,
     tree: &mut Tree<Frames, A>,
@@ -56,14 +56,14 @@ pub(crate) fn see_all<A: Allocator + Copy>(
     panic!(rt; "a search makes more than 100,000 steps");
 }
 
-// Numbers that look like chance, from a linear congruence.
+/// Pseudo-random numbers, from a linear congruence.
 #[derive(Drop)]
 pub(crate) struct Dice {
     pub(crate) state: u64,
 }
 
 impl Dice {
-    // The next number, below 2 ^ 31.
+    /// The next number, below 2 ^ 31.
     pub(crate) fn draw(&mut self) -> u64 {
         self.state = self
             .state
@@ -72,7 +72,7 @@ impl Dice {
         self.state >> 33
     }
 
-    // A number below this one, or 0 where that is 0.
+    /// A number below `sides`, or 0 if that is 0.
     pub(crate) fn below(&mut self, sides: u32) -> u32 {
         let number = self.draw().checked_rem(u64::from(sides)).unwrap_or(0);
         u32::try_from(number).unwrap_or(0)

@@ -28,7 +28,7 @@ fn decider(rt: &impl Abort, heap: Global, text: &str, edition: u64) -> Decider {
     }
 }
 
-/// The line of a record that a trail gets as its first.
+/// Checks the line of a deed of seat 7, recorded as the first of a trail.
 fn line(rt: &impl Abort, heap: Global, deed: Deed<Global>, expected: &str) {
     let mut trail = Trail::new(heap);
     let number = trail.push(Record::new(7, deed));
@@ -79,7 +79,7 @@ fn printed_forms(rt: HostRuntime) -> Result<(), Fail> {
     Ok(())
 }
 
-/// A list of changes that was turned away for this cause.
+/// The deed of a list that was rejected for this cause.
 fn refused(rt: &impl Abort, heap: Global, cause: Cause) -> Result<Deed<Global>, AllocError> {
     let reshape = Change::Reshape {
         id: 7,
@@ -124,7 +124,8 @@ fn lines_of_refusals(rt: HostRuntime) -> Result<(), Fail> {
     Ok(())
 }
 
-/// Nothing may be done with parcels, and all in the square of the side 4 at the origin else.
+/// Nothing is permitted on parcels, and everything on other features in the square from (0, 0) to
+/// (4, 4).
 const INSIDE: &str =
     r#"{"root":{"combine":"first-applicable","policy":"p","rules":[{"effect":"deny","rule":"no-parcel","target":[[[{"class":"parcel"}]]]},{"effect":"permit","rule":"inside","target":[[[{"zone":"west"}]]]}]},"zones":[{"shape":"POLYGON ((0 0, 4 0, 4 4, 0 4, 0 0))","zone":"west"}]}"#;
 
@@ -144,7 +145,8 @@ fn line_of_a_document(rt: HostRuntime) -> Result<(), Fail> {
     Ok(())
 }
 
-/// Three features of the office north, each in version 3: the road 7 and the parcel 8 inside, the road 9 outside.
+/// Three features of the office north, all of version 3: the road 7 and the parcel 8 inside the
+/// square, the road 9 outside.
 fn store(rt: &impl Abort, heap: Global) -> Store<Global> {
     let mut store = Store::new(heap);
     let changes = [
@@ -168,7 +170,8 @@ fn store(rt: &impl Abort, heap: Global) -> Store<Global> {
     store
 }
 
-/// Why the list of this one change is turned away by an editor of the office south.
+/// Why a list of this one change, by the editor of the office south, is rejected; `None` if it is
+/// accepted.
 fn cause(rt: &impl Abort, heap: Global, change: Change) -> Option<Cause> {
     let judgement = judge(
         &decider(rt, heap, INSIDE, 1),
@@ -239,11 +242,11 @@ fn judgements_of_deletions(rt: HostRuntime) -> Result<(), Fail> {
     Ok(())
 }
 
-/// Each office may do all with its own features.
+/// Each office may do everything with its own features.
 const OWN: &str =
     r#"{"root":{"combine":"first-applicable","policy":"p","rules":[{"effect":"permit","rule":"mine","when":[{"own":true}]}]}}"#;
 
-/// The first failing change of two by an office, with its cause, where each may do all with its own.
+/// The first failing change of two by an office, with its cause, under the policy `OWN`.
 fn first_of_two(
     rt: &impl Abort,
     heap: Global,
@@ -265,7 +268,7 @@ fn first_of_two(
     }
 }
 
-/// A feature of the office's own, added.
+/// The addition of the road 10, which is then the office's own.
 fn added(rt: &impl Abort) -> Change {
     Change::Add {
         id: 10,
@@ -274,7 +277,7 @@ fn added(rt: &impl Abort) -> Change {
     }
 }
 
-/// A feature in its third version, deleted.
+/// The deletion of a feature of version 3.
 fn deleted(id: u64) -> Change {
     Change::Delete { id, version: 3 }
 }

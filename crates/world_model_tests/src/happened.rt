@@ -1,10 +1,10 @@
 //! What has happened to a world's index in a run of many events.
 use transactions::{Step, Tending};
 
-/// How many events the world grows for, before it shrinks for as many.
+/// For how many turns the world grows, before it shrinks for as many.
 const SEASON: u64 = 2_000;
 
-/// What has happened to the index.
+/// How many turns there were, and how often things happened to the index.
 #[derive(Clone, Copy, Debug, PartialEq, Eq)]
 pub struct Happened {
     pub event: u64,

@@ -1,4 +1,4 @@
-//! Tests of the world beside a plain world of lists, and of its trail.
+//! Tests of the world against a plain world of lists, and of its trail.
 #![tactic(auto)]
 
 #[cfg(test)]

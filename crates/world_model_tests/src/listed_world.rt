@@ -1,20 +1,23 @@
-//! A plain world of lists, to which a world's answers are compared. Nothing of it is shared with the world: shapes are
-//! points, windows are squares, and each policy is a few lines of code.
+//! A plain world of lists, with which a world's answers are compared. It shares only the names of
+//! the causes with the world: shapes are points, windows are squares, and each policy is a few
+//! lines of code.
 use audit_trail::Cause;
 use std::alloc::Global;
 use std::process::Abort;
 
-/// Bounds of the plain world, which the world that stands beside it is opened with.
+/// The most records of the trail, here and in the world that is compared.
 pub const RECORDS: u32 = 40;
 
+/// The most features, here and in the world that is compared.
 pub const FEATURES: u32 = 300;
 
+/// How many seats were given, here and in the world that is compared.
 pub const SEATS: u32 = 16;
 
-/// West of here, this place included, all is permitted by the last policy.
+/// The greatest x at which the last policy permits anything; up to there it permits all.
 pub const WEST: i32 = 31;
 
-/// A place.
+/// A point.
 #[derive(Clone, Copy, Debug, PartialEq, Eq)]
 pub struct Spot {
     pub x: i32,
@@ -62,7 +65,7 @@ impl Edit {
         }
     }
 
-    /// Where a shape comes to be.
+    /// Where the edit puts a shape; `None` for a removal.
     fn spot(&self) -> Option<Spot> {
         match self {
             Edit::Add { x, y, .. } => Some(Spot { x: *x, y: *y }),
@@ -72,7 +75,7 @@ impl Edit {
     }
 }
 
-/// A square between two corners on the diagonal, its border included.
+/// The square from (`low`, `low`) to (`high`, `high`), with its border.
 #[derive(Clone, Copy, Debug, PartialEq, Eq)]
 pub struct Area {
     pub low: i32,
@@ -96,7 +99,7 @@ pub struct Look {
     pub ready: bool,
 }
 
-/// A transaction.
+/// An open transaction: its edits, and how many of their shapes are placed.
 #[derive(Debug, Drop)]
 pub struct Draft {
     pub number: u64,
@@ -112,7 +115,7 @@ pub enum Doing {
     Change,
 }
 
-/// The world: marks by rising id, and the rest.
+/// The plain world. Its marks are sorted by id, and `base` has the marks of the last roll.
 #[derive(Debug, Drop)]
 pub struct PlainWorld {
     pub marks: Vec<Mark>,
@@ -138,9 +141,9 @@ pub fn is_steward(seat: u32) -> bool {
     office_of(seat) == 3
 }
 
-/// Why a policy denies that an office does this with a mark; nothing where it permits. 0 permits all; 1 speaks of
-/// class 0 alone; 2 has a first rule against class 1; 3 lets all read, and each office change its own; 4 permits what
-/// is done in the west.
+/// Why a policy denies that an office does this with a mark; `None` if it permits it. Policy 0
+/// permits all; 1 permits only class 0; 2 denies class 1 by its first rule and permits the rest; 3
+/// permits everybody to read, and each office to change its own marks; 4 permits all in the west.
 fn denial(policy: u32, office: u32, doing: Doing, mark: &Mark) -> Option<Cause> {
     let permitted = match policy {
         0 => true,
@@ -159,7 +162,7 @@ fn denial(policy: u32, office: u32, doing: Doing, mark: &Mark) -> Option<Cause> 
 }
 
 impl PlainWorld {
-    /// A world in which nothing is.
+    /// A world without marks.
     pub fn empty(heap: Global) -> Self {
         PlainWorld {
             marks: Vec::new(heap),
@@ -176,7 +179,8 @@ impl PlainWorld {
         }
     }
 
-    /// The search of a number, of this seat.
+    /// The seat's own search of a number. X1 if the seat was not given or no such search is open,
+    /// X2 if it is another seat's.
     pub fn look(&self, seat: u32, number: u64) -> Result<Look, &'static str> {
         check_seat(seat)?;
         match self.looks.iter().find(|look| look.number == number) {
@@ -186,7 +190,8 @@ impl PlainWorld {
         }
     }
 
-    /// The transaction of a number, of this seat.
+    /// The seat's own transaction of a number. X1 if the seat was not given or no such transaction
+    /// is open, X2 if it is another seat's.
     pub fn draft(&self, seat: u32, number: u64) -> Result<&Draft, &'static str> {
         check_seat(seat)?;
         match self.drafts.iter().find(|draft| draft.number == number) {
@@ -196,7 +201,8 @@ impl PlainWorld {
         }
     }
 
-    /// Where the next shape of a transaction comes to be; nothing where all are placed.
+    /// The point of the next shape of a transaction; `None` if all are placed. X1 and X2 as in
+    /// `draft`.
     pub fn next_spot(&self, seat: u32, number: u64) -> Result<Option<Spot>, &'static str> {
         let draft = self.draft(seat, number)?;
         let mut left = draft.placed;
@@ -211,21 +217,22 @@ impl PlainWorld {
         Ok(None)
     }
 
-    /// Whether the search of a number has made a step and looks for what is at this place, and so may hold a walk.
+    /// Whether the search of a number has made a step and looks for this point. No other search may
+    /// hold a walk to it.
     pub fn may_hold(&self, number: u64, spot: &Spot) -> bool {
         self.looks.iter().any(|look| look.number == number
             && look.visited
             && look.area.holds(spot.x, spot.y))
     }
 
-    /// Whether a search that is ready looks for what is at this place, and so holds a walk.
+    /// Whether a ready search looks for this point, and holds a walk to it.
     pub fn is_held(&self, spot: &Spot) -> bool {
         self.looks
             .iter()
             .any(|look| look.ready && look.area.holds(spot.x, spot.y))
     }
 
-    /// X10 where the trail takes no record.
+    /// X10 if the trail is full.
     pub fn check_trail(&self) -> Result<(), &'static str> {
         if self.records >= RECORDS {
             return Err("X10");
@@ -233,7 +240,7 @@ impl PlainWorld {
         Ok(())
     }
 
-    /// X1 where the seat was not given, X7 where it is no steward's.
+    /// X1 if the seat was not given, X7 if it is no steward's.
     pub fn check_steward(&self, seat: u32) -> Result<(), &'static str> {
         check_seat(seat)?;
         if is_steward(seat) { Ok(()) } else { Err("X7") }
@@ -254,7 +261,7 @@ impl PlainWorld {
         area.holds(mark.x, mark.y) && denial(self.policy, office, Doing::Read, mark).is_none()
     }
 
-    /// What stands against an edit by an office.
+    /// Why an edit by an office fails; `None` if it does not.
     pub fn objection(&self, office: u32, edit: &Edit) -> Option<Cause> {
         let found = self.mark(edit.id());
         match (edit, found) {
@@ -337,7 +344,7 @@ impl PlainWorld {
     }
 }
 
-/// X1 where a seat was not given.
+/// X1 if a seat was not given.
 pub fn check_seat(seat: u32) -> Result<(), &'static str> {
     if 1 <= seat && seat <= SEATS {
         Ok(())
@@ -346,7 +353,7 @@ pub fn check_seat(seat: u32) -> Result<(), &'static str> {
     }
 }
 
-/// How many of the edits bring a shape.
+/// How many of the edits have a shape.
 pub fn shapes_of(edits: &[Edit]) -> usize {
     edits.iter().filter(|edit| edit.spot().is_some()).count()
 }
@@ -362,7 +369,7 @@ fn new_mark(id: u64, office: u32, class: u32, x: i32, y: i32) -> Mark {
     }
 }
 
-/// That the editor has seen another version.
+/// The cause that `seen` is not the mark's version, if it is not.
 fn stale(seen: u64, mark: &Mark) -> Option<Cause> {
     if seen == mark.version {
         None

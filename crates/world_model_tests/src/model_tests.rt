@@ -1,5 +1,5 @@
-//! Ten thousand events of sixteen seats, in an order that nobody chose, beside a plain world of lists: answers, outcomes,
-//! refusals by their codes, and most records.
+//! Ten thousand random turns of sixteen seats, compared with a plain world of lists: answers,
+//! outcomes, refusals by their codes, and the records of answers and of lists.
 use crate::dice::Dice;
 use crate::happened::Happened;
 use crate::listed_world::{
@@ -17,13 +17,13 @@ use transactions::{
     Advance, Answer, Fault, Limits, Outcome, Starts, Step, TreeFault, Visit, World,
 };
 
-/// How many events are tried.
+/// How many turns there are. Each tries one event, or a few of a kind.
 const EVENTS: u32 = 10_000;
 
-/// How many ids there are, which is more than the features that may stand.
+/// Ids are drawn below this. It is above the greatest number of features.
 const IDS: u32 = 450;
 
-/// The policies of the plain world, in its order.
+/// The document of the plain world's policy of this number.
 fn policy(rt: &impl Abort, heap: Global, number: u32) -> Document<Global> {
     let text = match number {
         0 => {
@@ -107,7 +107,7 @@ fn give_seats(rt: &impl Abort, world: &mut World<Global>) {
     }
 }
 
-/// A refusal by its code.
+/// The result, with the code of a fault.
 fn coded<T: Drop>(told: Result<T, Fault>) -> Result<T, &'static str> {
     match told {
         Ok(value) => Ok(value),
@@ -151,7 +151,7 @@ fn feature(rt: &impl Abort, mark: &Mark) -> Feature {
     }
 }
 
-/// The newest record is this one.
+/// Checks that the newest record is that of this seat and this deed.
 fn check_newest(rt: &impl Abort, world: &World<Global>, seat: u32, deed: Deed<Global>) {
     let trail = world.trail();
     let found = trail.get(trail.first().saturating_add(trail.len()).saturating_sub(1));
@@ -159,7 +159,7 @@ fn check_newest(rt: &impl Abort, world: &World<Global>, seat: u32, deed: Deed<Gl
     assert!(rt; **found.unwrap() == Record::new(seat, deed));
 }
 
-/// A search is opened.
+/// Tries to open a search.
 fn try_open(rt: &impl Abort, dice: &mut Dice, plain: &mut PlainWorld, world: &mut World<Global>) {
     let seat = dice.seat();
     let low = dice.place();
@@ -186,7 +186,7 @@ fn try_open(rt: &impl Abort, dice: &mut Dice, plain: &mut PlainWorld, world: &mu
     }
 }
 
-/// The seat and number of a search: one that runs, or rarely another.
+/// The seat and the number of a running search; at times another seat or another number.
 fn a_look(dice: &mut Dice, plain: &PlainWorld) -> (u32, u64) {
     let at = dice.below(17) as usize;
     match plain.looks.get(at) {
@@ -196,7 +196,7 @@ fn a_look(dice: &mut Dice, plain: &PlainWorld) -> (u32, u64) {
     }
 }
 
-/// A search is visited a few times.
+/// Tries to visit a search a few times.
 fn try_visit(
     rt: &impl Abort,
     dice: &mut Dice,
@@ -210,7 +210,8 @@ fn try_visit(
     }
 }
 
-/// A search is visited. Whether there is more to see is the world's to tell, but a search that was ready stays so.
+/// Tries to visit a search. Only the world knows whether there is more to see, but a search that
+/// was ready has to stay ready.
 fn visit_one(
     rt: &impl Abort,
     plain: &mut PlainWorld,
@@ -232,7 +233,7 @@ fn visit_one(
     }
 }
 
-/// Marks a search as visited, and as ready where it answered so.
+/// Marks a search as visited, and as ready if the visit returned `Ready`.
 fn mark_visited(plain: &mut PlainWorld, number: u64, visit: Visit) {
     for look in plain.looks.iter_mut() {
         if look.number == number {
@@ -242,7 +243,7 @@ fn mark_visited(plain: &mut PlainWorld, number: u64, visit: Visit) {
     }
 }
 
-/// What the plain world tells of a search that is finished.
+/// The search that is finished, by the plain world. X1, X2, X3 and X10, in this order.
 fn finished(plain: &PlainWorld, seat: u32, number: u64) -> Result<Look, &'static str> {
     let look = plain.look(seat, number)?;
     if !look.ready {
@@ -252,7 +253,7 @@ fn finished(plain: &PlainWorld, seat: u32, number: u64) -> Result<Look, &'static
     Ok(look)
 }
 
-/// A search is finished.
+/// Tries to finish a search.
 fn try_finish(
     rt: &impl Abort,
     heap: Global,
@@ -277,7 +278,8 @@ fn try_finish(
     }
 }
 
-/// The answer lists what the plain world shows, and carries the policy in force.
+/// Checks that the answer lists what the plain world shows, and has the edition in force, the
+/// subject and the window.
 fn check_answer(rt: &impl Abort, plain: &PlainWorld, look: &Look, answer: &Answer<Global>) {
     let office = office_of(look.seat);
     let rows = answer.rows();
@@ -294,7 +296,7 @@ fn check_answer(rt: &impl Abort, plain: &PlainWorld, look: &Look, answer: &Answe
     assert!(rt; answer.window() == square(rt, look.area.low, look.area.high));
 }
 
-/// The deed of an answer.
+/// The deed that records an answer.
 fn answered(rt: &impl Abort, heap: Global, answer: &Answer<Global>) -> Deed<Global> {
     let mut ids = Vec::new(heap);
     let mut versions = Vec::new(heap);
@@ -309,7 +311,7 @@ fn answered(rt: &impl Abort, heap: Global, answer: &Answer<Global>) -> Deed<Glob
     }
 }
 
-/// A search is given up.
+/// Tries to drop a search.
 fn try_drop(rt: &impl Abort, dice: &mut Dice, plain: &mut PlainWorld, world: &mut World<Global>) {
     let (seat, number) = a_look(dice, plain);
     let told = coded(world.drop_search(seat, number));
@@ -322,7 +324,7 @@ fn try_drop(rt: &impl Abort, dice: &mut Dice, plain: &mut PlainWorld, world: &mu
     }
 }
 
-/// A transaction is opened.
+/// Tries to open a transaction.
 fn try_begin(
     rt: &impl Abort,
     heap: Global,
@@ -349,7 +351,7 @@ fn try_begin(
     }
 }
 
-/// The seat and number of a transaction: one that is open, or rarely another.
+/// The seat and the number of an open transaction; at times another seat or another number.
 fn a_draft(dice: &mut Dice, plain: &PlainWorld) -> (u32, u64) {
     let at = dice.below(8) as usize;
     match plain.drafts.get(at) {
@@ -359,7 +361,7 @@ fn a_draft(dice: &mut Dice, plain: &PlainWorld) -> (u32, u64) {
     }
 }
 
-/// The id and the version of a mark: mostly of one as it stands.
+/// The id and the version of a mark; at times random ones.
 fn a_mark(dice: &mut Dice, plain: &PlainWorld) -> (u64, u64) {
     let count = u32::try_from(plain.marks.len()).unwrap_or(0);
     let at = dice.below(count) as usize;
@@ -369,7 +371,7 @@ fn a_mark(dice: &mut Dice, plain: &PlainWorld) -> (u64, u64) {
     }
 }
 
-/// The id of a mark that does not stand, or rarely of any.
+/// An id that no mark has; at times any id.
 fn a_new_id(dice: &mut Dice, plain: &PlainWorld) -> u64 {
     let drawn = dice.below(IDS) as u64;
     if dice.below(16) == 0 {
@@ -383,7 +385,7 @@ fn a_new_id(dice: &mut Dice, plain: &PlainWorld) -> u64 {
     drawn
 }
 
-/// A feature is added.
+/// A random addition.
 fn an_addition(dice: &mut Dice, plain: &PlainWorld) -> Edit {
     Edit::Add {
         id: a_new_id(dice, plain),
@@ -393,7 +395,7 @@ fn an_addition(dice: &mut Dice, plain: &PlainWorld) -> Edit {
     }
 }
 
-/// An edit: while the world grows mostly an addition, and else mostly a removal.
+/// A random edit: mostly an addition while the world grows, and mostly a removal while it does not.
 fn an_edit(dice: &mut Dice, plain: &PlainWorld, grows: bool) -> Edit {
     let (id, version) = a_mark(dice, plain);
     match (dice.below(8), grows) {
@@ -410,7 +412,7 @@ fn an_edit(dice: &mut Dice, plain: &PlainWorld, grows: bool) -> Edit {
     }
 }
 
-/// What the plain world tells of an edit that is staged.
+/// Whether an edit can be staged, by the plain world. X1, X2, X6 and X5, in this order.
 fn stageable(plain: &PlainWorld, seat: u32, number: u64, edit: &Edit) -> Result<(), &'static str> {
     let draft = plain.draft(seat, number)?;
     if draft.edits.len() >= 16 {
@@ -422,7 +424,7 @@ fn stageable(plain: &PlainWorld, seat: u32, number: u64, edit: &Edit) -> Result<
     Ok(())
 }
 
-/// A few changes are staged.
+/// Tries to stage a few changes.
 fn try_stage(
     rt: &impl Abort,
     dice: &mut Dice,
@@ -437,7 +439,7 @@ fn try_stage(
     }
 }
 
-/// A change is staged.
+/// Tries to stage a change.
 fn stage_one(
     rt: &impl Abort,
     plain: &mut PlainWorld,
@@ -457,7 +459,7 @@ fn stage_one(
     }
 }
 
-/// A few steps of the walks of a transaction.
+/// Tries a few steps of the walks of a transaction.
 fn try_advance(
     rt: &impl Abort,
     dice: &mut Dice,
@@ -471,8 +473,9 @@ fn try_advance(
     }
 }
 
-/// A step of the walk of the next shape of a transaction. Where the walk stands is the world's to tell, but no shape is
-/// placed that a ready search looks for, and no other search holds it than one that has made a step and looks for it.
+/// Tries a step of the walk of a transaction's next shape. Only the world knows where the walk is.
+/// Checks that no shape is placed that a ready search looks for, and that only a search that has
+/// made a step and looks for the shape holds it.
 fn advance_one(
     rt: &impl Abort,
     plain: &mut PlainWorld,
@@ -497,7 +500,8 @@ fn advance_one(
     }
 }
 
-/// A step changes nothing, but where it is the last one the shape is placed.
+/// Notes a step of a walk. The last one places the shape, which no ready search may look for; any
+/// other changes nothing.
 fn check_step(rt: &impl Abort, plain: &mut PlainWorld, number: u64, spot: &Spot, step: Step) {
     if step != Step::Placed {
         return;
@@ -510,7 +514,7 @@ fn check_step(rt: &impl Abort, plain: &mut PlainWorld, number: u64, spot: &Spot,
     }
 }
 
-/// A transaction is given up.
+/// Tries to abort a transaction.
 fn try_abort(rt: &impl Abort, dice: &mut Dice, plain: &mut PlainWorld, world: &mut World<Global>) {
     let (seat, number) = a_draft(dice, plain);
     let expected = match plain.draft(seat, number) {
@@ -523,7 +527,8 @@ fn try_abort(rt: &impl Abort, dice: &mut Dice, plain: &mut PlainWorld, world: &m
     }
 }
 
-/// The staged edits of a transaction that is committed.
+/// The staged edits of a transaction that is committed, by the plain world. X1, X2, X4 and X10, in
+/// this order.
 fn committed(
     rt: &impl Abort,
     heap: Global,
@@ -541,7 +546,7 @@ fn committed(
     Ok(copied.unwrap())
 }
 
-/// A transaction is committed.
+/// Tries to commit a transaction.
 fn try_commit(
     rt: &impl Abort,
     heap: Global,
@@ -567,7 +572,8 @@ fn try_commit(
     }
 }
 
-/// A list ended as the plain world judges it, and changes the plain world.
+/// Checks that a list ended as the plain world judges it, and makes the edits of an applied list in
+/// the plain world.
 fn check_outcome(
     rt: &impl Abort,
     heap: Global,
@@ -621,7 +627,7 @@ fn changes(rt: &impl Abort, heap: Global, edits: &[Edit]) -> Vec<Change> {
     changes
 }
 
-/// The deed of a list that is applied.
+/// The deed that records an applied list.
 fn applied(rt: &impl Abort, heap: Global, seat: u32, version: u64, edits: &[Edit]) -> Deed<Global> {
     Deed::Applied {
         subject: subject(rt, seat),
@@ -630,7 +636,7 @@ fn applied(rt: &impl Abort, heap: Global, seat: u32, version: u64, edits: &[Edit
     }
 }
 
-/// A policy is put in force.
+/// Tries to put a policy in force.
 fn try_govern(
     rt: &impl Abort,
     heap: Global,
@@ -657,7 +663,7 @@ fn try_govern(
     }
 }
 
-/// The trail is rolled over.
+/// Tries to roll the trail.
 fn try_roll(
     rt: &impl Abort,
     heap: Global,
@@ -681,7 +687,7 @@ fn try_roll(
     }
 }
 
-/// The features are these marks.
+/// Checks that the features are these marks.
 fn check_marks(rt: &impl Abort, features: &[Feature], marks: &[Mark]) {
     assert_eq!(rt; features.len(), marks.len());
     for (row, mark) in features.iter().zip(marks) {
@@ -689,12 +695,12 @@ fn check_marks(rt: &impl Abort, features: &[Feature], marks: &[Mark]) {
     }
 }
 
-/// A seat for nobody, which is not given.
+/// Asks for a seat for nobody, which is not given.
 fn try_nobody(rt: &impl Abort, world: &mut World<Global>) {
     assert!(rt; coded(world.seat(name(rt, "nobody"))) == Err("X13"));
 }
 
-/// A slot of the index is tended, or one that is not there, or rarely all of them.
+/// Tends a slot of the index, which may be one that does not exist, or rarely all slots.
 fn try_tend(rt: &impl Abort, dice: &mut Dice, world: &mut World<Global>, happened: &mut Happened) {
     let slots = world.slots();
     if dice.below(16) > 0 {
@@ -706,7 +712,7 @@ fn try_tend(rt: &impl Abort, dice: &mut Dice, world: &mut World<Global>, happene
     }
 }
 
-/// A slot of the index is tended.
+/// Tends a slot of the index.
 fn tend_one(rt: &impl Abort, world: &mut World<Global>, slot: u32, happened: &mut Happened) {
     match world.tend(slot) {
         Ok(tending) => happened.count_tending(tending),
@@ -714,7 +720,7 @@ fn tend_one(rt: &impl Abort, world: &mut World<Global>, slot: u32, happened: &mu
     }
 }
 
-/// One event.
+/// One random turn.
 fn try_one(
     rt: &impl Abort,
     heap: Global,
@@ -740,7 +746,8 @@ fn try_one(
     }
 }
 
-/// The world tells what the plain world does.
+/// Checks that both worlds have the same number of features and of records, the same edition and
+/// the same first record.
 fn check_told(rt: &impl Abort, plain: &PlainWorld, world: &World<Global>) {
     assert_eq!(rt; world.len(), plain.marks.len());
     assert_eq!(rt; world.edition(), plain.edition);
@@ -764,7 +771,7 @@ fn ten_thousand_events(rt: HostRuntime) -> Result<(), Fail> {
     Ok(())
 }
 
-/// Enough has happened.
+/// Checks that enough has happened.
 fn check_enough(rt: &impl Abort, plain: &PlainWorld, happened: &Happened) {
     let told = plain.version > 100 && plain.edition > 10 && plain.first > 500;
     assert!(rt;

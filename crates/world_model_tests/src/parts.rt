@@ -1,5 +1,5 @@
-//! Names, shapes and documents, of which worlds and trails are made.
-// What takes an `Abort` may stand in a crate of tests alone, so this repeats a part of `worlds.rt` of `world_tests`.
+//! Names, shapes and documents, for worlds and trails. A function that takes an `Abort` may be in a
+//! crate of tests only, so this repeats a part of `worlds.rt` of `world_tests`.
 use features::Name;
 use plane::{Point, Shape};
 use policy_text::{Document, read_document};
@@ -18,7 +18,7 @@ pub fn point(rt: &impl Abort, x: i32, y: i32) -> Shape {
     shape.unwrap()
 }
 
-/// The square between two corners.
+/// The square from (`low`, `low`) to (`high`, `high`).
 pub fn square(rt: &impl Abort, low: i32, high: i32) -> Shape {
     let ring = [
         Point { x: low, y: low },

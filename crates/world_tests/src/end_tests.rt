@@ -1,4 +1,4 @@
-//! What comes at the ends of counters and limits, and the trail that is rolled over.
+//! The ends of counters and limits, and rolls of the trail.
 use crate::worlds::{
     CLOSED, LIMITS, OPEN, STARTS, add, document, found, picture, placed, point, ready, seated,
     square, staged,
@@ -14,31 +14,33 @@ use transactions::{
     STEP_LIMIT, Starts, Step, TRANSACTION_LIMIT, TreeFault, Visit, World,
 };
 
-/// The line of the first record of the worked search below.
+/// The line of the record of `add_mast`.
 const ADDED: &str =
     r#"{"changes":[{"class":"mast","id":1,"shape":"POINT (4 4)","what":"add"}],"kind":"applied","number":1,"seat":1,"subject":"north","version":1}"#;
 
+/// The line of the record of `find_mast` after it.
 const LISTED: &str =
     r#"{"ids":[1],"kind":"answered","number":2,"seat":1,"subject":"north","window":"POLYGON ((0 0, 4 0, 4 4, 0 4, 0 0))"}"#;
 
+/// The line of the record of a second `find_mast`.
 const AGAIN: &str =
     r#"{"ids":[1],"kind":"answered","number":3,"seat":1,"subject":"north","window":"POLYGON ((0 0, 4 0, 4 4, 0 4, 0 0))"}"#;
 
-/// North adds the mast 1 at 4, 4.
+/// North adds the mast 1 at (4, 4).
 fn add_mast(rt: &impl Abort, world: &mut World<Global>) {
     let changes = [add(rt, 1, "mast", 4)];
     let number = placed(rt, world, 1, &changes);
     assert!(rt; matches!(world.commit(1, number), Ok(Outcome::Applied(1))));
 }
 
-/// North finds the mast in the square of the side 4 at the origin.
+/// North finds the mast in the square from (0, 0) to (4, 4).
 fn find_mast(rt: &impl Abort, world: &mut World<Global>) {
     let answer = found(rt, world, 1, square(rt, 0, 4));
     let rows = answer.rows();
     assert!(rt; rows.len() == 1 && rows[0].id == 1 && rows[0].version == 1);
 }
 
-/// The steward rolls the trail, and is handed these lines.
+/// The steward rolls the trail. Checks the lines of the piece.
 fn check_rolled(rt: &impl Abort, heap: Global, world: &mut World<Global>, lines: &[&str]) {
     let first = world.trail().first();
     let rolled = world.roll(heap, 3);
@@ -64,7 +66,8 @@ fn roll_three_times(rt: &impl Abort, heap: Global, world: &mut World<Global>) {
     assert!(rt; world.trail().first() == 4);
 }
 
-/// What a piece's base is: its version, its edition, its document and its features' ids.
+/// The steward rolls the trail. Checks the base of the piece: its version, its edition, its
+/// document and its features' ids.
 fn check_base(
     rt: &impl Abort,
     heap: Global,
@@ -86,7 +89,8 @@ fn check_base(
     assert!(rt; base.features.iter().zip(ids).all(|(row, id)| row.id == *id));
 }
 
-/// The trail is rolled before a policy comes and after it, while a search and a transaction are under way.
+/// The trail is rolled before and after a policy comes into force, while a search and a transaction
+/// are open.
 fn roll_around_a_policy(rt: &impl Abort, heap: Global, world: &mut World<Global>) {
     let search = ready(rt, world, 1, point(rt, 9, 9));
     let open = placed(rt, world, 1, &[add(rt, 2, "mast", 4)]);
@@ -98,7 +102,7 @@ fn roll_around_a_policy(rt: &impl Abort, heap: Global, world: &mut World<Global>
     end_both(rt, world, search, open);
 }
 
-/// What is under way goes on.
+/// The open search is finished, and the list of the open transaction is denied.
 fn end_both(rt: &impl Abort, world: &mut World<Global>, search: u64, open: u64) {
     let mut meter = Meter::new();
     assert!(rt; world.finish(1, search, &mut meter).is_ok());
@@ -106,7 +110,7 @@ fn end_both(rt: &impl Abort, world: &mut World<Global>, search: u64, open: u64) 
     assert!(rt; world.trail().first() == 3 && world.trail().len() == 2);
 }
 
-/// A world whose trail takes so many records.
+/// A world whose trail takes `records` records.
 fn recording(rt: &impl Abort, heap: Global, records: u32) -> World<Global> {
     let limits = Limits {
         steps: 10,
@@ -116,7 +120,7 @@ fn recording(rt: &impl Abort, heap: Global, records: u32) -> World<Global> {
     seated(rt, heap, heap, OPEN, STARTS, limits)
 }
 
-/// A search is finished in vain as often as it is tried, and then dropped.
+/// A search cannot be finished, however often it is tried, and is then dropped.
 fn finish_in_vain(rt: &impl Abort, heap: Global, world: &mut World<Global>) {
     let before = picture(rt, heap, world);
     let search = ready(rt, world, 1, point(rt, 1, 1));
@@ -139,13 +143,13 @@ fn finish_after_a_roll(rt: &impl Abort, heap: Global, world: &mut World<Global>)
     check_rolled(rt, heap, world, &[LISTED]);
 }
 
-/// North finds nothing at a place.
+/// North finds nothing at a point.
 fn find_nothing(rt: &impl Abort, world: &mut World<Global>) {
     let answer = found(rt, world, 1, point(rt, 1, 1));
     assert_eq!(rt; answer.rows().len(), 0);
 }
 
-/// The trail is rolled while it is empty, and no more once it has a record.
+/// The trail can be rolled while it is empty, but not once it has a record.
 fn roll_in_vain(rt: &impl Abort, heap: Global, world: &mut World<Global>) {
     assert!(rt; world.trail().first() == 4_293_918_720);
     check_rolled(rt, heap, world, &[]);
@@ -156,7 +160,7 @@ fn roll_in_vain(rt: &impl Abort, heap: Global, world: &mut World<Global>) {
     assert_eq!(rt; picture(rt, heap, world).as_str(), before.as_str());
 }
 
-/// No list is applied, but one that fails is turned away all the same.
+/// No list is applied, but one with a failing change is still rejected.
 fn commit_in_vain(rt: &impl Abort, heap: Global, world: &mut World<Global>) {
     let before = picture(rt, heap, world);
     let number = placed(rt, world, 1, &[add(rt, 1, "mast", 4)]);
@@ -167,7 +171,7 @@ fn commit_in_vain(rt: &impl Abort, heap: Global, world: &mut World<Global>) {
     assert!(rt; matches!(world.commit(1, other), Ok(Outcome::Refused(_, None))));
 }
 
-/// A document is not put in force, and handed back.
+/// A document is not put in force, and is returned.
 fn govern_in_vain(rt: &impl Abort, heap: Global, world: &mut World<Global>) {
     let before = picture(rt, heap, world);
     match world.govern(heap, 3, document(rt, heap, CLOSED)) {
@@ -180,7 +184,7 @@ fn govern_in_vain(rt: &impl Abort, heap: Global, world: &mut World<Global>) {
     assert_eq!(rt; picture(rt, heap, world).as_str(), before.as_str());
 }
 
-/// After the last search none is opened.
+/// After the last search no other is opened.
 fn search_in_vain(rt: &impl Abort, heap: Global, world: &mut World<Global>) {
     find_nothing(rt, world);
     let before = picture(rt, heap, world);
@@ -189,14 +193,15 @@ fn search_in_vain(rt: &impl Abort, heap: Global, world: &mut World<Global>) {
     assert_eq!(rt; picture(rt, heap, world).as_str(), before.as_str());
 }
 
-/// A world whose searches and walks make so many steps at most.
+/// A world whose searches and walks make at most `steps` steps. The counter of its index starts at
+/// `counter`.
 fn stepping(rt: &impl Abort, heap: Global, steps: u32, counter: u64) -> World<Global> {
     let limits = Limits { steps, ..LIMITS };
     let starts = Starts { counter, ..STARTS };
     seated(rt, heap, heap, OPEN, starts, limits)
 }
 
-/// North adds the masts of these numbers, each where its number is and by a list of its own.
+/// North adds the masts 1 to `last`, mast `n` at (`n`, `n`), each in a list of its own.
 fn add_masts(rt: &impl Abort, world: &mut World<Global>, last: u64) {
     let mut at = 0i32;
     for id in 1..=last {
@@ -206,7 +211,7 @@ fn add_masts(rt: &impl Abort, world: &mut World<Global>, last: u64) {
     }
 }
 
-/// North adds sixteen masts at one place, by walks of one step.
+/// North adds sixteen masts at one point, each by a walk of one step.
 fn fill_leaf(rt: &impl Abort, world: &mut World<Global>) {
     for id in 1..=16 {
         let number = staged(rt, world, 1, &[add(rt, id, "mast", 4)]);
@@ -215,7 +220,7 @@ fn fill_leaf(rt: &impl Abort, world: &mut World<Global>) {
     }
 }
 
-/// A walk of more than one step ends its transaction.
+/// A walk that needs more than one step ends its transaction.
 fn walk_too_far(rt: &impl Abort, heap: Global, world: &mut World<Global>) {
     fill_leaf(rt, world);
     let before = picture(rt, heap, world);
@@ -227,7 +232,7 @@ fn walk_too_far(rt: &impl Abort, heap: Global, world: &mut World<Global>) {
     assert_eq!(rt; picture(rt, heap, world).as_str(), before.as_str());
 }
 
-/// How many steps a search makes before the index gives it up.
+/// How many steps a search makes before it is ended by S7.
 fn steps_of(rt: &impl Abort, world: &mut World<Global>, search: u64) -> u32 {
     let mut steps = 0u32;
     for _ in 0..100 {
@@ -243,7 +248,7 @@ fn steps_of(rt: &impl Abort, world: &mut World<Global>, search: u64) -> u32 {
     panic!(rt; "a search makes more than 100 steps")
 }
 
-/// A search of more than nine steps is ended.
+/// A search that needs more than nine steps is ended.
 fn search_too_far(rt: &impl Abort, heap: Global, world: &mut World<Global>) {
     add_masts(rt, world, 100);
     let before = picture(rt, heap, world);
@@ -256,7 +261,8 @@ fn search_too_far(rt: &impl Abort, heap: Global, world: &mut World<Global>) {
     assert_eq!(rt; picture(rt, heap, world).as_str(), before.as_str());
 }
 
-/// The walk of a transaction is placed, or the index's counter is at its end, as often as the walk is advanced.
+/// Advances the walk of a transaction until all is placed, or until S6 since the index's counter is
+/// at its end. Returns whether S6 came; it then comes again, and the list cannot be committed.
 fn is_spent(rt: &impl Abort, world: &mut World<Global>, number: u64) -> bool {
     let spent = Err(Fault::Tree(TreeFault::Spent));
     for _ in 0..100 {
@@ -274,7 +280,8 @@ fn is_spent(rt: &impl Abort, world: &mut World<Global>, number: u64) -> bool {
     panic!(rt; "a walk makes more than 100 steps")
 }
 
-/// North adds masts at one place until a leaf below the root is to be parted, which the index's counter does not allow.
+/// North adds masts at one point until a leaf below the root has split and its right node is to be
+/// installed, which the index's counter does not allow.
 fn add_until_spent(rt: &impl Abort, world: &mut World<Global>) {
     for id in 1..=64 {
         let number = staged(rt, world, 1, &[add(rt, id, "mast", 4)]);
@@ -288,7 +295,7 @@ fn add_until_spent(rt: &impl Abort, world: &mut World<Global>) {
     assert!(rt; false, "no leaf below the root is parted");
 }
 
-/// What was placed is found.
+/// Checks that the masts that were added are found.
 fn check_placed(rt: &impl Abort, world: &mut World<Global>, count: u64) {
     let answer = found(rt, world, 1, square(rt, 0, 9));
     assert_eq!(rt; answer.rows().len() as u64, count);
@@ -305,7 +312,7 @@ fn limits_of_every_world(rt: HostRuntime) {
     assert_eq!(rt; STEP_LIMIT, 1_000_000);
 }
 
-/// What comes to its end, or is rolled.
+/// A case of a counter or a limit at its end, or of a roll.
 #[derive(Clone, Copy, Debug, Drop)]
 enum End {
     PiecesAndTheirLines,
@@ -321,7 +328,7 @@ enum End {
     TheLastCountOfTheIndex,
 }
 
-/// The world in which that comes.
+/// The world for a case.
 fn world_for(rt: &impl Abort, heap: Global, trial: End) -> World<Global> {
     match trial {
         End::EndsOfCounters => recording(rt, heap, 0),
@@ -377,7 +384,7 @@ fn world_for(rt: &impl Abort, heap: Global, trial: End) -> World<Global> {
     }
 }
 
-/// It comes to its end.
+/// Runs a case.
 fn come_to_end(rt: &impl Abort, heap: Global, world: &mut World<Global>, trial: End) {
     match trial {
         End::PiecesAndTheirLines => roll_three_times(rt, heap, world),
@@ -394,7 +401,7 @@ fn come_to_end(rt: &impl Abort, heap: Global, world: &mut World<Global>, trial: 
     }
 }
 
-/// Each of these, over a world of its own.
+/// Runs each case, in a world of its own.
 fn come_to_end_each(rt: &impl Abort, heap: Global, trials: &[End]) {
     for trial in trials {
         let mut world = world_for(rt, heap, *trial);

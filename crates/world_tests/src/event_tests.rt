@@ -1,4 +1,4 @@
-//! The way of a list, of a search and of a policy from begin to end.
+//! A list, a search and a policy, each from its first event to its last.
 use crate::worlds::{
     OPEN, ROADS, STARTS, add, document, found, name, placed, point, ready, seated, square,
 };
@@ -9,7 +9,7 @@ use std::sync::Arc;
 use std::test::Fail;
 use transactions::{Advance, Fault, Limits, Outcome, Step, Tending, Visit, World};
 
-/// A world of a few records and features.
+/// A world with room for four records and two features.
 fn small(rt: &impl Abort, heap: Global) -> World<Global> {
     let limits = Limits {
         steps: 10,
@@ -51,14 +51,14 @@ fn committed_and_found(rt: HostRuntime) -> Result<(), Fail> {
     Ok(())
 }
 
-/// North adds a mast and a road by one list.
+/// North adds a mast and a road in one list.
 fn add_mast_and_road(rt: &impl Abort, world: &mut World<Global>) {
     let both = [add(rt, 1, "mast", 1), add(rt, 2, "road", 2)];
     let number = placed(rt, world, 1, &both);
     assert!(rt; matches!(world.commit(1, number), Ok(Outcome::Applied(1))));
 }
 
-/// By one list south deletes the mast, adds another and moves the road.
+/// In one list south deletes the mast, adds another and reshapes the road.
 fn change_in_one_list(rt: &impl Abort, world: &mut World<Global>) {
     let reshape = Change::Reshape {
         id: 2,
@@ -74,7 +74,7 @@ fn change_in_one_list(rt: &impl Abort, world: &mut World<Global>) {
     assert!(rt; matches!(world.commit(2, number), Ok(Outcome::Applied(2))));
 }
 
-/// The road where it has come to and the other mast are listed.
+/// Checks that the road with its new shape and the other mast are listed.
 fn check_changed(rt: &impl Abort, world: &mut World<Global>) {
     let answer = found(rt, world, 1, square(rt, 0, 9));
     let rows = answer.rows();
@@ -84,7 +84,7 @@ fn check_changed(rt: &impl Abort, world: &mut World<Global>) {
     assert!(rt; rows[0].office == name(rt, "north") && rows[1].office == name(rt, "south"));
 }
 
-/// An empty list is applied, under a version of its own.
+/// An empty list is applied, and gets a version of its own.
 fn commit_nothing(rt: &impl Abort, world: &mut World<Global>) {
     assert!(rt; world.begin(1) == Ok(3));
     assert!(rt; matches!(world.commit(1, 3), Ok(Outcome::Applied(3))));
@@ -100,7 +100,7 @@ fn changed_in_one_list(rt: HostRuntime) -> Result<(), Fail> {
     Ok(())
 }
 
-/// A list and a search that are open when a policy comes are ruled by it.
+/// A list and a search that are open when a policy comes into force are ruled by that policy.
 fn govern_meanwhile(rt: &impl Abort, heap: Global, world: &mut World<Global>) {
     let open = placed(rt, world, 1, &[add(rt, 3, "mast", 3)]);
     let search = ready(rt, world, 2, square(rt, 0, 4));
@@ -112,7 +112,7 @@ fn govern_meanwhile(rt: &impl Abort, heap: Global, world: &mut World<Global>) {
     assert!(rt; world.edition() == 2 && world.len() == 2);
 }
 
-/// A ready search of south's is answered with the road alone, by the second edition.
+/// A ready search of south's lists only the road, by the second edition.
 fn check_road_alone(rt: &impl Abort, world: &mut World<Global>, search: u64) {
     let mut meter = Meter::new();
     let answered = world.finish(2, search, &mut meter);

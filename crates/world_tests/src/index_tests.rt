@@ -1,5 +1,5 @@
-//! The world over its index: searches that go on while shapes are placed and policies change, walks that are held, and
-//! what tending lets go.
+//! The world over its index: searches that go on while shapes are placed and policies change, walks
+//! that are held, and what tending removes.
 use crate::worlds::{
     LIMITS, OPEN, ROADS, STARTS, add, document, found, place_all, placed, ready, seated, see_all,
     square, staged,
@@ -10,7 +10,7 @@ use std::alloc::Global;
 use std::process::Abort;
 use transactions::{Advance, Answer, Fault, Outcome, Step, Tending, TreeFault, Visit, World};
 
-/// What rounds of tending did.
+/// How often rounds of tending did what.
 #[derive(Clone, Copy, Debug, PartialEq, Eq)]
 struct Tended {
     cleaned: u32,
@@ -18,46 +18,47 @@ struct Tended {
     freed: u32,
 }
 
-/// Where a feature stands on the diagonal: neighbours in number are far apart, and no two of the numbers below 257 are
-/// at one place.
+/// Where a feature is on the diagonal. Neighbours by number are far apart, and no two numbers below
+/// 257 have the same place.
 fn place_of(id: u64) -> i32 {
     let place = id.wrapping_mul(37) % 257;
     i32::try_from(place).unwrap_or(0)
 }
 
-/// A feature is added at its place: roads have the odd numbers.
+/// The addition of a feature at its place. Odd numbers are roads, even ones masts.
 fn addition(rt: &impl Abort, id: u64) -> Change {
     let class = if id % 2 == 1 { "road" } else { "mast" };
     add(rt, id, class, place_of(id))
 }
 
-/// North makes one change, as a list of its own.
+/// North makes one change, in a list of its own.
 fn make(rt: &impl Abort, world: &mut World<Global>, change: Change) {
     let number = placed(rt, world, 1, &[change]);
     assert!(rt; matches!(world.commit(1, number), Ok(Outcome::Applied(_))));
 }
 
-/// The walks of a transaction of north's go on to their end, and its list is applied.
+/// Places all shapes of a transaction of north's, and applies its list.
 fn place_and_commit(rt: &impl Abort, world: &mut World<Global>, number: u64) {
     place_all(rt, world, 1, number);
     assert!(rt; matches!(world.commit(1, number), Ok(Outcome::Applied(_))));
 }
 
-/// North adds the features of these numbers, each by a list of its own.
+/// North adds the features `first` to `last`, each in a list of its own.
 fn fill(rt: &impl Abort, world: &mut World<Global>, first: u64, last: u64) {
     for id in first..=last {
         make(rt, world, addition(rt, id));
     }
 }
 
-/// A world of the features from 1 to this number.
+/// A world of the features 1 to `last`.
 fn filled(rt: &impl Abort, heap: Global, last: u64) -> World<Global> {
     let mut world = seated(rt, heap, heap, OPEN, STARTS, LIMITS);
     fill(rt, &mut world, 1, last);
     world
 }
 
-/// A search of south's for all below this place, which has made one step and has more to see.
+/// Opens a search of south's for all features up to `high` on the diagonal, and visits once, after
+/// which it has more to see.
 fn begun(rt: &impl Abort, world: &mut World<Global>, high: i32) -> u64 {
     let opened = world.open_search(2, square(rt, 0, high));
     assert!(rt; opened.is_ok());
@@ -66,7 +67,8 @@ fn begun(rt: &impl Abort, world: &mut World<Global>, high: i32) -> u64 {
     search
 }
 
-/// What a ready search of south's is answered.
+/// Finishes a ready search of south's, and checks that the meter counts at most one look-up for
+/// each pair that it has found.
 fn finished(rt: &impl Abort, world: &mut World<Global>, search: u64) -> Answer<Global> {
     let mut meter = Meter::new();
     let found = world.found_count(search);
@@ -76,7 +78,8 @@ fn finished(rt: &impl Abort, world: &mut World<Global>, search: u64) -> Answer<G
     answered.unwrap()
 }
 
-/// The answer lists the features of the numbers from first to last that stand up to this place, each once.
+/// Checks that the answer lists exactly the features `first` to `last` whose place is at most
+/// `high`, each once.
 fn check_rows(rt: &impl Abort, answer: &Answer<Global>, first: u64, last: u64, high: i32) {
     let mut at = 0usize;
     for id in first..=last {
@@ -88,20 +91,20 @@ fn check_rows(rt: &impl Abort, answer: &Answer<Global>, first: u64, last: u64, h
     assert_eq!(rt; answer.rows().len(), at);
 }
 
-/// A search of south's goes on to its end, and lists these and no others.
+/// Ends a search of south's, and checks that it lists exactly the features `first` to `last`.
 fn check_ended(rt: &impl Abort, world: &mut World<Global>, search: u64, first: u64, last: u64) {
     see_all(rt, world, 2, search);
     let answer = finished(rt, world, search);
     check_rows(rt, &answer, first, last, 300);
 }
 
-/// South finds these, and no others.
+/// Checks that south finds exactly the features `first` to `last`.
 fn check_found(rt: &impl Abort, world: &mut World<Global>, first: u64, last: u64) {
     let answer = found(rt, world, 2, square(rt, 0, 300));
     check_rows(rt, &answer, first, last, 300);
 }
 
-/// A policy that lets roads alone be read comes while a search has more to see.
+/// A policy that permits only roads comes into force while a search has more to see.
 fn govern_under_search(rt: &impl Abort, heap: Global, world: &mut World<Global>) {
     let search = begun(rt, world, 300);
     assert!(rt; matches!(world.govern(heap, 3, document(rt, heap, ROADS)), Ok(2)));
@@ -112,7 +115,8 @@ fn govern_under_search(rt: &impl Abort, heap: Global, world: &mut World<Global>)
     assert!(rt; answer.rows().iter().all(|row| row.id % 2 == 1));
 }
 
-/// Whether the walk of a transaction of north's parts a node before all is placed.
+/// Advances the walk of a transaction of north's until it splits a node or all is placed, and
+/// returns whether it has split one.
 fn splits(rt: &impl Abort, world: &mut World<Global>, number: u64) -> bool {
     for _ in 0..100 {
         let step = world.advance(1, number);
@@ -127,7 +131,8 @@ fn splits(rt: &impl Abort, world: &mut World<Global>, number: u64) -> bool {
     panic!(rt; "a walk makes more than 100 steps")
 }
 
-/// North adds features from 41 on, until a walk parts a node: its transaction and its number.
+/// North adds features from 41 on, until a walk splits a node. Returns its transaction and its
+/// feature's number.
 fn fill_until_split(rt: &impl Abort, world: &mut World<Global>) -> (u64, u64) {
     for id in 41..=200 {
         let number = staged(rt, world, 1, &[addition(rt, id)]);
@@ -139,7 +144,7 @@ fn fill_until_split(rt: &impl Abort, world: &mut World<Global>) -> (u64, u64) {
     panic!(rt; "no node is parted")
 }
 
-/// A walk parts a node while a search has more to see, and goes on from where it is once the search has ended.
+/// A walk splits a node while a search has more to see, and goes on once the search has ended.
 fn split_meanwhile(rt: &impl Abort, world: &mut World<Global>) {
     let search = begun(rt, world, 300);
     let (number, id) = fill_until_split(rt, world);
@@ -148,26 +153,27 @@ fn split_meanwhile(rt: &impl Abort, world: &mut World<Global>) {
     check_found(rt, world, 1, id);
 }
 
-/// Eighty features come while a search has more to see.
+/// Eighty features are added while a search has more to see.
 fn fill_meanwhile(rt: &impl Abort, world: &mut World<Global>) {
     let search = begun(rt, world, 300);
     fill(rt, world, 41, 120);
     check_ended(rt, world, search, 1, 120);
 }
 
-/// The window of a search by its number: the greater, the wider.
+/// How far the window of a search reaches, by its number.
 fn reach_of(number: u64) -> i32 {
     i32::try_from(number.wrapping_mul(30)).unwrap_or(0)
 }
 
-/// A search of south's goes on to its end, and lists what stands in its window of the features up to this number.
+/// Ends a search of south's, and checks that it lists exactly the features 1 to `last` in its
+/// window.
 fn end_search(rt: &impl Abort, world: &mut World<Global>, number: u64, last: u64) {
     see_all(rt, world, 2, number);
     let answer = finished(rt, world, number);
     check_rows(rt, &answer, 1, last, reach_of(number));
 }
 
-/// North adds a feature. Each search that holds it back is ended first. How many were.
+/// North adds a feature, and each search that holds it back is ended first. Returns how many were.
 fn add_among(rt: &impl Abort, world: &mut World<Global>, id: u64) -> u32 {
     let number = staged(rt, world, 1, &[addition(rt, id)]);
     let mut ended = 0u32;
@@ -188,7 +194,7 @@ fn add_among(rt: &impl Abort, world: &mut World<Global>, id: u64) -> u32 {
     panic!(rt; "a walk makes more than 100 steps")
 }
 
-/// The searches that still run end.
+/// Ends the searches that still run.
 fn end_the_others(rt: &impl Abort, world: &mut World<Global>, last: u64) {
     for number in 1..=8 {
         match world.visit(2, number) {
@@ -198,7 +204,7 @@ fn end_the_others(rt: &impl Abort, world: &mut World<Global>, last: u64) {
     }
 }
 
-/// Eight searches of south's, each wider than the one before.
+/// Opens eight searches of south's, each with a wider window than the one before.
 fn open_eight(rt: &impl Abort, world: &mut World<Global>) {
     for number in 1..=8 {
         let opened = world.open_search(2, square(rt, 0, reach_of(number)));
@@ -206,7 +212,8 @@ fn open_eight(rt: &impl Abort, world: &mut World<Global>) {
     }
 }
 
-/// Before each addition one of the searches is stepped, by turns. How many of them held an addition back.
+/// Visits for one of the searches, by turns, before each addition. Returns how many searches held
+/// an addition back.
 fn step_and_add(rt: &impl Abort, world: &mut World<Global>) -> u32 {
     let mut ended = 0u32;
     for id in 41..=160 {
@@ -218,15 +225,15 @@ fn step_and_add(rt: &impl Abort, world: &mut World<Global>) -> u32 {
     ended
 }
 
-/// Eight searches and many additions go on side by side.
+/// Eight searches and many additions interleave.
 fn search_and_add(rt: &impl Abort, world: &mut World<Global>) {
     open_eight(rt, world);
     assert!(rt; step_and_add(rt, world) > 2);
     end_the_others(rt, world, 160);
 }
 
-/// The walk of a transaction of north's is held by this search, however often it is advanced, and its list can't be
-/// committed.
+/// Checks that the walk of a transaction of north's is held by this search whenever it is advanced,
+/// and that its list cannot be committed.
 fn check_held(rt: &impl Abort, world: &mut World<Global>, number: u64, search: u64) {
     let held = Err(Fault::Tree(TreeFault::Held(search)));
     let mut step = world.advance(1, number);
@@ -292,7 +299,7 @@ fn change_under_search(rt: &impl Abort, world: &mut World<Global>) {
     check_reshaped(rt, &answer, shape);
 }
 
-/// The row of the feature 7 has this shape.
+/// Checks the row of the feature 7, which has this shape.
 fn check_reshaped(rt: &impl Abort, answer: &Answer<Global>, shape: Shape) {
     let Some(row) = answer.rows().get(6) else {
         panic!(rt; "the row of the reshaped feature is missing")
@@ -300,7 +307,7 @@ fn check_reshaped(rt: &impl Abort, answer: &Answer<Global>, shape: Shape) {
     assert!(rt; row.id == 7 && row.version == 41 && row.shape == shape);
 }
 
-/// Each slot is tended, round after round, until there is nothing to do.
+/// Tends each slot, round after round, until there is nothing to do.
 fn tend_all(rt: &impl Abort, world: &mut World<Global>) -> Tended {
     let mut tended = Tended {
         cleaned: 0,
@@ -315,7 +322,7 @@ fn tend_all(rt: &impl Abort, world: &mut World<Global>) -> Tended {
     panic!(rt; "there is always something to tend")
 }
 
-/// Each slot is tended once. Whether there was something to do.
+/// Tends each slot once, and returns whether there was something to do.
 fn tend_round(rt: &impl Abort, world: &mut World<Global>, tended: &mut Tended) -> bool {
     let mut busy = false;
     for slot in 0..world.slots() {
@@ -340,7 +347,7 @@ fn pairs(rt: &impl Abort, world: &mut World<Global>) -> usize {
     count
 }
 
-/// A transaction of north's that has placed sixteen features, from this number on.
+/// Opens a transaction of north's, and places sixteen features from the number `first` on.
 fn sixteen_placed(rt: &impl Abort, world: &mut World<Global>, first: u64) -> u64 {
     let number = staged(rt, world, 1, &[]);
     for id in first..first.saturating_add(16) {
@@ -350,7 +357,7 @@ fn sixteen_placed(rt: &impl Abort, world: &mut World<Global>, first: u64) -> u64
     number
 }
 
-/// What an open transaction has placed stays, until it is given up.
+/// What an open transaction has placed stays until the transaction is aborted.
 fn place_and_abort(rt: &impl Abort, world: &mut World<Global>) {
     let number = sixteen_placed(rt, world, 101);
     check_tended(rt, world, 56);
@@ -361,13 +368,13 @@ fn place_and_abort(rt: &impl Abort, world: &mut World<Global>) {
     check_found(rt, world, 1, 40);
 }
 
-/// Tending lets nothing go of the index, which has so many pairs.
+/// Checks that tending removes nothing from the index, which has `count` pairs.
 fn check_tended(rt: &impl Abort, world: &mut World<Global>, count: usize) {
     assert_eq!(rt; tend_all(rt, world).cleaned, 0);
     assert_eq!(rt; pairs(rt, world), count);
 }
 
-/// What a transaction has placed stays once it is committed.
+/// What a transaction has placed stays after its commit.
 fn place_sixteen_and_commit(rt: &impl Abort, world: &mut World<Global>) {
     let number = sixteen_placed(rt, world, 41);
     assert!(rt; matches!(world.commit(1, number), Ok(Outcome::Applied(_))));
@@ -375,14 +382,14 @@ fn place_sixteen_and_commit(rt: &impl Abort, world: &mut World<Global>) {
     check_found(rt, world, 1, 56);
 }
 
-/// North deletes the features of these numbers, which have their numbers as versions.
+/// North deletes the features `first` to `last`, whose versions are their numbers.
 fn delete(rt: &impl Abort, world: &mut World<Global>, first: u64, last: u64) {
     for id in first..=last {
         make(rt, world, Change::Delete { id, version: id });
     }
 }
 
-/// All features but the last are deleted, and what tending lets go of is used again.
+/// All features but the last are deleted, and tending frees slots.
 fn delete_and_fill(rt: &impl Abort, world: &mut World<Global>) {
     let slots = world.slots();
     delete(rt, world, 1, 119);
@@ -392,7 +399,7 @@ fn delete_and_fill(rt: &impl Abort, world: &mut World<Global>) {
     assert_eq!(rt; tended.freed, tended.retired);
     assert_eq!(rt; pairs(rt, world), 1);
     check_found(rt, world, 120, 120);
-    // The slots that are free are used again.
+    // The free slots are used again.
     fill(rt, world, 1, 40);
     assert!(rt; world.slots() <= slots);
 }
@@ -409,7 +416,7 @@ fn delete_under_search(rt: &impl Abort, world: &mut World<Global>) {
     check_found(rt, world, 120, 120);
 }
 
-/// All features are deleted while a walk is on its way.
+/// All features are deleted while a walk is below the root. Its leaf is freed, and it restarts.
 fn delete_under_walk(rt: &impl Abort, world: &mut World<Global>) {
     let number = staged(rt, world, 1, &[addition(rt, 41)]);
     assert!(rt; world.advance(1, number) == Ok(Advance::Walked(Step::Moved)));
@@ -421,7 +428,8 @@ fn delete_under_walk(rt: &impl Abort, world: &mut World<Global>) {
     check_found(rt, world, 41, 41);
 }
 
-/// A search for some of the features is seen to its end. Its number, and how much it has found.
+/// Opens a search for some of the features, and visits until it is ready. Returns its number, and
+/// how many pairs it has found.
 fn some_found(rt: &impl Abort, world: &mut World<Global>) -> (u64, usize) {
     let opened = world.open_search(2, square(rt, 0, 128));
     assert!(rt; opened.is_ok());
@@ -433,7 +441,7 @@ fn some_found(rt: &impl Abort, world: &mut World<Global>) -> (u64, usize) {
     (search, count)
 }
 
-/// What is deleted before a search is finished was found, and is not listed.
+/// Features that are deleted after a search has found them are not listed.
 fn delete_what_was_found(rt: &impl Abort, world: &mut World<Global>) {
     let (search, count) = some_found(rt, world);
     delete(rt, world, 1, 2);
@@ -446,7 +454,7 @@ fn delete_what_was_found(rt: &impl Abort, world: &mut World<Global>) {
     assert_eq!(rt; world.found_count(search), 0);
 }
 
-/// What goes on over an index of several leaves.
+/// A case over an index of several leaves.
 #[derive(Clone, Copy, Debug, Drop)]
 enum Course {
     PolicyChangedUnderSearch,
@@ -465,7 +473,7 @@ enum Course {
     FoundCountBoundsTheMeter,
 }
 
-/// The world in which it goes on.
+/// The world for a case.
 fn world_for(rt: &impl Abort, heap: Global, trial: Course) -> World<Global> {
     match trial {
         Course::DeletedFeaturesAreLetGo | Course::FreedOnceTheSearchHasEnded => filled(
@@ -475,7 +483,7 @@ fn world_for(rt: &impl Abort, heap: Global, trial: Course) -> World<Global> {
     }
 }
 
-/// It goes on, and the answers are right.
+/// Runs a case.
 fn go_on(rt: &impl Abort, heap: Global, world: &mut World<Global>, trial: Course) {
     match trial {
         Course::PolicyChangedUnderSearch => govern_under_search(rt, heap, world),
@@ -495,7 +503,7 @@ fn go_on(rt: &impl Abort, heap: Global, world: &mut World<Global>, trial: Course
     }
 }
 
-/// Each of these, over a world of its own.
+/// Runs each case, in a world of its own.
 fn go_on_each(rt: &impl Abort, heap: Global, trials: &[Course]) {
     for trial in trials {
         let mut world = world_for(rt, heap, *trial);

@@ -1,4 +1,4 @@
-//! Events with each of their allocations refused in turn, and the calls that take no memory.
+//! Events with each of their allocations refused in turn, and calls that allocate nothing.
 use crate::worlds::{
     CLOSED, LIMITS, OPEN, STARTS, add, document, found, name, picture, place_all, placed, point,
     ready, seated, square, staged,
@@ -10,7 +10,7 @@ use std::process::Abort;
 use std::test::Fail;
 use transactions::{Advance, Fault, Outcome, Step, Tending, Visit, World};
 
-/// An event that takes memory.
+/// An event that allocates.
 #[derive(Clone, Copy, Debug, PartialEq, Eq)]
 enum Taking {
     Seat,
@@ -24,7 +24,8 @@ enum Taking {
     Roll,
 }
 
-/// A world in which north has added the roads 1 to 4 and searched, and has a ready search and a transaction.
+/// A world in which north has added the roads 1 to 4 and searched, and has a ready search and an
+/// open transaction.
 #[derive(Drop)]
 struct Prepared<'a> {
     world: World<&'a Refusing<Global>>,
@@ -40,7 +41,7 @@ fn change_for(rt: &impl Abort, event: &Taking) -> Change {
     }
 }
 
-/// A world before an event.
+/// A world that is prepared for an event.
 fn before_event<'a>(
     rt: &impl Abort,
     memory: &'a Refusing<Global>,
@@ -56,7 +57,7 @@ fn before_event<'a>(
     }
 }
 
-/// North's search and transaction before an event.
+/// Prepares a world for an event, and returns the numbers of north's search and transaction.
 fn prepare(
     rt: &impl Abort,
     heap: Global,
@@ -85,7 +86,8 @@ fn add_four(rt: &impl Abort, world: &mut World<&Refusing<Global>>) {
     assert!(rt; matches!(world.commit(1, number), Ok(Outcome::Applied(1))));
 }
 
-/// Four places of a list are made at once, so each list that may grow is filled.
+/// A list first gets room for four entries. Adds entries, so that each list is full and has to grow
+/// when the event comes.
 fn fill_lists(rt: &impl Abort, world: &mut World<&Refusing<Global>>) {
     assert!(rt; world.seat(name(rt, "south")) == Ok(4));
     for _ in 0..3 {
@@ -95,7 +97,7 @@ fn fill_lists(rt: &impl Abort, world: &mut World<&Refusing<Global>>) {
     }
 }
 
-/// Whether the event succeeds, and whether it wants memory.
+/// Makes the event, and returns its fault, if there is one.
 fn run(
     rt: &impl Abort,
     heap: Global,
@@ -115,7 +117,8 @@ fn run(
     }
 }
 
-/// Puts a document in force.
+/// Puts a document in force, and returns the fault, if there is one. Checks that a fault comes with
+/// the document.
 fn govern(rt: &impl Abort, heap: Global, world: &mut World<&Refusing<Global>>) -> Option<Fault> {
     match world.govern(heap, 3, document(rt, heap, CLOSED)) {
         Ok(_) => None,
@@ -126,8 +129,8 @@ fn govern(rt: &impl Abort, heap: Global, world: &mut World<&Refusing<Global>>) -
     }
 }
 
-/// The ids and versions of what the ready search lists, after the event: the four roads; a fifth, which is placed, once its
-/// list is applied; and none where nothing is permitted.
+/// The ids and versions that the ready search lists after the event: the four roads, a fifth if its
+/// list was applied, and none if nothing is permitted.
 fn listed(event: &Taking) -> &'static [(u64, u64)] {
     match event {
         Taking::Apply => &[(1, 1), (2, 1), (3, 1), (4, 1), (5, 2)],
@@ -136,7 +139,7 @@ fn listed(event: &Taking) -> &'static [(u64, u64)] {
     }
 }
 
-/// The ready search is finished, and lists what has these ids and versions.
+/// Finishes the ready search, and checks the ids and versions that it lists.
 fn check_listed(rt: &impl Abort, prepared: &mut Prepared<'_>, expected: &[(u64, u64)]) {
     let mut meter = Meter::new();
     let answered = prepared.world.finish(1, prepared.search, &mut meter);
@@ -148,8 +151,8 @@ fn check_listed(rt: &impl Abort, prepared: &mut Prepared<'_>, expected: &[(u64, 
     }
 }
 
-/// After a refusal the world tells what it told before, what is under way goes on, and the event succeeds when it is
-/// made again.
+/// Checks, after a refusal, that the world reads as before, that the event succeeds when it is made
+/// again, and that the ready search then lists what it should.
 fn check_refused(
     rt: &impl Abort,
     heap: Global,
@@ -164,14 +167,14 @@ fn check_refused(
     check_listed(rt, prepared, listed(event));
 }
 
-/// The event with its allocation of this number refused. Whether that was reached.
+/// Makes the event with its allocation number `at` refused, and returns whether that was asked for.
 fn try_refused(rt: &impl Abort, heap: Global, event: &Taking, at: u64) -> bool {
     let memory = Refusing::new(heap, 0);
     let mut prepared = before_event(rt, &memory, heap, event);
     run_refused(rt, heap, &memory, &mut prepared, event, at)
 }
 
-/// The same, for an event that is prepared.
+/// The same, in a world that is prepared for the event.
 fn run_refused(
     rt: &impl Abort,
     heap: Global,
@@ -194,7 +197,7 @@ fn run_refused(
     refused
 }
 
-/// How many of the event's allocations can be refused.
+/// Refuses each of the event's allocations in turn, and returns how many there are.
 fn refusals(rt: &impl Abort, heap: Global, event: &Taking) -> u64 {
     for at in 1..100 {
         if !try_refused(rt, heap, event, at) {
@@ -228,7 +231,7 @@ fn each_allocation_of_a_policy_and_a_roll_refused(rt: HostRuntime) -> Result<(),
     Ok(())
 }
 
-/// A transaction of north's that has staged sixteen roads, of this number and those behind it.
+/// Opens a transaction of north's, and stages sixteen roads from the number `first` on.
 fn sixteen_staged<A: Allocator + Copy>(rt: &impl Abort, world: &mut World<A>, first: u64) -> u64 {
     let number = staged(rt, world, 1, &[]);
     let mut at = 0i32;
@@ -239,7 +242,7 @@ fn sixteen_staged<A: Allocator + Copy>(rt: &impl Abort, world: &mut World<A>, fi
     number
 }
 
-/// North adds sixteen roads by one list, which is applied under this version.
+/// North adds sixteen roads in one list, which is applied as this version.
 fn add_sixteen<A: Allocator + Copy>(
     rt: &impl Abort,
     world: &mut World<A>,
@@ -251,8 +254,8 @@ fn add_sixteen<A: Allocator + Copy>(
     assert!(rt; matches!(world.commit(1, number), Ok(Outcome::Applied(told)) if told == version));
 }
 
-/// The walks of a transaction of north's go on until all is placed. How many of their steps were refused: the walk stays
-/// where it was, and the same step is made again.
+/// Advances the walks of a transaction of north's until all is placed, and returns how many steps
+/// were refused. A refused step is made again.
 fn place_refused<A: Allocator + Copy>(rt: &impl Abort, world: &mut World<A>, number: u64) -> u64 {
     let mut refused = 0u64;
     for _ in 0..1_000 {
@@ -266,15 +269,15 @@ fn place_refused<A: Allocator + Copy>(rt: &impl Abort, world: &mut World<A>, num
     panic!(rt; "a list makes more than 1,000 steps")
 }
 
-/// Sixteen roads are placed beside sixteen others, with the allocation of this number refused. Whether that was
-/// reached.
+/// Places sixteen roads beside sixteen others with allocation number `at` refused, and returns
+/// whether that was asked for.
 fn try_walks(rt: &impl Abort, heap: Global, at: u64) -> bool {
     let memory = Refusing::new(heap, 0);
     let mut world = seated(rt, &memory, heap, OPEN, STARTS, LIMITS);
     walk_refused(rt, heap, &memory, &mut world, at)
 }
 
-/// The same, in a world in which nothing is.
+/// The same, in a world without features.
 fn walk_refused(
     rt: &impl Abort,
     heap: Global,
@@ -308,7 +311,8 @@ fn each_allocation_of_a_walk_refused(rt: HostRuntime) -> Result<(), Fail> {
     Ok(())
 }
 
-/// A search goes on until it is ready. How many of its steps were refused: it stays where it was.
+/// Visits until a search is ready, and returns how many visits were refused. A refused visit is
+/// made again.
 fn see_refused<A: Allocator + Copy>(rt: &impl Abort, world: &mut World<A>, search: u64) -> u64 {
     let mut refused = 0u64;
     for _ in 0..1_000 {
@@ -322,14 +326,15 @@ fn see_refused<A: Allocator + Copy>(rt: &impl Abort, world: &mut World<A>, searc
     panic!(rt; "a search makes more than 1,000 steps")
 }
 
-/// A search for 32 roads goes on, with the allocation of this number refused. Whether that was reached.
+/// Visits until a search for 32 roads is ready, with allocation number `at` refused, and returns
+/// whether that was asked for.
 fn try_visits(rt: &impl Abort, heap: Global, at: u64) -> bool {
     let memory = Refusing::new(heap, 0);
     let mut world = seated(rt, &memory, heap, OPEN, STARTS, LIMITS);
     visit_refused(rt, heap, &memory, &mut world, at)
 }
 
-/// The same, in a world in which nothing is.
+/// The same, in a world without features.
 fn visit_refused(
     rt: &impl Abort,
     heap: Global,
@@ -351,7 +356,7 @@ fn visit_refused(
     reached
 }
 
-/// The search of the number 1 lists 32 roads.
+/// Checks that the search with the number 1 lists 32 roads.
 fn check_finished(rt: &impl Abort, world: &mut World<&Refusing<Global>>) {
     let mut meter = Meter::new();
     let answered = world.finish(1, 1, &mut meter);
@@ -371,7 +376,7 @@ fn each_allocation_of_the_visits_refused(rt: HostRuntime) -> Result<(), Fail> {
     Ok(())
 }
 
-/// The readers, and the events of searches that take no memory.
+/// Readers, and events of searches and of tending, that allocate nothing.
 fn read_and_visit(rt: &impl Abort, prepared: &mut Prepared<'_>) {
     let world = &mut prepared.world;
     assert!(rt; world.trail().len() == 4 && world.trail().get(1).is_some());
@@ -382,7 +387,8 @@ fn read_and_visit(rt: &impl Abort, prepared: &mut Prepared<'_>) {
     assert!(rt; world.tend(0) == Ok(Tending::Idle));
 }
 
-/// The events of transactions that take no memory: fifteen more changes, one beyond, and giving the list up.
+/// Events of transactions that allocate nothing: fifteen more changes, one too many, one step, and
+/// an abort.
 fn stage_and_abort(rt: &impl Abort, prepared: &mut Prepared<'_>) {
     let world = &mut prepared.world;
     let number = prepared.transaction;

@@ -1,4 +1,4 @@
-//! What is read off a world, the turn of tending, and the laws at work.
+//! What is read from a world, the turn of tending, and the laws applied to calls.
 use crate::worlds::{CLOSED, LIMITS, OPEN, STARTS, add, document, name, seated, square, subjects};
 use features::same_changes;
 use plane::Shape;
@@ -63,7 +63,7 @@ fn turns_go_round(rt: HostRuntime) -> Result<(), Fail> {
     Ok(())
 }
 
-/// North adds the mast 1, and south opens a search of a window and goes on with it.
+/// Calls by which north adds the mast 1, and south opens a search of a window and visits.
 fn calls(rt: &impl Abort, window: Shape) -> [Call; 9] {
     let change = add(rt, 1, "mast", 1);
     [
@@ -93,7 +93,7 @@ fn calls(rt: &impl Abort, window: Shape) -> [Call; 9] {
     ]
 }
 
-/// The answer of south's search behind these calls.
+/// The answer of south's search after these calls.
 fn answered(rt: &impl Abort, heap: Global, made: &[Call]) -> Result<Answer<Global>, Fault> {
     let document = document(rt, heap, OPEN);
     answer_after(heap, heap, subjects(rt), document, made, 2, 1)

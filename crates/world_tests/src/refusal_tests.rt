@@ -1,5 +1,5 @@
-//! Refusals of the events, with ample memory and before any number is at its end; what the world tells before and after most
-//! of them.
+//! Refusals of the events, with ample memory and before any number is at its end. Most tests
+//! compare what is read from the world before and after.
 use crate::worlds::{
     CLOSED, LIMITS, OPEN, STARTS, add, document, found, name, picture, placed, point, ready,
     seated, square, staged,
@@ -12,7 +12,7 @@ use std::process::Abort;
 use std::test::Fail;
 use transactions::{Advance, Fault, Limits, Outcome, Step, Tending, TreeFault, Visit, World};
 
-/// A world in which north has added the roads 1 and 2 at 1, 1 and 2, 2.
+/// A world in which north has added the roads 1 and 2 at (1, 1) and (2, 2).
 fn inhabited(rt: &impl Abort, heap: Global) -> World<Global> {
     let mut world = seated(rt, heap, heap, OPEN, STARTS, LIMITS);
     add_roads(rt, &mut world);
@@ -25,7 +25,7 @@ fn add_roads(rt: &impl Abort, world: &mut World<Global>) {
     assert!(rt; matches!(world.commit(1, number), Ok(Outcome::Applied(1))));
 }
 
-/// The world tells what it told before, and lists the same two features.
+/// Checks that the world reads as before, and lists the same two features.
 fn check_same(rt: &impl Abort, heap: Global, world: &mut World<Global>, before: &str) {
     assert_eq!(rt; picture(rt, heap, world).as_str(), before);
     let answer = found(rt, world, 1, square(rt, -9, 9));
@@ -35,14 +35,14 @@ fn check_same(rt: &impl Abort, heap: Global, world: &mut World<Global>, before: 
     assert!(rt; rows[1].id == 2 && rows[1].version == 1 && rows[1].shape == point(rt, 2, 2));
 }
 
-/// A seat for nobody is not given.
+/// No seat is given to a name of no subject.
 fn ask_for_nobody(rt: &impl Abort, heap: Global, world: &mut World<Global>) {
     let before = picture(rt, heap, world);
     assert!(rt; world.seat(name(rt, "nobody")) == Err(Fault::NoSubject));
     check_same(rt, heap, world, before.as_str());
 }
 
-/// South takes each place that is left, and there is none for another seat.
+/// South takes each seat that is left, and no other seat is given.
 fn take_each_place(rt: &impl Abort, heap: Global, world: &mut World<Global>) {
     for number in 4..1_025 {
         assert!(rt; world.seat(name(rt, "south")) == Ok(number));
@@ -53,7 +53,7 @@ fn take_each_place(rt: &impl Abort, heap: Global, world: &mut World<Global>) {
     check_same(rt, heap, world, before.as_str());
 }
 
-/// Each event of a seat that was not given.
+/// Tries each event of a seat that was not given.
 fn try_all(rt: &impl Abort, heap: Global, world: &mut World<Global>, seat: u32) {
     try_searching(rt, world, seat);
     try_changing(rt, world, seat);
@@ -61,7 +61,7 @@ fn try_all(rt: &impl Abort, heap: Global, world: &mut World<Global>, seat: u32) 
     check_handed_back(rt, heap, world, seat, Fault::NoSuch);
 }
 
-/// Each event of searches, of a seat that was not given.
+/// Tries each event of searches, for a seat that was not given.
 fn try_searching(rt: &impl Abort, world: &mut World<Global>, seat: u32) {
     let mut meter = Meter::new();
     assert!(rt; world.open_search(seat, point(rt, 0, 0)) == Err(Fault::NoSuch));
@@ -70,7 +70,7 @@ fn try_searching(rt: &impl Abort, world: &mut World<Global>, seat: u32) {
     assert!(rt; world.drop_search(seat, 1) == Err(Fault::NoSuch));
 }
 
-/// Each event of transactions, of a seat that was not given.
+/// Tries each event of transactions, for a seat that was not given.
 fn try_changing(rt: &impl Abort, world: &mut World<Global>, seat: u32) {
     let change = Change::Delete { id: 1, version: 1 };
     assert!(rt; world.begin(seat) == Err(Fault::NoSuch));
@@ -80,7 +80,7 @@ fn try_changing(rt: &impl Abort, world: &mut World<Global>, seat: u32) {
     assert!(rt; world.abort(seat, 1) == Err(Fault::NoSuch));
 }
 
-/// A document that is not put in force is handed back.
+/// Checks that a document is not put in force, and is returned with this fault.
 fn check_handed_back(
     rt: &impl Abort,
     heap: Global,
@@ -99,7 +99,7 @@ fn check_handed_back(
     }
 }
 
-/// The seat before the first and the one behind the last are nobody's.
+/// The seats before the first and after the last were not given.
 fn try_without_a_seat(rt: &impl Abort, heap: Global, world: &mut World<Global>) {
     let before = picture(rt, heap, world);
     try_all(rt, heap, world, 0);
@@ -107,7 +107,7 @@ fn try_without_a_seat(rt: &impl Abort, heap: Global, world: &mut World<Global>) 
     check_same(rt, heap, world, before.as_str());
 }
 
-/// Each event on a search or a transaction that is another seat's, or is not there.
+/// Tries each event on a search and a transaction that are another seat's, or not open.
 fn try_on(
     rt: &impl Abort,
     world: &mut World<Global>,
@@ -127,7 +127,8 @@ fn try_on(
     assert!(rt; world.abort(seat, transaction).err().as_ref() == Some(expected));
 }
 
-/// A search and a transaction of north's are tried by south and under other numbers, end well, and are there no more.
+/// South tries the events on a search and a transaction of north's, and north tries other numbers.
+/// Both then end well, and are no longer open.
 fn try_as_another(rt: &impl Abort, heap: Global, world: &mut World<Global>) {
     let search = ready(rt, world, 1, point(rt, 1, 1));
     let change = add(rt, 3, "road", 3);
@@ -140,14 +141,14 @@ fn try_as_another(rt: &impl Abort, heap: Global, world: &mut World<Global>) {
     try_on(rt, world, 1, search, transaction, &Fault::NoSuch);
 }
 
-/// The search and the transaction are where they were.
+/// The search is finished, and the list of the transaction applied.
 fn end_both(rt: &impl Abort, world: &mut World<Global>, search: u64, transaction: u64) {
     let mut meter = Meter::new();
     assert!(rt; world.finish(1, search, &mut meter).is_ok());
     assert!(rt; matches!(world.commit(1, transaction), Ok(Outcome::Applied(2))));
 }
 
-/// A search that has made no step is not finished, and once it is ready it is.
+/// A search that has made no step cannot be finished; once it is ready it can.
 fn finish_too_soon(rt: &impl Abort, heap: Global, world: &mut World<Global>) {
     assert!(rt; world.open_search(1, point(rt, 1, 1)) == Ok(1));
     let before = picture(rt, heap, world);
@@ -159,7 +160,7 @@ fn finish_too_soon(rt: &impl Abort, heap: Global, world: &mut World<Global>) {
     assert!(rt; world.finish(1, 1, &mut meter).is_ok());
 }
 
-/// Sixteen searches run, and there is room for another only once one of them is dropped.
+/// Sixteen searches run, and another is opened only once one of them is dropped.
 fn search_beside_sixteen(rt: &impl Abort, heap: Global, world: &mut World<Global>) {
     for number in 1..17 {
         assert!(rt; world.open_search(2, point(rt, 1, 1)) == Ok(number));
@@ -178,7 +179,7 @@ fn drop_the_fifth(rt: &impl Abort, world: &mut World<Global>) {
     assert!(rt; world.found_count(5) == 0);
 }
 
-/// Sixty-four transactions are open, and there is room for another only once one of them is given up.
+/// Sixty-four transactions are open, and another is opened only once one of them is aborted.
 fn begin_beside_sixty_four(rt: &impl Abort, heap: Global, world: &mut World<Global>) {
     for number in 2..66 {
         assert!(rt; world.begin(2) == Ok(number));
@@ -190,7 +191,8 @@ fn begin_beside_sixty_four(rt: &impl Abort, heap: Global, world: &mut World<Glob
     assert!(rt; world.begin(1) == Ok(66));
 }
 
-/// Sixteen deletions are staged, of which none is staged twice.
+/// Stages sixteen deletions. Before each but the first, a second change of the feature 1 is
+/// refused.
 fn stage_sixteen(rt: &impl Abort, world: &mut World<Global>, number: u64) {
     for id in 1..17 {
         let change = Change::Delete { id, version: 1 };
@@ -203,7 +205,7 @@ fn stage_sixteen(rt: &impl Abort, world: &mut World<Global>, number: u64) {
     }
 }
 
-/// A list of sixteen changes takes no other, and none that it has.
+/// A list of sixteen changes takes no other, whether or not it names the feature already.
 fn stage_beyond_sixteen(rt: &impl Abort, heap: Global, world: &mut World<Global>) {
     let number = staged(rt, world, 1, &[]);
     stage_sixteen(rt, world, number);
@@ -214,7 +216,7 @@ fn stage_beyond_sixteen(rt: &impl Abort, heap: Global, world: &mut World<Global>
     check_same(rt, heap, world, before.as_str());
 }
 
-/// North's transaction adds the road 3, deletes the road 2 and moves the road 1.
+/// North's transaction adds the road 3, deletes the road 2 and reshapes the road 1.
 fn staged_with_two_shapes(rt: &impl Abort, world: &mut World<Global>) -> u64 {
     let moved = Change::Reshape {
         id: 1,
@@ -248,7 +250,7 @@ fn place_then_commit(rt: &impl Abort, heap: Global, world: &mut World<Global>) {
     assert_eq!(rt; world.len(), 2);
 }
 
-/// Editors put no document in force and roll no trail.
+/// Subjects that are no stewards put no document in force and roll no trail.
 fn govern_and_roll_as_editors(rt: &impl Abort, heap: Global, world: &mut World<Global>) {
     let before = picture(rt, heap, world);
     check_handed_back(rt, heap, world, 1, Fault::NotSteward);
@@ -259,7 +261,8 @@ fn govern_and_roll_as_editors(rt: &impl Abort, heap: Global, world: &mut World<G
     check_same(rt, heap, world, before.as_str());
 }
 
-/// How a list of north's ends.
+/// Commits a list of one change of north's. Returns the version or the number of the failing
+/// change, how the list ended, and whether there is a denial.
 fn outcome(
     rt: &impl Abort,
     world: &mut World<Global>,
@@ -284,20 +287,21 @@ fn cause(cause: &audit_trail::Cause) -> &'static str {
     }
 }
 
-/// Two features at 1, 1 and 2, 2 are listed.
+/// Checks that there are two features, and that both are listed.
 fn check_listed(rt: &impl Abort, world: &mut World<Global>) {
     let answer = found(rt, world, 1, square(rt, -9, 9));
     assert_eq!(rt; answer.rows().len(), 2);
     assert_eq!(rt; world.len(), 2);
 }
 
-/// A list of one change is turned away for this cause, and nothing is changed.
+/// Checks that a list of one change is rejected for this cause, and that there are as many features
+/// as before.
 fn check_turned_away(rt: &impl Abort, world: &mut World<Global>, change: Change, told: &str) {
     assert!(rt; outcome(rt, world, change) == (1, told, false), "{told}");
     check_listed(rt, world);
 }
 
-/// Lists for each cause but a denial.
+/// Lists are rejected for each cause but a denial.
 fn turn_away(rt: &impl Abort, world: &mut World<Global>) {
     let to: Shape = point(rt, 5, 5);
     for (change, told) in [
@@ -326,7 +330,8 @@ fn turn_away(rt: &impl Abort, world: &mut World<Global>) {
     assert_eq!(rt; world.trail().len(), 11);
 }
 
-/// What the steward has closed to all is denied, before any other cause but that there is no such feature.
+/// Under a policy that permits nothing, a change is denied before any other cause, except that the
+/// feature is absent.
 fn deny(rt: &impl Abort, heap: Global, world: &mut World<Global>) {
     assert!(rt; matches!(world.govern(heap, 3, document(rt, heap, CLOSED)), Ok(2)));
     for change in [
@@ -346,7 +351,7 @@ fn deny(rt: &impl Abort, heap: Global, world: &mut World<Global>) {
     assert_eq!(rt; found(rt, world, 1, square(rt, -9, 9)).rows().len(), 0);
 }
 
-/// A world whose trail takes so many records and whose store so many features.
+/// A world whose trail takes `records` records, and its store `features` features.
 fn limited(rt: &impl Abort, heap: Global, records: u32, features: u32) -> World<Global> {
     let limits = Limits {
         steps: 10,
@@ -356,7 +361,7 @@ fn limited(rt: &impl Abort, heap: Global, records: u32, features: u32) -> World<
     seated(rt, heap, heap, OPEN, STARTS, limits)
 }
 
-/// What would be recorded is refused by a trail that has room for one record, and has one.
+/// The trail has room for one record and has one: each event that would be recorded is refused.
 fn try_on_full_trail(rt: &impl Abort, heap: Global, world: &mut World<Global>, search: u64) {
     let before = picture(rt, heap, world);
     let mut meter = Meter::new();
@@ -367,7 +372,7 @@ fn try_on_full_trail(rt: &impl Abort, heap: Global, world: &mut World<Global>, s
     assert_eq!(rt; picture(rt, heap, world).as_str(), before.as_str());
 }
 
-/// After a roll there is room, and the search is where it was.
+/// After a roll there is room, and the search can be finished.
 fn finish_after_a_roll(rt: &impl Abort, heap: Global, world: &mut World<Global>, search: u64) {
     assert!(rt; world.roll(heap, 3).is_ok());
     let mut meter = Meter::new();
@@ -384,7 +389,7 @@ fn fill_and_roll(rt: &impl Abort, heap: Global, world: &mut World<Global>) {
     finish_after_a_roll(rt, heap, world, search);
 }
 
-/// A second road is not added to a store that has room for one, and its transaction goes on.
+/// A second road is not added to a store that has room for one, and its transaction stays open.
 fn add_beyond_the_store(rt: &impl Abort, heap: Global, world: &mut World<Global>) -> u64 {
     let before = picture(rt, heap, world);
     let number = placed(rt, world, 1, &[add(rt, 2, "road", 2)]);
@@ -394,7 +399,7 @@ fn add_beyond_the_store(rt: &impl Abort, heap: Global, world: &mut World<Global>
     number
 }
 
-/// One out and one in are no more than there were.
+/// A list that deletes a feature and adds one is applied to a full store.
 fn exchange(rt: &impl Abort, world: &mut World<Global>) {
     let both = [Change::Delete { id: 1, version: 1 }, add(rt, 2, "road", 2)];
     let number = placed(rt, world, 1, &both);
@@ -402,17 +407,17 @@ fn exchange(rt: &impl Abort, world: &mut World<Global>) {
     assert_eq!(rt; world.len(), 1);
 }
 
-/// The store is filled by one road, which is exchanged.
+/// The store is filled by one road, which is then exchanged.
 fn fill_and_exchange(rt: &impl Abort, heap: Global, world: &mut World<Global>) {
     assert!(rt; outcome(rt, world, add(rt, 1, "road", 1)) == (1, "applied", false));
     let number = add_beyond_the_store(rt, heap, world);
-    // The judgement comes before.
+    // The judgement comes before X11.
     assert!(rt; outcome(rt, world, add(rt, 1, "road", 2)) == (1, "exists", false));
     assert!(rt; world.abort(1, number) == Ok(()));
     exchange(rt, world);
 }
 
-/// What is refused.
+/// A case of refusals.
 #[derive(Clone, Copy, Debug, Drop)]
 enum Refused {
     SeatsThatAreNotGiven,
@@ -431,7 +436,7 @@ enum Refused {
     FullStores,
 }
 
-/// The world in which it is tried.
+/// The world for a case.
 fn world_for(rt: &impl Abort, heap: Global, trial: Refused) -> World<Global> {
     match trial {
         Refused::FullTrails => limited(rt, heap, 1, 9),
@@ -440,7 +445,7 @@ fn world_for(rt: &impl Abort, heap: Global, trial: Refused) -> World<Global> {
     }
 }
 
-/// What is tried is refused, and changes nothing.
+/// Runs a case.
 fn refuse(rt: &impl Abort, heap: Global, world: &mut World<Global>, trial: Refused) {
     match trial {
         Refused::SeatsThatAreNotGiven => ask_for_nobody(rt, heap, world),
@@ -460,7 +465,7 @@ fn refuse(rt: &impl Abort, heap: Global, world: &mut World<Global>, trial: Refus
     }
 }
 
-/// Each of these, over a world of its own.
+/// Runs each case, in a world of its own.
 fn refuse_each(rt: &impl Abort, heap: Global, trials: &[Refused]) {
     for trial in trials {
         let mut world = world_for(rt, heap, *trial);
@@ -502,7 +507,7 @@ fn refused_to_lists_and_policies(rt: HostRuntime) {
     );
 }
 
-/// A fault is shown by its code, and one of the index by the index's.
+/// A fault is displayed as its code, and a fault of the index as the index's code.
 #[test]
 fn codes_of_faults(rt: HostRuntime) -> Result<(), Fail> {
     let heap = rt.alloc();

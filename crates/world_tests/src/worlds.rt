@@ -10,7 +10,7 @@ use transactions::{Advance, Answer, Limits, ROLLED_LIMIT, STEP_LIMIT, Starts, Vi
 pub const OPEN: &str =
     r#"{"root":{"combine":"first-applicable","policy":"start","rules":[{"effect":"permit","rule":"open"}]}}"#;
 
-/// What is done with roads is permitted, and nothing is said of anything else.
+/// Everything is permitted on roads, and no rule applies to anything else.
 pub const ROADS: &str =
     r#"{"root":{"combine":"first-applicable","policy":"p","rules":[{"effect":"permit","rule":"roads","target":[[[{"class":"road"}]]]}]}}"#;
 
@@ -18,7 +18,7 @@ pub const ROADS: &str =
 pub const CLOSED: &str =
     r#"{"root":{"combine":"first-applicable","policy":"p","rules":[{"effect":"deny","rule":"closed"}]}}"#;
 
-/// Where the numbers of a world start that `open` gives.
+/// The first numbers of a world that `World::open` makes.
 pub const STARTS: Starts = Starts::FIRST;
 
 /// Limits that no test reaches.
@@ -40,7 +40,7 @@ pub fn point(rt: &impl Abort, x: i32, y: i32) -> Shape {
     shape.unwrap()
 }
 
-/// The square between two corners.
+/// The square from (`low`, `low`) to (`high`, `high`).
 pub fn square(rt: &impl Abort, low: i32, high: i32) -> Shape {
     let ring = [
         Point { x: low, y: low },
@@ -61,7 +61,7 @@ pub fn document(rt: &impl Abort, heap: Global, text: &str) -> Document<Global> {
     }
 }
 
-/// A subject whose name and office are one.
+/// A subject with the same name and office.
 fn subject(rt: &impl Abort, office: &str, steward: bool) -> Subject {
     Subject {
         name: name(rt, office),
@@ -71,7 +71,7 @@ fn subject(rt: &impl Abort, office: &str, steward: bool) -> Subject {
     }
 }
 
-/// Two editors, and a steward.
+/// Two subjects that are no stewards, and a steward.
 pub fn subjects(rt: &impl Abort) -> Subjects {
     let made = Subjects::new(&[
         subject(rt, "north", false),
@@ -120,7 +120,7 @@ fn give_seats<A: Allocator + Copy>(rt: &impl Abort, world: &mut World<A>) {
     assert!(rt; world.seat(name(rt, "chief")) == Ok(3));
 }
 
-/// An added feature at a place on the diagonal.
+/// The addition of a feature at the point (`at`, `at`).
 pub fn add(rt: &impl Abort, id: u64, class: &str, at: i32) -> Change {
     Change::Add {
         id,
@@ -129,7 +129,7 @@ pub fn add(rt: &impl Abort, id: u64, class: &str, at: i32) -> Change {
     }
 }
 
-/// A transaction of a seat that has staged these changes, of which none is placed.
+/// Opens a transaction of a seat and stages these changes, of which none is placed.
 pub fn staged<A: Allocator + Copy>(
     rt: &impl Abort,
     world: &mut World<A>,
@@ -145,7 +145,7 @@ pub fn staged<A: Allocator + Copy>(
     number
 }
 
-/// The same, with all placed.
+/// The same, and places all shapes.
 pub fn placed<A: Allocator + Copy>(
     rt: &impl Abort,
     world: &mut World<A>,
@@ -157,7 +157,7 @@ pub fn placed<A: Allocator + Copy>(
     number
 }
 
-/// Lets the walks of a transaction go on until all is placed.
+/// Advances the walks of a transaction until all shapes are placed.
 pub fn place_all<A: Allocator + Copy>(
     rt: &impl Abort,
     world: &mut World<A>,
@@ -174,7 +174,7 @@ pub fn place_all<A: Allocator + Copy>(
     panic!(rt; "a list makes more than 1,000 steps");
 }
 
-/// Lets a search go on until it is ready.
+/// Visits until a search is ready.
 pub fn see_all<A: Allocator + Copy>(rt: &impl Abort, world: &mut World<A>, seat: u32, number: u64) {
     for _ in 0..1_000 {
         let visited = world.visit(seat, number);
@@ -186,7 +186,7 @@ pub fn see_all<A: Allocator + Copy>(rt: &impl Abort, world: &mut World<A>, seat:
     panic!(rt; "a search makes more than 1,000 steps");
 }
 
-/// A search of a seat that is ready.
+/// Opens a search of a seat, and visits until it is ready.
 pub fn ready<A: Allocator + Copy>(
     rt: &impl Abort,
     world: &mut World<A>,
@@ -200,7 +200,7 @@ pub fn ready<A: Allocator + Copy>(
     number
 }
 
-/// What a seat is answered for a window.
+/// The answer that a seat gets for a window.
 pub fn found<A: Allocator + Copy>(
     rt: &impl Abort,
     world: &mut World<A>,
@@ -215,8 +215,8 @@ pub fn found<A: Allocator + Copy>(
     }
 }
 
-/// All that a world tells without an event: how many features there are, the edition, the document in force, and the
-/// trail's records with the number of the first.
+/// What is read from a world without an event, as one text: how many features there are, the
+/// edition, the document in force, and the trail's records with the number of the first.
 pub fn picture<A: Allocator>(rt: &impl Abort, heap: Global, world: &World<A>) -> String {
     let printed = print_document(heap, world.document());
     assert!(rt; printed.is_ok());
@@ -234,7 +234,7 @@ pub fn picture<A: Allocator>(rt: &impl Abort, heap: Global, world: &World<A>) ->
     told
 }
 
-/// Puts the lines of a world's trail to a text.
+/// Appends the lines of a world's trail to a text.
 fn put_lines<A: Allocator>(rt: &impl Abort, heap: Global, world: &World<A>, told: &mut String) {
     let trail = world.trail();
     for place in 0..trail.len() {

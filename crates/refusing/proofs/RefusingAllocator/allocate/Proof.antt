@@ -1,4 +1,5 @@
--- It counts down, and answers what the inner allocator answers, or a refusal. Assumes `Logic`.
+-- `allocate` counts down, and returns what the inner allocator returns, or a refusal. Assumes
+-- `Logic`.
 use Rattle.std.proofs.Common.{Bool, ◌≡◌, ℕ, ◌+◌, ◌^◌, ◌<◌, true, false, List, [], ◌∷◌, Ok, Err, refl, w64, Bor}
 use seplogic.Ra.Ura.{Ura}
 use mir.Syntax.{Ty, Args, Fn, a_type, dnil, dcons}
