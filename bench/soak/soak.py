@@ -321,6 +321,7 @@ import socket, sys
 s = socket.socket(socket.AF_UNIX, socket.SOCK_STREAM)
 s.connect(sys.argv[1])
 s.sendall(b"HELLO stranger\\n")
+print("connected", flush=True)
 number = 0
 while True:
     number += 1
@@ -335,10 +336,10 @@ def killed_clients(arguments):
     watcher = Watcher(server)
     rng = random.Random(arguments.seed)
     for _ in range(20):
-        child = subprocess.Popen([sys.executable, "-c", CHILD, server.path])
-        time.sleep(0.1 + rng.random() / 10)
-        child.send_signal(signal.SIGKILL)
-        child.wait()
+        with subprocess.Popen([sys.executable, "-c", CHILD, server.path], stdout=subprocess.PIPE) as child:
+            child.stdout.readline()
+            time.sleep(rng.random() / 5)
+            child.send_signal(signal.SIGKILL)
         watcher.round()
     watcher.bye()
     return server, "20 were killed"
