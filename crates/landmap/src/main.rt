@@ -1,8 +1,9 @@
 //! The program `landmap`: a map feature server for land agencies. What it does stands in the crate `program`; the server that it
-//! runs, in the crate `server`.
+//! runs, in the crate `server`; how it talks with one, in the crate `client`.
 #![tactic(auto)]
 
 use byte_streams::{WriteFailed, flush, let_go, write_shown};
+use client::{End, TalkFault, talk};
 use log::Log;
 use memory::{Refused, another, buffered, shared, text};
 use program::{
@@ -11,8 +12,9 @@ use program::{
 use server::{Closed, ServerFault, Serving, SocketOptions, serve_socket, watch};
 use std::alloc::Global;
 use std::fs::Files;
-use std::io::{Print, Stderr, Write};
+use std::io::{IsTerminal, Print, Read, Stderr, Stdin, Write};
 use std::net::Net;
+use std::os::unix::net::UnixStream;
 use std::process::ExitCode;
 use std::sync::atomic::AtomicU64;
 use std::sync::{Arc, Wait};
@@ -156,6 +158,65 @@ fn conclude<R: Print>(rt: &R, heap: Global, closed: Closed, errors: &mut Stderr)
     }
 }
 
+/// Standard input. Where it is a terminal's, and standard error too, a prompt is written there before each read.
+#[derive(Drop)]
+struct Prompted {
+    input: Stdin,
+    errors: Stderr,
+    prompts: bool,
+}
+
+impl Read for Prompted {
+    fn read(&mut self, buffer: &mut [u8]) -> io::Result<usize> {
+        if self.prompts {
+            let _ = self.errors.write_all(b"> ");
+        }
+        self.input.read(buffer)
+    }
+}
+
+/// A connection to the server at a path, as its reader and its writer.
+fn connected<R: Net>(rt: &R, path: &str) -> io::Result<(UnixStream, UnixStream)> {
+    let stream = UnixStream::connect(rt, path)?;
+    let reader = stream.try_clone()?;
+    Ok((reader, stream))
+}
+
+/// Talks with the server at a path, from standard input to standard output, and answers the exit status.
+fn connect(rt: &HostRuntime, path: &str, errors: &mut Stderr) -> ExitCode {
+    let Ok((mut peer_in, mut peer_out)) = connected(rt, path) else {
+        return fail(&ProgramFault::CannotConnect(path), errors);
+    };
+    let mut output = match buffered(rt.alloc(), io::writer(rt)) {
+        Ok(output) => output,
+        Err(refused) => return fail(&ProgramFault::Memory(refused), errors),
+    };
+    let prompts = rt.stdin().is_terminal() && rt.stderr().is_terminal();
+    let mut input = Prompted {
+        input: rt.stdin(),
+        errors: rt.stderr(),
+        prompts,
+    };
+    let end = talk(
+        rt.alloc(),
+        &mut input,
+        &mut peer_in,
+        &mut peer_out,
+        &mut output,
+    );
+    let _ = let_go(output);
+    match end {
+        Ok(talked) => {
+            if prompts && talked.end == End::AtEnd {
+                let _ = errors.write_all(b"\n");
+            }
+            ExitCode::SUCCESS
+        }
+        Err(TalkFault::Output(failed)) => fail(&ProgramFault::CannotWrite(failed), errors),
+        Err(fault) => fail(&ProgramFault::Talk(fault.word()), errors),
+    }
+}
+
 fn main(rt: HostRuntime) -> ExitCode {
     let mut errors = rt.stderr();
     let words = match given_words(&rt, &mut errors) {
@@ -190,5 +251,6 @@ fn main(rt: HostRuntime) -> ExitCode {
             }
             Err(refused) => fail(&ProgramFault::Memory(refused), &mut errors),
         },
+        Next::Connect(path) => connect(&rt, path, &mut errors),
     }
 }

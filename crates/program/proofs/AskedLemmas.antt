@@ -1,4 +1,4 @@
--- Where clap has nothing against the words of a command line, they name `script` or `serve`, and give it what it needs.
+-- Where clap has nothing against the words of a command line, they name `script`, `serve` or `connect`, and give it what it needs.
 use Rattle.std.proofs.Common.{◌≡◌, ◌⊎◌, inl, inr, Bool, true, false, not, ◌&&◌, ◌||◌, if◌then◌else◌, List, [], Option, None, Some, is_some, option_map, refl, ap, sym, subst, codes, true≢false}
 use Rattle.std.specs.Prelude.{Box}
 use Rattle.std.specs.Box.{box_value}
@@ -16,7 +16,7 @@ use Rattle.clap.specs.Words.{subcommand_name_of, subcommand_of, subcommand_rows,
 use Rattle.clap.specs.declared.parser.matches.ArgMatches.{ArgMatches}
 use Rattle.clap.specs.declared.parser.matches.ArgMatches.TheViews.{out-ArgMatches, out-SubCommand}
 use Rattle.clap.specs.declared.parser.matches.SubCommand.{SubCommand}
-use Rattle.program.specs.CommandLine.{command_for, command_line, flag_rule, needed, option_rule, refusals, script_line, serve_line, up_to}
+use Rattle.program.specs.CommandLine.{command_for, command_line, connect_line, flag_rule, needed, option_rule, refusals, script_line, serve_line, up_to}
 use Rattle.program.specs.declared.options.TheConstants.{CONNECTION_LIMIT, IDLE_LIMIT, WORKER_LIMIT}
 use Rattle.program.proofs.HelpLemmas.{EntersNoHelp, IsNoHelp, walk_no_help}
 use Rattle.program.proofs.NumberLemmas.{Passes, has_first, passes}
@@ -32,6 +32,9 @@ script_built = built_below script_line
 
 abbrev serve_built : Shape
 serve_built = built_below serve_line
+
+abbrev connect_built : Shape
+connect_built = built_below connect_line
 
 abbrev help_built : Shape
 help_built = built_leaf help_shape
@@ -87,11 +90,18 @@ serve_known = (
   ),
 )
 
+connect_known : AreKnown connect_built.rules connect_built.rules
+connect_known = (record { plain = inl (tt, inl refl); own = refl; defaults = refl }, (record { plain = inr refl; own = refl; defaults = refl }, tt))
+
 -- ---- what clap lets through
 
 -- `script` has its FILE
 abbrev pub NamesFile : List Row → Type 0
 NamesFile rows = is_some (first_of (codes "FILE") rows) ≡ true
+
+-- `connect` has its socket
+abbrev pub NamesSocket : List Row → Type 0
+NamesSocket rows = is_some (first_of (codes "socket") rows) ≡ true
 
 -- `serve` has what it needs, and its values passed
 pub record HasNeeded (rows : List Row) : Type 0 where
@@ -137,10 +147,18 @@ serve_passed words e =
       until_stdin_ends = passes rules until_rule rows refl passed;
     }
 
+connect_passed : (words : List Text) → level_fault connect_built [] nothing_held words false [] ≡ [] → NamesSocket (rows_at connect_built words).1
+connect_passed words e =
+    let rows = finished connect_built.rules (walk connect_built.rules [] nothing_held words).held in
+    let passed : ArePassed connect_built.rules rows = level_passed connect_built [] words false [] connect_known e in
+    let socket : Passes socket_rule rows = passes connect_built.rules socket_rule rows refl passed in
+    has_first socket_rule rows socket (wanted (is_given (codes "socket") rows) (level_steps connect_built [] words false [] e).3)
+
 -- a subcommand and its rows, of words that clap takes
 abbrev pub IsTaken : Option (Text × List Row) → Type 0
 IsTaken None = ⊥
-IsTaken (Some sub) = ((sub.0 ≡ codes "script") × NamesFile sub.1) ⊎ ((sub.0 ≡ codes "serve") × HasNeeded sub.1)
+IsTaken (Some sub) =
+    ((sub.0 ≡ codes "script") × NamesFile sub.1) ⊎ (((sub.0 ≡ codes "serve") × HasNeeded sub.1) ⊎ ((sub.0 ≡ codes "connect") × NamesSocket sub.1))
 
 abbrev app : App
 app = built command_line
@@ -160,21 +178,23 @@ no_help name other = by (bytes_eq (codes "help") name) refl
     by false is = refl
     by true is = absurd (true≢false (subst (λ n. IsNoHelp n) (sym ((bytes_eq-Decides (codes "help") name).0 is)) other))
 
--- the subcommand of a name, by whether it is each of the three
-abbrev by_name : Bool → Bool → Bool → Option Shape
-by_name is_script is_serve is_help = if is_script then Some script_built else (if is_serve then Some serve_built else (if is_help then Some help_built else None))
+-- the subcommand of a name, by whether it is each of the four
+abbrev by_name : Bool → Bool → Bool → Bool → Option Shape
+by_name is_script is_serve is_connect is_help =
+    if is_script then Some script_built else (if is_serve then Some serve_built else (if is_connect then Some connect_built else (if is_help then Some help_built else None)))
 
--- the subcommand that was entered is `script` or `serve`
-one_entered : (rows : List Row) (words : List Text) (is_script is_serve is_help : Bool) → is_help ≡ false
-    → option_map_or (λ s. level_fault s [] nothing_held words false []) (by_name is_script is_serve is_help) [] ≡ []
-    → check_fault app.top rows (is_some (option_map (λ s. rows_at s words) (by_name is_script is_serve is_help))) ≡ []
-    → IsTaken (option_map (λ s. rows_at s words) (by_name is_script is_serve is_help))
-one_entered rows words true is_serve is_help other below check = inl (refl, script_passed words below)
-one_entered rows words false true is_help other below check = inr (refl, serve_passed words below)
-one_entered rows words false false true other below check = absurd (true≢false other)
-one_entered rows words false false false other below check = absurd (none_entered rows check)
+-- the subcommand that was entered is `script`, `serve` or `connect`
+one_entered : (rows : List Row) (words : List Text) (is_script is_serve is_connect is_help : Bool) → is_help ≡ false
+    → option_map_or (λ s. level_fault s [] nothing_held words false []) (by_name is_script is_serve is_connect is_help) [] ≡ []
+    → check_fault app.top rows (is_some (option_map (λ s. rows_at s words) (by_name is_script is_serve is_connect is_help))) ≡ []
+    → IsTaken (option_map (λ s. rows_at s words) (by_name is_script is_serve is_connect is_help))
+one_entered rows words true is_serve is_connect is_help other below check = inl (refl, script_passed words below)
+one_entered rows words false true is_connect is_help other below check = inr (inl (refl, serve_passed words below))
+one_entered rows words false false true is_help other below check = inr (inr (refl, connect_passed words below))
+one_entered rows words false false false true other below check = absurd (true≢false other)
+one_entered rows words false false false false other below check = absurd (none_entered rows check)
 
--- where clap has nothing against the words, they name one of the two, which has what it needs
+-- where clap has nothing against the words, they name one of the three, which has what it needs
 pub taken : (words : List Text) → refusals words ≡ [] → IsTaken (subcommand_of command_line words)
 taken words e =
     let given = argument_words command_line words in
@@ -184,7 +204,7 @@ taken words e =
   where
     by : (stop : Option (Text × List Text)) → EntersNoHelp stop → (rows : List Row) → entered_fault app stop ≡ [] → check_fault app.top rows (is_some (entered app stop)) ≡ [] → IsTaken (entered app stop)
     by None n rows below check = absurd (none_entered rows check)
-    by (Some stop) n rows below check = one_entered rows stop.1 (bytes_eq (codes "script") stop.0 || false) (bytes_eq (codes "serve") stop.0 || false) (bytes_eq (codes "help") stop.0 || false) (no_help stop.0 n) below check
+    by (Some stop) n rows below check = one_entered rows stop.1 (bytes_eq (codes "script") stop.0 || false) (bytes_eq (codes "serve") stop.0 || false) (bytes_eq (codes "connect") stop.0 || false) (bytes_eq (codes "help") stop.0 || false) (no_help stop.0 n) below check
 
 -- ---- what a subcommand of either name has
 
@@ -194,28 +214,47 @@ no_serve e = true≢false (ap (bytes_eq (codes "script")) e)
 no_script : codes "serve" ≡ codes "script" → ⊥
 no_script e = no_serve (sym e)
 
+no_talk : codes "script" ≡ codes "connect" → ⊥
+no_talk e = true≢false (ap (bytes_eq (codes "script")) e)
+
+no_talk_served : codes "serve" ≡ codes "connect" → ⊥
+no_talk_served e = true≢false (ap (bytes_eq (codes "serve")) e)
+
 pub script_has_file : (words : List Text) (rows : List Row) → refusals words ≡ [] → subcommand_of command_line words ≡ Some (codes "script", rows) → NamesFile rows
 script_has_file words rows e is = by (subst IsTaken is (taken words e))
   where
     by : IsTaken (Some (codes "script", rows)) → NamesFile rows
     by (inl script) = script.1
-    by (inr serve) = absurd (no_serve serve.0)
+    by (inr (inl serve)) = absurd (no_serve serve.0)
+    by (inr (inr connect)) = absurd (no_talk connect.0)
 
 pub serve_has_needed : (words : List Text) (rows : List Row) → refusals words ≡ [] → subcommand_of command_line words ≡ Some (codes "serve", rows) → HasNeeded rows
 serve_has_needed words rows e is = by (subst IsTaken is (taken words e))
   where
     by : IsTaken (Some (codes "serve", rows)) → HasNeeded rows
     by (inl script) = absurd (no_script script.0)
-    by (inr serve) = serve.1
+    by (inr (inl serve)) = serve.1
+    by (inr (inr connect)) = absurd (no_talk_served connect.0)
 
--- one of the two is named
-pub one_named : (words : List Text) → refusals words ≡ [] → (command_for words ≡ Some (codes "script")) ⊎ (command_for words ≡ Some (codes "serve"))
+pub connect_has_socket : (words : List Text) (rows : List Row) → refusals words ≡ [] → subcommand_of command_line words ≡ Some (codes "connect", rows) → NamesSocket rows
+connect_has_socket words rows e is = by (subst IsTaken is (taken words e))
+  where
+    by : IsTaken (Some (codes "connect", rows)) → NamesSocket rows
+    by (inl script) = absurd (no_talk (sym script.0))
+    by (inr (inl serve)) = absurd (no_talk_served (sym serve.0))
+    by (inr (inr connect)) = connect.1
+
+-- one of the three is named
+pub one_named : (words : List Text) → refusals words ≡ []
+    → (command_for words ≡ Some (codes "script")) ⊎ ((command_for words ≡ Some (codes "serve")) ⊎ (command_for words ≡ Some (codes "connect")))
 one_named words e = by (subcommand_of command_line words) (taken words e)
   where
-    by : (o : Option (Text × List Row)) → IsTaken o → (option_map (λ sub. sub.0) o ≡ Some (codes "script")) ⊎ (option_map (λ sub. sub.0) o ≡ Some (codes "serve"))
+    by : (o : Option (Text × List Row)) → IsTaken o
+        → (option_map (λ sub. sub.0) o ≡ Some (codes "script")) ⊎ ((option_map (λ sub. sub.0) o ≡ Some (codes "serve")) ⊎ (option_map (λ sub. sub.0) o ≡ Some (codes "connect")))
     by None t = absurd t
     by (Some sub) (inl script) = inl (ap Some script.0)
-    by (Some sub) (inr serve) = inr (ap Some serve.0)
+    by (Some sub) (inr (inl serve)) = inr (inl (ap Some serve.0))
+    by (Some sub) (inr (inr connect)) = inr (inr (ap Some connect.0))
 
 -- the name of the subcommand that a parse met is that of its rows
 pub name_of_rows : (matches : ArgMatches) → subcommand_name_of matches ≡ option_map (λ sub. sub.0) (subcommand_rows_of matches)

@@ -2,7 +2,7 @@
 use Rattle.std.proofs.Common.{◌≡◌, ◌∙◌, ap, ap₂, true, Bool, ◌||◌, Option, Some, subst}
 use Rattle.std.specs.Prelude.{pos, ℕ, ℤ}
 use Rattle.std.specs.Int.{int_max, int_min}
-use Rattle.clap.specs.Words.{AddsArg, App, NarrowsTo, Rule, rule_of, signed_between, with_rule}
+use Rattle.clap.specs.Words.{AddsArg, AddsSubcommand, App, NarrowsTo, Rule, app_of, rule_of, signed_between, with_rule, with_subcommand}
 use Rattle.clap.specs.declared.builder.arg.Arg.{Arg}
 use Rattle.clap.specs.declared.builder.command.Command.{Command}
 use Rattle.clap.specs.declared.builder.value_parser.ValueParser.{ValueParser}
@@ -31,3 +31,7 @@ narrowed parser range first last top most is from to narrows computed =
     let begun : NarrowsTo (Signed (pos 0) (pos top)) (Some (pos 1)) (Some last) range = subst (λ (z : ℤ). NarrowsTo (Signed (pos 0) (pos top)) (Some z) (Some last) range) from known in
     let ended : range ≡ signed_between (int_max (pos 0) (pos 1)) (int_min (pos top) (pos most)) = subst (λ (z : ℤ). NarrowsTo (Signed (pos 0) (pos top)) (Some (pos 1)) (Some z) range) to begun in
     ended ∙ computed
+
+-- one more subcommand
+pub adds_command : (app line : App) (old below new : Command) → app_of old ≡ app → IsCommand line below → AddsSubcommand old below new → app_of new ≡ with_subcommand app line.top
+adds_command app line old below new is made added = added.shape made.1 ∙ ap₂ with_subcommand is (ap (λ (a : App). a.top) made.0)

@@ -86,6 +86,22 @@ optional_takeover : flag_at (given_by optional) (codes "takeover") ≡ true
 unfolding clap_on_literals
 optional_takeover = refl
 
+-- a talk with a server
+abbrev talking : List Text
+talking = codes "landmap" ∷ codes "connect" ∷ codes "--socket" ∷ codes "m.sock" ∷ []
+
+talking_is_taken : refusals talking ≡ []
+unfolding clap_on_literals
+talking_is_taken = refl
+
+talking_names : command_for talking ≡ Some (codes "connect")
+unfolding clap_on_literals
+talking_names = refl
+
+talking_socket : given_by talking (codes "socket") ≡ Some (codes "m.sock")
+unfolding clap_on_literals
+talking_socket = refl
+
 for_help : refusals (codes "landmap" ∷ codes "--help" ∷ []) ≡ DisplayHelp ∷ []
 unfolding clap_on_literals
 for_help = refl
@@ -97,6 +113,10 @@ nothing_asked = refl
 no_file : refusals (codes "landmap" ∷ codes "script" ∷ []) ≡ MissingRequiredArgument ∷ []
 unfolding clap_on_literals
 no_file = refl
+
+no_socket : refusals (codes "landmap" ∷ codes "connect" ∷ []) ≡ MissingRequiredArgument ∷ []
+unfolding clap_on_literals
+no_socket = refl
 
 strange_word : refusals (codes "landmap" ∷ codes "script" ∷ codes "day.map" ∷ codes "--fast" ∷ []) ≡ UnknownArgument ∷ []
 unfolding clap_on_literals

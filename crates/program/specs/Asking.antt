@@ -7,7 +7,7 @@ use Rattle.program.specs.declared.command_line.Reading.TheVariants.{Given, Told}
 use Rattle.program.specs.declared.options.ServerOptions.{ServerOptions}
 use Rattle.program.specs.declared.options.TheConstants.{CONNECTION_LIMIT, DEFAULT_WORKERS, IDLE_LIMIT, WORKER_LIMIT}
 use Rattle.program.specs.declared.words.Asked.{Asked}
-use Rattle.program.specs.declared.words.Asked.TheVariants.{Script, Serve, Text as Shown}
+use Rattle.program.specs.declared.words.Asked.TheVariants.{Connect, Script, Serve, Text as Shown}
 use Rattle.program.specs.declared.words.ScriptWords.{ScriptWords}
 use Rattle.program.specs.declared.words.ServeWords.{ServeWords}
 
@@ -44,8 +44,9 @@ HasFiles given files = (given (codes "FILE") ≡ Some files.script.now) × (give
 abbrev pub HasServer : (Text → Option Text) → ServeWords → Type 0
 HasServer given server = HasOptions given server.options × (given (codes "config") ≡ option_map (λ name. name.now) server.config)
 
--- a script of these files, or this server, or a text: help, or what is wrong
+-- a script of these files, or this server, or a talk with the server at this path, or a text: help, or what is wrong
 abbrev pub IsAsked : List (List ℕ) → Asked → Type 0
 IsAsked words (Script files) = AskFor (codes "script") words × HasFiles (given_by words) files
 IsAsked words (Serve server) = AskFor (codes "serve") words × HasServer (given_by words) server
+IsAsked words (Connect path) = AskFor (codes "connect") words × (given_by words (codes "socket") ≡ Some path.now)
 IsAsked words (Shown text) = IsAmong (kind_of text) (refusals words)

@@ -1,4 +1,5 @@
--- The command line, as clap reads it: `landmap script [--config FILE] FILE`, and `landmap serve` with its options.
+-- The command line, as clap reads it: `landmap script [--config FILE] FILE`, `landmap serve` with its options, and
+-- `landmap connect --socket PATH`.
 use Rattle.std.specs.Prelude.{◌≡◌, ℕ, Bool, true, false, List, [], ◌∷◌, Option, Some, codes, fold, option_map, option_and_then, pos}
 use Rattle.std.specs.Option.{option_map_or}
 use Rattle.std.specs.Str.{bytes_eq}
@@ -50,11 +51,19 @@ serve_line = subcommand_line (codes "serve") (
     ∷ up_to WORKER_LIMIT (option_rule (codes "workers")) ∷ up_to IDLE_LIMIT (option_rule (codes "idle"))
     ∷ flag_rule (codes "takeover") ∷ flag_rule (codes "until-stdin-ends") ∷ [])
 
--- the subcommands are these two, and one has to be there
-abbrev pub command_line : App
-command_line = with_subcommand (with_subcommand (on_top (λ s. record s { subcommand_required = true; arg_required_else_help = true }) (new_app (codes "landmap"))) script_line.top) serve_line.top
+-- `connect --socket PATH`
+abbrev pub connect_line : App
+connect_line = subcommand_line (codes "connect") (needed (option_rule (codes "socket")) ∷ [])
 
--- why clap turns the words down, or that they ask for help. Of words that ask for a script or a server there is nothing
+-- a subcommand has to be there
+abbrev pub bare_line : App
+bare_line = on_top (λ s. record s { subcommand_required = true; arg_required_else_help = true }) (new_app (codes "landmap"))
+
+-- the subcommands are these three
+abbrev pub command_line : App
+command_line = with_subcommand (with_subcommand (with_subcommand bare_line script_line.top) serve_line.top) connect_line.top
+
+-- why clap turns the words down, or that they ask for help. Of words that name a subcommand as it wants there is nothing
 abbrev pub refusals : List Text → Kinds
 refusals words = fault_of command_line words
 

@@ -3,7 +3,7 @@ use Rattle.std.specs.Prelude.{ℕ, List, [], ◌++◌, codes}
 use Rattle.program.specs.declared.ends.Ended.{Ended}
 use Rattle.program.specs.declared.ends.Ended.TheVariants.{Well, Failed, TurnedDown}
 use Rattle.program.specs.declared.faults.ProgramFault.{ProgramFault}
-use Rattle.program.specs.declared.faults.ProgramFault.TheVariants.{CannotRead, CannotBind, CannotWrite, Words, Memory, Config, World, Run, Server}
+use Rattle.program.specs.declared.faults.ProgramFault.TheVariants.{CannotRead, CannotBind, CannotConnect, CannotWrite, Words, Memory, Config, World, Run, Server, Talk}
 use Rattle.program.specs.ConfigFaults.{config_code_of}
 use Rattle.line_streams.specs.Faults.{serve_code_of}
 use Rattle.line_streams.specs.declared.streams.ServeFault.{ServeFault}
@@ -15,11 +15,12 @@ abbrev pub told_as : ServeFault → ProgramFault
 told_as (reasons.Write failed) = CannotWrite failed
 told_as fault = Run fault
 
--- what is told of a fault: that a file cannot be read, or a socket bound, with its name behind it, that something cannot be
--- written, or a code
+-- what is told of a fault: that a file cannot be read, a socket bound, or a server reached, with its name behind it, that
+-- something cannot be written, or a code
 abbrev pub fault_word : ProgramFault → List ℕ
 fault_word (CannotRead name fault) = codes "cannot read "
 fault_word (CannotBind path) = codes "cannot bind "
+fault_word (CannotConnect path) = codes "cannot connect "
 fault_word (CannotWrite failed) = codes "cannot write"
 fault_word (Words refused) = codes "V4"
 fault_word (Memory refused) = codes "V4"
@@ -27,10 +28,12 @@ fault_word (Config fault) = config_code_of fault
 fault_word (World fault) = fault_code fault
 fault_word (Run fault) = serve_code_of fault
 fault_word (Server code) = code.now
+fault_word (Talk word) = word.now
 
 abbrev pub fault_name : ProgramFault → List ℕ
 fault_name (CannotRead name fault) = name.now
 fault_name (CannotBind path) = path.now
+fault_name (CannotConnect path) = path.now
 fault_name _ = []
 
 abbrev pub fault_text : ProgramFault → List ℕ

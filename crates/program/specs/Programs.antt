@@ -50,6 +50,10 @@ pub record WantServer (words : List Text) (held : List ℕ → Option (List ℕ)
   pub options : HasOptions (given_by words) server.options
   pub config : IsConfigOf held (given_by words (codes "config")) (config_data server.config)
 
+-- these words ask for a talk with the server at this path
+abbrev pub WantTalk : List Text → List ℕ → Type 0
+WantTalk words path = AskFor (codes "connect") words × (given_by words (codes "socket") ≡ Some path)
+
 -- this server is made out of what is given; or there is none, since its configuration is at fault
 abbrev pub IsServerOf : (List ℕ → Option (List ℕ)) → ServeWords → WantedServer → Type 0
 IsServerOf held given server = (server.options ≡ given.options) × IsConfigOf held (option_map (λ name. name.now) given.config) (config_data server.config)
@@ -62,10 +66,11 @@ abbrev pub AreTurnedDown : List Text → ErrorKind → Type 0
 AreTurnedDown words kind = IsAmong kind (refusals words) × (kind ≢ DisplayHelp)
 
 -- What is done with these words, before anything of it is told: what they ask for; or nothing, where they ask for a server, or
--- clap turns them down by a text; or a fault came.
+-- for a talk with one, or clap turns them down by a text; or a fault came.
 abbrev pub IsAnswer : {O : Type 0} → List Text → (List ℕ → Option (List ℕ)) → (List ℕ → Type 0) → (O → Option (List ℕ)) → O → O → Result Answer ProgramFault → Type 0
 IsAnswer words held closed written output output_after (Ok (answers.Done flushed)) = IsDone words held (written output) (written output_after)
 IsAnswer words held closed written output output_after (Ok (answers.Serve server)) = WantServer words held server × (output_after ≡ output)
+IsAnswer words held closed written output output_after (Ok (answers.Connect path)) = WantTalk words path.now × (output_after ≡ output)
 IsAnswer words held closed written output output_after (Ok (answers.Mistaken mistake)) = AreTurnedDown words (kind_of mistake) × (output_after ≡ output)
 IsAnswer words held closed written output output_after (Err fault) = IsFault words held closed (written output) (written output_after) fault
 
@@ -78,7 +83,8 @@ IsRun words held closed written output output_after told errors errors_after (Fa
 IsRun words held closed written output output_after told errors errors_after TurnedDown = (kind : ErrorKind) × AreTurnedDown words kind × (output_after ≡ output)
 
 -- What is left to do once a run of the program with these words returns: to exit, of a run that has ended so; or to run the
--- server that the words ask for, and then nothing is written.
+-- server that the words ask for, or to talk with one, and then nothing is written.
 abbrev pub IsNext : {O E : Type 0} → List Text → (List ℕ → Option (List ℕ)) → (List ℕ → Type 0) → (O → Option (List ℕ)) → O → O → (E → Option (List ℕ)) → E → E → Next → Type 0
 IsNext words held closed written output output_after told errors errors_after (next.Exit ended) = IsRun words held closed written output output_after told errors errors_after ended
 IsNext words held closed written output output_after told errors errors_after (next.Serve server) = WantServer words held server × (output_after ≡ output) × (errors_after ≡ errors)
+IsNext words held closed written output output_after told errors errors_after (next.Connect path) = WantTalk words path.now × (output_after ≡ output) × (errors_after ≡ errors)

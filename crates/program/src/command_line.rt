@@ -3,12 +3,13 @@
 ghost use Rattle.std.specs.Prelude.{◌≡◌, map, string_bytes, IfOk};
 ghost use Rattle.clap.specs.Words.{app_of};
 ghost use Rattle.program.specs.Asking.{IsReading};
-ghost use Rattle.program.specs.CommandLine.{IsArgument, IsCommand, command_line, flag_rule, option_rule, script_line, serve_line};
+ghost use Rattle.program.specs.CommandLine.{IsArgument, IsCommand, bare_line, command_line, connect_line, flag_rule, option_rule, script_line, serve_line};
 
 use crate::help_texts::{
-    ABOUT, CONFIG_HELP, CONNECTIONS_HELP, EXAMPLES, IDLE_HELP, LONG_ABOUT, SCRIPT_ABOUT,
-    SCRIPT_EXAMPLES, SCRIPT_FILE_HELP, SCRIPT_LONG_ABOUT, SERVE_ABOUT, SERVE_EXAMPLES,
-    SERVE_LONG_ABOUT, SOCKET_HELP, TAKEOVER_HELP, UNTIL_STDIN_ENDS_HELP, WORKERS_HELP,
+    ABOUT, CONFIG_HELP, CONNECT_ABOUT, CONNECT_EXAMPLES, CONNECT_LONG_ABOUT, CONNECT_SOCKET_HELP,
+    CONNECTIONS_HELP, EXAMPLES, IDLE_HELP, LONG_ABOUT, SCRIPT_ABOUT, SCRIPT_EXAMPLES,
+    SCRIPT_FILE_HELP, SCRIPT_LONG_ABOUT, SERVE_ABOUT, SERVE_EXAMPLES, SERVE_LONG_ABOUT,
+    SOCKET_HELP, TAKEOVER_HELP, UNTIL_STDIN_ENDS_HELP, WORKERS_HELP,
 };
 use crate::options::{CONNECTION_LIMIT, IDLE_LIMIT, WORKER_LIMIT};
 use clap::error::ErrorKind;
@@ -116,9 +117,20 @@ fn serve_command<'a>(alloc: Global) -> Result<Command<'a>, AllocError>
         .arg(flag_argument(alloc, "until-stdin-ends", UNTIL_STDIN_ENDS_HELP))
 }
 
-/// The command line.
-fn command<'a>(alloc: Global) -> Result<Command<'a>, AllocError>
-    ensures { IfOk result (λ command. app_of command ≡ command_line) }
+/// The subcommand that talks with a server.
+fn connect_command<'a>(alloc: Global) -> Result<Command<'a>, AllocError>
+    ensures { IfOk result (IsCommand connect_line) }
+{
+    Command::new(alloc, "connect")
+        .about(CONNECT_ABOUT)
+        .long_about(CONNECT_LONG_ABOUT)
+        .after_long_help(CONNECT_EXAMPLES)
+        .arg(option_argument(alloc, "socket", "PATH", CONNECT_SOCKET_HELP).required(true))
+}
+
+/// The command line, without its subcommands.
+fn bare_command<'a>(alloc: Global) -> Command<'a>
+    ensures { app_of result ≡ bare_line }
 {
     Command::new(alloc, "landmap")
         .about(ABOUT)
@@ -126,8 +138,16 @@ fn command<'a>(alloc: Global) -> Result<Command<'a>, AllocError>
         .after_long_help(EXAMPLES)
         .subcommand_required(true)
         .arg_required_else_help(true)
+}
+
+/// The command line.
+fn command<'a>(alloc: Global) -> Result<Command<'a>, AllocError>
+    ensures { IfOk result (λ command. app_of command ≡ command_line) }
+{
+    bare_command(alloc)
         .subcommand(script_command(alloc)?)?
-        .subcommand(serve_command(alloc)?)
+        .subcommand(serve_command(alloc)?)?
+        .subcommand(connect_command(alloc)?)
 }
 
 /// How clap reads the words of a command line.

@@ -1,4 +1,4 @@
-//! How a run of the program ends, and the exit status by which it tells so; or that a server is to be run.
+//! How a run of the program ends, and the exit status by which it tells so; or that a server is to be run, or talked with.
 
 ghost use Rattle.std.specs.Prelude.{◌≡◌};
 ghost use Rattle.program.specs.Ends.{exit_status};
@@ -49,4 +49,6 @@ pub enum Next<'a> {
     Exit(Ended<'a>),
     /// To serve: nothing is bound yet.
     Serve(WantedServer<'a>),
+    /// To talk with the server at this path: it is not connected yet.
+    Connect(&'a str),
 }

@@ -19,6 +19,8 @@ pub enum ProgramFault<'a> {
     CannotRead(&'a str, ReadFault),
     /// A server's socket cannot be bound at this path.
     CannotBind(&'a str),
+    /// The server at this path cannot be reached.
+    CannotConnect(&'a str),
     /// What the program has to say cannot be written.
     CannotWrite(WriteFailed),
     /// There is no memory for the command line. It is shown as V4.
@@ -33,6 +35,8 @@ pub enum ProgramFault<'a> {
     Run(ServeFault),
     /// The server ended by a fault of its own, which has this code.
     Server(&'static str),
+    /// A talk with a server ended by a fault of its own, which is told so.
+    Talk(&'static str),
 }
 
 impl ProgramFault<'_> {
@@ -45,21 +49,26 @@ impl ProgramFault<'_> {
         match self {
             ProgramFault::CannotRead(..) => "cannot read ",
             ProgramFault::CannotBind(_) => "cannot bind ",
+            ProgramFault::CannotConnect(_) => "cannot connect ",
             ProgramFault::CannotWrite(_) => "cannot write",
             ProgramFault::Words(_) | ProgramFault::Memory(_) => "V4",
             ProgramFault::Config(fault) => fault.code(),
             ProgramFault::World(fault) => fault.code(),
             ProgramFault::Run(fault) => fault.code(),
             ProgramFault::Server(code) => code,
+            ProgramFault::Talk(word) => word,
         }
     }
 
-    /// The name of the file that cannot be read, or the path at which a socket cannot be bound. Other faults have none.
+    /// The name of the file that cannot be read, or the path at which a socket cannot be bound, or a server not reached. Other
+    /// faults have none.
     pub fn name(&self) -> &str
         ensures { result.now ≡ fault_name self.now }
     {
         match self {
-            ProgramFault::CannotRead(name, _) | ProgramFault::CannotBind(name) => name,
+            ProgramFault::CannotRead(name, _)
+            | ProgramFault::CannotBind(name)
+            | ProgramFault::CannotConnect(name) => name,
             _ => "",
         }
     }

@@ -10,14 +10,17 @@ pub(crate) const EXAMPLES: &str = "Examples:
   landmap script day.map
   landmap script --config agency.json day.map
   landmap serve --socket map.sock --connections 100
+  landmap connect --socket map.sock
 
 `landmap script --help` has the lines of a script, and the codes by which a run
-ends; `landmap serve --help` has the options of a server, and its codes.
+ends; `landmap serve --help` has the options of a server, and its codes;
+`landmap connect --help` tells how to talk to a server.
 
 Exit status:
   0  what was asked is done
   1  a file cannot be read, the configuration is faulty, the socket cannot be
-     bound, or the run broke off; one line on standard error says which
+     bound or connected, or the run or the talk broke off; one line on standard
+     error says which
   2  the command line is wrong";
 
 pub(crate) const SCRIPT_ABOUT: &str = "Runs the session lines of a file, and writes the replies";
@@ -168,5 +171,50 @@ Exit status:
        V4        there was no memory for the buffers or the command line
        C1        a session was told of another record than the trail has
        C2        a session did not give back its seat
+
+  2  the command line is wrong"#;
+
+pub(crate) const CONNECT_ABOUT: &str = "Talks to a server: lines go to it, its replies come back";
+
+pub(crate) const CONNECT_LONG_ABOUT: &str =
+    "Talks to a server: lines go to it, its replies come back.
+
+Connects to the Unix socket at PATH, which is one session of its server. Each
+line of standard input is sent, and its whole reply written to standard output,
+before the next line is read. A reply is one line, and behind `rows N` and
+`rolled N` come N lines more. A last line without a line feed is sent with one.
+
+The lines are those of a script without their labels, but for OPEN, STEP and
+FINISH: HELLO, SEARCH, ADD, RESHAPE, DELETE, COMMIT, ABORT, EXPLAIN, BYE, and
+of a steward POLICY and ROLL. At a terminal, `> ` on standard error asks for the
+next line. The talk ends with the input, or behind the reply `bye`.
+
+docs/SESSIONS.md tells what each reply and each `error CODE` means.";
+
+pub(crate) const CONNECT_SOCKET_HELP: &str = "Where the server's Unix socket is bound";
+
+pub(crate) const CONNECT_EXAMPLES: &str = r#"Examples:
+  The lines
+
+    HELLO north
+    SEARCH POINT (3 4)
+    BYE
+
+  in a file lines.txt, sent by `landmap connect --socket map.sock < lines.txt`
+  while a server listens at map.sock, are answered
+
+    hello north
+    rows 0
+    bye
+
+Exit status:
+  0  the input has ended, or the server has said `bye`, even where a reply is
+     `error`
+  1  one line on standard error says why: `landmap: cannot connect PATH`,
+     `landmap: the server is gone`, `landmap: cannot write`, or
+     `landmap: CODE`, where CODE is
+
+       V1        a read of standard input failed
+       V4        there was no memory for a line, a buffer or the command line
 
   2  the command line is wrong"#;

@@ -151,6 +151,8 @@ enum Answer<'a> {
     Done(Flushed),
     /// They ask for this server.
     Serve(WantedServer<'a>),
+    /// They ask for a talk with the server at this path.
+    Connect(&'a str),
     /// clap turned them down, by this text.
     Mistaken(Error),
 }
@@ -173,8 +175,8 @@ fn wanted_server<'a, F: Folder>(
     }
 }
 
-/// Does what the words of the command line ask for, but for a server, which is only made out. Where clap turns them down
-/// nothing is done, and the answer is clap's text that says why. Faults: `Words` where there is no memory for the command
+/// Does what the words of the command line ask for, but for a server, which is only made out, and for a talk with one. Where
+/// clap turns them down nothing is done, and the answer is clap's text that says why. Faults: `Words` where there is no memory for the command
 /// line, `CannotWrite` where help cannot be written, those of `run_named`, and those of a server's configuration.
 fn run_asked<'a, F: Folder, O: Write>(
     alloc: Global,
@@ -194,6 +196,7 @@ fn run_asked<'a, F: Folder, O: Write>(
             Ok(server) => Ok(Answer::Serve(server)),
             Err(fault) => Err(fault),
         },
+        Ok(Asked::Connect(path)) => Ok(Answer::Connect(path)),
         Ok(Asked::Text(help)) if is_help(&help) => match show_help(&help, output) {
             Ok(flushed) => Ok(Answer::Done(flushed)),
             Err(fault) => Err(fault),
@@ -203,8 +206,8 @@ fn run_asked<'a, F: Folder, O: Write>(
     }
 }
 
-/// Runs the program with these words, of which the first is its name, and answers what is left to do: to exit, or to run a
-/// server. Where the run has ended by a fault, one line on `errors` tells of it, or the line's front where a write there
+/// Runs the program with these words, of which the first is its name, and answers what is left to do: to exit, to run a
+/// server, or to talk with one. Where the run has ended by a fault, one line on `errors` tells of it, or the line's front where a write there
 /// failed; where clap turns the words down, it says there why. A fault of `errors` changes nothing of how the run ended.
 /// Of a server the configuration is read, and nothing else is done.
 pub fn run_program<'a, F: Folder, O: Write, E: Write>(
@@ -220,6 +223,7 @@ pub fn run_program<'a, F: Folder, O: Write, E: Write>(
     match run_asked(alloc, words, folder, output) {
         Ok(Answer::Done(flushed)) => Next::Exit(Ended::Well(flushed)),
         Ok(Answer::Serve(server)) => Next::Serve(server),
+        Ok(Answer::Connect(path)) => Next::Connect(path),
         Ok(Answer::Mistaken(mistake)) => {
             let _ = write_shown(&mistake, errors);
             Next::Exit(Ended::TurnedDown)

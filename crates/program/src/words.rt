@@ -1,6 +1,6 @@
 //! What the words of a command line ask for.
 
-ghost use Rattle.std.specs.Prelude.{codes, map, string_bytes, IfOk};
+ghost use Rattle.std.specs.Prelude.{◌≡◌, Some, codes, map, string_bytes, IfOk};
 ghost use Rattle.clap.specs.Words.{first_of, found_of, rows_of};
 ghost use Rattle.program.specs.Asking.{HasFiles, HasServer, IsAsked, IsGiven};
 
@@ -15,6 +15,8 @@ pub(crate) enum Asked<'a> {
     Script(ScriptWords<'a>),
     /// To serve a socket.
     Serve(ServeWords<'a>),
+    /// To talk with the server at this path.
+    Connect(&'a str),
     /// To show a text of clap's: help, or what is wrong with the command line.
     Text(Error),
 }
@@ -76,8 +78,19 @@ fn serve_words<'a>(given: &ArgMatches<'a>) -> ServeWords<'a>
     }
 }
 
+/// What is given for a talk with a server: its path, which is there, since it is required.
+fn connect_path<'a>(given: &ArgMatches<'a>) -> &'a str
+    requires { IsGiven (codes "connect") (rows_of (found_of given.now)) }
+    ensures { first_of (codes "socket") (rows_of (found_of given.now)) ≡ Some result.now }
+{
+    let Some(path) = given.get_str("socket") else {
+        unreachable!()
+    };
+    path
+}
+
 /// Reads the command line, of which the first word is the program's name. `WordsRefused` where there is no memory for it.
-/// Where clap has nothing against the words one of the two subcommands is named, since one is required.
+/// Where clap has nothing against the words one of the three subcommands is named, since one is required.
 pub(crate) fn read_words<'a>(alloc: Global, words: &'a [String]) -> Result<Asked<'a>, WordsRefused>
     ensures { IfOk result (IsAsked (map (λ word. string_bytes word) words.entry.now)) }
 {
@@ -89,8 +102,11 @@ pub(crate) fn read_words<'a>(alloc: Global, words: &'a [String]) -> Result<Asked
     if let Some(given) = matches.subcommand_matches("script") {
         return Ok(Asked::Script(script_words(given)));
     }
-    let Some(given) = matches.subcommand_matches("serve") else {
+    if let Some(given) = matches.subcommand_matches("serve") {
+        return Ok(Asked::Serve(serve_words(given)));
+    }
+    let Some(given) = matches.subcommand_matches("connect") else {
         unreachable!()
     };
-    Ok(Asked::Serve(serve_words(given)))
+    Ok(Asked::Connect(connect_path(given)))
 }

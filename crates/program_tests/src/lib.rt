@@ -1,8 +1,10 @@
-//! Tests of configurations, of the program's runs, and of how a server is asked for.
+//! Tests of configurations, of the program's runs, and of how a server is asked for, and a talk with one.
 #![tactic(auto)]
 
 #[cfg(test)]
 mod config_tests;
+#[cfg(test)]
+mod connect_tests;
 #[cfg(test)]
 mod run_tests;
 #[cfg(test)]

@@ -468,6 +468,10 @@ fn faults_of_a_server(rt: HostRuntime) {
     let bind = ProgramFault::CannotBind("m.sock");
     is_told(&rt, alloc, &bind, "landmap: cannot bind m.sock\n");
     is_told(&rt, alloc, &ProgramFault::Server("C1"), "landmap: C1\n");
+    let connect = ProgramFault::CannotConnect("m.sock");
+    is_told(&rt, alloc, &connect, "landmap: cannot connect m.sock\n");
+    let gone = ProgramFault::Talk("the server is gone");
+    is_told(&rt, alloc, &gone, "landmap: the server is gone\n");
 }
 
 /// This fault is told by this line.
@@ -577,9 +581,10 @@ fn help_of_the_program(rt: HostRuntime) -> Result<(), Fail> {
             "\n  landmap script day.map\n",
             "\n  landmap script --config agency.json day.map\n",
             "\n  landmap serve --socket map.sock --connections 100\n",
-            "\n`landmap script --help` has the lines of a script, and the codes by which a run\nends; `landmap serve --help` has the options of a server, and its codes.\n",
+            "\n  landmap connect --socket map.sock\n",
+            "\n`landmap script --help` has the lines of a script, and the codes by which a run\nends; `landmap serve --help` has the options of a server, and its codes;\n`landmap connect --help` tells how to talk to a server.\n",
             "\nExit status:\n  0  ",
-            "\n  1  a file cannot be read, the configuration is faulty, the socket cannot be\n     bound, or the run broke off; one line on standard error says which\n",
+            "\n  1  a file cannot be read, the configuration is faulty, the socket cannot be\n     bound or connected, or the run or the talk broke off; one line on standard\n     error says which\n",
             "\n  2  the command line is wrong",
         ],
     )?;

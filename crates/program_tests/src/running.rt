@@ -92,11 +92,12 @@ pub(crate) fn words(alloc: Global, texts: &[&str]) -> Result<Vec<String>, AllocE
     Ok(words)
 }
 
-/// The exit status of a run that has ended, and is no server's.
+/// The exit status of a run that has ended, and leaves nothing to do.
 pub(crate) fn status_of(rt: &impl Abort, next: &Next<'_>) -> u8 {
     match next {
         Next::Exit(ended) => ended.status(),
         Next::Serve(_) => panic!(rt; "a server is asked for"),
+        Next::Connect(_) => panic!(rt; "a talk is asked for"),
     }
 }
 

@@ -29,6 +29,12 @@ returns-in-Ok-Serve g c =
     let asked = subst (λ r. IfOk r (IsAsked words)) c.in-Ok-Serve.is c.read_words.ensures in
     server_failed words _ _ _ c.in-Ok-Serve.field-0 c.in-Ok-Serve.given c.in-Err-wanted_server.fault asked c.in-Ok-Serve.field-0-is c.in-Err-wanted_server.ensures.err
 
+pub returns-in-Ok-Connect : goal.returns-in-Ok-Connect
+returns-in-Ok-Connect g c =
+    let words : List Text = map (λ word. string_bytes word) c.args.words.now in
+    let asked = subst (λ r. IfOk r (IsAsked words)) c.in-Ok-Connect.is c.read_words.ensures in
+    (subst (IsAsked words) c.in-Ok-Connect.field-0-is asked, refl)
+
 pub returns-in-Ok-Text : goal.returns-in-Ok-Text
 returns-in-Ok-Text g c =
     let words : List Text = map (λ word. string_bytes word) c.args.words.now in

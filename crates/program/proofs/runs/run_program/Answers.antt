@@ -10,6 +10,11 @@ returns-in-Ok-Serve g c =
     let wanted = was_wanted _ _ _ g.O.Write.contents c.args.output.now c.run_asked.new.output c.run_asked.result c.in-Ok-Serve.field-0 c.in-Ok-Serve.server c.run_asked.ensures c.in-Ok-Serve.is c.in-Ok-Serve.field-0-is in
     (wanted.0, wanted.1, refl)
 
+pub returns-in-Ok-Connect : goal.returns-in-Ok-Connect
+returns-in-Ok-Connect g c =
+    let wanted = rw (c.in-Ok-Connect.is, c.in-Ok-Connect.field-0-is) at c.run_asked.ensures in
+    (wanted.0, wanted.1, refl)
+
 pub returns-in-Ok-Mistaken : goal.returns-in-Ok-Mistaken
 returns-in-Ok-Mistaken g c =
     was_turned_down _ _ _ g.O.Write.contents c.args.output.now c.run_asked.new.output c.run_asked.result c.in-Ok-Mistaken.field-0 c.in-Ok-Mistaken.mistake c.run_asked.ensures c.in-Ok-Mistaken.is c.in-Ok-Mistaken.field-0-is

@@ -13,5 +13,8 @@ unreachable-requires c =
     let named : subcommand_name_of c.in-Ok-Given.matches ≡ command_for words = name_of_rows c.in-Ok-Given.matches ∙ ap (option_map (λ sub. sub.0)) told.1 in
     elim (one_named words told.0) [
       | inl script ↦ true≢false (sym (c.in_default.ensures.found.1 (named ∙ script)))
-      | inr serve ↦ true≢false (sym (c.in_default-subcommand_matches.ensures.found.1 (named ∙ serve)))
+      | inr other ↦ elim other [
+        | inl serve ↦ true≢false (sym (c.in_default-subcommand_matches.ensures.found.1 (named ∙ serve)))
+        | inr connect ↦ true≢false (sym (c.in_default-subcommand_matches-2.ensures.found.1 (named ∙ connect)))
+      ]
     ]

@@ -1,0 +1,144 @@
+//! Bytes of a reader that were read ahead of what is done with them.
+
+ghost use Rattle.std.specs.Prelude.{◌≡◌, ◌≤◌, ◌++◌, ◌∷◌, [], drop, if◌then◌else◌, is_ok, length, vec_len};
+ghost use Rattle.client.specs.Lines.{Fills, FindsFeed, FindsLine, Gains};
+
+use byte_streams::{ReadFailed, read_some};
+use memory::{GrowVec, Refused, try_extend};
+use std::alloc::Allocator;
+use std::io::Read;
+
+/// How many bytes are read at once.
+const CHUNK: usize = 4_096;
+
+/// Why a line is not held whole.
+#[derive(Debug, Drop, PartialEq, Eq)]
+pub(crate) enum LineFault {
+    /// A read failed.
+    Read(ReadFailed),
+    /// There was no memory for it.
+    Memory(Refused),
+}
+
+impl From<ReadFailed> for LineFault {
+    ghost use Rattle.client.specs.declared.ahead.LineFault.TheVariants as reasons;
+
+    ghost from_gives = { λ failed fault. fault ≡ reasons.Read failed };
+
+    fn from(failed: ReadFailed) -> LineFault {
+        LineFault::Read(failed)
+    }
+}
+
+impl From<Refused> for LineFault {
+    ghost use Rattle.client.specs.declared.ahead.LineFault.TheVariants as reasons;
+
+    ghost from_gives = { λ refused fault. fault ≡ reasons.Memory refused };
+
+    fn from(refused: Refused) -> LineFault {
+        LineFault::Memory(refused)
+    }
+}
+
+/// How much is held of the next line.
+#[derive(Clone, Copy, Debug, Drop, PartialEq, Eq)]
+pub(crate) enum Found {
+    /// All of it: so many bytes, the last of which is its line feed.
+    Whole(usize),
+    /// The reader is at its end, and what is held has no line feed.
+    Open,
+}
+
+/// Where the first line feed of some bytes stands.
+fn first_feed(bytes: &[u8]) -> Option<usize>
+    ensures { FindsFeed result bytes.now }
+{
+    for at in 0..bytes.len() {
+        if bytes[at] == b'\n' {
+            return Some(at);
+        }
+    }
+    None
+}
+
+/// Bytes that were read and are not done with.
+#[derive(Drop)]
+pub(crate) struct Ahead<A: Allocator> {
+    bytes: Vec<u8, A>,
+    /// So many of them are done with.
+    done: usize,
+    ghost within: { done ≤ vec_len bytes },
+}
+
+impl<A: Allocator> Ahead<A> {
+    /// Nothing was read.
+    pub(crate) fn none(alloc: A) -> Self
+        ensures { drop result.done result.bytes.items ≡ [] }
+    {
+        Ahead {
+            bytes: Vec::new(alloc),
+            done: 0,
+        }
+    }
+
+    /// The bytes that are held.
+    pub(crate) fn held(&self) -> &[u8]
+        ensures { result.now ≡ drop self.now.done self.now.bytes.items }
+    {
+        &self.bytes[self.done..]
+    }
+
+    /// The first of the bytes that are held are done with, so many.
+    pub(crate) fn pass(&mut self, count: usize)
+        requires { count ≤ length (drop self.old.done self.old.bytes.items) }
+        ensures { drop self.new.done self.new.bytes.items ≡ drop count (drop self.old.done self.old.bytes.items) }
+    {
+        self.done += count;
+    }
+
+    /// A line feed behind the bytes that are held.
+    pub(crate) fn end_line(&mut self) -> Result<(), Refused>
+        ensures { drop self.new.done self.new.bytes.items ≡ (if is_ok result then drop self.old.done self.old.bytes.items ++ 10 ∷ [] else drop self.old.done self.old.bytes.items) }
+    {
+        self.bytes.try_push(b'\n')
+    }
+
+    /// Lets go of the bytes that are done with.
+    fn tidy(&mut self)
+        ensures { drop self.new.done self.new.bytes.items ≡ drop self.old.done self.old.bytes.items }
+    {
+        let left = self.bytes.len() - self.done;
+        self.bytes.rotate_left(self.done);
+        self.bytes.truncate(left);
+        self.done = 0;
+    }
+
+    /// Reads once, and answers how many bytes more are held: none only where the reader is at its end.
+    fn read_more<R: Read>(&mut self, reader: &mut R) -> Result<usize, LineFault>
+        ensures { Fills result (drop self.old.done self.old.bytes.items) (drop self.new.done self.new.bytes.items) (R.remaining reader.old) (R.remaining reader.new) }
+    {
+        self.tidy();
+        self.bytes.make_room(CHUNK)?;
+        let mut chunk = [0; CHUNK];
+        let count = read_some(reader, &mut chunk)?;
+        try_extend(&mut self.bytes, &chunk[..count])?;
+        Ok(count)
+    }
+
+    /// Reads until the next line is held, or the reader is at its end. What was held before stays in front.
+    pub(crate) fn read_line<R: Read>(&mut self, reader: &mut R) -> Result<Found, LineFault>
+        ensures gains { Gains (drop self.old.done self.old.bytes.items) (drop self.new.done self.new.bytes.items) (R.remaining reader.old) (R.remaining reader.new) }
+        ensures finds { FindsLine result (drop self.new.done self.new.bytes.items) (R.remaining reader.new) }
+    {
+        let mut seen = 0;
+        loop {
+            if let Some(at) = first_feed(self.held().split_at(seen).1) {
+                return Ok(Found::Whole(seen + at + 1));
+            }
+            seen = self.held().len();
+            if self.read_more(reader)? == 0 {
+                return Ok(Found::Open);
+            }
+        }
+    }
+}

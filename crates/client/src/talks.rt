@@ -1,0 +1,260 @@
+//! A talk with a server: a line of the input, its whole reply on the output, and then the next line.
+
+ghost use Rattle.std.specs.Prelude.{◌≡◌, ◌≤◌, drop, length, take};
+ghost use Rattle.byte_streams.specs.Written.{Took};
+ghost use Rattle.client.specs.Ends.{Talks};
+ghost use Rattle.client.specs.Held.{held};
+ghost use Rattle.client.specs.Steps.{PassesLine, PassesReply, SendsLast, SendsLine, TakesTurn, TakesTurns};
+ghost use Rattle.client.specs.Turns.{sight};
+
+use crate::ahead::{Ahead, Found, LineFault};
+use crate::faults::{Gone, TalkFault};
+use crate::replies::{is_farewell, rows_of};
+use byte_streams::{Flushed, WriteFailed, flush, write_whole};
+use std::alloc::Allocator;
+use std::io::{Read, Write};
+
+/// With what a talk ended.
+#[derive(Clone, Copy, Debug, Drop, PartialEq, Eq)]
+pub enum End {
+    /// The input: each of its lines has had its reply.
+    AtEnd,
+    /// The server's `bye`.
+    Farewell,
+}
+
+/// A talk that no fault has ended, and whose replies have left by a flush.
+#[derive(Debug, Drop, PartialEq, Eq)]
+pub struct Talked {
+    /// With what it ended.
+    pub end: End,
+    /// The last flush of the output.
+    pub flushed: Flushed,
+}
+
+/// What was sent.
+#[derive(Clone, Copy, Debug, Drop, PartialEq, Eq)]
+enum Sent {
+    /// The next line of the input.
+    Line,
+    /// The last one, which had no line feed.
+    Last,
+    /// Nothing: there is no further line.
+    Nothing,
+}
+
+/// How a talk goes on behind a turn.
+#[derive(Clone, Copy, Debug, Drop, PartialEq, Eq)]
+enum Turn {
+    /// By the next line.
+    Next,
+    /// It has ended.
+    Closed(End),
+}
+
+/// What is known of a reply by its first line.
+#[derive(Clone, Copy, Debug, Drop, PartialEq, Eq)]
+struct Head {
+    /// How many lines stand behind it.
+    rows: u64,
+    /// Whether it is the last reply of a session.
+    farewell: bool,
+}
+
+/// Writes a line and flushes.
+fn write_line<Q: Write>(line: &[u8], peer: &mut Q) -> Result<(), WriteFailed>
+    ensures { Took result (Q.contents peer.old) (Q.contents peer.new) line.now }
+{
+    write_whole(line, peer)?;
+    flush(peer)?;
+    Ok(())
+}
+
+/// Sends so many of the bytes that are held, and is done with them.
+fn send_held<A: Allocator, Q: Write>(
+    asked: &mut Ahead<A>,
+    count: usize,
+    peer: &mut Q,
+) -> Result<(), WriteFailed>
+    requires { count ≤ length (held asked.old) }
+    ensures passes { held asked.new ≡ drop count (held asked.old) }
+    ensures sends { Took result (Q.contents peer.old) (Q.contents peer.new) (take count (held asked.old)) }
+{
+    let (line, _) = asked.held().split_at(count);
+    let sent = write_line(line, peer);
+    asked.pass(count);
+    sent
+}
+
+/// Sends what is held as the last line of the input, with a line feed, where something is held.
+fn send_last<A: Allocator, Q: Write>(asked: &mut Ahead<A>, peer: &mut Q) -> Result<Sent, TalkFault>
+    ensures { SendsLast result (held asked.old) (held asked.new) (Q.contents peer.old) (Q.contents peer.new) }
+{
+    if asked.held().is_empty() {
+        return Ok(Sent::Nothing);
+    }
+    if let Err(refused) = asked.end_line() {
+        return Err(TalkFault::Memory(refused));
+    }
+    let count = asked.held().len();
+    match send_held(asked, count, peer) {
+        Ok(()) => Ok(Sent::Last),
+        Err(failed) => Err(TalkFault::Gone(Gone::Unsent(failed))),
+    }
+}
+
+/// Sends the next line of the input, where there is one. Nothing is sent of a line that was not read whole.
+fn send_line<A: Allocator, I: Read, Q: Write>(
+    asked: &mut Ahead<A>,
+    input: &mut I,
+    peer: &mut Q,
+) -> Result<Sent, TalkFault>
+    ensures { SendsLine result (held asked.old) (held asked.new) (I.remaining input.old) (I.remaining input.new)
+        (Q.contents peer.old) (Q.contents peer.new) }
+{
+    let count = match asked.read_line(input) {
+        Ok(Found::Whole(count)) => count,
+        Ok(Found::Open) => return send_last(asked, peer),
+        Err(LineFault::Read(failed)) => return Err(TalkFault::Input(failed)),
+        Err(LineFault::Memory(refused)) => return Err(TalkFault::Memory(refused)),
+    };
+    match send_held(asked, count, peer) {
+        Ok(()) => Ok(Sent::Line),
+        Err(failed) => Err(TalkFault::Gone(Gone::Unsent(failed))),
+    }
+}
+
+/// Passes one line of a reply on, and answers what it says of the reply where it is the first.
+fn pass_line<A: Allocator, P: Read, W: Write>(
+    told: &mut Ahead<A>,
+    peer: &mut P,
+    output: &mut W,
+) -> Result<Head, TalkFault>
+    ensures { PassesLine result (held told.old) (held told.new) (P.remaining peer.old) (P.remaining peer.new)
+        (W.contents output.old) (W.contents output.new) }
+{
+    let count = match told.read_line(peer) {
+        Ok(Found::Whole(count)) => count,
+        Ok(Found::Open) => return Err(TalkFault::Gone(Gone::Ended)),
+        Err(LineFault::Read(failed)) => return Err(TalkFault::Gone(Gone::Unread(failed))),
+        Err(LineFault::Memory(refused)) => return Err(TalkFault::Memory(refused)),
+    };
+    let (line, _) = told.held().split_at(count);
+    let (head, _) = line.split_at(count - 1);
+    let found = Head {
+        rows: rows_of(head),
+        farewell: is_farewell(head),
+    };
+    write_whole(line, output)?;
+    told.pass(count);
+    Ok(found)
+}
+
+/// Passes a whole reply on, and answers whether it ends the session.
+fn pass_reply<A: Allocator, P: Read, W: Write>(
+    told: &mut Ahead<A>,
+    peer: &mut P,
+    output: &mut W,
+) -> Result<bool, TalkFault>
+    ensures { PassesReply result (held told.old) (held told.new) (P.remaining peer.old) (P.remaining peer.new)
+        (W.contents output.old) (W.contents output.new) }
+{
+    let head = pass_line(told, peer, output)?;
+    for _ in 0..head.rows {
+        pass_line(told, peer, output)?;
+    }
+    flush(output)?;
+    Ok(head.farewell)
+}
+
+/// Sends a line, where there is one, and passes its reply on.
+fn take_turn<A: Allocator, I: Read, P: Read, Q: Write, W: Write>(
+    asked: &mut Ahead<A>,
+    told: &mut Ahead<A>,
+    input: &mut I,
+    peer_in: &mut P,
+    peer_out: &mut Q,
+    output: &mut W,
+) -> Result<Turn, TalkFault>
+    ensures { TakesTurn result
+        (sight (held asked.old) (held told.old) (I.remaining input.old) (P.remaining peer_in.old) (Q.contents peer_out.old) (W.contents output.old))
+        (sight (held asked.new) (held told.new) (I.remaining input.new) (P.remaining peer_in.new) (Q.contents peer_out.new) (W.contents output.new)) }
+{
+    match send_line(asked, input, peer_out)? {
+        Sent::Nothing => Ok(Turn::Closed(End::AtEnd)),
+        Sent::Line => match pass_reply(told, peer_in, output)? {
+            true => Ok(Turn::Closed(End::Farewell)),
+            false => Ok(Turn::Next),
+        },
+        Sent::Last => match pass_reply(told, peer_in, output)? {
+            true => Ok(Turn::Closed(End::Farewell)),
+            false => Ok(Turn::Closed(End::AtEnd)),
+        },
+    }
+}
+
+/// Takes turns until the talk ends.
+fn take_turns<A: Allocator, I: Read, P: Read, Q: Write, W: Write>(
+    asked: &mut Ahead<A>,
+    told: &mut Ahead<A>,
+    input: &mut I,
+    peer_in: &mut P,
+    peer_out: &mut Q,
+    output: &mut W,
+) -> Result<End, TalkFault>
+    ensures { TakesTurns result
+        (sight (held asked.old) (held told.old) (I.remaining input.old) (P.remaining peer_in.old) (Q.contents peer_out.old) (W.contents output.old))
+        (sight (held asked.new) (held told.new) (I.remaining input.new) (P.remaining peer_in.new) (Q.contents peer_out.new) (W.contents output.new)) }
+{
+    for _ in 0..u64::MAX {
+        match take_turn(asked, told, input, peer_in, peer_out, output)? {
+            Turn::Next => {}
+            Turn::Closed(end) => return Ok(end),
+        }
+    }
+    Err(TalkFault::TooManyLines)
+}
+
+/// Writes what is held of the server's bytes, and flushes.
+fn write_rest<A: Allocator, W: Write>(
+    told: &Ahead<A>,
+    output: &mut W,
+) -> Result<Flushed, WriteFailed>
+    ensures { Took result (W.contents output.old) (W.contents output.new) (held told.now) }
+{
+    write_whole(told.held(), output)?;
+    flush(output)
+}
+
+/// Talks with a server: sends it a line of the input, writes the whole reply to the output, flushes that, and then reads the
+/// next line. A reply is a line, and where that is `rows N` or `rolled N`, N lines more. A last line without a line feed is
+/// sent with one. Ends with the input, or behind the reply `bye`. Faults: `Input` where a read of the input fails; `Gone` where
+/// a line cannot be sent, a read of the server fails, or it has ended before a reply is whole; `Memory` where there is none for a
+/// line; `TooManyLines` behind 2^64 - 1 of them; `Output` where a write or a flush of the output fails. But for `Output` all that
+/// was read of the server is written.
+pub fn talk<A: Allocator + Copy, I: Read, P: Read, Q: Write, W: Write>(
+    alloc: A,
+    input: &mut I,
+    peer_in: &mut P,
+    peer_out: &mut Q,
+    output: &mut W,
+) -> Result<Talked, TalkFault>
+    ensures { Talks result (I.remaining input.old) (I.remaining input.new) (P.remaining peer_in.old) (P.remaining peer_in.new)
+        (Q.contents peer_out.old) (Q.contents peer_out.new) (W.contents output.old) (W.contents output.new) }
+{
+    let mut asked = Ahead::none(alloc);
+    let mut told = Ahead::none(alloc);
+    match take_turns(&mut asked, &mut told, input, peer_in, peer_out, output) {
+        Ok(end) => {
+            let flushed = write_rest(&told, output)?;
+            Ok(Talked { end, flushed })
+        }
+        Err(fault) => match fault {
+            TalkFault::Output(failed) => Err(TalkFault::Output(failed)),
+            fault => {
+                write_rest(&told, output)?;
+                Err(fault)
+            }
+        },
+    }
+}

@@ -1,0 +1,177 @@
+//! What stands when a talk ends by a fault.
+use crate::talking::{
+    ASKED, ASKED_ENDS, Fails, NONE_FAILS, TOLD, TOLD_ENDS, check, outcome_of, writer,
+};
+use client::{Gone, TalkFault, talk};
+use failing_streams::{CountingReader, FailingReader};
+use refusing::Refusing;
+use std::process::Abort;
+
+/// How many of these ends are not beyond a place, but for the first.
+fn whole(ends: &[usize; 5], place: usize) -> usize {
+    let mut count = 0usize;
+    for end in &ends[1..] {
+        if *end <= place {
+            count = count.saturating_add(1);
+        }
+    }
+    count
+}
+
+/// The front of a text up to one of its ends.
+fn up_to<'a>(text: &'a str, ends: &[usize; 5], count: usize) -> &'a [u8] {
+    match ends.get(count) {
+        Some(end) => text.as_bytes().split_at((*end).min(text.len())).0,
+        None => text.as_bytes(),
+    }
+}
+
+/// The input fails at each of its reads: the whole lines before have their replies, and nothing is sent of the next one.
+#[test]
+fn each_read_of_the_input_fails(rt: HostRuntime) {
+    for at in 0..=ASKED.len() {
+        let fails = Fails {
+            input: (at as u64).saturating_add(1),
+            ..NONE_FAILS
+        };
+        let outcome = outcome_of(rt.alloc(), rt.alloc(), ASKED, TOLD.as_bytes(), fails);
+        assert!(rt; matches!(outcome.end, Err(TalkFault::Input(_))), "at {at}");
+        let count = whole(&ASKED_ENDS, at);
+        check(
+            &rt,
+            &outcome,
+            up_to(ASKED, &ASKED_ENDS, count),
+            up_to(TOLD, &TOLD_ENDS, count),
+        );
+    }
+}
+
+/// The server fails at each read from it, or ends there: what has come is written, and no further line is sent.
+#[test]
+fn the_server_is_gone(rt: HostRuntime) {
+    for at in 0..TOLD.len() {
+        let count = whole(&TOLD_ENDS, at).saturating_add(1);
+        let heard = TOLD.as_bytes().split_at(at).0;
+        let fails = Fails {
+            heard: (at as u64).saturating_add(1),
+            ..NONE_FAILS
+        };
+        let failed = outcome_of(rt.alloc(), rt.alloc(), ASKED, TOLD.as_bytes(), fails);
+        assert!(rt;
+            matches!(failed.end, Err(TalkFault::Gone(Gone::Unread(_)))),
+            "at {at}"
+        );
+        check(&rt, &failed, up_to(ASKED, &ASKED_ENDS, count), heard);
+        let ended = outcome_of(rt.alloc(), rt.alloc(), ASKED, heard, NONE_FAILS);
+        assert!(rt;
+            matches!(ended.end, Err(TalkFault::Gone(Gone::Ended))),
+            "at {at}"
+        );
+        check(&rt, &ended, up_to(ASKED, &ASKED_ENDS, count), heard);
+    }
+}
+
+/// Each line cannot be sent: those before it have their replies.
+#[test]
+fn each_line_is_not_sent(rt: HostRuntime) {
+    for at in 0..4usize {
+        let fails = Fails {
+            sent: (at as u64).saturating_add(1),
+            ..NONE_FAILS
+        };
+        let outcome = outcome_of(rt.alloc(), rt.alloc(), ASKED, TOLD.as_bytes(), fails);
+        assert!(rt;
+            matches!(outcome.end, Err(TalkFault::Gone(Gone::Unsent(_)))),
+            "at {at}"
+        );
+        check(
+            &rt,
+            &outcome,
+            up_to(ASKED, &ASKED_ENDS, at),
+            up_to(TOLD, &TOLD_ENDS, at),
+        );
+    }
+}
+
+/// Each write of the output fails, of which there is one a line: nothing is written behind it, and no further line is sent.
+#[test]
+fn each_write_of_the_output_fails(rt: HostRuntime) {
+    let writes: [(&str, usize); 6] = [
+        ("", 1),
+        ("hello north\n", 2),
+        ("hello north\nrows 2\n", 2),
+        ("hello north\nrows 2\n1 1 north mast POINT (3 4)\n", 2),
+        (
+            "hello north\nrows 2\n1 1 north mast POINT (3 4)\n2 1 north mast POINT (3 4)\n",
+            3,
+        ),
+        (
+            "hello north\nrows 2\n1 1 north mast POINT (3 4)\n2 1 north mast POINT (3 4)\nstaged\n",
+            4,
+        ),
+    ];
+    for (at, (written, lines)) in writes.iter().enumerate() {
+        let fails = Fails {
+            output: (at as u64).saturating_add(1),
+            ..NONE_FAILS
+        };
+        let outcome = outcome_of(rt.alloc(), rt.alloc(), ASKED, TOLD.as_bytes(), fails);
+        assert!(rt; matches!(outcome.end, Err(TalkFault::Output(_))), "at {at}");
+        check(
+            &rt,
+            &outcome,
+            up_to(ASKED, &ASKED_ENDS, *lines),
+            written.as_bytes(),
+        );
+    }
+}
+
+/// Each allocation is refused, and behind the last of them none: until then the talk ends for want of memory.
+#[test]
+fn each_allocation_is_refused(rt: HostRuntime) {
+    let memory = Refusing::new(rt.alloc(), 0);
+    let mut refused = 0u64;
+    for at in 1..=20 {
+        memory.refuse(at);
+        let outcome = outcome_of(&memory, rt.alloc(), ASKED, TOLD.as_bytes(), NONE_FAILS);
+        if !memory.has_refused() {
+            assert!(rt; outcome.end.is_ok(), "at {at}");
+            break;
+        }
+        assert!(rt; matches!(outcome.end, Err(TalkFault::Memory(_))), "at {at}");
+        assert!(rt;
+            TOLD.as_bytes().starts_with(outcome.written.as_slice()),
+            "at {at}"
+        );
+        refused = at;
+    }
+    assert!(rt; (2..20).contains(&refused), "{refused}");
+}
+
+/// A line of the server that does not end is held until there is no memory for it; what came of it is written.
+#[test]
+fn a_line_without_end(rt: HostRuntime) {
+    let memory = Refusing::new(rt.alloc(), 6);
+    let mut input = FailingReader {
+        bytes: b"A\n",
+        fails_at: 0,
+    };
+    let mut peer = CountingReader {
+        gives: b'#',
+        left: u64::MAX,
+        calls: 0,
+    };
+    let mut sent = writer(rt.alloc(), 0);
+    let mut written = writer(rt.alloc(), 0);
+    let end = talk(&memory, &mut input, &mut peer, &mut sent, &mut written);
+    assert!(rt; matches!(end, Err(TalkFault::Memory(_))));
+    assert!(rt; peer.calls > 4_096);
+    assert_eq!(rt; written.taken.len() as u64, peer.calls);
+}
+
+/// What is told of each fault.
+#[test]
+fn words(rt: HostRuntime) {
+    assert_eq!(rt; TalkFault::Gone(Gone::Ended).word(), "the server is gone");
+    assert_eq!(rt; TalkFault::TooManyLines.word(), "V3");
+}
