@@ -2,7 +2,7 @@
 use std::io;
 use std::io::{ErrorKind, Write};
 
-/// A writer that takes so many bytes a call. One write fails, counted from 1, or none at 0, and the next goes on.
+/// A writer that takes so many bytes a call. One write or one flush fails, counted from 1, or none at 0, and the next goes on.
 #[derive(Drop)]
 pub struct FailingWriter {
     pub taken: Vec<u8>,
@@ -22,19 +22,31 @@ pub enum Failure {
     Interrupted,
     /// No write fails, and each flush, which leaves a mark behind what was taken.
     Flush,
+    /// No write fails, and the flush of that number, which leaves the same mark.
+    OneFlush,
+}
+
+impl FailingWriter {
+    /// Whether this call is the one that fails, of those that are counted.
+    fn is_due(&mut self) -> bool {
+        let due = self.fails_at == 1;
+        self.fails_at = self.fails_at.saturating_sub(1);
+        due
+    }
 }
 
 impl Write for FailingWriter {
     fn write(&mut self, buf: &[u8]) -> io::Result<usize> {
-        let fails = self.fails_at == 1;
-        self.fails_at = self.fails_at.saturating_sub(1);
+        let fails = match self.with {
+            Failure::Flush | Failure::OneFlush => false,
+            Failure::Error | Failure::Nothing | Failure::Interrupted => self.is_due(),
+        };
         if fails {
-            match self.with {
-                Failure::Error => return Err(ErrorKind::Other.into()),
-                Failure::Nothing => return Ok(0),
-                Failure::Interrupted => return Err(ErrorKind::Interrupted.into()),
-                Failure::Flush => {}
-            }
+            return match self.with {
+                Failure::Nothing => Ok(0),
+                Failure::Interrupted => Err(ErrorKind::Interrupted.into()),
+                _ => Err(ErrorKind::Other.into()),
+            };
         }
         let count = buf.len().min(self.most);
         self.taken.write_all(&buf[..count])?;
@@ -42,12 +54,15 @@ impl Write for FailingWriter {
     }
 
     fn flush(&mut self) -> io::Result<()> {
-        match self.with {
-            Failure::Flush => {
-                self.taken.write_all(b"(flush)")?;
-                Err(ErrorKind::Other.into())
-            }
-            _ => Ok(()),
+        let fails = match self.with {
+            Failure::Flush => true,
+            Failure::OneFlush => self.is_due(),
+            Failure::Error | Failure::Nothing | Failure::Interrupted => false,
+        };
+        if fails {
+            self.taken.write_all(b"(flush)")?;
+            return Err(ErrorKind::Other.into());
         }
+        Ok(())
     }
 }

@@ -3,7 +3,7 @@ ghost use Rattle.std.specs.Prelude.{◌≡◌};
 
 use combining::Question;
 use features::{Action, Change, Name, Subject, Subjects};
-use hall::{Gate, Hall, ListName, Seat, Unnamed, View};
+use hall::{Closed, Gate, Hall, ListName, Seat, Unnamed, View};
 use plane::{Point, Shape};
 use policy_text::{Document, read_document};
 use std::alloc::{Allocator, Global};
@@ -185,14 +185,14 @@ pub fn rows<L: Ledger + ListName, H: Wait + Drop, A: Allocator + Copy, G: Gate>(
 
 /// Sets a flag before the second step of a search, and waits there for another.
 #[derive(Drop)]
-pub struct Meeting<'a> {
+struct Meeting<'a> {
     calls: u64,
     mine: &'a AtomicU64,
     other: &'a AtomicU64,
 }
 
 impl<'a> Meeting<'a> {
-    pub fn new(mine: &'a AtomicU64, other: &'a AtomicU64) -> Self {
+    fn new(mine: &'a AtomicU64, other: &'a AtomicU64) -> Self {
         Meeting {
             calls: 0,
             mine,
@@ -221,5 +221,38 @@ impl Gate for Meeting<'_> {
                 self.mine.store(2, Ordering::SeqCst);
             }
         }
+    }
+}
+
+/// Searches the square, waits after the first step until a flag is set, and gives the seat back.
+pub fn search_meeting<'h, L: Ledger + ListName, H: Wait + Drop, R: Wait + Abort>(
+    rt: &R,
+    seat: Seat<'h, L, H, Global>,
+    seen: &AtomicU64,
+    done: &AtomicU64,
+) -> (Seat<'h, L, H, Global>, Option<usize>) {
+    let mut seat = seat;
+    let mut gate = Meeting::new(seen, done);
+    let found = rows(rt, &mut seat, square(rt), &mut gate);
+    (seat, found)
+}
+
+/// Closes a hall with its two seats and so many records.
+pub fn close_two<'h, L: Ledger + ListName, H: Wait + Drop, R: Wait + Abort>(
+    rt: &R,
+    heap: Global,
+    hall: &'h Hall<L, H, Global>,
+    one: Seat<'h, L, H, Global>,
+    two: Seat<'h, L, H, Global>,
+    records: u64,
+)
+    requires { L.parts ≡ 1025 }
+{
+    let mut seats = Vec::new(heap);
+    assert!(rt; seats.push(one).is_ok());
+    assert!(rt; seats.push(two).is_ok());
+    match hall.close(rt, seats) {
+        Ok(closed) => assert_eq!(rt; closed, Closed { records, seats: 2 }),
+        Err((fault, _)) => panic!(rt; "not closed: {fault}"),
     }
 }

@@ -1,7 +1,7 @@
 //! Lists that a search holds back.
 ghost use Rattle.std.specs.Prelude.{◌≡◌};
 
-use crate::halls::{Meeting, TURNS, applied, opened, point, road, rows, seat, square, wait_for};
+use crate::halls::{TURNS, applied, opened, point, road, rows, search_meeting, seat, wait_for};
 use hall::{CloseFault, Hall, HallFault, ListName, NoGate, Seat, TRY_LIMIT, Unnamed};
 use std::alloc::Global;
 use std::marker::Brand;
@@ -19,19 +19,6 @@ const HELD: u64 = 1;
 
 /// It was answered otherwise.
 const OTHER: u64 = 2;
-
-/// Searches the square, and waits after the first step until the list is answered.
-fn search_waiting<'h, L: Ledger + ListName, H: Wait + Drop, R: Wait + Abort>(
-    rt: &R,
-    seat: Seat<'h, L, H, Global>,
-    seen: &AtomicU64,
-    answered: &AtomicU64,
-) -> (Seat<'h, L, H, Global>, Option<usize>) {
-    let mut seat = seat;
-    let mut gate = Meeting::new(seen, answered);
-    let found = rows(rt, &mut seat, square(rt), &mut gate);
-    (seat, found)
-}
 
 /// Commits a list once the first search waits, and tells how it was answered.
 fn commit_held<'h, L: Ledger + ListName, H: Wait + Drop, R: Wait + Abort>(
@@ -121,7 +108,7 @@ fn hold<
 ) -> (Seat<'h, L, H, Global>, Vec<Seat<'h, L, H, Global>>) {
     let ((first, found), (others, searches)) = join(
         rt,
-        move || search_waiting(rt, first, seen, answered),
+        move || search_meeting(rt, first, seen, answered),
         move || hold_beside(rt, others, seen, answered),
     );
     assert_eq!(rt; found, Some(1));

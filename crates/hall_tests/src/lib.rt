@@ -10,6 +10,8 @@ mod held_tests;
 #[cfg(test)]
 mod memory_tests;
 #[cfg(test)]
+mod roll_tests;
+#[cfg(test)]
 mod thread_tests;
 #[cfg(test)]
 mod view_tests;

@@ -2,11 +2,11 @@
 ghost use Rattle.std.specs.Prelude.{◌≡◌};
 
 use crate::halls::{
-    Meeting, ROADS, applied, document, opened, point, question, road, rows, seat, square, view,
-    wait_for,
+    ROADS, applied, close_two, document, opened, point, question, road, rows, search_meeting, seat,
+    view, wait_for,
 };
 use decision::Ruling;
-use hall::{Closed, Hall, ListName, NoGate, Seat, Unnamed};
+use hall::{Hall, ListName, NoGate, Seat, Unnamed};
 use std::alloc::Global;
 use std::marker::Brand;
 use std::process::Abort;
@@ -15,19 +15,6 @@ use std::sync::atomic::{AtomicU64, Ordering};
 use std::sync::ledger::Ledger;
 use std::test::Fail;
 use std::thread::{Threads, join};
-
-/// Searches the square, waits after the first step for the other seat's list, and gives the seat back.
-fn search_meeting<'h, L: Ledger + ListName, H: Wait + Drop, R: Wait + Abort>(
-    rt: &R,
-    seat: Seat<'h, L, H, Global>,
-    seen: &AtomicU64,
-    done: &AtomicU64,
-) -> (Seat<'h, L, H, Global>, Option<usize>) {
-    let mut seat = seat;
-    let mut gate = Meeting::new(seen, done);
-    let found = rows(rt, &mut seat, square(rt), &mut gate);
-    (seat, found)
-}
 
 /// Commits once the other seat's search waits, then lets it go on, and gives the seat back.
 fn commit_meeting<'h, L: Ledger + ListName, H: Wait + Drop, R: Wait + Abort>(
@@ -91,7 +78,7 @@ fn two_threads_in<
     );
     assert_told(rt, heap, &hall, &mut chief);
     assert!(rt; chief.roll(rt).is_ok());
-    close_two(rt, heap, &hall, chief, north);
+    close_two(rt, heap, &hall, chief, north, 5);
 }
 
 /// The steward puts a document in force, and a view that is told of it explains by it.
@@ -114,31 +101,6 @@ fn assert_told<L: Ledger + ListName, H: Wait + Drop, R: Wait + Abort>(
     assert_eq!(rt; explained.edition, 2);
     assert!(rt; matches!(explained.ruling, Ruling::NoneApplied));
     assert!(rt; explained.rule.is_none());
-}
-
-/// Closes a hall with its two seats.
-fn close_two<'h, L: Ledger + ListName, H: Wait + Drop, R: Wait + Abort>(
-    rt: &R,
-    heap: Global,
-    hall: &'h Hall<L, H, Global>,
-    one: Seat<'h, L, H, Global>,
-    two: Seat<'h, L, H, Global>,
-)
-    requires { L.parts ≡ 1025 }
-{
-    let mut seats = Vec::new(heap);
-    assert!(rt; seats.push(one).is_ok());
-    assert!(rt; seats.push(two).is_ok());
-    match hall.close(rt, seats) {
-        Ok(closed) => assert_eq!(rt;
-            closed,
-            Closed {
-                records: 5,
-                seats: 2
-            }
-        ),
-        Err((fault, _)) => panic!(rt; "not closed: {fault}"),
-    }
 }
 
 #[test]

@@ -2,10 +2,20 @@
 #![tactic(auto)]
 
 #[cfg(test)]
+mod clients;
+#[cfg(test)]
+mod fault_tests;
+#[cfg(test)]
+mod held_tests;
+#[cfg(test)]
 mod memory_streams;
 #[cfg(test)]
 mod servers;
 #[cfg(test)]
 mod socket_tests;
+#[cfg(test)]
+mod stranger_lines;
+#[cfg(test)]
+mod stranger_tests;
 #[cfg(test)]
 mod stream_tests;

@@ -1,54 +1,75 @@
-//! Streams in memory, and gates that wait for each other.
+//! Streams in memory, and gates and clients that wait for each other.
+use failing_streams::{FailingWriter, Failure};
 use hall::Gate;
-use std::io::{ErrorKind, Write};
+use std::alloc::Global;
+use std::io::{Read, Write};
+use std::process::Abort;
 use std::sync::atomic::{AtomicU64, Ordering};
 use std::sync::{Mutex, Wait};
 use std::{io, thread};
 
-/// How many turns a gate waits at most.
-const TURNS: u32 = 1_000_000;
+/// How many turns a thread waits for another at most.
+const TURNS: u32 = 10_000_000;
 
-/// Where the replies of a session go, which are read when it has ended; or a writer that fails at once.
+/// Where the replies of a session go: into a writer that is looked at when the session has ended.
 #[derive(Drop)]
 pub struct Replies<'a, R: Wait> {
     rt: &'a R,
-    told: Option<&'a Mutex<Vec<u8>>>,
+    told: &'a Mutex<FailingWriter>,
 }
 
 impl<'a, R: Wait> Replies<'a, R> {
-    /// The replies are kept here.
-    pub fn kept_in(rt: &'a R, told: &'a Mutex<Vec<u8>>) -> Self {
-        Replies {
-            rt,
-            told: Some(told),
-        }
-    }
-
-    /// Each write fails.
-    pub fn refused(rt: &'a R) -> Self {
-        Replies { rt, told: None }
+    /// The replies go into this writer.
+    pub fn kept_in(rt: &'a R, told: &'a Mutex<FailingWriter>) -> Self {
+        Replies { rt, told }
     }
 }
 
 impl<R: Wait> Write for Replies<'_, R> {
     fn write(&mut self, buf: &[u8]) -> io::Result<usize> {
-        match self.told {
-            Some(told) => {
-                told.lock(self.rt).extend_from_slice(buf)?;
-                Ok(buf.len())
-            }
-            None => Err(ErrorKind::BrokenPipe.into()),
-        }
+        self.told.lock(self.rt).write(buf)
     }
 
     fn flush(&mut self) -> io::Result<()> {
-        Ok(())
+        self.told.lock(self.rt).flush()
     }
 }
 
-/// A gate that sets a flag when it is first called, and waits then until the other's is set.
+/// A writer that takes all replies.
+pub fn whole(heap: Global) -> Mutex<FailingWriter> {
+    failing(heap, usize::MAX, 0, Failure::Error)
+}
+
+/// A writer that takes so many bytes a call. One call fails, counted from 1, or none at 0, and the next goes on.
+pub fn failing(heap: Global, most: usize, fails_at: u64, with: Failure) -> Mutex<FailingWriter> {
+    Mutex::new(FailingWriter {
+        taken: Vec::new(heap),
+        most,
+        fails_at,
+        with,
+    })
+}
+
+/// Compares what a session was told.
+pub fn check_told(rt: &impl Abort, told: Mutex<FailingWriter>, expected: &str) {
+    assert_eq!(rt; told.into_inner().taken.as_slice(), expected.as_bytes());
+}
+
+/// Waits until a flag is set, for `TURNS` turns at most, and answers whether it is.
+fn wait_for(flag: &AtomicU64) -> bool {
+    for _ in 0..TURNS {
+        if flag.load(Ordering::SeqCst) != 0 {
+            return true;
+        }
+        thread::yield_now();
+    }
+    false
+}
+
+/// A gate that lets so many calls pass. Behind these it sets a flag, once, and waits until the other's is set.
 #[derive(Drop)]
 pub struct Meeting<'a> {
+    pub passes: u64,
     pub mine: &'a AtomicU64,
     pub other: &'a AtomicU64,
 }
@@ -60,16 +81,69 @@ impl Meeting<'_> {
 
 impl Gate for Meeting<'_> {
     fn between(&mut self) {
-        if self.mine.load(Ordering::SeqCst) != 0 {
-            return;
-        }
-        self.mine.store(1, Ordering::SeqCst);
-        for _ in 0..TURNS {
-            if self.other.load(Ordering::SeqCst) != 0 {
+        if self.passes > 0 {
+            self.passes -= 1;
+        } else if self.mine.load(Ordering::SeqCst) == 0 {
+            self.mine.store(1, Ordering::SeqCst);
+            if wait_for(self.other) {
                 self.mine.store(Meeting::MET, Ordering::SeqCst);
-                return;
             }
-            thread::yield_now();
         }
+    }
+}
+
+/// What a client does next.
+#[derive(Clone, Copy, Drop)]
+pub enum Step<'a> {
+    /// It sends a text.
+    Sends(&'a str),
+    /// It sends a text again and again, until a flag is set.
+    Repeats(&'a str, &'a AtomicU64),
+    /// It waits until a flag is set.
+    Awaits(&'a AtomicU64),
+    /// It sets a flag: all that it has sent is answered.
+    Sets(&'a AtomicU64),
+}
+
+/// A client that takes one step after another. It is asked for more only when what it has sent is answered.
+#[derive(Drop)]
+pub struct Client<'a> {
+    pub steps: &'a [Step<'a>],
+}
+
+impl<'a> Client<'a> {
+    /// What it sends next, or nothing behind its last step.
+    fn next_text(&mut self) -> &'a str {
+        for _ in 0..self.steps.len() {
+            let [step, rest @ ..] = self.steps else {
+                break;
+            };
+            match *step {
+                Step::Sends(text) => {
+                    self.steps = rest;
+                    return text;
+                }
+                Step::Repeats(text, flag) => {
+                    if flag.load(Ordering::SeqCst) == 0 {
+                        return text;
+                    }
+                }
+                Step::Awaits(flag) => {
+                    wait_for(flag);
+                }
+                Step::Sets(flag) => flag.store(1, Ordering::SeqCst),
+            }
+            self.steps = rest;
+        }
+        ""
+    }
+}
+
+impl Read for Client<'_> {
+    fn read(&mut self, buf: &mut [u8]) -> io::Result<usize> {
+        let text = self.next_text();
+        let count = text.len().min(buf.len());
+        buf[..count].copy_from_slice(&text.as_bytes()[..count]);
+        Ok(count)
     }
 }

@@ -12,7 +12,7 @@ use std::thread::Threads;
 use std::time::Clock;
 
 /// Everything is permitted.
-const OPEN: &str =
+pub const OPEN: &str =
     r#"{"root":{"combine":"first-applicable","policy":"start","rules":[{"effect":"permit","rule":"open"}]}}"#;
 
 /// The document by which everything is permitted.

@@ -1,16 +1,17 @@
 //! A Unix socket, served.
+use crate::clients::{connected, told};
 use crate::servers::serving;
 use hall::Closed;
 use server::{ServerFault, SocketOptions, serve_socket};
 use std::alloc::Global;
 use std::fs::Files;
-use std::io::{Read, Write};
-use std::net::{Net, Shutdown};
-use std::os::unix::net::{UnixListener, UnixStream};
+use std::io::Read;
+use std::net::Net;
+use std::os::unix::net::UnixListener;
 use std::process::Abort;
 use std::sync::atomic::AtomicU64;
 use std::test::Fail;
-use std::{fs, io, thread};
+use std::{fs, thread};
 
 /// One connection, without bounds.
 const ONE: SocketOptions<'static> = SocketOptions {
@@ -19,25 +20,6 @@ const ONE: SocketOptions<'static> = SocketOptions {
     takeover: false,
     ends: None,
 };
-
-/// Connects, as soon as somebody listens.
-fn connected<R: Net>(rt: &R, path: &str) -> Option<UnixStream> {
-    for _ in 0..1_000_000 {
-        if let Ok(stream) = UnixStream::connect(rt, path) {
-            return Some(stream);
-        }
-        thread::yield_now();
-    }
-    None
-}
-
-/// What a client is told that sends these lines.
-fn told<R: Net>(rt: &R, heap: Global, path: &str, lines: &str) -> Option<String> {
-    let mut stream = connected(rt, path)?;
-    stream.write_all(lines.as_bytes()).ok()?;
-    stream.shutdown(Shutdown::Write).ok()?;
-    io::read_to_string(heap, stream).ok()
-}
 
 /// Checks that the path is free again.
 fn check_removed<R: Files + Abort>(rt: &R, path: &str) {
@@ -58,7 +40,7 @@ fn a_first_point(rt: HostRuntime) -> Result<(), Fail> {
     let (served, told) = thread::join(
         &rt,
         || serve_socket(&rt, rt, heap, path, serving, ONE),
-        || told(&rt, heap, path, lines),
+        || told(&rt, heap, path, lines.as_bytes()),
     );
     assert_eq!(rt;
         served,
@@ -90,7 +72,7 @@ fn policy_then_explain(rt: HostRuntime) -> Result<(), Fail> {
     let (served, told) = thread::join(
         &rt,
         || serve_socket(&rt, rt, heap, path, serving, ONE),
-        || told(&rt, heap, path, lines.as_str()),
+        || told(&rt, heap, path, lines.as_bytes()),
     );
     assert_eq!(rt;
         served,

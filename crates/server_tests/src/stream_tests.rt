@@ -1,29 +1,25 @@
 //! Streams in memory, served side by side.
-use crate::memory_streams::{Meeting, Replies};
+use crate::memory_streams::{Meeting, Replies, check_told, failing, whole};
 use crate::servers::closed_by;
+use failing_streams::Failure;
 use hall::{Closed, NoGate};
 use server::WORKER_COUNT;
 use std::alloc::Global;
-use std::process::Abort;
-use std::sync::Mutex;
 use std::sync::atomic::{AtomicU64, Ordering};
 use std::test::Fail;
-
-/// Compares what a session was told.
-fn check_told(rt: &impl Abort, told: Mutex<Vec<u8>>, expected: &str) {
-    assert_eq!(rt; told.into_inner().as_slice(), expected.as_bytes());
-}
 
 #[test]
 fn two_wait_for_each_other(rt: HostRuntime) -> Result<(), Fail> {
     let heap: Global = rt.alloc();
     let (searches, commits) = (AtomicU64::new(0), AtomicU64::new(0));
-    let (found, changed) = (Mutex::new(Vec::new(heap)), Mutex::new(Vec::new(heap)));
+    let (found, changed) = (whole(heap), whole(heap));
     let searching = Meeting {
+        passes: 0,
         mine: &searches,
         other: &commits,
     };
     let committing = Meeting {
+        passes: 0,
         mine: &commits,
         other: &searches,
     };
@@ -65,7 +61,8 @@ fn long_line(heap: Global) -> Result<Vec<u8>, Fail> {
 fn each_ends_by_itself(rt: HostRuntime) -> Result<(), Fail> {
     let heap: Global = rt.alloc();
     let long = long_line(heap)?;
-    let (first, second) = (Mutex::new(Vec::new(heap)), Mutex::new(Vec::new(heap)));
+    let (first, second) = (whole(heap), whole(heap));
+    let refused = failing(heap, usize::MAX, 1, Failure::Error);
     let streams = vec![in heap;
         (
             b"HELLO north\nADD 1 mast POINT (3 4)\nCOMMIT\n".as_slice(),
@@ -74,7 +71,7 @@ fn each_ends_by_itself(rt: HostRuntime) -> Result<(), Fail> {
         ),
         (
             b"HELLO chief\nSEARCH POINT (50 50)\n".as_slice(),
-            Replies::refused(&rt),
+            Replies::kept_in(&rt, &refused),
             NoGate
         ),
         (long.as_slice(), Replies::kept_in(&rt, &second), NoGate),
@@ -88,6 +85,7 @@ fn each_ends_by_itself(rt: HostRuntime) -> Result<(), Fail> {
         }
     );
     check_told(&rt, first, "hello north\nstaged\napplied 1\n");
+    check_told(&rt, refused, "");
     check_told(&rt, second, "error E1\nhello south\nbye\n");
     Ok(())
 }
@@ -103,7 +101,7 @@ fn lines_of_a_session(rt: HostRuntime) -> Result<(), Fail> {
         "error E5\nerror H1\nhello north\nerror E6\npermit rule open edition 1\n",
         "error E7\nerror D2\nerror X7\nstaged\nabsent change 1\naborted\nerror E2\nbye\n"
     );
-    let told = Mutex::new(Vec::new(heap));
+    let told = whole(heap);
     let streams = vec![in heap; (lines.as_bytes(), Replies::kept_in(&rt, &told), NoGate)]?;
     let closed = closed_by(&rt, rt, heap, WORKER_COUNT, streams);
     assert_eq!(rt;
@@ -122,7 +120,7 @@ fn a_steward_governs_and_rolls(rt: HostRuntime) -> Result<(), Fail> {
     let heap: Global = rt.alloc();
     let lines =
         "HELLO chief\nPOLICY {\"root\":{\"combine\":\"first-applicable\",\"policy\":\"none\",\"rules\":[]}}\nROLL\nROLL\nBYE\n";
-    let told = Mutex::new(Vec::new(heap));
+    let told = whole(heap);
     let streams = vec![in heap; (lines.as_bytes(), Replies::kept_in(&rt, &told), NoGate)]?;
     let closed = closed_by(&rt, rt, heap, 1, streams);
     assert_eq!(rt;
@@ -132,7 +130,7 @@ fn a_steward_governs_and_rolls(rt: HostRuntime) -> Result<(), Fail> {
             seats: 1
         }
     );
-    let told = told.into_inner();
+    let told = told.into_inner().taken;
     assert!(rt;
         told.as_slice()
             .starts_with(b"hello chief\nedition 2\nrolled 1\n"),
@@ -148,7 +146,7 @@ fn a_steward_governs_and_rolls(rt: HostRuntime) -> Result<(), Fail> {
 #[test]
 fn one_worker_serves_many(rt: HostRuntime) -> Result<(), Fail> {
     let heap: Global = rt.alloc();
-    let told = Mutex::new(Vec::new(heap));
+    let told = whole(heap);
     let mut streams = Vec::new(heap);
     for _ in 0..12 {
         streams.push((
@@ -180,7 +178,8 @@ fn one_worker_serves_many(rt: HostRuntime) -> Result<(), Fail> {
 #[test]
 fn nobody_comes(rt: HostRuntime) -> Result<(), Fail> {
     let heap: Global = rt.alloc();
-    let mut streams = vec![in heap; (b"".as_slice(), Replies::refused(&rt), NoGate)]?;
+    let told = whole(heap);
+    let mut streams = vec![in heap; (b"".as_slice(), Replies::kept_in(&rt, &told), NoGate)]?;
     streams.clear();
     let closed = closed_by(&rt, rt, heap, WORKER_COUNT, streams);
     assert_eq!(rt;

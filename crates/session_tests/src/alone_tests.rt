@@ -65,12 +65,18 @@ fn each_read_fails(rt: HostRuntime) {
     assert_eq!(rt; lines, 5);
 }
 
-/// Serves the session into a writer that fails, and a new run over the world that so many lines have left.
-fn serve_into(rt: &impl Abort, alloc: Global, writer: &mut FailingWriter, lines: usize) {
+/// Serves the session into a writer that fails, and a new run over the world that so many lines have left. One byte is read at a
+/// time; answers how many bytes were not read.
+fn serve_into(rt: &impl Abort, alloc: Global, writer: &mut FailingWriter, lines: usize) -> usize {
     let mut world = opened(rt, alloc, alloc);
-    let end = serve_world(alloc, alloc, &mut world, &mut TWO_POINTS.as_bytes(), writer);
+    let mut reader = FailingReader {
+        bytes: TWO_POINTS.as_bytes(),
+        fails_at: 0,
+    };
+    let end = serve_world(alloc, alloc, &mut world, &mut reader, writer);
     assert!(rt; matches!(end, Err(ServeFault::Write(_))));
     check_left(rt, alloc, &mut world, lines);
+    reader.bytes.len()
 }
 
 #[test]
@@ -93,6 +99,31 @@ fn each_write_fails(rt: HostRuntime) {
         written = written.saturating_add(reply.len()).min(ALL_REPLIES.len());
     }
     assert_eq!(rt; written, ALL_REPLIES.len());
+}
+
+/// A flush is made before each read, and one at the end: where it fails nothing more is read, and what was read before is answered.
+#[test]
+fn each_flush_fails(rt: HostRuntime) {
+    let mut lines = 0;
+    for at in 0..=TWO_POINTS.len().saturating_add(1) {
+        let mut writer = FailingWriter {
+            taken: Vec::new(rt.alloc()),
+            most: 1_000,
+            fails_at: (at as u64).saturating_add(1),
+            with: Failure::OneFlush,
+        };
+        let left = serve_into(&rt, rt.alloc(), &mut writer, lines);
+        assert_eq!(rt; left, TWO_POINTS.len().saturating_sub(at));
+        assert_eq!(rt;
+            writer.taken.strip_suffix(b"(flush)".as_slice()),
+            REPLIES.get(lines).map(|text| text.as_bytes()),
+            "at {at}"
+        );
+        if TWO_POINTS.as_bytes().get(at) == Some(&b'\n') {
+            lines = lines.saturating_add(1);
+        }
+    }
+    assert_eq!(rt; lines, 5);
 }
 
 /// No line is skipped: an empty one and a comment have no command that is known. Behind BYE no line is answered.

@@ -1,0 +1,123 @@
+//! Rolls while another thread is at work in the hall.
+ghost use Rattle.std.specs.Prelude.{◌≡◌};
+
+use crate::halls::{TURNS, applied, close_two, opened, road, rows, seat, square};
+use hall::{ListName, NoGate, Seat, Unnamed};
+use std::alloc::Global;
+use std::marker::Brand;
+use std::process::Abort;
+use std::sync::Wait;
+use std::sync::atomic::{AtomicU64, Ordering};
+use std::sync::ledger::Ledger;
+use std::thread::{Threads, join, yield_now};
+
+/// How often the steward rolls.
+const ROLLS: u32 = 10;
+
+/// How many rounds the editor makes at least between two rolls.
+const BETWEEN: u64 = 20;
+
+/// How many rounds the editor makes at most, so that the test ends.
+const MOST: u64 = 2_000;
+
+/// Adds a road, and finds all that were added, in rounds, until the steward has rolled for the last time. Gives the seat back, and
+/// how many rounds there were.
+fn work<'h, L: Ledger + ListName, H: Wait + Drop, R: Wait + Abort>(
+    rt: &R,
+    seat: Seat<'h, L, H, Global>,
+    rounds: &AtomicU64,
+    done: &AtomicU64,
+) -> (Seat<'h, L, H, Global>, u64) {
+    let mut seat = seat;
+    for round in 1..MOST {
+        let version = applied(rt, &mut seat, road(rt, round, 1, 1), &mut NoGate);
+        assert_eq!(rt; version, Some(round));
+        let found = rows(rt, &mut seat, square(rt), &mut NoGate);
+        assert_eq!(rt; found, Some(round as usize));
+        rounds.store(round, Ordering::SeqCst);
+        if done.load(Ordering::SeqCst) > 0 {
+            return (seat, round);
+        }
+    }
+    panic!(rt; "the steward does not roll");
+}
+
+/// Waits until the editor has made so many rounds.
+fn wait_for_rounds(rt: &impl Abort, rounds: &AtomicU64, least: u64) {
+    for _ in 0..TURNS {
+        if rounds.load(Ordering::SeqCst) >= least {
+            return;
+        }
+        yield_now();
+    }
+    panic!(rt; "the editor does not work");
+}
+
+/// Rolls a piece that begins with the record of this number, and answers the number behind its last one.
+fn roll_on<L: Ledger + ListName, H: Wait + Drop, R: Wait + Abort>(
+    rt: &R,
+    chief: &mut Seat<'_, L, H, Global>,
+    first: u32,
+) -> u32 {
+    match chief.roll(rt) {
+        Ok(piece) => {
+            let count = piece.trail().len();
+            assert_eq!(rt; piece.trail().first(), first);
+            assert_eq!(rt; piece.lines().len(), count as usize);
+            first.saturating_add(count)
+        }
+        Err(fault) => panic!(rt; "not rolled: {fault}"),
+    }
+}
+
+/// Rolls again and again, each time when the editor has made some more rounds. Gives the seat back, and the number behind the last
+/// record that was rolled out.
+fn roll_beside<'h, L: Ledger + ListName, H: Wait + Drop, R: Wait + Abort>(
+    rt: &R,
+    chief: Seat<'h, L, H, Global>,
+    rounds: &AtomicU64,
+    done: &AtomicU64,
+) -> (Seat<'h, L, H, Global>, u32) {
+    let mut chief = chief;
+    let mut first = 1;
+    for _ in 0..ROLLS {
+        let made = rounds.load(Ordering::SeqCst);
+        wait_for_rounds(rt, rounds, made.saturating_add(BETWEEN));
+        let next = roll_on(rt, &mut chief, first);
+        assert!(rt; next > first);
+        first = next;
+    }
+    done.store(1, Ordering::SeqCst);
+    (chief, first)
+}
+
+fn rolls_beside_work_in<
+    L: Ledger + ListName + Send + Sync,
+    H: Wait + Drop + Send,
+    R: Threads + Wait + Abort + Sync,
+>(rt: &R, own: H, heap: Global, unnamed: Unnamed)
+    requires name { unnamed.ledger.name ≡ L.name }
+    requires parts { (unnamed.ledger.parts ≡ L.parts) × (L.parts ≡ 1025) }
+    requires list { unnamed.list ≡ L.book }
+{
+    let hall = opened::<L, H>(rt, own, heap, unnamed, 0);
+    let chief = seat(rt, &hall, "chief");
+    let north = seat(rt, &hall, "north");
+    let (rounds, done) = (AtomicU64::new(0), AtomicU64::new(0));
+    let (made, stop) = (&rounds, &done);
+    let ((mut chief, first), (north, last)) = join(
+        rt,
+        move || roll_beside(rt, chief, made, stop),
+        move || work(rt, north, made, stop),
+    );
+    // A round leaves two records. What has come since the last roll is rolled out too.
+    let records = last.saturating_mul(2);
+    let next = roll_on(rt, &mut chief, first);
+    assert_eq!(rt; u64::from(next), records.saturating_add(1));
+    close_two(rt, heap, &hall, chief, north, records);
+}
+
+#[test]
+fn rolls_beside_work(rt: HostRuntime) {
+    rolls_beside_work_in::<Brand, _, _>(&rt, rt, rt.alloc(), Unnamed::new());
+}
