@@ -91,21 +91,25 @@ impl<A: Allocator> Ahead<A> {
     /// The first of the bytes that are held are done with, so many.
     pub(crate) fn pass(&mut self, count: usize)
         requires { count ≤ length (drop self.old.done self.old.bytes.items) }
-        ensures { drop self.new.done self.new.bytes.items ≡ drop count (drop self.old.done self.old.bytes.items) }
+        ensures { drop self.new.done self.new.bytes.items
+            ≡ drop count (drop self.old.done self.old.bytes.items) }
     {
         self.done += count;
     }
 
     /// A line feed behind the bytes that are held.
     pub(crate) fn end_line(&mut self) -> Result<(), Refused>
-        ensures { drop self.new.done self.new.bytes.items ≡ (if is_ok result then drop self.old.done self.old.bytes.items ++ 10 ∷ [] else drop self.old.done self.old.bytes.items) }
+        ensures { drop self.new.done self.new.bytes.items
+            ≡ (if is_ok result then drop self.old.done self.old.bytes.items ++ 10
+            ∷ [] else drop self.old.done self.old.bytes.items) }
     {
         self.bytes.try_push(b'\n')
     }
 
     /// Lets go of the bytes that are done with.
     fn tidy(&mut self)
-        ensures { drop self.new.done self.new.bytes.items ≡ drop self.old.done self.old.bytes.items }
+        ensures { drop self.new.done self.new.bytes.items
+            ≡ drop self.old.done self.old.bytes.items }
     {
         let left = self.bytes.len() - self.done;
         self.bytes.rotate_left(self.done);
@@ -115,7 +119,9 @@ impl<A: Allocator> Ahead<A> {
 
     /// Reads once, and answers how many bytes more are held: none only where the reader is at its end.
     fn read_more<R: Read>(&mut self, reader: &mut R) -> Result<usize, LineFault>
-        ensures { Fills result (drop self.old.done self.old.bytes.items) (drop self.new.done self.new.bytes.items) (R.remaining reader.old) (R.remaining reader.new) }
+        ensures { Fills result (drop self.old.done self.old.bytes.items)
+            (drop self.new.done self.new.bytes.items) (R.remaining reader.old)
+            (R.remaining reader.new) }
     {
         self.tidy();
         self.bytes.make_room(CHUNK)?;
@@ -127,8 +133,11 @@ impl<A: Allocator> Ahead<A> {
 
     /// Reads until the next line is held, or the reader is at its end. What was held before stays in front.
     pub(crate) fn read_line<R: Read>(&mut self, reader: &mut R) -> Result<Found, LineFault>
-        ensures gains { Gains (drop self.old.done self.old.bytes.items) (drop self.new.done self.new.bytes.items) (R.remaining reader.old) (R.remaining reader.new) }
-        ensures finds { FindsLine result (drop self.new.done self.new.bytes.items) (R.remaining reader.new) }
+        ensures gains { Gains (drop self.old.done self.old.bytes.items)
+            (drop self.new.done self.new.bytes.items) (R.remaining reader.old)
+            (R.remaining reader.new) }
+        ensures finds { FindsLine result (drop self.new.done self.new.bytes.items)
+            (R.remaining reader.new) }
     {
         let mut seen = 0;
         loop {

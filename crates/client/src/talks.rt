@@ -78,7 +78,8 @@ fn send_held<A: Allocator, Q: Write>(
 ) -> Result<(), WriteFailed>
     requires { count ≤ length (held asked.old) }
     ensures passes { held asked.new ≡ drop count (held asked.old) }
-    ensures sends { Took result (Q.contents peer.old) (Q.contents peer.new) (take count (held asked.old)) }
+    ensures sends { Took result (Q.contents peer.old) (Q.contents peer.new)
+        (take count (held asked.old)) }
 {
     let (line, _) = asked.held().split_at(count);
     let sent = write_line(line, peer);
@@ -88,7 +89,8 @@ fn send_held<A: Allocator, Q: Write>(
 
 /// Sends what is held as the last line of the input, with a line feed, where something is held.
 fn send_last<A: Allocator, Q: Write>(asked: &mut Ahead<A>, peer: &mut Q) -> Result<Sent, TalkFault>
-    ensures { SendsLast result (held asked.old) (held asked.new) (Q.contents peer.old) (Q.contents peer.new) }
+    ensures { SendsLast result (held asked.old) (held asked.new) (Q.contents peer.old)
+        (Q.contents peer.new) }
 {
     if asked.held().is_empty() {
         return Ok(Sent::Nothing);
@@ -109,8 +111,8 @@ fn send_line<A: Allocator, I: Read, Q: Write>(
     input: &mut I,
     peer: &mut Q,
 ) -> Result<Sent, TalkFault>
-    ensures { SendsLine result (held asked.old) (held asked.new) (I.remaining input.old) (I.remaining input.new)
-        (Q.contents peer.old) (Q.contents peer.new) }
+    ensures { SendsLine result (held asked.old) (held asked.new) (I.remaining input.old)
+        (I.remaining input.new) (Q.contents peer.old) (Q.contents peer.new) }
 {
     let count = match asked.read_line(input) {
         Ok(Found::Whole(count)) => count,
@@ -130,8 +132,8 @@ fn pass_line<A: Allocator, P: Read, W: Write>(
     peer: &mut P,
     output: &mut W,
 ) -> Result<Head, TalkFault>
-    ensures { PassesLine result (held told.old) (held told.new) (P.remaining peer.old) (P.remaining peer.new)
-        (W.contents output.old) (W.contents output.new) }
+    ensures { PassesLine result (held told.old) (held told.new) (P.remaining peer.old)
+        (P.remaining peer.new) (W.contents output.old) (W.contents output.new) }
 {
     let count = match told.read_line(peer) {
         Ok(Found::Whole(count)) => count,
@@ -156,8 +158,8 @@ fn pass_reply<A: Allocator, P: Read, W: Write>(
     peer: &mut P,
     output: &mut W,
 ) -> Result<bool, TalkFault>
-    ensures { PassesReply result (held told.old) (held told.new) (P.remaining peer.old) (P.remaining peer.new)
-        (W.contents output.old) (W.contents output.new) }
+    ensures { PassesReply result (held told.old) (held told.new) (P.remaining peer.old)
+        (P.remaining peer.new) (W.contents output.old) (W.contents output.new) }
 {
     let head = pass_line(told, peer, output)?;
     for _ in 0..head.rows {
@@ -239,8 +241,9 @@ pub fn talk<A: Allocator + Copy, I: Read, P: Read, Q: Write, W: Write>(
     peer_out: &mut Q,
     output: &mut W,
 ) -> Result<Talked, TalkFault>
-    ensures { Talks result (I.remaining input.old) (I.remaining input.new) (P.remaining peer_in.old) (P.remaining peer_in.new)
-        (Q.contents peer_out.old) (Q.contents peer_out.new) (W.contents output.old) (W.contents output.new) }
+    ensures { Talks result (I.remaining input.old) (I.remaining input.new) (P.remaining peer_in.old)
+        (P.remaining peer_in.new) (Q.contents peer_out.old) (Q.contents peer_out.new)
+        (W.contents output.old) (W.contents output.new) }
 {
     let mut asked = Ahead::none(alloc);
     let mut told = Ahead::none(alloc);

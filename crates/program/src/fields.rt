@@ -75,7 +75,8 @@ pub(crate) fn value_in(value: &Value, key: Key) -> Option<&Value>
 
 /// The array that stands under a key.
 pub(crate) fn array_in(value: &Value, key: Key) -> Option<&[Value]>
-    ensures { option_map (λ items. items_view items.now) result ≡ option_and_then as_array (value_of key (view value.now)) }
+    ensures { option_map (λ items. items_view items.now) result
+        ≡ option_and_then as_array (value_of key (view value.now)) }
 {
     Some(value.get(key.text())?.as_array()?)
 }

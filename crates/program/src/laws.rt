@@ -12,8 +12,10 @@ ghost use Rattle.plain_world.specs.declared.settings.TheConstants.{STEP_LIMIT};
 
 /// What a text is read as is the configuration that it spells; and whatever it spells, it is read as.
 pub fn read_is_spelled()
-    ensures found { (text : List ℕ) (config : ConfigData) → config_of text ≡ Ok config → Spells text config }
-    ensures only { (text : List ℕ) (config : ConfigData) → Spells text config → config_of text ≡ Ok config }
+    ensures found { (text : List ℕ) (config : ConfigData) → config_of text ≡ Ok config
+        → Spells text config }
+    ensures only { (text : List ℕ) (config : ConfigData) → Spells text config
+        → config_of text ≡ Ok config }
 {}
 
 /// No text spells two configurations.

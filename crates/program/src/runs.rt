@@ -50,8 +50,13 @@ pub fn run_file<'a, A: Allocator + Copy, R: Read, W: Write>(
     file: &mut R,
     output: &mut W,
 ) -> Result<Flushed, ProgramFault<'a>>
-    ensures served { OnOk result (IfSome (R.remaining file.old) (λ script. Served (config_data config) script (W.contents output.old) (W.contents output.new))) }
-    ensures err { IfErr result (IsOfRun (config_data config) (R.remaining file.old) (W.contents output.old) (W.contents output.new)) }
+    ensures served { OnOk result
+        (IfSome (R.remaining file.old)
+        (λ script. Served (config_data config) script (W.contents output.old)
+        (W.contents output.new))) }
+    ensures err { IfErr result
+        (IsOfRun (config_data config) (R.remaining file.old) (W.contents output.old)
+        (W.contents output.new)) }
 {
     let mut world = match World::open(alloc, heap, config.subjects, config.document) {
         Ok(world) => world,
@@ -70,8 +75,10 @@ fn named_config<'a, F: Folder>(
     name: &'a str,
     folder: &F,
 ) -> Result<Config<Global>, ProgramFault<'a>>
-    ensures ok { IfOk result (λ config. IsConfigOf (F.holds folder.now) (Some name.now) (config_data config)) }
-    ensures err { IfErr result (IsOfConfig (F.holds folder.now) (F.closed folder.now) (Some name.now)) }
+    ensures ok { IfOk result
+        (λ config. IsConfigOf (F.holds folder.now) (Some name.now) (config_data config)) }
+    ensures err { IfErr result
+        (IsOfConfig (F.holds folder.now) (F.closed folder.now) (Some name.now)) }
 {
     let mut file = match folder.open_file(name) {
         Ok(file) => file,
@@ -90,8 +97,12 @@ fn asked_config<'a, F: Folder>(
     name: Option<&'a str>,
     folder: &F,
 ) -> Result<Config<Global>, ProgramFault<'a>>
-    ensures ok { IfOk result (λ config. IsConfigOf (F.holds folder.now) (option_map (λ name. name.now) name.entry) (config_data config)) }
-    ensures err { IfErr result (IsOfConfig (F.holds folder.now) (F.closed folder.now) (option_map (λ name. name.now) name.entry)) }
+    ensures ok { IfOk result
+        (λ config. IsConfigOf (F.holds folder.now) (option_map (λ name. name.now) name.entry)
+        (config_data config)) }
+    ensures err { IfErr result
+        (IsOfConfig (F.holds folder.now) (F.closed folder.now)
+        (option_map (λ name. name.now) name.entry)) }
 {
     let Some(name) = name else {
         return match built_in_config(heap, heap) {
@@ -112,8 +123,13 @@ pub fn run_named<'a, F: Folder, W: Write>(
     folder: &F,
     output: &mut W,
 ) -> Result<Flushed, ProgramFault<'a>>
-    ensures ran { OnOk result (RanScript (F.holds folder.now) (option_map (λ name. name.now) words.entry.config) words.entry.script.now (W.contents output.old) (W.contents output.new)) }
-    ensures err { IfErr result (BrokeOff (F.holds folder.now) (F.closed folder.now) (option_map (λ name. name.now) words.entry.config) words.entry.script.now (W.contents output.old) (W.contents output.new)) }
+    ensures ran { OnOk result
+        (RanScript (F.holds folder.now) (option_map (λ name. name.now) words.entry.config)
+        words.entry.script.now (W.contents output.old) (W.contents output.new)) }
+    ensures err { IfErr result
+        (BrokeOff (F.holds folder.now) (F.closed folder.now)
+        (option_map (λ name. name.now) words.entry.config) words.entry.script.now
+        (W.contents output.old) (W.contents output.new)) }
 {
     let config = match asked_config(heap, words.config, folder) {
         Ok(config) => config,
@@ -164,7 +180,8 @@ fn wanted_server<'a, F: Folder>(
     folder: &F,
 ) -> Result<WantedServer<'a>, ProgramFault<'a>>
     ensures ok { IfOk result (IsServerOf (F.holds folder.now) words.entry) }
-    ensures err { IfErr result (IsServerFault (F.holds folder.now) (F.closed folder.now) words.entry) }
+    ensures err { IfErr result
+        (IsServerFault (F.holds folder.now) (F.closed folder.now) words.entry) }
 {
     match asked_config(heap, words.config, folder) {
         Ok(config) => Ok(WantedServer {

@@ -10,7 +10,8 @@ use std::io::Write;
 
 /// Writes two texts, one behind the other.
 fn write_both<W: Write>(first: &[u8], second: &[u8], writer: &mut W) -> Result<(), WriteFailed>
-    ensures { Took result (W.contents writer.old) (W.contents writer.new) (first.now ++ second.now) }
+    ensures { Took result (W.contents writer.old) (W.contents writer.new)
+        (first.now ++ second.now) }
 {
     write_whole(first, writer)?;
     write_whole(second, writer)
