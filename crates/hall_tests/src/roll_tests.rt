@@ -91,6 +91,28 @@ fn roll_beside<'h, L: Ledger + ListName, H: Wait + Drop, R: Wait + Abort>(
     (chief, first)
 }
 
+/// Both seats side by side: the steward's, with the number behind the last record that it rolled out, and the editor's, with how many
+/// rounds it made.
+fn roll_and_work<
+    'h,
+    L: Ledger + ListName + Send + Sync,
+    H: Wait + Drop + Send,
+    R: Threads + Wait + Abort + Sync,
+>(
+    rt: &R,
+    chief: Seat<'h, L, H, Global>,
+    north: Seat<'h, L, H, Global>,
+    rounds: &AtomicU64,
+    done: &AtomicU64,
+) -> ((Seat<'h, L, H, Global>, u32), (Seat<'h, L, H, Global>, u64)) {
+    let (chief, north) = join(
+        rt,
+        move || roll_beside(rt, chief, rounds, done),
+        move || work(rt, north, rounds, done),
+    );
+    (chief, north)
+}
+
 fn rolls_beside_work_in<
     L: Ledger + ListName + Send + Sync,
     H: Wait + Drop + Send,
@@ -104,12 +126,9 @@ fn rolls_beside_work_in<
     let chief = seat(rt, &hall, "chief");
     let north = seat(rt, &hall, "north");
     let (rounds, done) = (AtomicU64::new(0), AtomicU64::new(0));
-    let (made, stop) = (&rounds, &done);
-    let ((mut chief, first), (north, last)) = join(
-        rt,
-        move || roll_beside(rt, chief, made, stop),
-        move || work(rt, north, made, stop),
-    );
+    let (rolled, worked) = roll_and_work(rt, chief, north, &rounds, &done);
+    let (mut chief, first) = rolled;
+    let (north, last) = worked;
     // A round leaves two records. What has come since the last roll is rolled out too.
     let records = last.saturating_mul(2);
     let next = roll_on(rt, &mut chief, first);

@@ -2,66 +2,52 @@
 use crate::memory_streams::{Client, Meeting, Replies, Step, check_told, whole};
 use crate::servers::closed_by;
 use failing_streams::FailingWriter;
-use hall::{Closed, TRY_LIMIT};
-use log::Log;
+use hall::TRY_LIMIT;
 use server::WORKER_COUNT;
 use std::alloc::Global;
-use std::process::Abort;
 use std::sync::atomic::{AtomicU64, Ordering};
 use std::sync::{Mutex, Wait};
-use std::thread::Threads;
-use std::time::Clock;
+use std::test::Fail;
 
-/// A client of these steps, whose search waits behind its first event, or a client that never waits.
+/// A search, which waits where it has passed the place that the list below looks for, until that list is answered.
+const SEARCHES: [Step; 1] = [Step::Sends(
+    "HELLO north\nSEARCH POLYGON ((0 0, 4 0, 4 4, 0 4, 0 0))\n",
+)];
+
+/// A list that is committed while that search waits, and once more.
+const COMMITS: [Step; 4] = [
+    Step::Awaits,
+    Step::Sends("HELLO south\nADD 1 mast POINT (2 2)\nCOMMIT\n"),
+    Step::Sets,
+    Step::Sends("COMMIT\n"),
+];
+
+/// Searches elsewhere, until the list is answered.
+const ELSEWHERE: [Step; 2] = [
+    Step::Sends("HELLO chief\n"),
+    Step::Repeats("SEARCH POINT (100 100)\n"),
+];
+
+/// A client that takes these steps, and whose search waits behind its first event, or which never waits.
 fn client<'a, R: Wait>(
     rt: &'a R,
-    steps: &'a [Step<'a>],
+    steps: &'static [Step],
     told: &'a Mutex<FailingWriter>,
-    waits: bool,
-    flags: (&'a AtomicU64, &'a AtomicU64),
+    passes: u64,
+    seen: &'a AtomicU64,
+    answered: &'a AtomicU64,
 ) -> (Client<'a>, Replies<'a, R>, Meeting<'a>) {
-    let gate = Meeting {
-        passes: if waits { 1 } else { u64::MAX },
-        mine: flags.0,
-        other: flags.1,
+    let client = Client {
+        steps,
+        seen,
+        answered,
     };
-    (Client { steps }, Replies::kept_in(rt, told), gate)
-}
-
-/// Serves a client that searches, and waits where it has passed the place that the second one's list looks for, until that list is
-/// answered; the second one, which commits its list once more then; and a third one, which searches elsewhere until then.
-fn serve_three<'a, H, R>(
-    rt: &'a R,
-    own: H,
-    heap: Global,
-    flags: (&'a AtomicU64, &'a AtomicU64),
-    told: [&'a Mutex<FailingWriter>; 3],
-) -> Closed
-where
-    H: Wait + Drop + Send,
-    R: Threads + Wait + Clock + Log + Abort + Sync,
-{
-    let (seen, answered) = flags;
-    let searches = [Step::Sends("HELLO north\nSEARCH POLYGON ((0 0, 4 0, 4 4, 0 4, 0 0))\n")];
-    let commits = [
-        Step::Awaits(seen),
-        Step::Sends("HELLO south\nADD 1 mast POINT (2 2)\nCOMMIT\n"),
-        Step::Sets(answered),
-        Step::Sends("COMMIT\n"),
-    ];
-    let elsewhere = [
-        Step::Sends("HELLO chief\n"),
-        Step::Repeats("SEARCH POINT (100 100)\n", answered),
-    ];
-    let streams = vec![in heap;
-        client(rt, &searches, told[0], true, flags),
-        client(rt, &commits, told[1], false, flags),
-        client(rt, &elsewhere, told[2], false, flags),
-    ];
-    match streams {
-        Ok(streams) => closed_by(rt, own, heap, WORKER_COUNT, streams),
-        Err(_) => panic!(rt; "no memory"),
-    }
+    let gate = Meeting {
+        passes,
+        mine: seen,
+        other: answered,
+    };
+    (client, Replies::kept_in(rt, told), gate)
 }
 
 /// How many searches were answered with no row.
@@ -72,17 +58,17 @@ fn searched(told: &[u8]) -> u64 {
 
 /// The list is tried again each time that another search ends, until it is given up. It stays, and is applied when it is committed again.
 #[test]
-fn held_by_another_session(rt: HostRuntime) {
+fn held_by_another_session(rt: HostRuntime) -> Result<(), Fail> {
+    let heap: Global = rt.alloc();
     let (seen, answered) = (AtomicU64::new(0), AtomicU64::new(0));
-    let (found, changed) = (whole(rt.alloc()), whole(rt.alloc()));
-    let others = whole(rt.alloc());
-    let closed = serve_three(
-        &rt,
-        rt,
-        rt.alloc(),
-        (&seen, &answered),
-        [&found, &changed, &others],
-    );
+    let (found, changed) = (whole(heap), whole(heap));
+    let others = whole(heap);
+    let streams = vec![in heap;
+        client(&rt, &SEARCHES, &found, 1, &seen, &answered),
+        client(&rt, &COMMITS, &changed, u64::MAX, &seen, &answered),
+        client(&rt, &ELSEWHERE, &others, u64::MAX, &seen, &answered),
+    ]?;
+    let closed = closed_by(&rt, rt, heap, WORKER_COUNT, streams);
     assert_eq!(rt; seen.load(Ordering::SeqCst), Meeting::MET);
     check_told(&rt, found, "hello north\nrows 0\n");
     check_told(&rt, changed, "hello south\nstaged\nheld\napplied 1\n");
@@ -90,4 +76,5 @@ fn held_by_another_session(rt: HostRuntime) {
     assert!(rt; searches >= u64::from(TRY_LIMIT));
     assert_eq!(rt; closed.records, searches.saturating_add(2));
     assert_eq!(rt; closed.seats, 3);
+    Ok(())
 }

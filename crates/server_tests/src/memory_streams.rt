@@ -94,26 +94,28 @@ impl Gate for Meeting<'_> {
 
 /// What a client does next.
 #[derive(Clone, Copy, Drop)]
-pub enum Step<'a> {
+pub enum Step {
     /// It sends a text.
-    Sends(&'a str),
-    /// It sends a text again and again, until a flag is set.
-    Repeats(&'a str, &'a AtomicU64),
-    /// It waits until a flag is set.
-    Awaits(&'a AtomicU64),
-    /// It sets a flag: all that it has sent is answered.
-    Sets(&'a AtomicU64),
+    Sends(&'static str),
+    /// It sends a text again and again, until the flag `answered` is set.
+    Repeats(&'static str),
+    /// It waits until the flag `seen` is set.
+    Awaits,
+    /// It sets the flag `answered`: all that it has sent is answered.
+    Sets,
 }
 
 /// A client that takes one step after another. It is asked for more only when what it has sent is answered.
 #[derive(Drop)]
 pub struct Client<'a> {
-    pub steps: &'a [Step<'a>],
+    pub steps: &'static [Step],
+    pub seen: &'a AtomicU64,
+    pub answered: &'a AtomicU64,
 }
 
-impl<'a> Client<'a> {
+impl Client<'_> {
     /// What it sends next, or nothing behind its last step.
-    fn next_text(&mut self) -> &'a str {
+    fn next_text(&mut self) -> &'static str {
         for _ in 0..self.steps.len() {
             let [step, rest @ ..] = self.steps else {
                 break;
@@ -123,15 +125,15 @@ impl<'a> Client<'a> {
                     self.steps = rest;
                     return text;
                 }
-                Step::Repeats(text, flag) => {
-                    if flag.load(Ordering::SeqCst) == 0 {
+                Step::Repeats(text) => {
+                    if self.answered.load(Ordering::SeqCst) == 0 {
                         return text;
                     }
                 }
-                Step::Awaits(flag) => {
-                    wait_for(flag);
+                Step::Awaits => {
+                    wait_for(self.seen);
                 }
-                Step::Sets(flag) => flag.store(1, Ordering::SeqCst),
+                Step::Sets => self.answered.store(1, Ordering::SeqCst),
             }
             self.steps = rest;
         }
