@@ -35,6 +35,8 @@ fn work<'h, L: Ledger + ListName, H: Wait + Drop, R: Wait + Abort>(
         let found = rows(rt, &mut seat, square(rt), &mut NoGate);
         assert_eq!(rt; found, Some(round as usize));
         rounds.store(round, Ordering::SeqCst);
+        // The steward is to get the lock too.
+        yield_now();
         if done.load(Ordering::SeqCst) > 0 {
             return (seat, round);
         }
