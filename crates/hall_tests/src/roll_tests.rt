@@ -15,10 +15,13 @@ use std::thread::{Threads, join, yield_now};
 const ROLLS: u32 = 10;
 
 /// How many rounds the editor makes at least between two rolls.
-const BETWEEN: u64 = 20;
+const BETWEEN: u64 = 10;
 
 /// How many rounds the editor makes at most, so that the test ends.
 const MOST: u64 = 2_000;
+
+/// How many turns the steward waits for the editor at most: more than a busy machine takes.
+const PATIENCE: u64 = 100 * TURNS;
 
 /// Adds a road, and finds all that were added, in rounds, until the steward has rolled for the last time. Gives the seat back, and
 /// how many rounds there were.
@@ -46,7 +49,7 @@ fn work<'h, L: Ledger + ListName, H: Wait + Drop, R: Wait + Abort>(
 
 /// Waits until the editor has made so many rounds.
 fn wait_for_rounds(rt: &impl Abort, rounds: &AtomicU64, least: u64) {
-    for _ in 0..TURNS {
+    for _ in 0..PATIENCE {
         if rounds.load(Ordering::SeqCst) >= least {
             return;
         }
@@ -79,7 +82,7 @@ fn roll_beside<'h, L: Ledger + ListName, H: Wait + Drop, R: Wait + Abort>(
     chief: Seat<'h, L, H, Global>,
     rounds: &AtomicU64,
     done: &AtomicU64,
-) -> (Seat<'h, L, H, Global>, u32) {
+) -> (Seat<'h, L, H, Global>, u64) {
     let mut chief = chief;
     let mut first = 1;
     for _ in 0..ROLLS {
@@ -90,7 +93,7 @@ fn roll_beside<'h, L: Ledger + ListName, H: Wait + Drop, R: Wait + Abort>(
         first = next;
     }
     done.store(1, Ordering::SeqCst);
-    (chief, first)
+    (chief, u64::from(first))
 }
 
 /// Both seats side by side: the steward's, with the number behind the last record that it rolled out, and the editor's, with how many
@@ -106,7 +109,7 @@ fn roll_and_work<
     north: Seat<'h, L, H, Global>,
     rounds: &AtomicU64,
     done: &AtomicU64,
-) -> ((Seat<'h, L, H, Global>, u32), (Seat<'h, L, H, Global>, u64)) {
+) -> ((Seat<'h, L, H, Global>, u64), (Seat<'h, L, H, Global>, u64)) {
     let (chief, north) = join(
         rt,
         move || roll_beside(rt, chief, rounds, done),
@@ -133,7 +136,7 @@ fn rolls_beside_work_in<
     let (north, last) = worked;
     // A round leaves two records. What has come since the last roll is rolled out too.
     let records = last.saturating_mul(2);
-    let next = roll_on(rt, &mut chief, first);
+    let next = roll_on(rt, &mut chief, u32::try_from(first).unwrap_or(0));
     assert_eq!(rt; u64::from(next), records.saturating_add(1));
     close_two(rt, heap, &hall, chief, north, records);
 }
