@@ -1,4 +1,4 @@
--- Bytes that are read and written, one part behind the other.
+-- Bytes that are read and written, one part after another.
 use Rattle.std.proofs.Common.{◌∙◌, ℕ, List, [], ◌++◌, Option, None, Some, refl, sym, ap, append_assoc, append-nil}
 use Rattle.std.specs.Io.KnownBytes.{Appends, Consumes, Keeps}
 use Rattle.client.specs.Turns.{Moves}
@@ -23,11 +23,11 @@ appends_kept (Some a) None c xs written kept = absurd written
 appends_kept (Some a) (Some b) None xs written kept = absurd kept
 appends_kept (Some a) (Some b) (Some c) xs written kept = kept ∙ written
 
--- nothing is done with
+-- nothing is used
 pub moves_none : (held : List ℕ) (a : Option (List ℕ)) → Moves held held a a []
 moves_none held a = ([], consumes_none a, append-nil held)
 
--- more is done with
+-- more is used
 pub moves_then : (one two three : List ℕ) (a b c : Option (List ℕ)) (xs ys : List ℕ) → Moves one two a b xs → Moves two three b c ys → Moves one three a c (xs ++ ys)
 moves_then one two three a b c xs ys first second = (
   first.0 ++ second.0,

@@ -16,7 +16,7 @@ use Rattle.client.specs.declared.faults.TalkFault.{TalkFault}
 use Rattle.client.specs.declared.faults.TalkFault.TheVariants as faults
 use Rattle.client.specs.declared.talks.Head.{Head}
 
--- the first line of a reply was passed on, and so many of the others
+-- the first line of a reply was passed on, and some of the others
 pub record InReply (head : Head) (count : ℕ) (told told_then : List ℕ) (peer peer_then written written_then : Option (List ℕ)) : Type 0 where
   pub line : List ℕ
   pub rows : List (List ℕ)
@@ -45,7 +45,7 @@ more_rows line row rows =
     append_assoc (fed line) (flat_map fed rows) (fed row)
     ∙ ap (λ (t : List ℕ). fed line ++ t) (ap (λ (t : List ℕ). flat_map fed rows ++ t) (sym (append-nil (fed row))) ∙ sym (flat_map-append fed rows (row ∷ [])))
 
--- one line more was passed on
+-- one more line was passed on
 pub row_passed : (head found : Head) (count : ℕ) (one two three : List ℕ) (a b c x y z : Option (List ℕ)) → InReply head count one two a b x y → PassesLine (Ok found) two three b c y z
     → InReply head (count + 1) one three a c x z
 row_passed head found count one two three a b c x y z so_far passes = record {
@@ -90,7 +90,7 @@ lacks head count one two three a b c x y z more so_far moves open_line = (
   },
 )
 
--- a reply broke off behind its first line
+-- a reply broke off after its first line
 pub rows_broken : (fault : TalkFault) (head : Head) (count : ℕ) (one two three : List ℕ) (a b c x y z : Option (List ℕ)) → count < head.rows → InReply head count one two a b x y → PassesNone fault two three b c y z
     → BreaksOff fault one three a c x z
 rows_broken (faults.Output failed) head count one two three a b c x y z more so_far none =
@@ -127,7 +127,7 @@ first_line (c ∷ cs) (d ∷ ds) x y whole other same =
 bye_is_line : IsLine (codes "bye")
 bye_is_line = All-cons (λ b. b ≢ 10) 98 (121 ∷ 101 ∷ []) (omega arith) (All-cons (λ b. b ≢ 10) 121 (101 ∷ []) (omega arith) (All-cons (λ b. b ≢ 10) 101 [] (omega arith) (All-nil (λ b. b ≢ 10))))
 
--- a reply ends the session just where its first line is `bye`
+-- a reply ends the session exactly if its first line is `bye`
 says_farewell : (line : List ℕ) (rows : List (List ℕ)) → IsLine line → length rows ≡ rows_behind line → (line ≡ codes "bye") ↔ (fed line ++ flat_map fed rows ≡ farewell)
 says_farewell line rows whole counted = (to, from)
   where

@@ -28,14 +28,14 @@ not_all (c ∷ cs) e = either (is_ascii_digit c) (list_all is_ascii_digit cs) (a
     either true b c rest e = rest e
     either false b c rest e = refl
 
--- what is no row of digits spells no number
+-- a text that is not all digits spells no number
 pub number_none : (text : List ℕ) → list_all is_ascii_digit text ≡ false → 0 ≡ number_of text
 number_none text e = rw (not_all text e) refl
 
 own : IsNumeralModel (λ ds. all_ascii_digits ds ≡ true) (digits_value 10)
 own = numerals_by_value (λ ds. all_ascii_digits ds ≡ true) tells_all_ascii_digits
 
--- what `parse` reads of digits
+-- what `parse` returns for digits
 pub number_read : {E : Type 0} (text : List ℕ) (r : Result ℕ E) → list_all is_ascii_digit text ≡ true → ParsesUnsigned 64 10 text r → result_unwrap_or r 0 ≡ number_of text
 number_read {E} text r all parsed = by r (parse_digits own 64 text r parsed (all_digits text all))
   where
@@ -60,6 +60,6 @@ digits_ascii (c ∷ cs) e = both (is_ascii_digit c) refl (digits_ascii cs) e
     both true first rest e = IsAscii-cons c cs (digit_small c first) (rest e)
     both false first rest e = absurd cc
 
--- digits are text
+-- digits are UTF-8 text
 pub digits_utf8 : (text : List ℕ) → list_all is_ascii_digit text ≡ true → IsUtf8 text
 digits_utf8 text e = IsUtf8-from_ascii text (digits_ascii text e)

@@ -10,7 +10,7 @@ use Rattle.client.specs.declared.faults.TalkFault.TheVariants as faults
 use Rattle.client.specs.declared.talks.Sent.{Sent}
 use Rattle.client.specs.declared.talks.Sent.TheVariants.{Line, Last, Nothing}
 
--- the input is at its end, and what is held was sent as its last line, where something is held
+-- the input is at its end, and the held bytes, if any, were sent as its last line
 pub last_sent : (r : Result Sent TalkFault) (old mid new : List ℕ) (input left before after : Option (List ℕ)) → Gains old mid input left → IsLine mid → IsAtEnd left → SendsLast r mid new before after
     → SendsLine r old new input left before after
 last_sent (Ok Line) old mid new input left before after gains open_line at_end sends = absurd sends

@@ -1,4 +1,4 @@
--- Turns, one behind the other, and what is written at the end.
+-- Turns one after another, and what is written at the end.
 use Rattle.std.proofs.Common.{◌≡◌, ◌≢◌, ◌⊎◌, ℕ, ◌+◌, ◌-◌, ◌^◌, ◌≤◌, List, [], ◌∷◌, ◌++◌, length, Option, append-nil, append_assoc, inl, inr, length-append, refl, sym, ap, subst, ◌∙◌, arith}
 use Rattle.std.proofs.lemmas.Grind.{flat_map-append}
 use Rattle.std.proofs.lemmas.List.Elements.{All-append, All-nil}
@@ -21,7 +21,7 @@ concat-append : (xs ys : List (List ℕ)) → concat (xs ++ ys) ≡ concat xs ++
 concat-append [] ys = refl
 concat-append (x ∷ xs) ys = ap (λ (t : List ℕ). x ++ t) (concat-append xs ys) ∙ sym (append_assoc x (concat xs) (concat ys))
 
--- ---- turns, one behind the other
+-- ---- turns one after another
 
 nothing_spoken : (s : Sight) → Spoken s s
 nothing_spoken s = record {
@@ -180,7 +180,7 @@ module _ (one two three : Sight) (first : Spoken one two) where
   )
   ends_by_then faults.TooManyLines (talk, sent, wrote, answered, many) = (talk_then talk, sent_then talk sent, wrote_then talk wrote, answered_then talk answered, omega (arith, many, length-append first.lines talk.lines))
 
-  -- as many lines were sent as are counted
+  -- 2^64 - 1 lines, the most that are counted, were sent
   pub too_many : 2 ^ 64 - 1 ≤ length first.lines → EndsBy faults.TooManyLines one two
   too_many many = (
     record {
@@ -310,7 +310,7 @@ pub fault_from_none : (fault : TalkFault) (asked told : List ℕ) (i p s w : Opt
 fault_from_none fault asked told i p s w after none_asked none_told ends =
     subst (λ (h : List ℕ). EndsBy fault (sight [] h i p s w) after) none_told (subst (λ (a : List ℕ). EndsBy fault (sight a told i p s w) after) none_asked ends)
 
--- a fault that is not the output's wants all written
+-- after a fault other than the output's, all is written
 pub written_by : (fault : TalkFault) → IsWritten fault []
 written_by (faults.Input failed) = refl
 written_by (faults.Output failed) = tt

@@ -1,4 +1,4 @@
--- What one turn makes of a talk.
+-- The effect of one turn on a talk.
 use Rattle.std.proofs.Common.{◌≡◌, ◌⊎◌, ℕ, List, [], ◌∷◌, ◌++◌, length, Option, Ok, Err, append-nil, inl, inr, refl, sym, ap, subst, ◌∙◌}
 use Rattle.std.proofs.lemmas.List.Elements.{All-cons, All-nil}
 use Rattle.std.specs.Io.KnownBytes.{Appends, IsAtEnd}

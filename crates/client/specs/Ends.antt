@@ -1,4 +1,4 @@
--- How a talk ends, and what stands then.
+-- How a talk ends, and what was taken, sent and written by then.
 use Rattle.std.specs.Prelude.{◌≡◌, ◌⊎◌, ℕ, ◌+◌, ◌-◌, ◌^◌, ◌≤◌, List, [], ◌∷◌, ◌++◌, length, Option, Result, Ok, Err, All}
 use Rattle.std.specs.Io.KnownBytes.{Appends, IsAtEnd}
 use Rattle.std.specs.List.{concat, flat_map}
@@ -12,7 +12,8 @@ use Rattle.client.specs.declared.talks.End.{End}
 use Rattle.client.specs.declared.talks.End.TheVariants.{AtEnd, Farewell}
 use Rattle.client.specs.declared.talks.Talked.{Talked}
 
--- Lines of the input were taken, and replies of the server, with the bytes behind these; so much was sent, and so much written.
+-- The lines taken of the input, the replies taken of the server with the bytes after them, and
+-- what was sent and written.
 pub record Talk (before after : Sight) : Type 0 where
   pub lines : List (List ℕ)
   pub replies : List (List ℕ)
@@ -34,7 +35,7 @@ SentAll talk = talk.sent ≡ flat_map fed talk.lines
 abbrev pub WroteAll : {before after : Sight} → Talk before after → Type 0
 WroteAll talk = talk.written ≡ concat talk.replies ++ talk.behind
 
--- all the lines were sent but the last, and of that one the front
+-- all lines but the last were sent, and a prefix of the last
 pub record SentInPart (lines : List (List ℕ)) (sent : List ℕ) : Type 0 where
   pub firsts : List (List ℕ)
   pub last : List ℕ
@@ -44,19 +45,19 @@ pub record SentInPart (lines : List (List ℕ)) (sent : List ℕ) : Type 0 where
   pub parts : fed last ≡ front ++ left
   pub is : sent ≡ flat_map fed firsts ++ front
 
--- all the lines were sent, or all but the last and of that one the front
+-- all lines were sent, or all but the last and a prefix of the last
 abbrev pub SentSome : {before after : Sight} → Talk before after → Type 0
 SentSome talk = SentAll talk ⊎ SentInPart talk.lines talk.sent
 
--- each line has its reply, none of which ends the session
+-- each line has its reply, and no reply ends the session
 abbrev pub IsAnswered : {before after : Sight} → Talk before after → Type 0
 IsAnswered talk = (length talk.replies ≡ length talk.lines) × All GoesOn talk.replies
 
--- the same of all lines but the last, which has none
+-- the same for all lines but the last, which has no reply yet
 abbrev pub Waits : {before after : Sight} → Talk before after → Type 0
 Waits talk = (length talk.lines ≡ length talk.replies + 1) × All GoesOn talk.replies
 
--- each line has its reply, and the last of these alone ends the session
+-- each line has its reply, and the last reply, and no other, ends the session
 pub record IsLeft (lines replies : List (List ℕ)) : Type 0 where
   pub firsts : List (List ℕ)
   pub are : replies ≡ firsts ++ farewell ∷ []
@@ -67,12 +68,12 @@ pub record IsLeft (lines replies : List (List ℕ)) : Type 0 where
 abbrev pub IsCutOff : {before after : Sight} → Talk before after → Type 0
 IsCutOff {after = after} talk = Waits talk × IsUnfinished (talk.behind ++ after.told)
 
--- What stands where a talk ended well: with the input, or by the server's farewell.
+-- A talk ended without a fault: at the end of the input, or with the server's farewell.
 abbrev pub EndsWell : End → Sight → Sight → Type 0
 EndsWell AtEnd before after = (talk : Talk before after) × SentAll talk × WroteAll talk × IsAnswered talk × (after.asked ≡ []) × IsAtEnd after.input
 EndsWell Farewell before after = (talk : Talk before after) × SentAll talk × WroteAll talk × IsLeft talk.lines talk.replies
 
--- What stands where a talk ended by a fault.
+-- A talk ended with a fault.
 abbrev pub EndsBy : TalkFault → Sight → Sight → Type 0
 EndsBy (faults.Input failed) before after = (talk : Talk before after) × SentAll talk × WroteAll talk × IsAnswered talk × IsLine after.asked
 EndsBy (faults.Gone Ended) before after = (talk : Talk before after) × SentAll talk × WroteAll talk × IsCutOff talk × IsAtEnd after.peer
@@ -85,12 +86,13 @@ EndsBy (faults.Output failed) before after =
     × ((length talk.replies ≡ length talk.lines) ⊎ (length talk.lines ≡ length talk.replies + 1))
 EndsBy faults.TooManyLines before after = (talk : Talk before after) × SentAll talk × WroteAll talk × IsAnswered talk × (2 ^ 64 - 1 ≤ length talk.lines)
 
--- all that was read of the server is written, unless the output failed
+-- everything read from the server is written, unless the output failed
 abbrev pub IsWritten : TalkFault → List ℕ → Type 0
 IsWritten (faults.Output failed) told = Unit {0}
 IsWritten _ told = told ≡ []
 
--- What a talk makes of the input, of the server and of the output, by how it ended. `ahead` was read of the input, and not sent.
+-- The effect of a talk on the input, the server and the output, by how it ended. `ahead` was read
+-- from the input and not sent.
 abbrev pub Talks : Result Talked TalkFault → (input input_then peer peer_then sent sent_then written written_then : Option (List ℕ)) → Type 0
 Talks (Ok talked) input input_then peer peer_then sent sent_then written written_then =
     (ahead : List ℕ) × EndsWell talked.end (sight [] [] input peer sent written) (sight ahead [] input_then peer_then sent_then written_then)

@@ -1,22 +1,22 @@
--- What a server answers to a line: a reply.
+-- A server's reply to a line.
 use Rattle.std.specs.Prelude.{◌≡◌, ◌≢◌, ◌⊎◌, ℕ, ◌<◌, ◌^◌, ◌&&◌, nat_lt, List, ◌++◌, length, take, drop, codes, All, if◌then◌else◌}
 use Rattle.std.specs.List.{flat_map}
 use Rattle.std.specs.Str.{all_ascii_digits, bytes_eq}
 use Rattle.std.specs.Str.Parse.{digits_value}
 use Rattle.line_streams.specs.Streams.{IsLine, fed}
 
--- the number that digits spell; 0 of what is no number below 2 ^ 64
+-- the number that digits spell; 0 if the text is not a number below 2 ^ 64
 abbrev pub number_of : List ℕ → ℕ
 number_of text = if all_ascii_digits text && nat_lt 0 (length text) && nat_lt (digits_value 10 text) (2 ^ 64) then digits_value 10 text else 0
 
--- how many lines stand behind the first line of a reply: N behind `rows N` and `rolled N`
+-- how many lines follow the first line of a reply: N after `rows N` and `rolled N`
 abbrev pub rows_behind : List ℕ → ℕ
 rows_behind head =
     if bytes_eq (take 5 head) (codes "rows ") then number_of (drop 5 head)
     else if bytes_eq (take 7 head) (codes "rolled ") then number_of (drop 7 head)
     else 0
 
--- A whole reply: its first line, and as many more as that one says, each with its line feed.
+-- A whole reply: its first line and the lines that it announces, each with its line feed.
 pub record IsReply (text : List ℕ) : Type 0 where
   pub head : List ℕ
   pub rows : List (List ℕ)
@@ -25,7 +25,7 @@ pub record IsReply (text : List ℕ) : Type 0 where
   pub counted : length rows ≡ rows_behind head
   pub is : text ≡ fed head ++ flat_map fed rows
 
--- A reply that has its first line, and lacks some of the others.
+-- A reply with its whole first line, and fewer lines than that announces.
 pub record LacksRows (text : List ℕ) : Type 0 where
   pub head : List ℕ
   pub rows : List (List ℕ)
@@ -36,7 +36,7 @@ pub record LacksRows (text : List ℕ) : Type 0 where
   pub lacking : length rows < rows_behind head
   pub is : text ≡ fed head ++ (flat_map fed rows ++ last)
 
--- a reply has begun, or not even that, and it is not whole
+-- a reply that is not whole; even its first line may be incomplete
 abbrev pub IsUnfinished : List ℕ → Type 0
 IsUnfinished text = IsLine text ⊎ LacksRows text
 
@@ -44,6 +44,6 @@ IsUnfinished text = IsLine text ⊎ LacksRows text
 abbrev pub farewell : List ℕ
 farewell = codes "bye\n"
 
--- a session goes on behind a reply
+-- the session goes on after this reply
 abbrev pub GoesOn : List ℕ → Type 0
 GoesOn reply = reply ≢ farewell

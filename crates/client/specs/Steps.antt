@@ -1,4 +1,4 @@
--- What one line, one reply and one turn make of what a talk sees.
+-- The effect of one line, one reply and one turn on what a talk sees.
 use Rattle.std.specs.Prelude.{◌≡◌, ◌≢◌, ◌⊎◌, ◌↔◌, ℕ, Bool, List, [], ◌++◌, length, IsTrue, Option, Result, Ok, Err, codes}
 use Rattle.std.specs.Io.KnownBytes.{Appends, IsAtEnd}
 use Rattle.line_streams.specs.Streams.{IsLine, fed}
@@ -15,15 +15,15 @@ use Rattle.client.specs.declared.talks.Sent.TheVariants.{Line, Last, Nothing}
 use Rattle.client.specs.declared.talks.Turn.{Turn}
 use Rattle.client.specs.declared.talks.Turn.TheVariants.{Next, Closed}
 
--- the last line of the input is taken, which has no line feed
+-- the last line of the input, which has no line feed, is taken
 abbrev pub TakesOpen : List ℕ → List ℕ → List ℕ → Option (List ℕ) → Option (List ℕ) → Type 0
 TakesOpen line asked asked_then input input_then = (line ≢ []) × Moves asked [] input input_then line × IsAtEnd input_then × (asked_then ≡ [])
 
--- nothing is taken of what is held, and that has no line feed
+-- nothing is taken, and the held bytes have no line feed
 abbrev pub TakesNone : List ℕ → List ℕ → Option (List ℕ) → Option (List ℕ) → Type 0
 TakesNone held held_then left left_then = Moves held held_then left left_then [] × IsLine held_then
 
--- a line was sent in part
+-- part of a line was sent
 pub record SendsPart (asked asked_then : List ℕ) (input input_then sent sent_then : Option (List ℕ)) : Type 0 where
   pub line : List ℕ
   pub front : List ℕ
@@ -33,7 +33,7 @@ pub record SendsPart (asked asked_then : List ℕ) (input input_then sent sent_t
   pub parts : fed line ≡ front ++ left
   pub sends : Appends sent sent_then front
 
--- what is held is sent as a line, where something is held
+-- the held bytes are sent as a line, if there are any
 abbrev pub SendsLast : Result Sent TalkFault → List ℕ → List ℕ → Option (List ℕ) → Option (List ℕ) → Type 0
 SendsLast (Ok Line) asked asked_then sent sent_then = ⊥
 SendsLast (Ok Last) asked asked_then sent sent_then = (asked ≢ []) × (asked_then ≡ []) × Appends sent sent_then (fed asked)
@@ -43,7 +43,7 @@ SendsLast (Err (faults.Gone (Unsent failed))) asked asked_then sent sent_then =
     (front : List ℕ) × (left : List ℕ) × (asked ≢ []) × (asked_then ≡ []) × (fed asked ≡ front ++ left) × Appends sent sent_then front
 SendsLast (Err _) asked asked_then sent sent_then = ⊥
 
--- the next line of the input was sent, or there was none, or it was not sent whole
+-- the next line of the input was sent; or there was none; or it was not sent whole
 abbrev pub SendsLine : Result Sent TalkFault → List ℕ → List ℕ → Option (List ℕ) → Option (List ℕ) → Option (List ℕ) → Option (List ℕ) → Type 0
 SendsLine (Ok Line) asked asked_then input input_then sent sent_then =
     (line : List ℕ) × IsLine line × Moves asked asked_then input input_then (fed line) × Appends sent sent_then (fed line)
@@ -56,7 +56,7 @@ SendsLine (Err (faults.Memory refused)) asked asked_then input input_then sent s
 SendsLine (Err (faults.Gone (Unsent failed))) asked asked_then input input_then sent sent_then = SendsPart asked asked_then input input_then sent sent_then
 SendsLine (Err _) asked asked_then input input_then sent sent_then = ⊥
 
--- what is known of a reply by its first line
+-- what the first line of a reply says about the reply
 abbrev pub IsHead : Head → List ℕ → Type 0
 IsHead head line = (head.rows ≡ rows_behind line) × (IsTrue head.farewell ↔ (line ≡ codes "bye"))
 
@@ -79,7 +79,7 @@ PassesLine (Ok head) told told_then peer peer_then written written_then =
     (line : List ℕ) × IsLine line × IsHead head line × Moves told told_then peer peer_then (fed line) × Appends written written_then (fed line)
 PassesLine (Err fault) told told_then peer peer_then written written_then = PassesNone fault told told_then peer peer_then written written_then
 
--- a front of a reply was passed on, and the server gave no more of it
+-- a prefix of a reply was passed on, and the server gave no more of it
 abbrev pub LacksReply : List ℕ → List ℕ → Option (List ℕ) → Option (List ℕ) → Option (List ℕ) → Option (List ℕ) → Type 0
 LacksReply told told_then peer peer_then written written_then =
     (passed : List ℕ) × Moves told told_then peer peer_then passed × Appends written written_then passed × IsUnfinished (passed ++ told_then)

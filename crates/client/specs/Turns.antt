@@ -1,12 +1,13 @@
--- What lines and replies have made of the input, of the server and of the output.
+-- What lines and replies have changed in the input, the server and the output.
 use Rattle.std.specs.Prelude.{◌≡◌, ◌≢◌, ◌⊎◌, ℕ, List, [], ◌∷◌, ◌++◌, length, Option, All}
 use Rattle.std.specs.Io.KnownBytes.{Appends, Consumes, IsAtEnd}
 use Rattle.std.specs.List.{concat, flat_map}
 use Rattle.line_streams.specs.Streams.{IsLine, fed}
 use Rattle.client.specs.Replies.{GoesOn, IsReply}
 
--- What a talk sees: the bytes of the input and of the server that were read and are not done with; and, where these are known,
--- the bytes that the input and the server have left, and those that the server and the output were given.
+-- What a talk sees: the bytes read from the input and the server that are not used yet; and, if
+-- they are known, the bytes that the input and the server have left, and those that were sent and
+-- written.
 pub record Sight : Type 0 where
   pub asked : List ℕ
   pub told : List ℕ
@@ -18,15 +19,15 @@ pub record Sight : Type 0 where
 abbrev pub sight : List ℕ → List ℕ → Option (List ℕ) → Option (List ℕ) → Option (List ℕ) → Option (List ℕ) → Sight
 sight asked told input peer sent written = record { asked = asked; told = told; input = input; peer = peer; sent = sent; written = written }
 
--- bytes are done with: the first of those that were held, and of those that were read behind them
+-- bytes were used: the first ones of those held and of those read after them
 abbrev pub Moves : List ℕ → List ℕ → Option (List ℕ) → Option (List ℕ) → List ℕ → Type 0
 Moves held held_then left left_then passed = (more : List ℕ) × Consumes left left_then more × (held ++ more ≡ passed ++ held_then)
 
--- these lines were taken of the input, each with its line feed
+-- these lines were taken from the input, each with its line feed
 abbrev pub TakesLines : List (List ℕ) → Sight → Sight → Type 0
 TakesLines lines before after = Moves before.asked after.asked before.input after.input (flat_map fed lines)
 
--- these lines were taken of the input, which has ended without a line feed behind the last of them
+-- these lines were taken from the input, which ended without a line feed after the last of them
 pub record TakesLast (lines : List (List ℕ)) (before after : Sight) : Type 0 where
   pub firsts : List (List ℕ)
   pub last : List ℕ
@@ -39,7 +40,7 @@ pub record TakesLast (lines : List (List ℕ)) (before after : Sight) : Type 0 w
 abbrev pub Asks : List (List ℕ) → Sight → Sight → Type 0
 Asks lines before after = TakesLines lines before after ⊎ TakesLast lines before after
 
--- Lines were sent, and each has its reply on the output, none of which ends the session.
+-- Lines were sent, and the reply to each was written. No reply ends the session.
 pub record Spoken (before after : Sight) : Type 0 where
   pub lines : List (List ℕ)
   pub replies : List (List ℕ)

@@ -1,4 +1,4 @@
--- What is told of the faults by which a talk ends.
+-- How the faults of a talk are shown.
 use Rattle.std.specs.Prelude.{ℕ, List, codes}
 use Rattle.client.specs.declared.faults.TalkFault.{TalkFault}
 use Rattle.client.specs.declared.faults.TalkFault.TheVariants as faults

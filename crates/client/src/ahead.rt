@@ -1,4 +1,4 @@
-//! Bytes of a reader that were read ahead of what is done with them.
+//! A buffer of bytes that were read from a reader and not used yet.
 
 ghost use Rattle.std.specs.Prelude.{◌≡◌, ◌≤◌, ◌++◌, ◌∷◌, [], drop, if◌then◌else◌, is_ok, length, vec_len};
 ghost use Rattle.client.specs.Lines.{Fills, FindsFeed, FindsLine, Gains};
@@ -11,12 +11,12 @@ use std::io::Read;
 /// How many bytes are read at once.
 const CHUNK: usize = 4_096;
 
-/// Why a line is not held whole.
+/// Why the next line is not in memory whole.
 #[derive(Debug, Drop, PartialEq, Eq)]
 pub(crate) enum LineFault {
     /// A read failed.
     Read(ReadFailed),
-    /// There was no memory for it.
+    /// Out of memory.
     Memory(Refused),
 }
 
@@ -40,16 +40,16 @@ impl From<Refused> for LineFault {
     }
 }
 
-/// How much is held of the next line.
+/// How much of the next line is held.
 #[derive(Clone, Copy, Debug, Drop, PartialEq, Eq)]
 pub(crate) enum Found {
-    /// All of it: so many bytes, the last of which is its line feed.
+    /// The whole line: its length in bytes, with the line feed at its end.
     Whole(usize),
     /// The reader is at its end, and what is held has no line feed.
     Open,
 }
 
-/// Where the first line feed of some bytes stands.
+/// The index of the first line feed.
 fn first_feed(bytes: &[u8]) -> Option<usize>
     ensures { FindsFeed result bytes.now }
 {
@@ -61,17 +61,17 @@ fn first_feed(bytes: &[u8]) -> Option<usize>
     None
 }
 
-/// Bytes that were read and are not done with.
+/// Bytes that were read, the first of which are used already.
 #[derive(Drop)]
 pub(crate) struct Ahead<A: Allocator> {
     bytes: Vec<u8, A>,
-    /// So many of them are done with.
+    /// How many of the bytes are used.
     done: usize,
     ghost within: { done ≤ vec_len bytes },
 }
 
 impl<A: Allocator> Ahead<A> {
-    /// Nothing was read.
+    /// An empty buffer.
     pub(crate) fn none(alloc: A) -> Self
         ensures { drop result.done result.bytes.items ≡ [] }
     {
@@ -81,14 +81,14 @@ impl<A: Allocator> Ahead<A> {
         }
     }
 
-    /// The bytes that are held.
+    /// The bytes that were read and not used yet.
     pub(crate) fn held(&self) -> &[u8]
         ensures { result.now ≡ drop self.now.done self.now.bytes.items }
     {
         &self.bytes[self.done..]
     }
 
-    /// The first of the bytes that are held are done with, so many.
+    /// Marks the first `count` held bytes as used.
     pub(crate) fn pass(&mut self, count: usize)
         requires { count ≤ length (drop self.old.done self.old.bytes.items) }
         ensures { drop self.new.done self.new.bytes.items
@@ -97,7 +97,7 @@ impl<A: Allocator> Ahead<A> {
         self.done += count;
     }
 
-    /// A line feed behind the bytes that are held.
+    /// Appends a line feed to the held bytes. On an error they are unchanged.
     pub(crate) fn end_line(&mut self) -> Result<(), Refused>
         ensures { drop self.new.done self.new.bytes.items
             ≡ (if is_ok result then drop self.old.done self.old.bytes.items ++ 10
@@ -106,7 +106,7 @@ impl<A: Allocator> Ahead<A> {
         self.bytes.try_push(b'\n')
     }
 
-    /// Lets go of the bytes that are done with.
+    /// Removes the used bytes from the buffer.
     fn tidy(&mut self)
         ensures { drop self.new.done self.new.bytes.items
             ≡ drop self.old.done self.old.bytes.items }
@@ -117,7 +117,7 @@ impl<A: Allocator> Ahead<A> {
         self.done = 0;
     }
 
-    /// Reads once, and answers how many bytes more are held: none only where the reader is at its end.
+    /// Reads once, and returns how many bytes were added: 0 only at the reader's end.
     fn read_more<R: Read>(&mut self, reader: &mut R) -> Result<usize, LineFault>
         ensures { Fills result (drop self.old.done self.old.bytes.items)
             (drop self.new.done self.new.bytes.items) (R.remaining reader.old)
@@ -131,7 +131,8 @@ impl<A: Allocator> Ahead<A> {
         Ok(count)
     }
 
-    /// Reads until the next line is held, or the reader is at its end. What was held before stays in front.
+    /// Reads until a whole line is held or the reader is at its end. Bytes already held stay in
+    /// front.
     pub(crate) fn read_line<R: Read>(&mut self, reader: &mut R) -> Result<Found, LineFault>
         ensures gains { Gains (drop self.old.done self.old.bytes.items)
             (drop self.new.done self.new.bytes.items) (R.remaining reader.old)

@@ -1,4 +1,4 @@
-//! Why a talk with a server ends before the input does, and before a reply ends it.
+//! Why a talk with a server breaks off.
 
 ghost use Rattle.std.specs.Prelude.{◌≡◌};
 
@@ -8,7 +8,7 @@ use memory::Refused;
 /// How it is known that the server is gone.
 #[derive(Debug, Drop, PartialEq, Eq)]
 pub enum Gone {
-    /// It has ended its side before a reply was whole.
+    /// It closed its side before a reply was whole.
     Ended,
     /// A read from it failed.
     Unread(ReadFailed),
@@ -16,25 +16,25 @@ pub enum Gone {
     Unsent(WriteFailed),
 }
 
-/// Why a talk ends by a fault. What was read of the server is written, but for `Output`.
+/// The fault that ends a talk. All that was read from the server is written, except after `Output`.
 #[derive(Debug, Drop, PartialEq, Eq)]
 pub enum TalkFault {
     /// A read of the input failed.
     Input(ReadFailed),
-    /// What the server said could not be written.
+    /// The server's replies could not be written.
     Output(WriteFailed),
     /// The server is gone.
     Gone(Gone),
-    /// There was no memory for a line.
+    /// Out of memory for a line.
     Memory(Refused),
-    /// The input has more lines than are counted, 2^64 - 1.
+    /// The input has at least 2^64 - 1 lines, the most that are counted.
     TooManyLines,
 }
 
 impl TalkFault {
     ghost use Rattle.client.specs.Words.{fault_word};
 
-    /// What the program tells of the fault.
+    /// How the program shows the fault: its code, or a phrase.
     pub fn word(&self) -> &'static str
         ensures { result.now ≡ fault_word self.now }
     {

@@ -1,5 +1,5 @@
-//! The client of a server: lines of an input go to it one by one, and each has its whole reply on an output before the next is
-//! read.
+//! The client of a server. It sends the lines of an input one at a time, and writes the whole reply
+//! to each before it reads the next.
 #![tactic(auto)]
 
 mod ahead;

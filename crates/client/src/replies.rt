@@ -5,14 +5,14 @@ ghost use Rattle.std.specs.Char.{is_ascii_digit};
 ghost use Rattle.std.specs.List.{list_all};
 ghost use Rattle.client.specs.Replies.{number_of, rows_behind};
 
-/// Whether all of some bytes are digits.
+/// Whether all bytes are digits.
 fn are_digits(text: &[u8]) -> bool
     ensures { result ≡ list_all is_ascii_digit text.now }
 {
     text.iter().all(|byte| byte.is_ascii_digit())
 }
 
-/// The number that digits spell, or 0 where it is none below 2^64.
+/// The number that digits spell; 0 if the text is not a number below 2^64.
 fn number(text: &[u8]) -> u64
     ensures { result ≡ number_of text.now }
 {
@@ -25,8 +25,8 @@ fn number(text: &[u8]) -> u64
     }
 }
 
-/// How many lines stand behind the first line of a reply, which has no line feed here: N behind `rows N` and `rolled N`, and none
-/// behind all others.
+/// How many lines follow the first line of a reply, given here without its line feed: N after `rows
+/// N` and `rolled N`, otherwise none.
 pub(crate) fn rows_of(head: &[u8]) -> u64
     ensures { result ≡ rows_behind head.now }
 {
@@ -39,7 +39,7 @@ pub(crate) fn rows_of(head: &[u8]) -> u64
     }
 }
 
-/// Whether the first line of a reply, which has no line feed here, ends the session.
+/// Whether the first line of a reply, given here without its line feed, ends the session.
 pub(crate) fn is_farewell(head: &[u8]) -> bool
     ensures { IsTrue result ↔ (head.now ≡ codes "bye") }
 {

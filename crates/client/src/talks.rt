@@ -1,4 +1,4 @@
-//! A talk with a server: a line of the input, its whole reply on the output, and then the next line.
+//! A talk with a server: send a line of the input, write the whole reply, then take the next line.
 
 ghost use Rattle.std.specs.Prelude.{◌≡◌, ◌≤◌, drop, length, take};
 ghost use Rattle.byte_streams.specs.Written.{Took};
@@ -14,19 +14,19 @@ use byte_streams::{Flushed, WriteFailed, flush, write_whole};
 use std::alloc::Allocator;
 use std::io::{Read, Write};
 
-/// With what a talk ended.
+/// What ended a talk.
 #[derive(Clone, Copy, Debug, Drop, PartialEq, Eq)]
 pub enum End {
-    /// The input: each of its lines has had its reply.
+    /// The end of the input: each of its lines has had its reply.
     AtEnd,
     /// The server's `bye`.
     Farewell,
 }
 
-/// A talk that no fault has ended, and whose replies have left by a flush.
+/// A talk that ended without a fault. Its replies are flushed.
 #[derive(Debug, Drop, PartialEq, Eq)]
 pub struct Talked {
-    /// With what it ended.
+    /// What ended it.
     pub end: End,
     /// The last flush of the output.
     pub flushed: Flushed,
@@ -37,27 +37,27 @@ pub struct Talked {
 enum Sent {
     /// The next line of the input.
     Line,
-    /// The last one, which had no line feed.
+    /// The last line, which had no line feed.
     Last,
-    /// Nothing: there is no further line.
+    /// Nothing: there are no more lines.
     Nothing,
 }
 
-/// How a talk goes on behind a turn.
+/// How a talk goes on after a turn.
 #[derive(Clone, Copy, Debug, Drop, PartialEq, Eq)]
 enum Turn {
-    /// By the next line.
+    /// With the next line.
     Next,
     /// It has ended.
     Closed(End),
 }
 
-/// What is known of a reply by its first line.
+/// What the first line of a reply says about the reply.
 #[derive(Clone, Copy, Debug, Drop, PartialEq, Eq)]
 struct Head {
-    /// How many lines stand behind it.
+    /// How many lines follow it.
     rows: u64,
-    /// Whether it is the last reply of a session.
+    /// Whether the reply is the last of a session.
     farewell: bool,
 }
 
@@ -70,7 +70,7 @@ fn write_line<Q: Write>(line: &[u8], peer: &mut Q) -> Result<(), WriteFailed>
     Ok(())
 }
 
-/// Sends so many of the bytes that are held, and is done with them.
+/// Sends the first `count` held bytes, and marks them as used even if the write fails.
 fn send_held<A: Allocator, Q: Write>(
     asked: &mut Ahead<A>,
     count: usize,
@@ -87,7 +87,7 @@ fn send_held<A: Allocator, Q: Write>(
     sent
 }
 
-/// Sends what is held as the last line of the input, with a line feed, where something is held.
+/// Sends the held bytes, if there are any, as the last line of the input, with a line feed.
 fn send_last<A: Allocator, Q: Write>(asked: &mut Ahead<A>, peer: &mut Q) -> Result<Sent, TalkFault>
     ensures { SendsLast result (held asked.old) (held asked.new) (Q.contents peer.old)
         (Q.contents peer.new) }
@@ -105,7 +105,7 @@ fn send_last<A: Allocator, Q: Write>(asked: &mut Ahead<A>, peer: &mut Q) -> Resu
     }
 }
 
-/// Sends the next line of the input, where there is one. Nothing is sent of a line that was not read whole.
+/// Sends the next line of the input, if there is one. A line that was not read whole is not sent.
 fn send_line<A: Allocator, I: Read, Q: Write>(
     asked: &mut Ahead<A>,
     input: &mut I,
@@ -126,7 +126,7 @@ fn send_line<A: Allocator, I: Read, Q: Write>(
     }
 }
 
-/// Passes one line of a reply on, and answers what it says of the reply where it is the first.
+/// Passes one line of a reply on, and returns what it says if it is the first of its reply.
 fn pass_line<A: Allocator, P: Read, W: Write>(
     told: &mut Ahead<A>,
     peer: &mut P,
@@ -152,7 +152,7 @@ fn pass_line<A: Allocator, P: Read, W: Write>(
     Ok(found)
 }
 
-/// Passes a whole reply on, and answers whether it ends the session.
+/// Passes a whole reply on, and returns whether it ends the session.
 fn pass_reply<A: Allocator, P: Read, W: Write>(
     told: &mut Ahead<A>,
     peer: &mut P,
@@ -169,7 +169,7 @@ fn pass_reply<A: Allocator, P: Read, W: Write>(
     Ok(head.farewell)
 }
 
-/// Sends a line, where there is one, and passes its reply on.
+/// Sends a line, if there is one, and passes its reply on.
 fn take_turn<A: Allocator, I: Read, P: Read, Q: Write, W: Write>(
     asked: &mut Ahead<A>,
     told: &mut Ahead<A>,
@@ -217,7 +217,7 @@ fn take_turns<A: Allocator, I: Read, P: Read, Q: Write, W: Write>(
     Err(TalkFault::TooManyLines)
 }
 
-/// Writes what is held of the server's bytes, and flushes.
+/// Writes the held bytes of the server, and flushes.
 fn write_rest<A: Allocator, W: Write>(
     told: &Ahead<A>,
     output: &mut W,
@@ -228,12 +228,15 @@ fn write_rest<A: Allocator, W: Write>(
     flush(output)
 }
 
-/// Talks with a server: sends it a line of the input, writes the whole reply to the output, flushes that, and then reads the
-/// next line. A reply is a line, and where that is `rows N` or `rolled N`, N lines more. A last line without a line feed is
-/// sent with one. Ends with the input, or behind the reply `bye`. Faults: `Input` where a read of the input fails; `Gone` where
-/// a line cannot be sent, a read of the server fails, or it has ended before a reply is whole; `Memory` where there is none for a
-/// line; `TooManyLines` behind 2^64 - 1 of them; `Output` where a write or a flush of the output fails. But for `Output` all that
-/// was read of the server is written.
+/// Talks with a server: sends a line of the input, writes the whole reply to the output and flushes
+/// it, then reads the next line. A reply is one line, and N more lines if the first is `rows N` or
+/// `rolled N`. A last line without a line feed is sent with one. The talk ends at the end of the
+/// input, or after the reply `bye`.
+///
+/// Faults: `Input` if a read of the input fails; `Gone` if a line cannot be sent, a read from the
+/// server fails, or the server ends before a reply is whole; `Memory` if there is no memory for a
+/// line; `TooManyLines` after 2^64 - 1 lines; `Output` if a write or a flush of the output fails.
+/// Except after `Output`, all that was read from the server is written.
 pub fn talk<A: Allocator + Copy, I: Read, P: Read, Q: Write, W: Write>(
     alloc: A,
     input: &mut I,

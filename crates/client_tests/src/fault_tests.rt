@@ -1,4 +1,4 @@
-//! What stands when a talk ends by a fault.
+//! What was sent and written when a talk ends with a fault.
 use crate::talking::{
     ASKED, ASKED_ENDS, Fails, NONE_FAILS, TOLD, TOLD_ENDS, check, outcome_of, writer,
 };
@@ -7,7 +7,7 @@ use failing_streams::{CountingReader, FailingReader};
 use refusing::Refusing;
 use std::process::Abort;
 
-/// How many of these ends are not beyond a place, but for the first.
+/// How many of the ends after the first are at `place` or before it.
 fn whole(ends: &[usize; 5], place: usize) -> usize {
     let mut count = 0usize;
     for end in &ends[1..] {
@@ -18,7 +18,7 @@ fn whole(ends: &[usize; 5], place: usize) -> usize {
     count
 }
 
-/// The front of a text up to one of its ends.
+/// The text up to its end number `count`.
 fn up_to<'a>(text: &'a str, ends: &[usize; 5], count: usize) -> &'a [u8] {
     match ends.get(count) {
         Some(end) => text.as_bytes().split_at((*end).min(text.len())).0,
@@ -26,7 +26,8 @@ fn up_to<'a>(text: &'a str, ends: &[usize; 5], count: usize) -> &'a [u8] {
     }
 }
 
-/// The input fails at each of its reads: the whole lines before have their replies, and nothing is sent of the next one.
+/// The input fails at each of its reads: the whole lines before have their replies, and nothing of
+/// the next one is sent.
 #[test]
 fn each_read_of_the_input_fails(rt: HostRuntime) {
     for at in 0..=ASKED.len() {
@@ -46,7 +47,8 @@ fn each_read_of_the_input_fails(rt: HostRuntime) {
     }
 }
 
-/// The server fails at each read from it, or ends there: what has come is written, and no further line is sent.
+/// The server fails at each read from it, or ends there: all that it sent is written, and no
+/// further line is sent.
 #[test]
 fn the_server_is_gone(rt: HostRuntime) {
     for at in 0..TOLD.len() {
@@ -71,7 +73,7 @@ fn the_server_is_gone(rt: HostRuntime) {
     }
 }
 
-/// Each line cannot be sent: those before it have their replies.
+/// Each line in turn cannot be sent: those before it have their replies.
 #[test]
 fn each_line_is_not_sent(rt: HostRuntime) {
     for at in 0..4usize {
@@ -93,7 +95,7 @@ fn each_line_is_not_sent(rt: HostRuntime) {
     }
 }
 
-/// Each write of the output fails, of which there is one a line: nothing is written behind it, and no further line is sent.
+/// Each write of the output in turn fails; there is one a line. Nothing more is written or sent.
 #[test]
 fn each_write_of_the_output_fails(rt: HostRuntime) {
     let writes: [(&str, usize); 6] = [
@@ -126,7 +128,8 @@ fn each_write_of_the_output_fails(rt: HostRuntime) {
     }
 }
 
-/// Each allocation is refused, and behind the last of them none: until then the talk ends for want of memory.
+/// Each allocation in turn is refused, and the talk ends with `Memory`, until no allocation is left
+/// to refuse.
 #[test]
 fn each_allocation_is_refused(rt: HostRuntime) {
     let memory = Refusing::new(rt.alloc(), 0);
@@ -148,7 +151,8 @@ fn each_allocation_is_refused(rt: HostRuntime) {
     assert!(rt; (2..20).contains(&refused), "{refused}");
 }
 
-/// A line of the server that does not end is held until there is no memory for it; what came of it is written.
+/// A server's line without an end is held until memory runs out; all that was read of it is
+/// written.
 #[test]
 fn a_line_without_end(rt: HostRuntime) {
     let memory = Refusing::new(rt.alloc(), 6);
@@ -169,7 +173,7 @@ fn a_line_without_end(rt: HostRuntime) {
     assert_eq!(rt; written.taken.len() as u64, peer.calls);
 }
 
-/// What is told of each fault.
+/// How faults are shown.
 #[test]
 fn words(rt: HostRuntime) {
     assert_eq!(rt; TalkFault::Gone(Gone::Ended).word(), "the server is gone");

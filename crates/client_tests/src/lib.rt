@@ -1,4 +1,5 @@
-//! Tests of talks with a server: what comes when, and what stands when one of the four streams fails.
+//! Tests of talks with a server: the order of lines and replies, and the result when one of the
+//! four streams fails.
 #![tactic(auto)]
 
 #[cfg(test)]

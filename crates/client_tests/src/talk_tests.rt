@@ -7,7 +7,8 @@ use std::io;
 use std::io::{ErrorKind, Read, Write};
 use std::process::Abort;
 
-/// Between this input and this server a talk ends so; all of the replies is written, and this much of the input sent.
+/// Checks that a talk between this input and this server ends with `end`, writes all of `told`, and
+/// sends `sent`.
 fn ends(rt: &impl Abort, heap: Global, asked: &str, told: &str, end: End, sent: &str) {
     let outcome = outcome_of(heap, heap, asked, told.as_bytes(), NONE_FAILS);
     let Ok(talked) = &outcome.end else {
@@ -73,7 +74,8 @@ fn behind_bye(rt: HostRuntime) {
     );
 }
 
-/// How many lines a reply has, by its first line: each is the reply to one line, and the talk goes on behind it.
+/// The number of a reply's lines comes from its first line. Each text here is the reply to one
+/// line, and the talk goes on after it.
 #[test]
 fn first_lines(rt: HostRuntime) {
     for told in [
@@ -100,7 +102,7 @@ fn first_lines(rt: HostRuntime) {
     }
 }
 
-/// What comes of the server unasked is written, too.
+/// Bytes that the server sends unasked are written, too.
 #[test]
 fn bytes_unasked(rt: HostRuntime) {
     let mut input = b"A\n".as_slice();
@@ -112,14 +114,15 @@ fn bytes_unasked(rt: HostRuntime) {
     assert_eq!(rt; written.as_slice(), b"staged\nunasked".as_slice());
 }
 
-/// How far a talk has come: how many lines the server has got, and how many replies the output, by its flushes.
+/// The progress of a talk: the lines that the server received, and the flushes of the output, one
+/// for each reply.
 #[derive(Drop)]
 struct Progress {
     lines: Cell<usize>,
     replies: Cell<usize>,
 }
 
-/// An input that fails where a reply is owed.
+/// An input that fails when it is read before the last reply was flushed.
 #[derive(Drop)]
 struct Patient<'a> {
     progress: &'a Progress,
@@ -142,7 +145,7 @@ impl Read for Patient<'_> {
     }
 }
 
-/// The end of a server at which lines come: each write is one.
+/// The server's end, which counts the lines that it receives: each write is one.
 #[derive(Drop)]
 struct Lines<'a> {
     progress: &'a Progress,
@@ -161,7 +164,7 @@ impl Write for Lines<'_> {
     }
 }
 
-/// An output whose flushes are counted.
+/// An output that counts its flushes.
 #[derive(Drop)]
 struct Shown<'a> {
     progress: &'a Progress,
@@ -182,7 +185,7 @@ impl Write for Shown<'_> {
     }
 }
 
-/// No line is read before the reply to the line before it has left by a flush.
+/// No line is read before the reply to the previous line is flushed.
 #[test]
 fn each_line_waits_for_its_reply(rt: HostRuntime) {
     let progress = Progress {

@@ -1,21 +1,22 @@
-//! A talk over streams of which one fails, and what it leaves.
+//! Runs a talk over streams that can fail, and keeps what it sent and wrote.
 use client::{TalkFault, Talked, talk};
 use failing_streams::{FailingReader, FailingWriter, Failure};
 use std::alloc::{Allocator, Global};
 use std::process::Abort;
 
-/// The lines of a worked session, and the replies to them.
+/// The lines of a worked session; `TOLD` has the replies to them.
 pub(crate) const ASKED: &str = "HELLO north\nSEARCH POINT (3 4)\nADD 1 mast POINT (3 4)\nCOMMIT\n";
 
 pub(crate) const TOLD: &str =
     "hello north\nrows 2\n1 1 north mast POINT (3 4)\n2 1 north mast POINT (3 4)\nstaged\napplied 1\n";
 
-/// Where the line of each number ends in `ASKED`, and its reply in `TOLD`.
+/// Where each line ends in `ASKED`, after a 0 for the start. `TOLD_ENDS` has the same for the
+/// replies in `TOLD`.
 pub(crate) const ASKED_ENDS: [usize; 5] = [0, 12, 31, 54, 61];
 
 pub(crate) const TOLD_ENDS: [usize; 5] = [0, 12, 73, 80, 90];
 
-/// At which call each of the four streams fails, counted from 1, or none at 0.
+/// The call at which each of the four streams fails, counted from 1; 0 for none.
 #[derive(Clone, Copy)]
 pub(crate) struct Fails {
     pub(crate) input: u64,
@@ -24,7 +25,7 @@ pub(crate) struct Fails {
     pub(crate) output: u64,
 }
 
-/// None fails.
+/// No stream fails.
 pub(crate) const NONE_FAILS: Fails = Fails {
     input: 0,
     heard: 0,
@@ -32,7 +33,7 @@ pub(crate) const NONE_FAILS: Fails = Fails {
     output: 0,
 };
 
-/// What a talk has left.
+/// How a talk ended, and what it sent and wrote.
 #[derive(Drop)]
 pub(crate) struct Outcome {
     pub(crate) end: Result<Talked, TalkFault>,
@@ -40,7 +41,7 @@ pub(crate) struct Outcome {
     pub(crate) written: Vec<u8>,
 }
 
-/// A writer that takes all, and fails at this call.
+/// A writer that takes everything, and fails at the call of this number.
 pub(crate) fn writer(heap: Global, fails_at: u64) -> FailingWriter {
     FailingWriter {
         taken: Vec::new(heap),
@@ -50,7 +51,7 @@ pub(crate) fn writer(heap: Global, fails_at: u64) -> FailingWriter {
     }
 }
 
-/// What a talk leaves between this input and this server. Each reader gives a byte a call.
+/// The outcome of a talk between this input and this server. Each reader returns one byte a call.
 pub(crate) fn outcome_of<A: Allocator + Copy>(
     alloc: A,
     heap: Global,
@@ -76,7 +77,7 @@ pub(crate) fn outcome_of<A: Allocator + Copy>(
     }
 }
 
-/// This much was sent, and this much written.
+/// Checks what was sent and what was written.
 pub(crate) fn check(rt: &impl Abort, outcome: &Outcome, sent: &[u8], written: &[u8]) {
     assert_eq!(rt; outcome.sent.as_slice(), sent);
     assert_eq!(rt; outcome.written.as_slice(), written);

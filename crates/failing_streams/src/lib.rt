@@ -1,4 +1,5 @@
-//! Readers and writers for tests, which fail at one call, or never end.
+//! Readers and writers for tests, which fail at one call, count their calls, or have very long
+//! contents.
 #![tactic(auto)]
 
 mod readers;

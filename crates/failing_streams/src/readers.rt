@@ -1,8 +1,9 @@
-//! Readers that fail, that count their calls, and that go on for long.
+//! Readers that fail, that count their calls, or that have very long contents.
 use std::io;
 use std::io::{ErrorKind, Read};
 
-/// A reader that gives one byte a call. One call fails, counted from 1, or none at 0, and the next goes on.
+/// A reader that returns one byte a call. The call number `fails_at`, counted from 1, fails, and
+/// later calls succeed; 0 for none.
 #[derive(Drop)]
 pub struct FailingReader<'a> {
     pub bytes: &'a [u8],
@@ -25,7 +26,7 @@ impl Read for FailingReader<'_> {
     }
 }
 
-/// A reader that gives one byte a call, this one, so many times, and counts its calls.
+/// A reader that returns the byte `gives`, one a call, `left` times in total, and counts its calls.
 #[derive(Drop)]
 pub struct CountingReader {
     pub gives: u8,
@@ -45,7 +46,7 @@ impl Read for CountingReader {
     }
 }
 
-/// A reader that fills what it is given with one comment line, so many bytes in all.
+/// A reader that fills each buffer with one comment line, `left` bytes in total.
 #[derive(Drop)]
 pub struct LongReader {
     pub left: usize,

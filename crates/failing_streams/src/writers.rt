@@ -2,7 +2,8 @@
 use std::io;
 use std::io::{ErrorKind, Write};
 
-/// A writer that takes so many bytes a call. One write or one flush fails, counted from 1, or none at 0, and the next goes on.
+/// A writer that takes at most `most` bytes a call. The call number `fails_at`, counted from 1,
+/// fails as `with` says, and later calls succeed; 0 for none.
 #[derive(Drop)]
 pub struct FailingWriter {
     pub taken: Vec<u8>,
@@ -11,23 +12,23 @@ pub struct FailingWriter {
     pub with: Failure,
 }
 
-/// How a call of a writer fails.
+/// How a `FailingWriter` fails.
 #[derive(Clone, Copy, Drop)]
 pub enum Failure {
-    /// An error.
+    /// The write returns an error.
     Error,
-    /// It takes no byte.
+    /// The write takes no byte.
     Nothing,
-    /// It was interrupted.
+    /// The write is interrupted.
     Interrupted,
-    /// No write fails, and each flush, which leaves a mark behind what was taken.
+    /// No write fails. Every flush fails, and appends a mark to the bytes taken.
     Flush,
-    /// No write fails, and the flush of that number, which leaves the same mark.
+    /// No write fails. The flush number `fails_at` fails, and appends the same mark.
     OneFlush,
 }
 
 impl FailingWriter {
-    /// Whether this call is the one that fails, of those that are counted.
+    /// Counts this call, and returns whether it is the one to fail.
     fn is_due(&mut self) -> bool {
         let due = self.fails_at == 1;
         self.fails_at = self.fails_at.saturating_sub(1);

@@ -1,4 +1,4 @@
--- A closure, or a tuple, may go to another thread where what it has may.
+-- A closure or a tuple may go to another thread if its parts may.
 use mathlib.Core.List.{[], ◌∷◌}
 use mir.Syntax.{Sym}
 use denote.RattleType.{RattleType}

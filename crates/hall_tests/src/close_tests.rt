@@ -1,4 +1,4 @@
-//! What a hall refuses, how it is tended, and its end.
+//! What a hall refuses, how it is tended, and how it closes.
 ghost use Rattle.std.specs.Prelude.{◌≡◌};
 
 use crate::halls::{ROADS, applied, document, name, opened, road, rows, seat, square};
@@ -11,7 +11,7 @@ use std::sync::Wait;
 use std::sync::ledger::Ledger;
 use transactions::Fault;
 
-/// What is refused leaves no receipt.
+/// A refused call leaves no receipt.
 fn refuse_one<L: Ledger + ListName, H: Wait + Drop, R: Wait + Abort>(
     rt: &R,
     heap: Global,
@@ -28,7 +28,7 @@ fn refuse_one<L: Ledger + ListName, H: Wait + Drop, R: Wait + Abort>(
     assert_eq!(rt; north.receipts().len(), 0);
 }
 
-/// Features come and go, and the index is tended in between.
+/// Adds and deletes features, and tends the index in between.
 fn tend_all<L: Ledger + ListName, H: Wait + Drop, R: Wait + Abort>(
     rt: &R,
     hall: &Hall<L, H, Global>,
@@ -47,7 +47,7 @@ fn tend_all<L: Ledger + ListName, H: Wait + Drop, R: Wait + Abort>(
     assert_eq!(rt; north.receipts().len(), 82);
 }
 
-/// A hall closes with its one seat, and then gives none and is not tended.
+/// Closes a hall with its one seat. It then gives no seats and cannot be tended.
 fn close_one<'h, L: Ledger + ListName, H: Wait + Drop, R: Wait + Abort>(
     rt: &R,
     heap: Global,
@@ -95,7 +95,7 @@ fn opens_and_closes(rt: HostRuntime) {
     opens_and_closes_in::<Brand, _, _>(&rt, rt, rt.alloc(), Unnamed::new());
 }
 
-/// A hall that gave no seat closes, and closes once more.
+/// A hall that gave no seat can be closed, and closed again.
 fn empty_in<L: Ledger + ListName, H: Wait + Drop, R: Wait + Abort>(
     rt: &R,
     own: H,

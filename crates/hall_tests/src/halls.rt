@@ -14,15 +14,15 @@ use std::sync::ledger::Ledger;
 use std::thread;
 use transactions::Outcome;
 
-/// Everything is permitted.
+/// A document that permits everything.
 pub const OPEN: &str =
     r#"{"root":{"combine":"first-applicable","policy":"start","rules":[{"effect":"permit","rule":"open"}]}}"#;
 
-/// What is done with roads is permitted, and nothing is said of anything else.
+/// A document that permits everything for roads; for anything else no rule applies.
 pub const ROADS: &str =
     r#"{"root":{"combine":"first-applicable","policy":"p","rules":[{"effect":"permit","rule":"roads","target":[[[{"class":"road"}]]]}]}}"#;
 
-/// How often a thread waits for another at most.
+/// How often a thread yields while it waits for another, at most.
 pub const TURNS: u64 = 1_000_000;
 
 pub fn name(rt: &impl Abort, text: &str) -> Name {
@@ -51,7 +51,7 @@ pub fn square(rt: &impl Abort) -> Shape {
     shape.unwrap()
 }
 
-/// The addition of a road at a point.
+/// A change that adds a road at a point.
 pub fn road(rt: &impl Abort, id: u64, x: i32, y: i32) -> Change {
     Change::Add {
         id,
@@ -67,7 +67,7 @@ pub fn document(rt: &impl Abort, heap: Global, text: &str) -> Document<Global> {
     }
 }
 
-/// A subject whose name and office are one.
+/// A subject whose name is also its office.
 fn subject(rt: &impl Abort, office: &str, steward: bool) -> Subject {
     Subject {
         name: name(rt, office),
@@ -88,7 +88,7 @@ pub fn subjects(rt: &impl Abort) -> Subjects {
     made.unwrap()
 }
 
-/// A hall in which everything is permitted, for so many views.
+/// A hall in which everything is permitted, with room for this many views.
 pub fn opened<L: Ledger + ListName, H: Wait + Drop>(
     rt: &impl Abort,
     own: H,
@@ -103,7 +103,7 @@ pub fn opened<L: Ledger + ListName, H: Wait + Drop>(
     opened_in(rt, own, heap, heap, unnamed, views)
 }
 
-/// The same, over an allocator of the test's own.
+/// The same, with an allocator of the test's own.
 pub fn opened_in<L: Ledger + ListName, H: Wait + Drop, A: Allocator + Copy>(
     rt: &impl Abort,
     own: H,
@@ -134,7 +134,7 @@ pub fn view<L: Ledger + ListName, H: Wait + Drop>(
     }
 }
 
-/// Whether an editor of `north` may add a parcel at a point.
+/// The question whether an editor of `north` may add a parcel at a point.
 pub fn question(rt: &impl Abort) -> Question {
     Question {
         subject: subject(rt, "north", false),
@@ -145,7 +145,7 @@ pub fn question(rt: &impl Abort) -> Question {
     }
 }
 
-/// A seat of the subject of this name.
+/// A seat for the subject of this name.
 pub fn seat<'h, L: Ledger + ListName, H: Wait + Drop, A: Allocator + Copy>(
     rt: &(impl Abort + Wait),
     hall: &'h Hall<L, H, A>,
@@ -157,7 +157,7 @@ pub fn seat<'h, L: Ledger + ListName, H: Wait + Drop, A: Allocator + Copy>(
     }
 }
 
-/// The version under which a list of one change is applied, or none where it is not.
+/// Commits a list of one change. Returns its version, or `None` if it is not applied.
 pub fn applied<L: Ledger + ListName, H: Wait + Drop, A: Allocator + Copy, G: Gate>(
     rt: &impl Wait,
     seat: &mut Seat<'_, L, H, A>,
@@ -170,7 +170,7 @@ pub fn applied<L: Ledger + ListName, H: Wait + Drop, A: Allocator + Copy, G: Gat
     }
 }
 
-/// How many rows a search is answered with.
+/// How many rows a search returns; `None` if it fails.
 pub fn rows<L: Ledger + ListName, H: Wait + Drop, A: Allocator + Copy, G: Gate>(
     rt: &impl Wait,
     seat: &mut Seat<'_, L, H, A>,
@@ -183,7 +183,8 @@ pub fn rows<L: Ledger + ListName, H: Wait + Drop, A: Allocator + Copy, G: Gate>(
     }
 }
 
-/// Sets a flag before the second step of a search, and waits there for another.
+/// A gate that sets `mine` at its second call, which is after the first visit of a search, and
+/// waits there for `other`.
 #[derive(Drop)]
 struct Meeting<'a> {
     calls: u64,
@@ -201,7 +202,7 @@ impl<'a> Meeting<'a> {
     }
 }
 
-/// Waits until a flag is set, for `TURNS` turns at most, and answers whether it is.
+/// Waits until a flag is set, for at most `TURNS` turns, and returns whether it is set.
 pub fn wait_for(flag: &AtomicU64) -> bool {
     for _ in 0..TURNS {
         if flag.load(Ordering::SeqCst) > 0 {
@@ -224,7 +225,8 @@ impl Gate for Meeting<'_> {
     }
 }
 
-/// Searches the square, waits after the first step until a flag is set, and gives the seat back.
+/// Searches the square, and waits after the first visit until a flag is set. Returns the seat and
+/// the number of rows.
 pub fn search_meeting<'h, L: Ledger + ListName, H: Wait + Drop, R: Wait + Abort>(
     rt: &R,
     seat: Seat<'h, L, H, Global>,
@@ -237,7 +239,7 @@ pub fn search_meeting<'h, L: Ledger + ListName, H: Wait + Drop, R: Wait + Abort>
     (seat, found)
 }
 
-/// Closes a hall with its two seats and so many records.
+/// Closes a hall with its two seats, and checks the number of records.
 pub fn close_two<'h, L: Ledger + ListName, H: Wait + Drop, R: Wait + Abort>(
     rt: &R,
     heap: Global,

@@ -11,16 +11,16 @@ use std::sync::atomic::{AtomicU64, Ordering};
 use std::sync::ledger::Ledger;
 use std::thread::{Threads, join};
 
-/// How a list was answered, as a number that threads share: it is not yet.
+/// The state of the list, shared between threads: not answered yet.
 const OPEN: u64 = 0;
 
-/// Searches held it back.
+/// Answered `Held`: searches held it back.
 const HELD: u64 = 1;
 
-/// It was answered otherwise.
+/// Answered otherwise.
 const OTHER: u64 = 2;
 
-/// Commits a list once the first search waits, and tells how it was answered.
+/// Commits a list once the first search waits, and stores how it was answered.
 fn commit_held<'h, L: Ledger + ListName, H: Wait + Drop, R: Wait + Abort>(
     rt: &R,
     seat: Seat<'h, L, H, Global>,
@@ -37,7 +37,8 @@ fn commit_held<'h, L: Ledger + ListName, H: Wait + Drop, R: Wait + Abort>(
     seat
 }
 
-/// Searches elsewhere again and again until the list is answered, and how often that was.
+/// Searches elsewhere repeatedly until the list is answered. Returns the seat and the number of
+/// searches.
 fn search_elsewhere<'h, L: Ledger + ListName, H: Wait + Drop, R: Wait + Abort>(
     rt: &R,
     seat: Seat<'h, L, H, Global>,
@@ -56,7 +57,8 @@ fn search_elsewhere<'h, L: Ledger + ListName, H: Wait + Drop, R: Wait + Abort>(
     (seat, searches)
 }
 
-/// The second seat's list, and beside it the third's searches. Gives both seats back, and how often the third was answered.
+/// Commits with the second seat, and searches with the third concurrently. Returns both seats and
+/// the number of searches.
 fn hold_beside<
     'h,
     L: Ledger + ListName + Send + Sync,
@@ -81,7 +83,7 @@ fn hold_beside<
     (others, searches)
 }
 
-/// The seat that stands last.
+/// Removes and returns the last seat.
 fn last_of<'h, L: Ledger + ListName, H: Wait + Drop>(
     rt: &impl Abort,
     seats: &mut Vec<Seat<'h, L, H, Global>>,
@@ -92,8 +94,8 @@ fn last_of<'h, L: Ledger + ListName, H: Wait + Drop>(
     }
 }
 
-/// The first seat's search waits, the second's list is held back by it until it is given up, and the third's searches end again
-/// and again meanwhile.
+/// The search of the first seat waits and holds back the second seat's list until that is answered
+/// `Held`. Meanwhile the third seat's searches end one after another.
 fn hold<
     'h,
     L: Ledger + ListName + Send + Sync,
@@ -147,7 +149,7 @@ fn held_sixty_four_times_in<
     close_three(rt, heap, &hall, first, second, third);
 }
 
-/// The hall does not close without the third seat, and closes with all.
+/// The hall cannot be closed without the third seat, and can be closed with all three.
 fn close_three<'h, L: Ledger + ListName, H: Wait + Drop, R: Wait + Abort>(
     rt: &R,
     heap: Global,
@@ -173,7 +175,7 @@ fn close_three<'h, L: Ledger + ListName, H: Wait + Drop, R: Wait + Abort>(
     }
 }
 
-/// The hall closes, and then it gives no seat.
+/// Closes the hall with all three seats.
 fn close_all<'h, L: Ledger + ListName, H: Wait + Drop, R: Wait + Abort>(
     rt: &R,
     hall: &'h Hall<L, H, Global>,

@@ -1,4 +1,4 @@
-//! Calls of a seat with each of their allocations refused in turn.
+//! Calls of a seat, with each of their allocations refused in turn.
 ghost use Rattle.std.specs.Prelude.{◌≡◌};
 
 use crate::halls::{ROADS, applied, document, name, opened_in, road, rows, seat, square};
@@ -15,7 +15,7 @@ use transactions::{Fault, TreeFault};
 /// More allocations than any of the calls makes.
 const MOST: u64 = 100;
 
-/// A call that takes memory.
+/// A call that allocates.
 #[derive(Clone, Copy, Debug, PartialEq, Eq)]
 enum Taking {
     Search,
@@ -25,7 +25,7 @@ enum Taking {
     Roll,
 }
 
-/// Makes the call, and answers why it was refused, or nothing.
+/// Makes the call, and returns its fault, if any.
 fn call<L: Ledger + ListName, H: Wait + Drop, R: Wait + Abort>(
     rt: &R,
     heap: Global,
@@ -43,7 +43,7 @@ fn call<L: Ledger + ListName, H: Wait + Drop, R: Wait + Abort>(
     }
 }
 
-/// Whether memory was wanted and refused.
+/// Whether the fault is that an allocation was refused.
 fn is_memory(fault: &HallFault) -> bool {
     matches!(
         fault,
@@ -53,8 +53,9 @@ fn is_memory(fault: &HallFault) -> bool {
     )
 }
 
-/// The call with its allocation of this number refused: then it tells so, leaves no receipt and changes no feature, and the same
-/// call succeeds. Whether that allocation was reached.
+/// Makes the call with allocation number `at` refused. The call then fails with a memory fault,
+/// leaves no receipt and changes no feature, and the same call succeeds afterwards. Returns whether
+/// the allocation was reached.
 fn is_refused<L: Ledger + ListName, H: Wait + Drop, R: Wait + Abort>(
     rt: &R,
     heap: Global,
@@ -102,7 +103,8 @@ fn close_two<'h, 'm, L: Ledger + ListName, H: Wait + Drop, R: Wait + Abort>(
     }
 }
 
-/// A hall with one road and two seats, in which the chief makes the call.
+/// Opens a hall with one road and two seats, and lets the chief make the call with allocation
+/// number `at` refused. Returns whether the allocation was reached.
 fn refused_in<L: Ledger + ListName, H: Wait + Drop, R: Wait + Abort>(
     rt: &R,
     own: H,
@@ -125,7 +127,8 @@ fn refused_in<L: Ledger + ListName, H: Wait + Drop, R: Wait + Abort>(
     reached
 }
 
-/// How many allocations of the call are refused, one after another, until there is none of that number.
+/// How many allocations the call makes: each is refused in turn, until there is none of that
+/// number.
 fn refusals<H: Wait + Drop + Copy, R: Wait + Abort>(
     rt: &R,
     own: H,
@@ -154,7 +157,8 @@ fn each_allocation_of_a_call_refused(rt: HostRuntime) {
     }
 }
 
-/// A seat with the allocation of this number refused: then none is given, and the next one is. Whether that allocation was reached.
+/// Asks for a seat with allocation number `at` refused. None is then given, and the next request
+/// succeeds. Returns whether the allocation was reached.
 fn seat_refused_in<L: Ledger + ListName, H: Wait + Drop, R: Wait + Abort>(
     rt: &R,
     own: H,
@@ -182,7 +186,8 @@ fn seat_refused_in<L: Ledger + ListName, H: Wait + Drop, R: Wait + Abort>(
     reached
 }
 
-/// How many allocations of giving a seat are refused, one after another, until there is none of that number.
+/// How many allocations giving a seat makes: each is refused in turn, until there is none of that
+/// number.
 fn seat_refusals<H: Wait + Drop + Copy, R: Wait + Abort>(rt: &R, own: H, heap: Global) -> u64 {
     for at in 1..MOST {
         if !seat_refused_in::<Brand, _, _>(rt, own, heap, Unnamed::new(), at) {

@@ -1,4 +1,4 @@
-//! Rolls while another thread is at work in the hall.
+//! Rolls while another thread works in the hall.
 ghost use Rattle.std.specs.Prelude.{◌≡◌};
 
 use crate::halls::{TURNS, applied, close_two, opened, road, rows, seat, square};
@@ -14,17 +14,17 @@ use std::thread::{Threads, join, yield_now};
 /// How often the steward rolls.
 const ROLLS: u32 = 10;
 
-/// How many rounds the editor makes at least between two rolls.
+/// How many rounds the editor makes between two rolls, at least.
 const BETWEEN: u64 = 10;
 
-/// How many rounds the editor makes at most, so that the test ends.
+/// An upper bound on the editor's rounds, so that the test ends.
 const MOST: u64 = 2_000;
 
-/// How many turns the steward waits for the editor at most: more than a busy machine takes.
+/// How many turns the steward waits for the editor, at most; a busy machine needs fewer.
 const PATIENCE: u64 = 100 * TURNS;
 
-/// Adds a road, and finds all that were added, in rounds, until the steward has rolled for the last time. Gives the seat back, and
-/// how many rounds there were.
+/// In each round, adds a road and finds all roads added so far, until the steward has rolled for
+/// the last time. Returns the seat and the number of rounds.
 fn work<'h, L: Ledger + ListName, H: Wait + Drop, R: Wait + Abort>(
     rt: &R,
     seat: Seat<'h, L, H, Global>,
@@ -38,7 +38,7 @@ fn work<'h, L: Ledger + ListName, H: Wait + Drop, R: Wait + Abort>(
         let found = rows(rt, &mut seat, square(rt), &mut NoGate);
         assert_eq!(rt; found, Some(round as usize));
         rounds.store(round, Ordering::SeqCst);
-        // The steward is to get the lock too.
+        // Lets the steward get the lock, too.
         yield_now();
         if done.load(Ordering::SeqCst) > 0 {
             return (seat, round);
@@ -47,7 +47,7 @@ fn work<'h, L: Ledger + ListName, H: Wait + Drop, R: Wait + Abort>(
     panic!(rt; "the steward does not roll");
 }
 
-/// Waits until the editor has made so many rounds.
+/// Waits until the editor has made `least` rounds.
 fn wait_for_rounds(rt: &impl Abort, rounds: &AtomicU64, least: u64) {
     for _ in 0..PATIENCE {
         if rounds.load(Ordering::SeqCst) >= least {
@@ -58,7 +58,8 @@ fn wait_for_rounds(rt: &impl Abort, rounds: &AtomicU64, least: u64) {
     panic!(rt; "the editor does not work");
 }
 
-/// Rolls a piece that begins with the record of this number, and answers the number behind its last one.
+/// Rolls a piece, checks that it begins with the record of this number, and returns the number
+/// after its last one.
 fn roll_on<L: Ledger + ListName, H: Wait + Drop, R: Wait + Abort>(
     rt: &R,
     chief: &mut Seat<'_, L, H, Global>,
@@ -75,8 +76,8 @@ fn roll_on<L: Ledger + ListName, H: Wait + Drop, R: Wait + Abort>(
     }
 }
 
-/// Rolls again and again, each time when the editor has made some more rounds. Gives the seat back, and the number behind the last
-/// record that was rolled out.
+/// Rolls repeatedly, each time after the editor has made some more rounds. Returns the seat and the
+/// number after the last rolled record.
 fn roll_beside<'h, L: Ledger + ListName, H: Wait + Drop, R: Wait + Abort>(
     rt: &R,
     chief: Seat<'h, L, H, Global>,
@@ -96,8 +97,8 @@ fn roll_beside<'h, L: Ledger + ListName, H: Wait + Drop, R: Wait + Abort>(
     (chief, u64::from(first))
 }
 
-/// Both seats side by side: the steward's, with the number behind the last record that it rolled out, and the editor's, with how many
-/// rounds it made.
+/// Runs both seats concurrently. Returns the steward's with the number after the last rolled
+/// record, and the editor's with the number of its rounds.
 fn roll_and_work<
     'h,
     L: Ledger + ListName + Send + Sync,
@@ -134,7 +135,7 @@ fn rolls_beside_work_in<
     let (rolled, worked) = roll_and_work(rt, chief, north, &rounds, &done);
     let (mut chief, first) = rolled;
     let (north, last) = worked;
-    // A round leaves two records. What has come since the last roll is rolled out too.
+    // A round leaves two records. This roll takes the records since the last roll.
     let records = last.saturating_mul(2);
     let next = roll_on(rt, &mut chief, u32::try_from(first).unwrap_or(0));
     assert_eq!(rt; u64::from(next), records.saturating_add(1));

@@ -16,7 +16,8 @@ use std::sync::ledger::Ledger;
 use std::test::Fail;
 use std::thread::{Threads, join};
 
-/// Commits once the other seat's search waits, then lets it go on, and gives the seat back.
+/// Commits once the other seat's search waits, then sets `done` to let it go on. Returns the seat,
+/// and the version if all went well.
 fn commit_meeting<'h, L: Ledger + ListName, H: Wait + Drop, R: Wait + Abort>(
     rt: &R,
     seat: Seat<'h, L, H, Global>,
@@ -30,7 +31,8 @@ fn commit_meeting<'h, L: Ledger + ListName, H: Wait + Drop, R: Wait + Abort>(
     (seat, if met { version } else { None })
 }
 
-/// Two seats side by side: a search that waits after its first step, until the other's list is applied.
+/// Runs two seats concurrently: a search that waits after its first step until the other seat's
+/// list is applied.
 fn meet<
     'h,
     L: Ledger + ListName + Send + Sync,
@@ -81,7 +83,7 @@ fn two_threads_in<
     close_two(rt, heap, &hall, chief, north, 5);
 }
 
-/// The steward puts a document in force, and a view that is told of it explains by it.
+/// The steward puts a document in force; a view that is told of it explains by it.
 fn assert_told<L: Ledger + ListName, H: Wait + Drop, R: Wait + Abort>(
     rt: &R,
     heap: Global,

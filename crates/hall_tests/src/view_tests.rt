@@ -14,31 +14,32 @@ use std::test::Fail;
 use std::thread;
 use std::thread::{Threads, join};
 
-/// The edition of the last document that is put in force beside the views.
+/// The edition of the last document put in force.
 const LAST: u64 = 1_001;
 
-/// How many views explain, each in a thread of its own.
+/// How many views explain, each in its own thread.
 const VIEWS: usize = 4;
 
 /// How often a view explains at most, so that the test ends.
 const ROUNDS: u64 = 50_000_000;
 
-/// What came of a view that explains until it has read the last policy.
+/// The outcome of a view that explains until it has read the last policy.
 #[derive(Debug, PartialEq, Eq, Drop)]
 enum Watched {
-    /// It was ruled rightly each time, by an edition that was never below the one before.
+    /// Each ruling was right, and no edition was less than the one before.
     Well,
-    /// An edition came that was below the one before.
+    /// An edition was less than the one before.
     WentBack,
-    /// It was not ruled as the document of that edition rules.
+    /// A ruling was not that of its edition's document.
     RuledWrongly,
-    /// There was nothing to read.
+    /// There was no policy to read.
     NothingToRead,
     /// The last policy did not come.
     TooLong,
 }
 
-/// Whether this is how the document of its edition rules: an odd one permits everything, an even one says nothing of parcels.
+/// Whether this is the ruling of its edition's document: an odd edition permits everything, an even
+/// one has no rule for parcels.
 fn is_right(explained: &Explained) -> bool {
     match explained.ruling {
         Ruling::Permit(Some(1)) => explained.edition % 2 == 1 && explained.rule.is_some(),
@@ -68,7 +69,7 @@ fn watch<L: ListName>(mut view: View<L>, question: &Question) -> Watched {
     Watched::TooLong
 }
 
-/// Explains by each view, in a thread of its own, until the last policy has come.
+/// Explains with each view in its own thread, until the last policy has come.
 fn watch_all<L: ListName + Send, R: Threads + Abort + Sync>(
     rt: &R,
     views: Vec<View<L>>,
@@ -77,7 +78,7 @@ fn watch_all<L: ListName + Send, R: Threads + Abort + Sync>(
     thread::map_vec(rt, views, &|view| watch(view, &question))
 }
 
-/// Puts documents in force, of the editions up to the last.
+/// Puts documents in force, up to the last edition.
 fn govern_all<'h, L: Ledger + ListName, H: Wait + Drop, R: Wait + Abort>(
     rt: &R,
     heap: Global,
@@ -94,7 +95,7 @@ fn govern_all<'h, L: Ledger + ListName, H: Wait + Drop, R: Wait + Abort>(
     seat
 }
 
-/// A steward governs while views explain, one for each thread.
+/// A steward governs while views explain, each in its own thread.
 fn govern_beside<'h, L, H, R>(
     rt: &R,
     heap: Global,
@@ -149,7 +150,8 @@ fn editions_never_go_back(rt: HostRuntime) -> Result<(), Fail> {
     editions_never_go_back_in::<Brand, _, _>(&rt, rt, rt.alloc(), Unnamed::new())
 }
 
-/// As many views are given as were asked for, and none by a hall that is closed; those that were given go on.
+/// A hall gives the number of views it was opened for, and none once it is closed. A view goes on
+/// until the hall is dropped.
 fn views_are_given_in<L: Ledger + ListName, H: Wait + Drop, R: Wait + Abort>(
     rt: &R,
     own: H,
@@ -178,7 +180,7 @@ fn views_are_given(rt: HostRuntime) {
     views_are_given_in::<Brand, _, _>(&rt, rt, rt.alloc(), Unnamed::new());
 }
 
-/// A hall for no views gives none.
+/// A hall opened for no views gives none.
 fn no_views_in<L: Ledger + ListName, H: Wait + Drop, R: Wait + Abort>(
     rt: &R,
     own: H,
@@ -198,7 +200,7 @@ fn no_views(rt: HostRuntime) {
     no_views_in::<Brand, _, _>(&rt, rt, rt.alloc(), Unnamed::new());
 }
 
-/// No hall is for more than 64 views; the document comes back.
+/// A hall cannot be opened for more than 64 views.
 fn too_many_views_in<L: Ledger + ListName, H: Wait + Drop>(
     rt: &impl Abort,
     own: H,

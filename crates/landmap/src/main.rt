@@ -1,5 +1,5 @@
-//! The program `landmap`: a map feature server for land agencies. What it does stands in the crate `program`; the server that it
-//! runs, in the crate `server`; how it talks with one, in the crate `client`.
+//! The program `landmap`: a map feature server for land agencies. What it does is in the crate
+//! `program`; its server, in `server`; how it talks to one, in `client`.
 #![tactic(auto)]
 
 use byte_streams::{WriteFailed, flush, let_go, write_shown};
@@ -22,17 +22,18 @@ use std::thread::Threads;
 use std::time::Clock;
 use std::{fmt, io, thread};
 
-/// The exit status where the command line is wrong.
+/// The exit status if the command line is wrong.
 const TURNED_DOWN: u8 = 2;
 
-/// The program ends by a fault outside `run_program`, with the status of `Ended::Failed`. That one would have to own the
-/// fault, and rattle makes no proof of a function here that takes a fault by value.
+/// Reports a fault that occurred outside `run_program`, and returns the status of `Ended::Failed`.
+/// `Ended::Failed` is not built here because it owns its fault, and rattle proves no function here
+/// that takes a fault by value.
 fn fail(fault: &ProgramFault<'_>, errors: &mut Stderr) -> ExitCode {
     let _ = tell(fault, errors);
     ExitCode::from(1)
 }
 
-/// The words with which the program was started, or the status by which it ends without them.
+/// The words with which the program was started, or the exit status if there are none.
 fn given_words(rt: &HostRuntime, errors: &mut Stderr) -> Result<Vec<String>, ExitCode> {
     match host_words(rt) {
         Ok(words) => Ok(words),
@@ -44,7 +45,7 @@ fn given_words(rt: &HostRuntime, errors: &mut Stderr) -> Result<Vec<String>, Exi
     }
 }
 
-/// The line that tells how many records a server has left.
+/// The line about the records of a closed server.
 #[derive(Drop)]
 struct Account {
     records: u64,
@@ -56,7 +57,7 @@ impl fmt::Display for Account {
     }
 }
 
-/// Tells on standard output how many records a server has left.
+/// Writes to standard output how many records a closed server has left.
 fn tell_closed<W: Write>(closed: Closed, output: &mut W) -> Result<(), WriteFailed> {
     let account = Account {
         records: closed.records,
@@ -66,7 +67,7 @@ fn tell_closed<W: Write>(closed: Closed, output: &mut W) -> Result<(), WriteFail
     Ok(())
 }
 
-/// A server that is to be run. It has no loan of the words of the command line.
+/// A server ready to run. It does not borrow from the words of the command line.
 #[derive(Drop)]
 struct Plan {
     serving: Serving,
@@ -74,14 +75,14 @@ struct Plan {
     connections: u16,
     idle: Option<u64>,
     takeover: bool,
-    /// No connection is accepted any more once this is not 0.
+    /// When this is not 0, no more connections are accepted.
     ends: Arc<AtomicU64>,
-    /// What waits for the end of standard input, where that is asked.
+    /// For the thread that waits for the end of standard input, if the command line asks for one.
     stopping: Option<Stopping>,
 }
 
-/// What the thread that waits for the end of standard input shares with the server: the flag that it sets, and the path to which
-/// it connects then.
+/// What the thread that waits for the end of standard input shares with the server: the flag that
+/// it sets, and the path to which it connects afterwards.
 #[derive(Drop)]
 struct Stopping {
     ends: Arc<AtomicU64>,
@@ -115,7 +116,8 @@ fn planned(heap: Global, server: WantedServer<'_>) -> Result<Plan, Refused> {
     })
 }
 
-/// Serves a socket until the last of its connections has ended, and tells how it ended. `own` is the hall's own handle.
+/// Serves a socket until its last connection has ended, and returns the exit status. `own` is the
+/// hall's own handle.
 fn serve<H, R>(rt: &R, own: H, heap: Global, plan: Plan, errors: &mut Stderr) -> ExitCode
 where
     H: Wait + Drop + Send,
@@ -144,7 +146,7 @@ where
     }
 }
 
-/// Tells how many records a server has left, and answers the exit status.
+/// Writes how many records a server has left, and returns the exit status.
 fn conclude<R: Print>(rt: &R, heap: Global, closed: Closed, errors: &mut Stderr) -> ExitCode {
     let mut output = match buffered(heap, io::writer(rt)) {
         Ok(output) => output,
@@ -158,7 +160,8 @@ fn conclude<R: Print>(rt: &R, heap: Global, closed: Closed, errors: &mut Stderr)
     }
 }
 
-/// Standard input. Where it is a terminal's, and standard error too, a prompt is written there before each read.
+/// Standard input. If `prompts` is set, each read is preceded by a prompt on standard error; it is
+/// set if standard input and standard error are terminals.
 #[derive(Drop)]
 struct Prompted {
     input: Stdin,
@@ -182,7 +185,8 @@ fn connected<R: Net>(rt: &R, path: &str) -> io::Result<(UnixStream, UnixStream)>
     Ok((reader, stream))
 }
 
-/// Talks with the server at a path, from standard input to standard output, and answers the exit status.
+/// Talks to the server at a path, from standard input to standard output, and returns the exit
+/// status.
 fn connect(rt: &HostRuntime, path: &str, errors: &mut Stderr) -> ExitCode {
     let Ok((mut peer_in, mut peer_out)) = connected(rt, path) else {
         return fail(&ProgramFault::CannotConnect(path), errors);
@@ -235,7 +239,7 @@ fn main(rt: HostRuntime) -> ExitCode {
         &mut output,
         &mut errors,
     );
-    // All that was written has left by a flush, unless a write failed; then the rest is not written once more.
+    // All output is flushed, unless a write failed; then the rest is not written again.
     let _ = let_go(output);
     match next {
         Next::Exit(ended) => ExitCode::from(ended.status()),

@@ -1,4 +1,5 @@
--- Where clap has nothing against the words of a command line, they name `script`, `serve` or `connect`, and give it what it needs.
+-- If clap accepts the words of a command line, they name `script`, `serve` or `connect`, and give
+-- it what it needs.
 use Rattle.std.proofs.Common.{◌≡◌, ◌⊎◌, inl, inr, Bool, true, false, not, ◌&&◌, ◌||◌, if◌then◌else◌, List, [], Option, None, Some, is_some, option_map, refl, ap, sym, subst, codes, true≢false}
 use Rattle.std.specs.Prelude.{Box}
 use Rattle.std.specs.Box.{box_value}
@@ -154,7 +155,7 @@ connect_passed words e =
     let socket : Passes socket_rule rows = passes connect_built.rules socket_rule rows refl passed in
     has_first socket_rule rows socket (wanted (is_given (codes "socket") rows) (level_steps connect_built [] words false [] e).3)
 
--- a subcommand and its rows, of words that clap takes
+-- a subcommand and its rows, from words that clap accepts
 abbrev pub IsTaken : Option (Text × List Row) → Type 0
 IsTaken None = ⊥
 IsTaken (Some sub) =
@@ -183,7 +184,7 @@ abbrev by_name : Bool → Bool → Bool → Bool → Option Shape
 by_name is_script is_serve is_connect is_help =
     if is_script then Some script_built else (if is_serve then Some serve_built else (if is_connect then Some connect_built else (if is_help then Some help_built else None)))
 
--- the subcommand that was entered is `script`, `serve` or `connect`
+-- the entered subcommand is `script`, `serve` or `connect`
 one_entered : (rows : List Row) (words : List Text) (is_script is_serve is_connect is_help : Bool) → is_help ≡ false
     → option_map_or (λ s. level_fault s [] nothing_held words false []) (by_name is_script is_serve is_connect is_help) [] ≡ []
     → check_fault app.top rows (is_some (option_map (λ s. rows_at s words) (by_name is_script is_serve is_connect is_help))) ≡ []
@@ -194,7 +195,7 @@ one_entered rows words false false true is_help other below check = inr (inr (re
 one_entered rows words false false false true other below check = absurd (true≢false other)
 one_entered rows words false false false false other below check = absurd (none_entered rows check)
 
--- where clap has nothing against the words, they name one of the three, which has what it needs
+-- if clap accepts the words, they name one of the three, which has what it needs
 pub taken : (words : List Text) → refusals words ≡ [] → IsTaken (subcommand_of command_line words)
 taken words e =
     let given = argument_words command_line words in
@@ -206,7 +207,7 @@ taken words e =
     by None n rows below check = absurd (none_entered rows check)
     by (Some stop) n rows below check = one_entered rows stop.1 (bytes_eq (codes "script") stop.0 || false) (bytes_eq (codes "serve") stop.0 || false) (bytes_eq (codes "connect") stop.0 || false) (bytes_eq (codes "help") stop.0 || false) (no_help stop.0 n) below check
 
--- ---- what a subcommand of either name has
+-- ---- what a subcommand of each name has
 
 no_serve : codes "script" ≡ codes "serve" → ⊥
 no_serve e = true≢false (ap (bytes_eq (codes "script")) e)
@@ -256,7 +257,7 @@ one_named words e = by (subcommand_of command_line words) (taken words e)
     by (Some sub) (inr (inl serve)) = inr (inl (ap Some serve.0))
     by (Some sub) (inr (inr connect)) = inr (inr (ap Some connect.0))
 
--- the name of the subcommand that a parse met is that of its rows
+-- the subcommand that a parse entered has the name in its rows
 pub name_of_rows : (matches : ArgMatches) → subcommand_name_of matches ≡ option_map (λ sub. sub.0) (subcommand_rows_of matches)
 name_of_rows matches = by (out-ArgMatches matches).subcommand
   where

@@ -1,4 +1,4 @@
--- The text of the built-in configuration is read as it.
+-- The text of the built-in configuration is read as that configuration.
 use Rattle.std.proofs.Common.{◌≡◌, ℕ, true, List, codes, refl, ap, ◌∙◌, subst, Result, Some, Ok}
 use Rattle.std.specs.Str.{is_utf8, chars}
 use lib.Utf8.{encode}

@@ -1,4 +1,4 @@
--- Commands in hand, an argument more at a time.
+-- Building commands, one argument at a time.
 use Rattle.std.proofs.Common.{◌≡◌, ◌∙◌, ap, ap₂, true, Bool, ◌||◌, Option, Some, subst}
 use Rattle.std.specs.Prelude.{pos, ℕ, ℤ}
 use Rattle.std.specs.Int.{int_max, int_min}
@@ -14,12 +14,12 @@ pub adds : (app : App) (rule : Rule) (old new : Command) (argument : Arg) → Is
 adds app rule old new argument command is added =
     (added.shape is.1 ∙ ap₂ with_rule command.0 is.0, added.globals ∙ ap₂ (λ (a b : Bool). a || b) command.1 is.1)
 
--- an argument whose value has to be a number
+-- an argument whose value must be a number
 pub ranged : (rule : Rule) (most : ℕ) (before after : Arg) → IsArgument rule before → after ≡ record before { value_parser = after.value_parser } → after.value_parser ≡ Some (Signed (pos 1) (pos most)) → IsArgument (up_to most rule) after
 ranged rule most before after is others parser =
     (ap rule_of others ∙ ap₂ (λ (r : Rule) (p : Option ValueParser). record r { parser = p }) is.0 parser, ap (λ (a : Arg). a.global) others ∙ is.1)
 
--- an argument that has to be there
+-- a required argument
 pub demanded : (rule : Rule) (before after : Arg) → IsArgument rule before → after ≡ record before { required = true } → IsArgument (needed rule) after
 demanded rule before after is required = (ap rule_of required ∙ ap needed is.0, ap (λ (a : Arg). a.global) required ∙ is.1)
 

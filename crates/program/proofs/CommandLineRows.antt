@@ -39,7 +39,7 @@ configured_config : given_by configured (codes "config") ≡ Some (codes "a.json
 unfolding clap_on_literals
 configured_config = refl
 
--- a server with the options that it has to have, and with more
+-- a server with its required options, and with more
 abbrev serving : List Text
 serving = codes "landmap" ∷ codes "serve" ∷ codes "--socket" ∷ codes "m.sock" ∷ codes "--connections" ∷ codes "1024" ∷ []
 

@@ -1,4 +1,4 @@
--- Reading configurations: faults on their way, and subjects one after another.
+-- Reading configurations: how faults are passed on, and subjects one after another.
 use Rattle.std.proofs.Common.{arith, ◌≡◌, ℕ, ◌+◌, ◌<◌, ◌≤◌, true, false, Bool, List, [], ◌∷◌, ◌++◌, length, get_or, drop, refl, sym, ap, ◌∙◌, subst, append_assoc, add-one, drop-cons, Result, Ok, Err, Option, Some, None, IsErrAnd, IsUtf8}
 use Rattle.std.specs.Option.{ok_or}
 use Rattle.std.specs.Str.{is_utf8}
@@ -35,7 +35,7 @@ Fails-from faults.Form r h = h
 Fails-from (faults.Subjects f) r h = h
 Fails-from (faults.Policies f) r h = h
 
--- what left by `?` is the fault that was met
+-- a fault returned by `?` is the fault that occurred
 pub Gives-residual : {X Y : Type 0} (view : X → Y) (r : Result X ConfigFault) (e : ConfigFault) (reading : Result Y ConfigFault) →
     IsErrAnd r (λ f. f ≡ e) → Fails e reading → Gives view r reading
 Gives-residual view (Ok x) e reading h told = absurd h
@@ -53,11 +53,11 @@ policies-fail (texts.BadZone n f) d h = rw h refl
 policies-fail texts.TooDeep d h = rw h refl
 policies-fail texts.TooMany d h = rw h refl
 
--- what was read already, before what is read of the rest
+-- the items read so far, followed by those of the rest
 abbrev pub behind : List Subject → Result (List Subject) ConfigFault → Result (List Subject) ConfigFault
 behind done rest = rest >>= λ others. Ok (done ++ others)
 
--- what is left from the item at i on
+-- the items from index i on
 abbrev pub left_at : ℕ → List Value → Result (List Subject) ConfigFault
 left_at i vs = subjects_in (items_view (drop i vs))
 
@@ -108,12 +108,12 @@ unread bytes told = by_test (is_utf8 bytes) refl
     by_test true test = config_of-utf8 bytes (IsUtf8-from_is_utf8 bytes test) ∙ ap of_read (told (IsUtf8-from_is_utf8 bytes test))
     by_test false test = rw test refl
 
--- where no JSON value was read, memory ran out or the bytes are no JSON text
+-- if no JSON value was read, memory ran out or the bytes are not a JSON text
 pub unread-fails : (bytes : List ℕ) (e : JsonFault) → (IsTextFault e → IsUtf8 bytes → read bytes ≡ None) → Fails (unread_fault e) (config_of bytes)
 unread-fails bytes (reasons.Text error) told = unread bytes (told tt)
 unread-fails bytes (reasons.Memory m) told = tt
 
--- no bytes are no JSON value
+-- the empty text is not a JSON value
 read-empty : (d : Data) → read [] ≡ Some d → ⊥
 unfolding serde_json_on_literals
 read-empty d told = cc

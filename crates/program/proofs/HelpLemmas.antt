@@ -1,4 +1,5 @@
--- Where a walk over the words has no fault, it does not enter `help`, since a word that asks for it is turned down.
+-- If a walk over the words has no fault, it does not enter `help`, since a word that asks for it is
+-- rejected.
 use Rattle.std.proofs.Common.{◌≡◌, ℕ, Bool, true, false, not, ◌&&◌, if◌then◌else◌, List, [], ◌∷◌, Option, None, Some, IfSome, is_some, refl, true≢false, codes}
 use Rattle.std.specs.Prelude.{fold}
 use Rattle.std.specs.Str.{bytes_eq}

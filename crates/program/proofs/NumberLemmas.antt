@@ -1,4 +1,4 @@
--- What clap's getters read of rows that passed: the first value of an argument, as a number or a flag.
+-- What clap's getters read of rows that passed: an argument's first value, as a number or a flag.
 use Rattle.std.proofs.Common.{◌≡◌, ◌<◌, ◌^◌, ℕ, Bool, true, false, ◌||◌, if◌then◌else◌, List, [], ◌∷◌, Option, None, Some, IfSome, is_some, option_map, Result, Ok, refl, ap, ◌∙◌, sym, subst, codes, true≢false, arith}
 use Rattle.std.specs.Prelude.{find, option_and_then, pos, slice_get}
 use Rattle.std.specs.Option.{option_map_or}
@@ -108,7 +108,7 @@ module _ {E : Type 0} (G : Text → Result ℕ E → Type 0) (k most : ℕ) (onl
 abbrev pub GivesUnsigned : ℕ → Text → Result ℕ ParseIntError → Type 0
 GivesUnsigned k text r = ParsesUnsigned k 10 text r × ExplainsUnsignedError 10 text r × HasUnsignedDigitsIfOk text r
 
--- so it is of what a parse found
+-- the same for what a parse found
 pub number_found : (k most : ℕ) → most < 2 ^ k → (a : Rule) → parser_of_value a.parser ≡ parsers.Signed (pos 1) (pos most) → (found : Found) → Passes a (rows_of found) → (result : Option ℕ)
     → (one_text found a.id ≡ None → result ≡ None) → ((t : Text) → one_text found a.id ≡ Some t → ReadsOne (GivesUnsigned k) t result)
     → (result ≡ option_map number_of (first_of a.id (rows_of found))) × IfSome result (IsUpTo most)

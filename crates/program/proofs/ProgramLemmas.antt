@@ -1,4 +1,4 @@
--- What is done with the words of a command line, and what is answered of it.
+-- What is done for the words of a command line, and what is returned.
 use Rattle.std.proofs.Common.{◌≡◌, ℕ, List, Option, Result, Ok, option_map, refl, sym, subst}
 use Rattle.clap.specs.Words.{IsAmong, Text as Words, kind_of}
 use Rattle.clap.specs.declared.error.Error.{Error}
@@ -60,7 +60,7 @@ server_failed words held closed standing asked given fault is_asked is failed =
 pub help_asked : (words : List Words) (asked : Asked) (help : Error) → IsAsked words asked → asked ≡ Text help → kind_of help ≡ DisplayHelp → IsAmong DisplayHelp (refusals words)
 help_asked words asked help is_asked is kind = subst (λ k. IsAmong k (refusals words)) kind (subst (IsAsked words) is is_asked)
 
--- what was answered of the words, read off by cases
+-- the result for the words, by cases
 module _ {O : Type 0} (words : List Words) (held : List ℕ → Option (List ℕ)) (closed : List ℕ → Type 0) (written : O → Option (List ℕ)) (output after : O) (result : Result Answer ProgramFault) (answer : Answer) where
   pub was_done : (flushed : Flushed) → IsAnswer words held closed written output after result → result ≡ Ok answer → answer ≡ answers.Done flushed → IsDone words held (written output) (written after)
   was_done flushed h is done = subst (λ (a : Answer). IsAnswer words held closed written output after (Ok a)) done (subst (IsAnswer words held closed written output after) is h)

@@ -1,5 +1,5 @@
--- What clap has let through: where a level of the command line has no fault, each row of it has values that passed the parser of
--- their argument.
+-- What clap has accepted: if a level of the command line has no fault, the values of each of its
+-- rows passed the parser of their argument.
 use Rattle.std.proofs.Common.{◌≡◌, ◌⊎◌, inl, inr, ℕ, zero, suc, Bool, true, false, ◌&&◌, if◌then◌else◌, List, [], ◌∷◌, ◌++◌, length, drop, Option, None, Some, IfSome, is_some, refl, ap, ap₂, ◌∙◌, sym, subst}
 use Rattle.std.specs.Prelude.{encode_utf8, find, fold, slice_get}
 use Rattle.std.specs.Option.{option_map_or}
@@ -18,7 +18,7 @@ use Rattle.clap.specs.declared.builder.value_parser.ValueParser.{ValueParser}
 use Rattle.clap.specs.declared.parser.matches.ValueSource.{ValueSource}
 use Rattle.clap.specs.declared.parser.matches.ValueSource.TheVariants.{CommandLine, DefaultValue}
 
--- of two steps neither fails
+-- neither of two steps fails
 pub both_pass : (a b : Kinds) → or_else a b ≡ [] → (a ≡ []) × (b ≡ [])
 both_pass [] b e = (refl, e)
 both_pass (k ∷ ks) b e = absurd cc
@@ -39,7 +39,7 @@ both_accepted any_case parser (x ∷ xs) ys e f =
     let p = both_pass (value_kinds any_case parser x) (values_kinds any_case parser xs) e in
     ap₂ or_else p.0 (both_accepted any_case parser xs ys p.1 f)
 
--- a row of this argument's that passed its parser, and is read as that parser says
+-- a row of this argument that passed its parser, and is read as that parser says
 pub record IsPassedBy (a : Rule) (r : Row) : Type 0 where
   pub has : HasValue r.values
   pub accepted : values_fault a r.values ≡ []
@@ -51,7 +51,7 @@ of_some P o a is h = subst (λ (o : Option Rule). IfSome o P) (sym is) h
 pub at_some : (P : Rule → Type 0) (o : Option Rule) (a : Rule) → o ≡ Some a → IfSome o P → P a
 at_some P o a is h = subst (λ (o : Option Rule). IfSome o P) is h
 
--- a use takes the place of an earlier one, and has values of its own
+-- a use replaces an earlier one, and has its own values
 abbrev Replaces : ArgAction → Type 0
 Replaces Set = Unit {0}
 Replaces SetTrue = Unit {0}

@@ -1,4 +1,4 @@
--- A configuration from a file, and a run by it.
+-- A configuration from a file, and a run with it.
 use Rattle.std.proofs.Common.{◌≡◌, ◌∙◌, ℕ, List, [], Option, None, Some, refl, subst, IfErr, IfSome, OnOk, Result, Ok, Err}
 use Rattle.std.specs.Io.KnownBytes.{Appends, Keeps}
 use Rattle.sessions.specs.Scripts.{IsScriptText, LineTells, script}
@@ -17,18 +17,18 @@ use Rattle.program.specs.declared.config_faults.ConfigFault.{ConfigFault}
 use Rattle.program.specs.declared.configs.Config.{Config}
 use Rattle.program.specs.declared.faults.ProgramFault.{ProgramFault}
 
--- what was read of a file is its configuration
+-- the configuration read from a file is the file's configuration
 pub configured : {A : Type 0} (known text : Option (List ℕ)) (config : Config A) → known ≡ text → FileGives (Ok config) known →
     IfSome text (λ text. IsConfigText (config_data config) text)
 configured known text config same h = subst (λ known. IfSome known (λ text. IsConfigText (config_data config) text)) same h
 
--- what was told of a file is its fault
+-- the fault returned for a file is the file's fault
 pub misconfigured : (known text : Option (List ℕ)) (fault : ConfigFault) → known ≡ text → IfSome known (λ text. IsConfigFault fault text) →
     IfSome text (λ text. IsConfigFault fault text)
 misconfigured known text fault same h = subst (λ known. IfSome known (λ text. IsConfigFault fault text)) same h
 
 module _ (held : List ℕ → Option (List ℕ)) (config : Option (List ℕ)) (name : List ℕ) (c : ConfigData) (known before after : Option (List ℕ)) where
-  -- a run by a configuration served the script of a file
+  -- a run with a configuration served the script of a file
   pub ran : (result : Result Flushed ProgramFault) → IsConfigOf held config c → known ≡ held name → OnOk result (IfSome known (λ text. Served c text before after)) →
       OnOk result (RanScript held config name before after)
   ran (Ok u) is_config same served =
@@ -41,7 +41,7 @@ module _ (held : List ℕ → Option (List ℕ)) (config : Option (List ℕ)) (n
   broke_off closed (Ok u) is_config same h = tt
   broke_off closed (Err fault) is_config same h = BrokeOff.in_run c is_config (subst (λ known. IsOfRun c known before after fault) same h)
 
--- what is appended stays where the flush that follows keeps what it found
+-- appended output stays appended after a flush that keeps it
 kept_on : (before mid after : Option (List ℕ)) (said : List ℕ) → Appends before mid said → Keeps mid after → Appends before after said
 kept_on None mid after said a k = tt
 kept_on (Some xs) None after said a k = absurd a
@@ -75,7 +75,7 @@ came c end world last sessions input left before mid after opens ran keeps =
       kept = keeps;
     }
 
--- the fault by which it ended, as it is told
+-- the fault by which it ended, as it is shown
 pub of_run : (c : ConfigData) (fault : ServeFault) (input before after : Option (List ℕ)) → CameTo c (Err fault) input before after → IsOfRun c input before after (told_as fault)
 of_run c (reasons.Read failed) input before after h = (refl, h)
 of_run c (reasons.Write failed) input before after h = (Err (reasons.Write failed), h)

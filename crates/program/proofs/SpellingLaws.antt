@@ -36,7 +36,7 @@ read_as x = Ok x
 same_value : {A : Type 0} (x y : A) → read_as x ≡ Ok y → x ≡ y
 same_value x y told = cc
 
--- a value that was taken on a test
+-- a value that was accepted by a test
 taken_on : {A : Type 0} (b : Bool) (x y : A) → (if b then read_as x else Err faults.Form) ≡ Ok y → IsTrue b
 taken_on true x y told = refl
 taken_on false x y told = absurd cc
@@ -107,7 +107,7 @@ subjects-found (item d rest) ss told =
     bound (subject_in d) _ ss told (λ first one t1. bound (subjects_in rest) _ ss t1 (λ others each end.
     subst (SpellsSubjects (item d rest)) (same_value (first ∷ others) ss end) (subject-found d first one, subjects-found rest others each)))
 
--- a list that was taken over is as it was given, not empty, not too long, and has each name once
+-- a checked list is the given one, not empty, not too long, and has no name twice
 pub record IsTaken (given taken : List Subject) : Type 0 where
   pub same : given ≡ taken
   pub some : 1 ≤ length given

@@ -1,4 +1,4 @@
--- Telling of a fault.
+-- Writing the line about a fault.
 use Rattle.std.proofs.Common.{◌≡◌, ℕ, List, ◌++◌, Option, Result, sym, subst, ap, ◌∙◌, append_assoc, codes}
 use Rattle.std.specs.Io.KnownBytes.{Appends}
 use Rattle.std.specs.Result.{IsErr}

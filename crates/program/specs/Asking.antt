@@ -11,12 +11,13 @@ use Rattle.program.specs.declared.words.Asked.TheVariants.{Connect, Script, Serv
 use Rattle.program.specs.declared.words.ScriptWords.{ScriptWords}
 use Rattle.program.specs.declared.words.ServeWords.{ServeWords}
 
--- clap has nothing against the words, and has what they give its subcommand; or a text with one of its reasons
+-- clap accepts the words, and has the rows of their subcommand; or it has a text for one of its
+-- reasons
 abbrev pub IsReading : List (List ℕ) → Reading → Type 0
 IsReading words (Given matches) = (refusals words ≡ []) × (subcommand_rows_of matches ≡ subcommand_of command_line words)
 IsReading words (Told text) = IsAmong (kind_of text) (refusals words)
 
--- clap has nothing against some words, which name this subcommand, and give it these rows
+-- clap accepts some words that name this subcommand and give it these rows
 abbrev pub IsGiven : Text → List Row → Type 0
 IsGiven name rows = (words : List Text) × (refusals words ≡ []) × (subcommand_of command_line words ≡ Some (name, rows))
 
@@ -24,7 +25,7 @@ IsGiven name rows = (words : List Text) × (refusals words ≡ []) × (subcomman
 abbrev pub IsUpTo : ℕ → ℕ → Type 0
 IsUpTo most n = (1 ≤ n) × (n ≤ most)
 
--- the options of a server are those that are given, within their limits
+-- the options of a server are the given ones, within their limits
 pub record HasOptions (given : Text → Option Text) (options : ServerOptions) : Type 0 where
   pub socket : given (codes "socket") ≡ Some options.socket.now
   pub connections : number_at given (codes "connections") ≡ Some options.connections
@@ -40,11 +41,12 @@ pub record HasOptions (given : Text → Option Text) (options : ServerOptions) :
 abbrev pub HasFiles : (Text → Option Text) → ScriptWords → Type 0
 HasFiles given files = (given (codes "FILE") ≡ Some files.script.now) × (given (codes "config") ≡ option_map (λ name. name.now) files.config)
 
--- the options of a server, and its configuration's file
+-- the options of a server and its configuration's file
 abbrev pub HasServer : (Text → Option Text) → ServeWords → Type 0
 HasServer given server = HasOptions given server.options × (given (codes "config") ≡ option_map (λ name. name.now) server.config)
 
--- a script of these files, or this server, or a talk with the server at this path, or a text: help, or what is wrong
+-- a script of these files; this server; a talk with the server at this path; or a text: help, or
+-- what is wrong
 abbrev pub IsAsked : List (List ℕ) → Asked → Type 0
 IsAsked words (Script files) = AskFor (codes "script") words × HasFiles (given_by words) files
 IsAsked words (Serve server) = AskFor (codes "serve") words × HasServer (given_by words) server

@@ -1,4 +1,4 @@
--- The configuration of a server that is given none.
+-- The built-in configuration.
 use Rattle.std.specs.Prelude.{[], ◌∷◌, codes}
 use Rattle.policy_documents.specs.Documents.{DocumentData, policy}
 use Rattle.policy_documents.specs.declared.algorithms.Algorithm.TheVariants.{FirstApplicable}

@@ -1,5 +1,5 @@
--- The command line, as clap reads it: `landmap script [--config FILE] FILE`, `landmap serve` with its options, and
--- `landmap connect --socket PATH`.
+-- The command line, as clap reads it: `landmap script [--config FILE] FILE`, `landmap serve` with
+-- its options, and `landmap connect --socket PATH`.
 use Rattle.std.specs.Prelude.{◌≡◌, ℕ, Bool, true, false, List, [], ◌∷◌, Option, Some, codes, fold, option_map, option_and_then, pos}
 use Rattle.std.specs.Option.{option_map_or}
 use Rattle.std.specs.Str.{bytes_eq}
@@ -21,19 +21,19 @@ option_rule name = record (new_rule name) { long = Some name; value_names = 1 }
 abbrev pub flag_rule : Text → Rule
 flag_rule name = record (new_rule name) { long = Some name; action = Some SetTrue }
 
--- which has to be there
+-- a required argument
 abbrev pub needed : Rule → Rule
 needed rule = record rule { required = true }
 
--- whose value is a number from 1 to `most`
+-- an argument whose value is a number from 1 to `most`
 abbrev pub up_to : ℕ → Rule → Rule
 up_to most rule = record rule { parser = Some (Signed (pos 1) (pos most)) }
 
--- an argument in hand is this one, and stands at its own subcommand alone
+-- `argument` is this one, and is not global (it belongs to its own subcommand only)
 abbrev pub IsArgument : Rule → Arg → Type 0
 IsArgument rule argument = (rule_of argument ≡ rule) × (argument.global ≡ false)
 
--- a command in hand is this one, without arguments that stand at others too
+-- `command` is this one, and has no global arguments
 abbrev pub IsCommand : App → Command → Type 0
 IsCommand app command = (app_of command ≡ app) × ((out-Command command).has_globals ≡ false)
 
@@ -44,7 +44,8 @@ subcommand_line name rules = fold with_rule (new_app name) rules
 abbrev pub script_line : App
 script_line = subcommand_line (codes "script") (option_rule (codes "config") ∷ needed (new_rule (codes "FILE")) ∷ [])
 
--- `serve --socket PATH [--config FILE] --connections N [--workers N] [--idle SECONDS] [--takeover] [--until-stdin-ends]`
+-- `serve --socket PATH [--config FILE] --connections N [--workers N] [--idle SECONDS] [--takeover]
+-- [--until-stdin-ends]`
 abbrev pub serve_line : App
 serve_line = subcommand_line (codes "serve") (
     needed (option_rule (codes "socket")) ∷ option_rule (codes "config") ∷ needed (up_to CONNECTION_LIMIT (option_rule (codes "connections")))
@@ -55,15 +56,15 @@ serve_line = subcommand_line (codes "serve") (
 abbrev pub connect_line : App
 connect_line = subcommand_line (codes "connect") (needed (option_rule (codes "socket")) ∷ [])
 
--- a subcommand has to be there
+-- the command line without its subcommands; one of them is required
 abbrev pub bare_line : App
 bare_line = on_top (λ s. record s { subcommand_required = true; arg_required_else_help = true }) (new_app (codes "landmap"))
 
--- the subcommands are these three
+-- the command line with its three subcommands
 abbrev pub command_line : App
 command_line = with_subcommand (with_subcommand (with_subcommand bare_line script_line.top) serve_line.top) connect_line.top
 
--- why clap turns the words down, or that they ask for help. Of words that name a subcommand as it wants there is nothing
+-- why clap rejects the words, or that they ask for help; empty if clap accepts them
 abbrev pub refusals : List Text → Kinds
 refusals words = fault_of command_line words
 
@@ -71,7 +72,7 @@ refusals words = fault_of command_line words
 abbrev pub command_for : List Text → Option Text
 command_for words = option_map (λ sub. sub.0) (subcommand_of command_line words)
 
--- clap has nothing against the words, and they name this subcommand
+-- clap accepts the words, and they name this subcommand
 abbrev pub AskFor : Text → List Text → Type 0
 AskFor name words = (refusals words ≡ []) × (command_for words ≡ Some name)
 
@@ -79,7 +80,7 @@ AskFor name words = (refusals words ≡ []) × (command_for words ≡ Some name)
 abbrev pub given_by : List Text → Text → Option Text
 given_by words id = option_and_then (first_of id) (option_map (λ sub. sub.1) (subcommand_of command_line words))
 
--- the number that digits spell, behind a plus or none
+-- the number that digits spell, after an optional plus
 abbrev pub number_of : Text → ℕ
 number_of text = digits_value 10 (without_leading_plus text)
 

@@ -1,4 +1,4 @@
--- The faults of configurations: their codes, and what a reader answers of them.
+-- The faults of configurations: their codes, and what a reader returns.
 use Rattle.std.specs.Prelude.{◌≡◌, ℕ, List, codes, Result, Ok, Err}
 use Rattle.features.specs.FaultCodes.{subjects_code}
 use Rattle.memory.specs.declared.json.JsonFault.{JsonFault}
@@ -16,12 +16,12 @@ config_code_of (Subjects fault) = subjects_code fault
 config_code_of (Policies fault) = code_of fault
 config_code_of (Memory refused) = codes "B5"
 
--- why no JSON value was read: want of memory, or that the text is no JSON
+-- why no JSON value was read: out of memory, or the text is not JSON
 abbrev pub unread_fault : JsonFault → ConfigFault
 unread_fault (unread.Text error) = NotJson
 unread_fault (unread.Memory refused) = Memory refused
 
--- why no document was read: want of memory, or a fault of the document
+-- why no document was read: out of memory, or a fault of the document
 abbrev pub policies_fault : TextFault → ConfigFault
 policies_fault (texts.Memory refused) = Memory refused
 policies_fault texts.NotJson = Policies texts.NotJson
@@ -33,7 +33,7 @@ policies_fault (texts.BadZone name fault) = Policies (texts.BadZone name fault)
 policies_fault texts.TooDeep = Policies texts.TooDeep
 policies_fault texts.TooMany = Policies texts.TooMany
 
--- a fault is what reading gives, unless memory ran out
+-- the fault is the one that reading gives, or `Memory`
 abbrev pub Fails : {Y : Type 0} → ConfigFault → Result Y ConfigFault → Type 0
 Fails (Memory refused) reading = Unit {0}
 Fails NotJson reading = reading ≡ Err NotJson
@@ -41,7 +41,7 @@ Fails Form reading = reading ≡ Err Form
 Fails (Subjects fault) reading = reading ≡ Err (Subjects fault)
 Fails (Policies fault) reading = reading ≡ Err (Policies fault)
 
--- what a function returned, seen by `view`, is what reading gives, unless memory ran out
+-- the function's result, seen through `view`, is what reading gives, or the error is `Memory`
 abbrev pub Gives : {X Y : Type 0} → (X → Y) → Result X ConfigFault → Result Y ConfigFault → Type 0
 Gives view (Ok x) reading = reading ≡ Ok (view x)
 Gives view (Err e) reading = Fails e reading

@@ -1,4 +1,4 @@
--- The file of a configuration, whose bytes may be known.
+-- The file of a configuration. Its bytes may be known or not.
 use Rattle.std.specs.Prelude.{◌≡◌, ◌<◌, ◌≤◌, ℕ, List, length, Option, IfSome, Result, Ok, Err}
 use Rattle.program.specs.ConfigFaults.{Fails}
 use Rattle.program.specs.Configs.{ConfigData, config_data, config_of}
@@ -11,18 +11,18 @@ use Rattle.program.specs.declared.files.ReadFault.{ReadFault}
 use Rattle.program.specs.declared.files.ReadFault.TheVariants.{NotOpened, Failed, TooLong}
 use Rattle.program.specs.declared.files.TheConstants.{CONFIG_LIMIT}
 
--- all the bytes that a file had left, where they are known
+-- the bytes are all that the file had left, if those are known
 abbrev pub IsWhole : Option (List ℕ) → List ℕ → Type 0
 IsWhole left bytes = IfSome left (λ text. bytes ≡ text)
 
--- why a file that was opened cannot be read, which has these bytes left, where they are known: it is too long. That a read
--- failed may come of any
+-- why an open file cannot be read, by the bytes that it has left, if they are known: it is too
+-- long. A read may fail on any file
 abbrev pub IsReadFault : ReadFault → Option (List ℕ) → Type 0
 IsReadFault (NotOpened failed) left = ⊥
 IsReadFault (Failed failed) left = Unit {0}
 IsReadFault TooLong left = IfSome left (λ text. CONFIG_LIMIT < length text)
 
--- the bytes that a file had left were not had: want of memory, or they cannot be read
+-- why the bytes that a file had left were not read: out of memory, or the file cannot be read
 abbrev pub IsUnread : Option (List ℕ) → FileFault → Type 0
 IsUnread left (reasons.CannotRead fault) = IsReadFault fault left
 IsUnread left (reasons.Config (Memory refused)) = Unit {0}
@@ -32,12 +32,13 @@ IsUnread left (reasons.Config _) = ⊥
 abbrev pub IsConfigText : ConfigData → List ℕ → Type 0
 IsConfigText config text = (length text ≤ CONFIG_LIMIT) × (config_of text ≡ Ok config)
 
--- a file of these bytes is not too long, and this is their first fault. Want of memory may come of any
+-- a file of these bytes is not too long, and this is their first fault. `Memory` can come with any
+-- bytes
 abbrev pub IsConfigFault : ConfigFault → List ℕ → Type 0
 IsConfigFault (Memory refused) text = Unit {0}
 IsConfigFault fault text = (length text ≤ CONFIG_LIMIT) × Fails fault (config_of text)
 
--- What a file gives that was opened, and has these bytes left, where they are known.
+-- What an open file gives, by the bytes that it has left, if they are known.
 abbrev pub FileGives : {A : Type 0} → Result (Config A) FileFault → Option (List ℕ) → Type 0
 FileGives (Ok config) left = IfSome left (λ text. IsConfigText (config_data config) text)
 FileGives (Err (reasons.CannotRead fault)) left = IsReadFault fault left

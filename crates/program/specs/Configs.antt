@@ -1,4 +1,4 @@
--- Configurations: what the JSON value of a text is read as, or its first fault.
+-- Configurations: the configuration, or the first fault, that the JSON value of a text is read as.
 use Rattle.std.specs.Prelude.{ℕ, ◌&&◌, Bool, true, false, List, [], ◌∷◌, codes, if◌then◌else◌, Option, Some, None, option_and_then, Result, Ok, Err}
 use Rattle.std.specs.List.{list_any}
 use Rattle.std.specs.Option.{ok_or}
@@ -24,7 +24,7 @@ pub record ConfigData : Type 0 where
   pub subjects : List Subject
   pub document : DocumentData
 
--- a configuration in hand, without where it lies in memory
+-- the plain data of a `Config`, without its place in memory
 abbrev pub config_data : {A : Type 0} → Config A → ConfigData
 config_data c = record { subjects = c.subjects; document = c.document }
 
@@ -42,7 +42,7 @@ key_text keys.Office = codes "office"
 key_text keys.Role = codes "role"
 key_text keys.Steward = codes "steward"
 
--- the value that stands under a key
+-- the value under a key
 abbrev pub value_of : Key → Data → Option Data
 value_of key d = get (key_text key) d
 
@@ -55,15 +55,15 @@ abbrev pub has_only : List Key → Members → Bool
 has_only listed no_members = true
 has_only listed (member text d rest) = is_listed listed text && has_only listed rest
 
--- the value is an object, all of whose keys are listed
+-- the value is an object, and each of its keys is listed
 abbrev pub object_in : List Key → Data → Result (Unit {0}) ConfigFault
 object_in listed d = ok_or (as_object d) faults.Form >>= λ members. if has_only listed members then Ok tt else Err faults.Form
 
--- the name that stands under a key
+-- the name under a key
 abbrev pub name_in : Key → Data → Result (List ℕ) ConfigFault
 name_in key d = ok_or (option_and_then name_of (option_and_then as_str (value_of key d))) faults.Form
 
--- a flag, which is false where it is left out
+-- a flag; false if it is missing
 abbrev pub flag_in : Option Data → Result Bool ConfigFault
 flag_in None = Ok false
 flag_in (Some flag) = ok_or (as_bool flag) faults.Form
@@ -81,12 +81,12 @@ subject_in d =
     name_in keys.Role d >>= λ role. steward_in d >>= λ steward.
     Ok (record { name = name; office = office; role = role; steward = steward })
 
--- the subjects of an array, one after another
+-- the subjects of an array, in order
 unfoldable pub subjects_in : Items → Result (List Subject) ConfigFault
 subjects_in no_items = Ok []
 subjects_in (item d rest) = subject_in d >>= λ first. subjects_in rest >>= λ others. Ok (first ∷ others)
 
--- what comes of a list of subjects, or of a policy document, as what comes of a configuration
+-- the result of a subject list, or of a policy document, as a result of a configuration
 abbrev pub of_list : Result (List Subject) SubjectsFault → Result (List Subject) ConfigFault
 of_list (Ok taken) = Ok taken
 of_list (Err fault) = Err (faults.Subjects fault)
@@ -95,7 +95,7 @@ abbrev pub of_policies : Result DocumentData TextFault → Result DocumentData C
 of_policies (Ok document) = Ok document
 of_policies (Err fault) = Err (faults.Policies fault)
 
--- subjects that a server takes over
+-- the checked list of subjects
 abbrev pub taken_over : List Subject → Result (List Subject) ConfigFault
 taken_over subjects = of_list (subjects_of subjects)
 
@@ -106,8 +106,8 @@ policies_in d = of_policies (document_in d)
 abbrev pub config_keys : List Key
 config_keys = keys.Subjects ∷ keys.Policies ∷ []
 
--- the configuration of an array of subjects and of policies: first the fault of a subject, then that of their list, then
--- that of the document
+-- the configuration of an array of subjects and of policies. The faults in order: of a subject, of
+-- the list of subjects, of the document
 unfoldable pub config_from : Items → Data → Result ConfigData ConfigFault
 config_from listed policies =
     subjects_in listed >>= λ given. taken_over given >>= λ subjects. policies_in policies >>= λ document.

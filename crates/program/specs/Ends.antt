@@ -10,13 +10,14 @@ use Rattle.line_streams.specs.declared.streams.ServeFault.{ServeFault}
 use Rattle.line_streams.specs.declared.streams.ServeFault.TheVariants as reasons
 use Rattle.plain_world.specs.FaultCodes.{fault_code}
 
--- how the program tells of the fault by which a run of lines ended: that a write failed has one name, whatever was written
+-- how the program shows the fault by which a run of lines ended: a failed write is always
+-- `CannotWrite`
 abbrev pub told_as : ServeFault → ProgramFault
 told_as (reasons.Write failed) = CannotWrite failed
 told_as fault = Run fault
 
--- what is told of a fault: that a file cannot be read, a socket bound, or a server reached, with its name behind it, that
--- something cannot be written, or a code
+-- the text shown for a fault: a phrase with the name after it if a file cannot be read, a socket
+-- bound, or a server reached; a phrase if something cannot be written; else a code
 abbrev pub fault_word : ProgramFault → List ℕ
 fault_word (CannotRead name fault) = codes "cannot read "
 fault_word (CannotBind path) = codes "cannot bind "
@@ -43,7 +44,7 @@ fault_text fault = fault_word fault ++ fault_name fault
 abbrev pub fault_line : ProgramFault → List ℕ
 fault_line fault = codes "landmap: " ++ fault_text fault ++ codes "\n"
 
--- it is told that something cannot be written
+-- the fault is that something cannot be written
 abbrev pub IsUnwritten : ProgramFault → Type 0
 IsUnwritten (CannotWrite failed) = Unit {0}
 IsUnwritten _ = ⊥

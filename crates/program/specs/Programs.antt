@@ -1,4 +1,4 @@
--- What a run of the program leaves.
+-- What a run of the program writes and returns.
 use Rattle.std.specs.Prelude.{◌≡◌, ◌≢◌, ℕ, List, Option, Some, Result, Ok, Err, codes, option_map}
 use Rattle.clap.specs.Words.{IsAmong, Text, kind_of}
 use Rattle.clap.specs.declared.error.kind.ErrorKind.{ErrorKind}
@@ -22,29 +22,29 @@ use Rattle.program.specs.declared.faults.ProgramFault.TheVariants.{Words}
 use Rattle.program.specs.declared.command_line.WordsRefused.{WordsRefused}
 use Rattle.program.specs.declared.words.ServeWords.{ServeWords}
 
--- What these words ask for is done. `held` is what the file of a name reads, where that is known.
+-- What these words ask for is done. `held` gives what the file of a name reads, if known.
 pub data IsDone (words : List Text) (held : List ℕ → Option (List ℕ)) (before after : Option (List ℕ)) : Type 0 where
-  -- they ask for a script, which is served
+  -- they ask for a script, and it was served
   serves : (script : List ℕ) → AskFor (codes "script") words → given_by words (codes "FILE") ≡ Some script
       → RanScript held (given_by words (codes "config")) script before after → IsDone words held before after
   -- they ask for help
   helps : IsAmong DisplayHelp (refusals words) → IsDone words held before after
 
--- Why a run of the program with these words ended by a fault. `closed` holds of each name whose file was not opened. Want of
--- memory for the command line may come of any words.
+-- Why a run of the program with these words ended with a fault. `closed` holds for each name whose
+-- file was not opened. Running out of memory for the command line can happen with any words.
 pub data IsFault (words : List Text) (held : List ℕ → Option (List ℕ)) (closed : List ℕ → Type 0) (before after : Option (List ℕ)) : ProgramFault → Type 0 where
   -- they ask for a script, and its run broke off
   script : (name : List ℕ) (fault : ProgramFault) → AskFor (codes "script") words → given_by words (codes "FILE") ≡ Some name
       → BrokeOff held closed (given_by words (codes "config")) name before after fault → IsFault words held closed before after fault
-  -- they ask for a server, and there is no configuration
+  -- they ask for a server, but there is no configuration
   no_server : (fault : ProgramFault) → AskFor (codes "serve") words → IsOfConfig held closed (given_by words (codes "config")) fault → after ≡ before
       → IsFault words held closed before after fault
-  -- they ask for help, which could not be written
+  -- they ask for help, but it could not be written
   help : (fault : ProgramFault) → IsAmong DisplayHelp (refusals words) → IsUnwritten fault → IsFault words held closed before after fault
   unread : (refused : WordsRefused) → after ≡ before → IsFault words held closed before after (Words refused)
 
--- These words ask for this server: its options are theirs, and its configuration is the built-in one, or that of the file that
--- they name.
+-- These words ask for this server: its options are theirs, and its configuration is the built-in
+-- one or that of the file that they name.
 pub record WantServer (words : List Text) (held : List ℕ → Option (List ℕ)) (server : WantedServer) : Type 0 where
   pub asked : AskFor (codes "serve") words
   pub options : HasOptions (given_by words) server.options
@@ -54,19 +54,20 @@ pub record WantServer (words : List Text) (held : List ℕ → Option (List ℕ)
 abbrev pub WantTalk : List Text → List ℕ → Type 0
 WantTalk words path = AskFor (codes "connect") words × (given_by words (codes "socket") ≡ Some path)
 
--- this server is made out of what is given; or there is none, since its configuration is at fault
+-- this server has the given options and their configuration
 abbrev pub IsServerOf : (List ℕ → Option (List ℕ)) → ServeWords → WantedServer → Type 0
 IsServerOf held given server = (server.options ≡ given.options) × IsConfigOf held (option_map (λ name. name.now) given.config) (config_data server.config)
 
 abbrev pub IsServerFault : (List ℕ → Option (List ℕ)) → (List ℕ → Type 0) → ServeWords → ProgramFault → Type 0
 IsServerFault held closed given fault = IsOfConfig held closed (option_map (λ name. name.now) given.config) fault
 
--- clap turns these words down, for a reason of this kind
+-- clap rejects these words for a reason of this kind
 abbrev pub AreTurnedDown : List Text → ErrorKind → Type 0
 AreTurnedDown words kind = IsAmong kind (refusals words) × (kind ≢ DisplayHelp)
 
--- What is done with these words, before anything of it is told: what they ask for; or nothing, where they ask for a server, or
--- for a talk with one, or clap turns them down by a text; or a fault came.
+-- The result of these words, before anything is written to standard error: what they ask for is
+-- done; or nothing is done, because they ask for a server or a talk, or clap rejects them; or there
+-- was a fault.
 abbrev pub IsAnswer : {O : Type 0} → List Text → (List ℕ → Option (List ℕ)) → (List ℕ → Type 0) → (O → Option (List ℕ)) → O → O → Result Answer ProgramFault → Type 0
 IsAnswer words held closed written output output_after (Ok (answers.Done flushed)) = IsDone words held (written output) (written output_after)
 IsAnswer words held closed written output output_after (Ok (answers.Serve server)) = WantServer words held server × (output_after ≡ output)
@@ -74,16 +75,17 @@ IsAnswer words held closed written output output_after (Ok (answers.Connect path
 IsAnswer words held closed written output output_after (Ok (answers.Mistaken mistake)) = AreTurnedDown words (kind_of mistake) × (output_after ≡ output)
 IsAnswer words held closed written output output_after (Err fault) = IsFault words held closed (written output) (written output_after) fault
 
--- What a run of the program with these words leaves, by how it ended. Of one that ended well nothing is on standard error,
--- and of one that ended by a fault that fault's line, or, where a write of it failed, the line's front.
+-- What a run of the program with these words writes, by how it ended. After success, standard error
+-- is unchanged; after a fault, it has the fault's line, or a prefix of the line if a write failed.
 abbrev pub IsRun : {O E : Type 0} → List Text → (List ℕ → Option (List ℕ)) → (List ℕ → Type 0) → (O → Option (List ℕ)) → O → O → (E → Option (List ℕ)) → E → E → Ended → Type 0
 IsRun words held closed written output output_after told errors errors_after (Well flushed) = IsDone words held (written output) (written output_after) × (errors_after ≡ errors)
 IsRun words held closed written output output_after told errors errors_after (Failed fault line) =
     IsFault words held closed (written output) (written output_after) fault × Took line (told errors) (told errors_after) (fault_line fault)
 IsRun words held closed written output output_after told errors errors_after TurnedDown = (kind : ErrorKind) × AreTurnedDown words kind × (output_after ≡ output)
 
--- What is left to do once a run of the program with these words returns: to exit, of a run that has ended so; or to run the
--- server that the words ask for, or to talk with one, and then nothing is written.
+-- What is left to do after a run of the program with these words: exit, since the run has ended; or
+-- run the server, or talk with the one, that the words ask for. In the last two cases nothing was
+-- written.
 abbrev pub IsNext : {O E : Type 0} → List Text → (List ℕ → Option (List ℕ)) → (List ℕ → Type 0) → (O → Option (List ℕ)) → O → O → (E → Option (List ℕ)) → E → E → Next → Type 0
 IsNext words held closed written output output_after told errors errors_after (next.Exit ended) = IsRun words held closed written output output_after told errors errors_after ended
 IsNext words held closed written output output_after told errors errors_after (next.Serve server) = WantServer words held server × (output_after ≡ output) × (errors_after ≡ errors)

@@ -1,4 +1,4 @@
--- What a run of a script has written, where it ended well.
+-- What a successful run of a script has written.
 use Rattle.std.specs.Prelude.{◌≡◌, ℕ, List, Option, None, Some, IfSome}
 use Rattle.std.specs.Io.KnownBytes.{Appends}
 use Rattle.sessions.specs.Scripts.{IsScriptText}
@@ -10,27 +10,28 @@ use Rattle.program.specs.BuiltIn.{built_in_config}
 use Rattle.program.specs.ConfigFiles.{IsConfigText}
 use Rattle.program.specs.Configs.{ConfigData}
 
--- the world that a configuration opens: its subjects, its policies in force as the first edition, no features, and no records
+-- the world that a configuration opens: its subjects, its policies in force as the first edition,
+-- no features, no records
 abbrev pub world_of : ConfigData → WorldData
 world_of config =
     opened config.subjects (record { document = config.document; edition = 1 })
     (record { generation = 0; counter = 0; search = 1; version = 0; edition = 1; rolled = 0 })
     (record { steps = STEP_LIMIT; records = RECORD_LIMIT; features = FEATURE_LIMIT })
 
--- the script text of the script's bytes, over the world that a configuration opens
+-- the script text of these bytes, over the world that a configuration opens
 pub record Served (config : ConfigData) (script : List ℕ) (before after : Option (List ℕ)) : Type 0 where
   pub said : List ℕ
   pub end : WorldData
   pub written : Appends before after said
   pub text : IsScriptText (world_of config) script end said
 
--- The configuration of a run: the built-in one, or that of the file that is named. `held` is what the file of a name reads,
--- where that is known.
+-- The configuration of a run: the built-in one, or that of the named file. `held` gives what the
+-- file of a name reads, if known.
 abbrev pub IsConfigOf : (List ℕ → Option (List ℕ)) → Option (List ℕ) → ConfigData → Type 0
 IsConfigOf held None config = config ≡ built_in_config
 IsConfigOf held (Some name) config = IfSome (held name) (λ text. IsConfigText config text)
 
--- the configuration is the one that was asked for, and the script of the file of this name is served
+-- the configuration is the requested one, and the script in the file of this name is served
 pub record RanScript (held : List ℕ → Option (List ℕ)) (config : Option (List ℕ)) (script : List ℕ) (before after : Option (List ℕ)) : Type 0 where
   pub configured : ConfigData
   pub is_config : IsConfigOf held config configured

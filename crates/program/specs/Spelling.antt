@@ -1,5 +1,5 @@
--- What a configuration is, by cases on the JSON value of its text: apart from how it is read, and from what is told where
--- a text is none.
+-- What a configuration is, by cases on the JSON value of its text. This says neither how the text
+-- is read, nor which fault a text has that is not a configuration.
 use Rattle.std.specs.Prelude.{◌≡◌, ◌≤◌, ℕ, Bool, false, List, [], ◌∷◌, length, IsTrue, Option, None, Some, Ok}
 use Rattle.std.specs.Str.{is_utf8}
 use Rattle.serde_json.specs.Data.{Data, boolean, string, array, object, Items, no_items, item, Members}
@@ -13,18 +13,18 @@ use Rattle.program.specs.Configs.{ConfigData, config_keys, has_only, subject_key
 use Rattle.program.specs.declared.fields.Key.{Key}
 use Rattle.program.specs.declared.fields.Key.TheVariants as keys
 
--- an object that has none but these keys
+-- an object whose keys are all listed
 pub record IsObject (listed : List Key) (d : Data) : Type 0 where
   pub members : Members
   pub is : d ≡ object members
   pub only : IsTrue (has_only listed members)
 
--- a name stands under the key
+-- the value under the key is this name
 pub record HasName (key : Key) (d : Data) (name : List ℕ) : Type 0 where
   pub stands : value_of key d ≡ Some (string name)
   pub spelled : IsTrue (is_name name)
 
--- a steward is named by true; for others false may be left out
+-- true marks a steward; for others the flag is false or missing
 abbrev pub IsFlag : Option Data → Bool → Type 0
 IsFlag None steward = steward ≡ false
 IsFlag (Some d) steward = d ≡ boolean steward
@@ -36,7 +36,7 @@ pub record SpellsSubject (d : Data) (subject : Subject) : Type 0 where
   pub role : HasName keys.Role d subject.role
   pub steward : IsFlag (value_of keys.Steward d) subject.steward
 
--- each item spells a subject, in their order
+-- each item spells a subject, in order
 abbrev pub SpellsSubjects : Items → List Subject → Type 0
 SpellsSubjects no_items [] = Unit {0}
 SpellsSubjects (item d rest) (subject ∷ subjects) = SpellsSubject d subject × SpellsSubjects rest subjects

@@ -1,4 +1,4 @@
-//! The configuration of a server that is given none.
+//! The built-in configuration, for a run or a server without a configuration file.
 
 ghost use Rattle.std.specs.Prelude.{Ok};
 ghost use Rattle.program.specs.BuiltIn.{built_in_config};
@@ -9,13 +9,13 @@ use crate::config_faults::ConfigFault;
 use crate::configs::{Config, read_config};
 use std::alloc::{Allocator, Global};
 
-/// The text of that configuration.
+/// The text of the built-in configuration.
 const BUILT_IN: &str =
     r#"{"subjects":[{"name":"north","office":"north","role":"editor"},{"name":"south","office":"south","role":"viewer"},{"name":"chief","office":"hq","role":"chief","steward":true}],"policies":{"root":{"combine":"first-applicable","policy":"start","rules":[{"effect":"permit","rule":"open"}]}}}"#;
 
-/// The configuration of a server that is given none: the subjects `north`, an editor of the office north, `south`, a
-/// viewer of the office south, and `chief`, the steward, of the office hq; and a policy by which everything is
-/// permitted. The only error is want of memory.
+/// The built-in configuration. Its subjects are `north`, an editor of the office north; `south`, a
+/// viewer of the office south; and `chief`, the steward, of the office hq. Its policy permits
+/// everything. The only error is `Memory`.
 pub fn built_in_config<A: Allocator + Copy>(
     alloc: A,
     heap: Global,

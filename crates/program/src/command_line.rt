@@ -1,4 +1,5 @@
-//! What the host and clap make of a command line. Only this module makes a `WordsRefused`.
+//! The command line: the host's words, and how clap reads them. Only this module makes a
+//! `WordsRefused`.
 
 ghost use Rattle.std.specs.Prelude.{◌≡◌, map, string_bytes, IfOk};
 ghost use Rattle.clap.specs.Words.{app_of};
@@ -17,31 +18,31 @@ use clap::{Arg, ArgAction, ArgMatches, Command, Error, value_parser};
 use std::alloc::{AllocError, Global};
 use std::{env, io};
 
-/// There was no memory for the words of the command line, or to read them. Only this module makes one, and only where std
-/// or clap has answered so, so a fault that carries one was not invented.
+/// Out of memory while the words of the command line were collected or read. Only this module makes
+/// one, and only after std or clap has reported it, so no caller can invent one.
 #[derive(Debug, Drop, PartialEq, Eq)]
 pub struct WordsRefused {
     seal: (),
 }
 
 impl WordsRefused {
-    /// Is called only where std or clap has answered that memory is wanted.
+    /// Call only after std or clap has reported that it is out of memory.
     fn seen() -> Self {
         WordsRefused { seal: () }
     }
 }
 
-/// Why the host gives no words of a command line.
+/// Why the host gives no command line.
 #[derive(Debug, Drop, PartialEq, Eq)]
 pub enum WordsFault {
-    /// One of them is not UTF-8.
+    /// A word is not UTF-8.
     NotUtf8,
-    /// There is no memory for them.
+    /// Out of memory.
     Memory(WordsRefused),
 }
 
-/// The words with which the host started the program, of which the first is its name. `NotUtf8` where one of them is not
-/// UTF-8; `Memory` where there is no memory for them.
+/// The words with which the host started the program; the first is its name. `NotUtf8` if a word is
+/// not UTF-8, `Memory` if an allocation is refused.
 pub fn host_words(rt: &HostRuntime) -> Result<Vec<String>, WordsFault> {
     let words = match env::args(rt) {
         Ok(words) => words,
@@ -56,7 +57,7 @@ pub fn host_words(rt: &HostRuntime) -> Result<Vec<String>, WordsFault> {
     }
 }
 
-/// An option of one value, `--NAME VALUE`.
+/// An option with one value, `--NAME VALUE`.
 fn option_argument<'a>(alloc: Global, name: &'a str, value_name: &'a str, help: &'a str) -> Arg<'a>
     ensures { IsArgument (option_rule name.entry.now) result }
 {
@@ -140,7 +141,7 @@ fn bare_command<'a>(alloc: Global) -> Command<'a>
         .arg_required_else_help(true)
 }
 
-/// The command line.
+/// The whole command line.
 fn command<'a>(alloc: Global) -> Result<Command<'a>, AllocError>
     ensures { IfOk result (λ command. app_of command ≡ command_line) }
 {
@@ -150,16 +151,16 @@ fn command<'a>(alloc: Global) -> Result<Command<'a>, AllocError>
         .subcommand(connect_command(alloc)?)
 }
 
-/// How clap reads the words of a command line.
+/// What clap makes of the words of a command line.
 pub(crate) enum Reading<'a> {
-    /// It has nothing against them, and they give this.
+    /// The words are valid, and give these arguments.
     Given(ArgMatches<'a>),
-    /// A text of its own: help, or what is wrong with them.
+    /// clap's own text: help, or what is wrong with the words.
     Told(Error),
 }
 
-/// How clap reads the words of a command line, of which the first is the program's name. `WordsRefused` where clap found
-/// no memory.
+/// Reads the words of a command line with clap; the first word is the program's name.
+/// `WordsRefused` if clap runs out of memory.
 pub(crate) fn clap_reading<'a>(
     alloc: Global,
     words: &'a [String],

@@ -1,4 +1,4 @@
-//! Why a text is no configuration.
+//! Why a text is not a configuration.
 
 ghost use Rattle.std.specs.Prelude.{◌≡◌};
 
@@ -7,26 +7,27 @@ use memory::{JsonFault, Refused};
 use policy_text::TextFault;
 use std::fmt;
 
-/// Why a text is no configuration. Of several faults the one that stands first here is told.
+/// Why a text is not a configuration. Of several faults, the first in this order is reported.
 #[derive(Debug, Drop, PartialEq, Eq)]
 pub enum ConfigFault {
-    /// B1: the text is no JSON.
+    /// B1: the text is not JSON.
     NotJson,
-    /// B2: a value is missing or of the wrong form, or a key is not known, outside the policy document.
+    /// B2: outside the policy document, a value is missing or of the wrong form, or a key is
+    /// unknown.
     Form,
-    /// B3: the subjects are turned away as a list. It is shown as N1 to N3.
+    /// N1 to N3, the code of the fault inside: the list of subjects is rejected.
     Subjects(SubjectsFault),
-    /// B4: the policies are no document. It is shown as D2 to D8.
+    /// D2 to D8, the code of the fault inside: the policies are not a policy document.
     Policies(TextFault),
-    /// B5: a growth was refused. It may come of any text, in the place of each other fault. Only of no bytes `read_config`
-    /// always tells `NotJson`.
+    /// B5: an allocation was refused. It can occur with any text and replaces any other fault,
+    /// except that `read_config` always returns `NotJson` for an empty text.
     Memory(Refused),
 }
 
 impl ConfigFault {
     ghost use Rattle.program.specs.ConfigFaults.{config_code_of};
 
-    /// The code by which users know the fault: that of the subjects or of the policies where these are at fault.
+    /// The code that users see. For `Subjects` and `Policies` it is the code of the fault inside.
     pub fn code(&self) -> &'static str
         ensures { result.now ≡ config_code_of self.now }
     {

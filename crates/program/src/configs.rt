@@ -1,4 +1,4 @@
-//! Configurations: who may work on a server, and by which policies.
+//! Configurations: who may work on a server, and under which policies.
 
 ghost use Rattle.std.specs.Prelude.{◌≡◌, Err, length};
 ghost use Rattle.std.specs.Option.{ok_or};
@@ -19,16 +19,16 @@ const CONFIG_KEYS: [Key; 2] = [Key::Subjects, Key::Policies];
 
 const SUBJECT_KEYS: [Key; 4] = [Key::Name, Key::Office, Key::Role, Key::Steward];
 
-/// What a server is opened with: its subjects, and its first policy document.
+/// What a server is opened with: its subjects and its first policy document.
 #[derive(Debug, Drop)]
 pub struct Config<A: Allocator> {
     /// The subjects that sessions may name.
     pub subjects: Subjects,
-    /// The policies that are in force at first.
+    /// The first policies in force.
     pub document: Document<A>,
 }
 
-/// The subject that a JSON value spells.
+/// The subject that a JSON value spells, or `None`.
 #[tactic(auto, unfolding(crate::specs::Configs::subject_in))]
 fn subject_in(value: &Value) -> Option<Subject>
     ensures { ok_or result Form ≡ subject_in (view value.now) }
@@ -48,7 +48,7 @@ fn subject_in(value: &Value) -> Option<Subject>
     })
 }
 
-/// The subjects of an array, in their order.
+/// The subjects of an array, in order.
 fn subjects_in<A: Allocator>(alloc: A, items: &[Value]) -> Result<Vec<Subject, A>, ConfigFault>
     ensures { Gives (λ subjects. subjects.items) result (subjects_in (items_view items.now)) }
 {
@@ -62,7 +62,7 @@ fn subjects_in<A: Allocator>(alloc: A, items: &[Value]) -> Result<Vec<Subject, A
     Ok(subjects)
 }
 
-/// The subjects, taken over.
+/// The checked list of subjects.
 fn taken_over(subjects: &[Subject]) -> Result<Subjects, ConfigFault>
     ensures { result ≡ taken_over subjects.now }
 {
@@ -76,7 +76,7 @@ fn policies_in<A: Allocator + Copy>(alloc: A, value: &Value) -> Result<Document<
     Ok(document_of_value(alloc, value)?)
 }
 
-/// The configuration of an array of subjects and of policies.
+/// The configuration made of an array of subjects and a policy document.
 #[tactic(auto, unfolding(crate::specs::Configs::config_from))]
 fn config_from<A: Allocator + Copy>(
     alloc: A,
@@ -108,16 +108,18 @@ fn config_in<A: Allocator + Copy>(alloc: A, value: &Value) -> Result<Config<A>, 
     config_from(alloc, items, policies)
 }
 
-/// Reads the configuration that a JSON text (RFC 8259) spells: an object with two keys, `subjects` and `policies`.
+/// Reads the configuration that a JSON text (RFC 8259) spells: an object with two keys, `subjects`
+/// and `policies`.
 ///
-/// `subjects` is an array of 1 to 64 objects, each of a name of its own: `name`, `office` and `role`, which are names,
-/// and `steward`, true or false, which may be left out and is then false. `policies` is a policy document.
+/// `subjects` is an array of 1 to 64 objects with distinct names. Each has the keys `name`,
+/// `office` and `role`, which are names, and optionally `steward`, true or false (default false).
+/// `policies` is a policy document.
 ///
-/// The error is the first in this order: `NotJson` for a text that is no JSON or no UTF-8; `Form` for whatever stands
-/// outside the policies and is missing, of the wrong form, or under another key; `Subjects` for a list that is empty,
-/// too long, or has a name twice; `Policies` for the first fault of the document. Where a growth is refused it is
-/// `Memory`. What the text says lies in `heap` while it is read; the list of subjects, for a while, and the document
-/// are made in `alloc`.
+/// The error is the first in this order: `NotJson` if the text is not JSON or not UTF-8; `Form` if,
+/// outside the policies, a value is missing or of the wrong form, or a key is unknown; `Subjects`
+/// if the list is empty, too long, or has a name twice; `Policies` for the first fault of the
+/// document. If an allocation is refused, it is `Memory`. The parsed JSON lies in `heap` until this
+/// returns; the document, and a temporary list of the subjects, are allocated in `alloc`.
 pub fn read_config<A: Allocator + Copy>(
     alloc: A,
     heap: Global,

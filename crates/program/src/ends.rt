@@ -1,4 +1,4 @@
-//! How a run of the program ends, and the exit status by which it tells so; or that a server is to be run, or talked with.
+//! How a run of the program ends, and its exit status; or which server to run or to talk with.
 
 ghost use Rattle.std.specs.Prelude.{◌≡◌};
 ghost use Rattle.program.specs.Ends.{exit_status};
@@ -12,16 +12,16 @@ use std::alloc::Global;
 /// How a run of the program ended.
 #[derive(Debug, Drop)]
 pub enum Ended<'a> {
-    /// What was asked for is done, and all that it wrote has left by a flush.
+    /// What was asked for is done, and all output is flushed.
     Well(Flushed),
-    /// It ended by this fault; and whether the fault's one line was told.
+    /// It failed with this fault; the second part is whether the fault's line could be written.
     Failed(ProgramFault<'a>, Result<(), WriteFailed>),
-    /// clap turned the words of the command line down.
+    /// clap rejected the words of the command line.
     TurnedDown,
 }
 
 impl Ended<'_> {
-    /// The exit status of the program: 0 where it ended well, 1 where it ended by a fault, 2 where the command line is wrong.
+    /// The program's exit status: 0 on success, 1 after a fault, 2 if the command line is wrong.
     pub fn status(&self) -> u8
         ensures { result ≡ exit_status self.now }
     {
@@ -33,22 +33,22 @@ impl Ended<'_> {
     }
 }
 
-/// A server that the command line asks for.
+/// A server that the command line asks for, with its configuration.
 #[derive(Debug, Drop)]
 pub struct WantedServer<'a> {
     /// Where it listens, and how it serves.
     pub options: ServerOptions<'a>,
-    /// What it is opened with.
+    /// Its configuration.
     pub config: Config<Global>,
 }
 
-/// What is left to do once `run_program` returns.
+/// What is left to do after `run_program`.
 #[derive(Debug, Drop)]
 pub enum Next<'a> {
-    /// To exit: the run has ended.
+    /// Exit: the run has ended.
     Exit(Ended<'a>),
-    /// To serve: nothing is bound yet.
+    /// Serve: nothing is bound yet.
     Serve(WantedServer<'a>),
-    /// To talk with the server at this path: it is not connected yet.
+    /// Talk with the server at this path: it is not connected yet.
     Connect(&'a str),
 }

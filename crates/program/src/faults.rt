@@ -14,35 +14,35 @@ use transactions::Fault;
 /// Why the program ends with status 1.
 #[derive(Debug, Drop)]
 pub enum ProgramFault<'a> {
-    /// The file of this name cannot be opened, or is a folder; or that of a configuration cannot be read, or is longer
-    /// than 16,777,216 bytes.
+    /// The file of this name cannot be opened or is a folder; or it is a configuration's file, and
+    /// cannot be read or is longer than 16,777,216 bytes.
     CannotRead(&'a str, ReadFault),
     /// A server's socket cannot be bound at this path.
     CannotBind(&'a str),
     /// The server at this path cannot be reached.
     CannotConnect(&'a str),
-    /// What the program has to say cannot be written.
+    /// The program's output cannot be written.
     CannotWrite(WriteFailed),
-    /// There is no memory for the command line. It is shown as V4.
+    /// Out of memory for the command line. It is shown as V4.
     Words(WordsRefused),
-    /// There is no memory for the output's buffer. It is shown as V4.
+    /// Out of memory for the output's buffer. It is shown as V4.
     Memory(Refused),
-    /// The configuration is none.
+    /// The configuration is faulty, or memory ran out while it was read.
     Config(ConfigFault),
     /// The world that the configuration describes cannot be opened.
     World(Fault),
-    /// The run ended by a fault of its own.
+    /// The run ended with this fault.
     Run(ServeFault),
-    /// The server ended by a fault of its own, which has this code.
+    /// The server ended with a fault of this code.
     Server(&'static str),
-    /// A talk with a server ended by a fault of its own, which is told so.
+    /// A talk with a server ended with a fault, which is shown as this text.
     Talk(&'static str),
 }
 
 impl ProgramFault<'_> {
     ghost use Rattle.program.specs.Ends.{fault_name, fault_word};
 
-    /// What is told of the fault: the code of one that has a code. Behind it stands the name of a file, if there is one.
+    /// How the fault is shown: its code if it has one, else a phrase. `name` follows it.
     pub fn word(&self) -> &'static str
         ensures { result.now ≡ fault_word self.now }
     {
@@ -60,8 +60,8 @@ impl ProgramFault<'_> {
         }
     }
 
-    /// The name of the file that cannot be read, or the path at which a socket cannot be bound, or a server not reached. Other
-    /// faults have none.
+    /// The file that cannot be read, or the path that cannot be bound or connected to. It is empty
+    /// for all other faults.
     pub fn name(&self) -> &str
         ensures { result.now ≡ fault_name self.now }
     {

@@ -1,4 +1,4 @@
-//! The parts of an object of a configuration.
+//! The members of the objects of a configuration.
 
 ghost use Rattle.std.specs.Prelude.{◌≡◌, Ok, Err, if◌then◌else◌, option_map, option_and_then};
 ghost use Rattle.std.specs.Option.{ok_or};
@@ -37,7 +37,7 @@ impl Key {
     }
 }
 
-/// Whether a text is one of these keys.
+/// Whether a text is one of the listed keys.
 fn is_listed(listed: &[Key], text: &str) -> bool
     ensures { result ≡ is_listed listed.now text.now }
 {
@@ -56,7 +56,7 @@ fn has_only(listed: &[Key], members: &Map<String, Value>) -> bool
     true
 }
 
-/// Whether a value is an object, all of whose keys are listed.
+/// Whether a value is an object with listed keys only.
 pub(crate) fn is_object_of(value: &Value, listed: &[Key]) -> bool
     ensures { object_in listed.now (view value.now) ≡ (if result then Ok tt else Err Form) }
 {
@@ -66,14 +66,14 @@ pub(crate) fn is_object_of(value: &Value, listed: &[Key]) -> bool
     }
 }
 
-/// The value that stands under a key.
+/// The value under a key.
 pub(crate) fn value_in(value: &Value, key: Key) -> Option<&Value>
     ensures { option_map (λ v. view v.now) result ≡ value_of key (view value.now) }
 {
     value.get(key.text())
 }
 
-/// The array that stands under a key.
+/// The array under a key.
 pub(crate) fn array_in(value: &Value, key: Key) -> Option<&[Value]>
     ensures { option_map (λ items. items_view items.now) result
         ≡ option_and_then as_array (value_of key (view value.now)) }
@@ -81,7 +81,7 @@ pub(crate) fn array_in(value: &Value, key: Key) -> Option<&[Value]>
     Some(value.get(key.text())?.as_array()?)
 }
 
-/// The name that stands under a key.
+/// The name under a key.
 pub(crate) fn name_in(value: &Value, key: Key) -> Option<Name>
     ensures { ok_or result Form ≡ name_in key (view value.now) }
 {
@@ -89,7 +89,7 @@ pub(crate) fn name_in(value: &Value, key: Key) -> Option<Name>
     Name::new(text.as_bytes())
 }
 
-/// Whether a subject is a steward. Where the key is left out, it is none.
+/// Whether a subject is a steward; false if the key is missing.
 pub(crate) fn steward_in(value: &Value) -> Option<bool>
     ensures { ok_or result Form ≡ steward_in (view value.now) }
 {

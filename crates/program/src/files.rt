@@ -1,4 +1,4 @@
-//! The file of a configuration.
+//! Reading the file of a configuration.
 
 ghost use Rattle.std.specs.Prelude.{◌≡◌, ◌≤◌, IfOk, IfErr, length};
 ghost use Rattle.program.specs.ConfigFiles.{FileGives, IsUnread, IsWhole};
@@ -10,7 +10,7 @@ use memory::{Refused, try_extend};
 use std::alloc::{Allocator, Global};
 use std::io::Read;
 
-/// How many bytes the file of a configuration has at most.
+/// The greatest length of a configuration's file, in bytes.
 pub const CONFIG_LIMIT: usize = 16_777_216;
 
 /// How many bytes are read at once.
@@ -19,20 +19,20 @@ const CHUNK: usize = 4_096;
 /// Why a file cannot be read.
 #[derive(Debug, Drop, PartialEq, Eq)]
 pub enum ReadFault {
-    /// It was not opened, or is a folder.
+    /// It was not opened, or it is a folder.
     NotOpened(NotOpened),
     /// A read failed.
     Failed(ReadFailed),
-    /// It is the file of a configuration, and longer than 16,777,216 bytes.
+    /// It is a configuration's file and longer than 16,777,216 bytes.
     TooLong,
 }
 
-/// Why a file gives no configuration.
+/// Why a file yields no configuration.
 #[derive(Debug, Drop, PartialEq, Eq)]
 pub enum FileFault {
     /// It cannot be read.
     CannotRead(ReadFault),
-    /// What stands in the file is none, or a growth was refused.
+    /// Its text is not a configuration, or an allocation was refused.
     Config(ConfigFault),
 }
 
@@ -71,7 +71,8 @@ impl From<ConfigFault> for FileFault {
     }
 }
 
-/// All bytes of a file. A read gives at least one byte, but at the end, so there are no more reads than bytes.
+/// All bytes of a file. Each read before the end returns at least one byte, so there is at most one
+/// read more than there are bytes.
 fn whole_file<A: Allocator, R: Read>(alloc: A, file: &mut R) -> Result<Vec<u8, A>, FileFault>
     ensures whole { IfOk result (λ bytes. IsWhole (R.remaining file.old) bytes.items) }
     ensures fits { IfOk result (λ bytes. length bytes.items ≤ CONFIG_LIMIT) }
@@ -92,8 +93,9 @@ fn whole_file<A: Allocator, R: Read>(alloc: A, file: &mut R) -> Result<Vec<u8, A
     Err(FileFault::CannotRead(ReadFault::TooLong))
 }
 
-/// Reads the configuration that stands in a file, which is held whole until it is read.
-/// Faults: `CannotRead` where a read fails, or the file is longer than 16,777,216 bytes; else that of `read_config`.
+/// Reads the configuration in a file. The whole file is held in memory meanwhile.
+/// Faults: `CannotRead` if a read fails or the file is longer than 16,777,216 bytes; else those of
+/// `read_config`.
 pub fn read_config_file<A: Allocator + Copy, R: Read>(
     alloc: A,
     heap: Global,

@@ -1,4 +1,4 @@
-//! The texts of help. clap wraps no line here, so none of these texts has one of more than 80 columns.
+//! The texts of help. clap does not wrap them, so no line is longer than 80 columns.
 
 pub(crate) const ABOUT: &str = "A map feature server for land agencies";
 

@@ -26,7 +26,7 @@ impl Folder for HostFolder<'_> {
 
     type File = File;
 
-    // nothing is known of the host's files: neither what one reads, nor which are opened
+    // nothing is known of the host's files: neither their contents, nor which can be opened
     ghost holds = { λ folder name. None };
 
     ghost closed = { λ folder name. Unit {0} };

@@ -1,4 +1,4 @@
-//! What follows from the definitions alone. The functions do nothing: each is its contract.
+//! Consequences of the definitions alone. The functions do nothing: each is its contract.
 
 ghost use Rattle.std.specs.Prelude.{◌≡◌, ℕ, List, Ok};
 ghost use Rattle.program.specs.Configs.{ConfigData, config_of};
@@ -10,7 +10,8 @@ ghost use Rattle.features.specs.declared.tables.TheConstants.{FEATURE_LIMIT};
 ghost use Rattle.audit_trail.specs.declared.trails.TheConstants.{RECORD_LIMIT};
 ghost use Rattle.plain_world.specs.declared.settings.TheConstants.{STEP_LIMIT};
 
-/// What a text is read as is the configuration that it spells; and whatever it spells, it is read as.
+/// A text is read as the configuration that it spells, and as no other; if it spells one, it is
+/// read.
 pub fn read_is_spelled()
     ensures found { (text : List ℕ) (config : ConfigData) → config_of text ≡ Ok config
         → Spells text config }
@@ -23,9 +24,10 @@ pub fn configurations_are_one()
     ensures { (text : List ℕ) (a b : ConfigData) → Spells text a → Spells text b → a ≡ b }
 {}
 
-/// The limits that the definitions name, in numbers: bytes of a configuration's file, its subjects, and, of the world that it
-/// opens, features, records of the trail, and steps of a search or of the walk for one change; and of a server its
-/// connections, its workers, the workers that it has where no number is given, and the seconds of `--idle`.
+/// The limits that the definitions name, in numbers. Of a configuration: the bytes of its file and
+/// its subjects. Of the world that it opens: features, records of the trail, and steps of a search
+/// or of the walk for one change. Of a server: connections, workers, workers by default, and
+/// seconds of `--idle`.
 pub fn limits_in_numbers()
     ensures file { CONFIG_LIMIT ≡ 16777216 }
     ensures subjects { SUBJECT_LIMIT ≡ 64 }

@@ -1,4 +1,4 @@
-//! What the program `landmap` does, over arguments, files and streams in hand.
+//! What the program `landmap` does, given its arguments, files and streams.
 #![tactic(auto)]
 
 mod built_in;

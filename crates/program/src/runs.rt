@@ -1,4 +1,4 @@
-//! Runs of the program, from the words of the command line to how it ends.
+//! Runs of the program, from the words of the command line to its end.
 
 ghost use Rattle.std.specs.Prelude.{◌≡◌, ◌↔◌, ℕ, List, Option, Some, OnOk, IfOk, IfErr, IfSome, IsTrue, map, option_map, string_bytes};
 ghost use Rattle.clap.specs.Words.{kind_of};
@@ -23,26 +23,27 @@ use std::alloc::{Allocator, Global};
 use std::io::{Read, Write};
 use transactions::World;
 
-/// Where the files stand that the command line names.
+/// The folder of the files that the command line names.
 pub trait Folder {
-    /// What reads a file that was opened.
+    /// An open file.
     type File: Read + Drop;
 
-    // what the file of a name reads, where that is known
+    // what the file of a name reads, if known
     ghost holds: { Self → List ℕ → Option (List ℕ) };
 
-    // holds of each name whose file was not opened
+    // holds for each name whose file was not opened
     ghost closed: { Self → List ℕ → Type 0 };
 
-    /// The file of this name, for reading. An error where it cannot be opened, or is a folder.
+    /// Opens the file of this name for reading. It is an error if it cannot be opened or is a
+    /// folder.
     fn open_file(&self, name: &str) -> Result<Self::File, NotOpened>
         ensures holds { IfOk result (λ file. Self.File.remaining file ≡ holds self.now name.now) }
         ensures closed { IfErr result (λ failed. closed self.now name.now) };
 }
 
-/// Runs the script of a file over the world that a configuration opens, and writes the replies.
-/// `World` where there is no memory for the world; `CannotWrite` where a write fails, or the flush at the end; else the
-/// fault of the run.
+/// Runs a script over the world that a configuration opens, and writes the replies.
+/// Faults: `World` if there is no memory for the world; `CannotWrite` if a write or the final flush
+/// fails; else the fault of the run.
 pub fn run_file<'a, A: Allocator + Copy, R: Read, W: Write>(
     alloc: A,
     heap: Global,
@@ -68,7 +69,7 @@ pub fn run_file<'a, A: Allocator + Copy, R: Read, W: Write>(
     Ok(flushed)
 }
 
-/// The configuration that stands in the file of this name.
+/// The configuration in the file of this name.
 #[tactic(auto, using(crate::proofs::RunLemmas::configured, crate::proofs::RunLemmas::misconfigured))]
 fn named_config<'a, F: Folder>(
     heap: Global,
@@ -91,7 +92,7 @@ fn named_config<'a, F: Folder>(
     }
 }
 
-/// The configuration that the command line asks for.
+/// The configuration in the named file, or the built-in one.
 fn asked_config<'a, F: Folder>(
     heap: Global,
     name: Option<&'a str>,
@@ -113,9 +114,9 @@ fn asked_config<'a, F: Folder>(
     named_config(heap, name, folder)
 }
 
-/// Runs the script that the command line names, by the configuration that it names or the built-in one. The first of
-/// these faults ends it: the configuration's file cannot be read, the configuration is none, the script's file cannot
-/// be read, and those of the run.
+/// Runs the script that the command line names, with the configuration that it names or the
+/// built-in one. The first fault ends the run: the configuration's file cannot be read, its text is
+/// not a configuration, the script's file cannot be opened; then those of `run_file`.
 #[tactic(auto, using(crate::proofs::RunLemmas::ran, crate::proofs::RunLemmas::broke_off))]
 pub fn run_named<'a, F: Folder, W: Write>(
     heap: Global,
@@ -145,14 +146,14 @@ pub fn run_named<'a, F: Folder, W: Write>(
     run_file(heap, heap, config, &mut file, output)
 }
 
-/// Whether a text of clap's is the help that was asked for.
+/// Whether clap's text is the help that was asked for.
 fn is_help(text: &Error) -> bool
     ensures { IsTrue result ↔ (kind_of text.now ≡ ErrorKind.DisplayHelp) }
 {
     matches!(text.kind(), ErrorKind::DisplayHelp)
 }
 
-/// Writes help to the output.
+/// Writes help to the output, and flushes it.
 fn show_help<'a, W: Write>(help: &Error, output: &mut W) -> Result<Flushed, ProgramFault<'a>>
     ensures { IfErr result (λ fault. IsUnwritten fault) }
 {
@@ -160,16 +161,16 @@ fn show_help<'a, W: Write>(help: &Error, output: &mut W) -> Result<Flushed, Prog
     Ok(flush(output)?)
 }
 
-/// What came of the words of a command line, where no fault did.
+/// What the words of a command line lead to, if there is no fault.
 #[derive(Drop)]
 enum Answer<'a> {
-    /// What they ask for is done, and all of it has left by a flush.
+    /// What they ask for is done, and all output is flushed.
     Done(Flushed),
     /// They ask for this server.
     Serve(WantedServer<'a>),
     /// They ask for a talk with the server at this path.
     Connect(&'a str),
-    /// clap turned them down, by this text.
+    /// clap rejected them, with this text.
     Mistaken(Error),
 }
 
@@ -192,9 +193,11 @@ fn wanted_server<'a, F: Folder>(
     }
 }
 
-/// Does what the words of the command line ask for, but for a server, which is only made out, and for a talk with one. Where
-/// clap turns them down nothing is done, and the answer is clap's text that says why. Faults: `Words` where there is no memory for the command
-/// line, `CannotWrite` where help cannot be written, those of `run_named`, and those of a server's configuration.
+/// Does what the words of the command line ask for. For a server it reads only the configuration;
+/// for a talk it returns only the path. If clap rejects the words, nothing is done and clap's text
+/// is returned.
+/// Faults: `Words` if there is no memory for the command line; `CannotWrite` if help cannot be
+/// written; those of `run_named`; those of a server's configuration.
 fn run_asked<'a, F: Folder, O: Write>(
     alloc: Global,
     words: &'a [String],
@@ -223,10 +226,11 @@ fn run_asked<'a, F: Folder, O: Write>(
     }
 }
 
-/// Runs the program with these words, of which the first is its name, and answers what is left to do: to exit, to run a
-/// server, or to talk with one. Where the run has ended by a fault, one line on `errors` tells of it, or the line's front where a write there
-/// failed; where clap turns the words down, it says there why. A fault of `errors` changes nothing of how the run ended.
-/// Of a server the configuration is read, and nothing else is done.
+/// Runs the program with these words, the first of which is its name. Returns what is left to do:
+/// exit, run a server, or talk with one. For a server, only its configuration is read.
+/// If the run ends by a fault, one line about it is written to `errors`; if clap rejects the words,
+/// its text is written there. A failing write to `errors` cuts the text short and does not change
+/// the result's kind or exit status.
 pub fn run_program<'a, F: Folder, O: Write, E: Write>(
     alloc: Global,
     words: &'a [String],

@@ -1,4 +1,4 @@
-//! The line on standard error that tells by which fault the program ended.
+//! The line on standard error about the fault by which the program ended.
 
 ghost use Rattle.std.specs.Prelude.{◌++◌};
 ghost use Rattle.program.specs.Ends.{fault_line};
@@ -8,7 +8,7 @@ use crate::faults::ProgramFault;
 use byte_streams::{WriteFailed, write_whole};
 use std::io::Write;
 
-/// Writes two texts, one behind the other.
+/// Writes two texts, one after the other.
 fn write_both<W: Write>(first: &[u8], second: &[u8], writer: &mut W) -> Result<(), WriteFailed>
     ensures { Took result (W.contents writer.old) (W.contents writer.new)
         (first.now ++ second.now) }
@@ -17,7 +17,7 @@ fn write_both<W: Write>(first: &[u8], second: &[u8], writer: &mut W) -> Result<(
     write_whole(second, writer)
 }
 
-/// Writes the one line that tells of a fault. Where a write fails, its front is written.
+/// Writes the one line about a fault. If a write fails, only a prefix of it is written.
 pub fn tell<E: Write>(fault: &ProgramFault<'_>, errors: &mut E) -> Result<(), WriteFailed>
     ensures { Took result (E.contents errors.old) (E.contents errors.new) (fault_line fault.now) }
 {

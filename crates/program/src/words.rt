@@ -9,37 +9,37 @@ use crate::options::{DEFAULT_WORKERS, ServerOptions};
 use clap::{ArgMatches, Error};
 use std::alloc::Global;
 
-/// What the command line asks.
+/// What the command line asks for.
 pub(crate) enum Asked<'a> {
-    /// To run the script of a file.
+    /// Run the script of a file.
     Script(ScriptWords<'a>),
-    /// To serve a socket.
+    /// Serve a socket.
     Serve(ServeWords<'a>),
-    /// To talk with the server at this path.
+    /// Talk with the server at this path.
     Connect(&'a str),
-    /// To show a text of clap's: help, or what is wrong with the command line.
+    /// Show a text of clap's: help, or what is wrong with the command line.
     Text(Error),
 }
 
-/// The files that the command line names for a script.
+/// The files that `script` names.
 #[derive(Clone, Copy)]
 pub struct ScriptWords<'a> {
     /// The script's file.
     pub script: &'a str,
-    /// The configuration's file, where it is not to be the built-in one.
+    /// The configuration's file; `None` for the built-in configuration.
     pub config: Option<&'a str>,
 }
 
-/// What the command line says of a server.
+/// What `serve` is given.
 #[derive(Clone, Copy)]
 pub(crate) struct ServeWords<'a> {
-    /// The configuration's file, where it is not to be the built-in one.
+    /// The configuration's file; `None` for the built-in configuration.
     pub config: Option<&'a str>,
-    /// All else.
+    /// All other options.
     pub options: ServerOptions<'a>,
 }
 
-/// What is given for a script. Its FILE is there, since it is required.
+/// The arguments of `script`. FILE is required, so it is there.
 fn script_words<'a>(given: &ArgMatches<'a>) -> ScriptWords<'a>
     requires { IsGiven (codes "script") (rows_of (found_of given.now)) }
     ensures { HasFiles (λ id. first_of id (rows_of (found_of given.now))) result }
@@ -53,7 +53,7 @@ fn script_words<'a>(given: &ArgMatches<'a>) -> ScriptWords<'a>
     }
 }
 
-/// What is given for a server. Its socket and its connections are there, since they are required.
+/// The arguments of `serve`. `--socket` and `--connections` are required, so they are there.
 fn serve_words<'a>(given: &ArgMatches<'a>) -> ServeWords<'a>
     requires { IsGiven (codes "serve") (rows_of (found_of given.now)) }
     ensures { HasServer (λ id. first_of id (rows_of (found_of given.now))) result }
@@ -78,7 +78,7 @@ fn serve_words<'a>(given: &ArgMatches<'a>) -> ServeWords<'a>
     }
 }
 
-/// What is given for a talk with a server: its path, which is there, since it is required.
+/// The path given to `connect`. It is required, so it is there.
 fn connect_path<'a>(given: &ArgMatches<'a>) -> &'a str
     requires { IsGiven (codes "connect") (rows_of (found_of given.now)) }
     ensures { first_of (codes "socket") (rows_of (found_of given.now)) ≡ Some result.now }
@@ -89,8 +89,9 @@ fn connect_path<'a>(given: &ArgMatches<'a>) -> &'a str
     path
 }
 
-/// Reads the command line, of which the first word is the program's name. `WordsRefused` where there is no memory for it.
-/// Where clap has nothing against the words one of the three subcommands is named, since one is required.
+/// Reads the command line; the first word is the program's name. `WordsRefused` if an allocation is
+/// refused. If clap accepts the words, they name one of the three subcommands, because one is
+/// required.
 pub(crate) fn read_words<'a>(alloc: Global, words: &'a [String]) -> Result<Asked<'a>, WordsRefused>
     ensures { IfOk result (IsAsked (map (λ word. string_bytes word) words.entry.now)) }
 {

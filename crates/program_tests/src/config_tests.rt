@@ -1,4 +1,4 @@
-//! Configurations: what is read of a text and of a file, and the first fault of one that is none.
+//! Configurations: what is read from a text or a file, and the first fault of a faulty one.
 use failing_streams::LongReader;
 use program::{
     CONFIG_LIMIT, Config, ConfigFault, FileFault, ReadFault, built_in_config, read_config,
@@ -9,12 +9,12 @@ use std::alloc::{AllocError, Allocator, Global};
 use std::process::Abort;
 use std::test::Fail;
 
-/// A configuration of two subjects, whose keys stand in another order than they are listed in.
+/// A configuration of two subjects, with its keys in another order than the documented one.
 const TWO: &str = r#"{"policies":{"root":{"policy":"p","combine":"deny-overrides","rules":[]}},
  "subjects":[{"role":"editor","office":"north","name":"ines"},
   {"name":"ada","office":"hq","role":"chief","steward":true}]}"#;
 
-/// The code of the fault of a text; `ok` where it is a configuration.
+/// The code of a text's fault; `ok` for a configuration.
 fn code_of(heap: Global, text: &str) -> &'static str {
     let Err(fault) = read_config(heap, heap, text.as_bytes()) else {
         return "ok";
@@ -22,7 +22,7 @@ fn code_of(heap: Global, text: &str) -> &'static str {
     fault.code()
 }
 
-/// Each text has this code.
+/// Checks that each text has this code.
 fn have_code(rt: &impl Abort, heap: Global, code: &str, texts: &[&str]) {
     for text in texts {
         assert_eq!(rt; code_of(heap, text), code, "{text}");
@@ -44,7 +44,7 @@ fn texts_that_are_read(rt: HostRuntime) {
     );
 }
 
-/// What the configuration of two subjects says.
+/// Checks the configuration of the two subjects.
 fn says<A: Allocator>(rt: &impl Abort, config: &Config<A>) {
     let subjects = config.subjects.as_slice();
     assert_eq!(rt; subjects.len(), 2);
@@ -90,7 +90,7 @@ fn wrong_form(rt: HostRuntime) {
             r#"{"subjects":[]}"#,
             r#"{"policies":{}}"#,
             r#"{"subjects":{},"policies":{}}"#,
-            // a further key
+            // one more key
             r#"{"subjects":[],"policies":{},"zones":[]}"#,
             r#"{"subjects":[{"name":"a","office":"b","role":"c","key":1}],"policies":{}}"#,
         ],
@@ -113,7 +113,7 @@ fn wrong_subjects(rt: HostRuntime) {
             r#"{"subjects":[{"name":"a","office":"b","role":1}],"policies":{}}"#,
             r#"{"subjects":[{"name":"a","office":"b","role":"c","steward":null}],"policies":{}}"#,
             r#"{"subjects":[{"name":"a","office":"b","role":"c","steward":"true"}],"policies":{}}"#,
-            // the form of each comes before a name that stands twice
+            // the form of each subject is checked before a name that occurs twice
             r#"{"subjects":[{"name":"a","office":"b","role":"c"},{"name":"a","office":"b","role":"c"},{}],"policies":{}}"#,
         ],
     );
@@ -140,7 +140,7 @@ fn lists_turned_away(rt: HostRuntime) {
     );
 }
 
-/// A configuration of one subject `a` and so many more of that name, and no policies.
+/// A configuration of one subject `a` and this many more of the same name, without policies.
 fn of_many(heap: Global, more: usize) -> Result<String, AllocError> {
     let further = r#",{"name":"a","office":"b","role":"c"}"#.repeat(heap, more)?;
     format!(in heap;
@@ -223,7 +223,7 @@ fn the_built_in_one(rt: HostRuntime) {
     }
 }
 
-/// What a file of so many bytes gives, which are no JSON.
+/// The result for a file of this many bytes that are not JSON.
 fn file_of(heap: Global, left: usize) -> Result<Config<Global>, FileFault> {
     read_config_file(heap, heap, &mut LongReader { left })
 }

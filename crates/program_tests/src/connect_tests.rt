@@ -1,11 +1,12 @@
-//! How a talk with a server is asked for.
+//! How a command line asks for a talk with a server.
 use crate::running::{Text, shows, words};
 use program::{Next, run_program};
 use std::alloc::AllocError;
 use std::process::Abort;
 use std::test::Fail;
 
-/// The words ask for a talk with the server at `m.sock`. Nothing is written, and no file is opened.
+/// Checks that the words ask for a talk with the server at `m.sock`, write nothing, and open no
+/// file.
 fn asks(rt: &impl Abort, host: &HostRuntime, texts: &[&str]) -> Result<(), AllocError> {
     let alloc = host.alloc();
     let folder = Text {

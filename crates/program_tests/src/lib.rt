@@ -1,4 +1,5 @@
-//! Tests of configurations, of the program's runs, and of how a server is asked for, and a talk with one.
+//! Tests of configurations, of the program's runs, and of command lines for a server or for a talk
+//! with one.
 #![tactic(auto)]
 
 #[cfg(test)]

@@ -14,11 +14,11 @@ use std::io::Read;
 use std::process::Abort;
 use std::test::Fail;
 
-/// Its replies.
+/// The replies to `FIRST_POINT`.
 const FIRST_REPLIES: &str =
     "n: hello north\nn: staged\nn: applied 1\nn: rows 1\nn: 1 1 north mast POINT (3 4)\nn: rows 0\n";
 
-/// A folder in which each file never ends.
+/// A folder whose files never end.
 #[derive(Drop)]
 struct Endless;
 
@@ -40,7 +40,7 @@ impl Folder for Endless {
     }
 }
 
-/// A writer that fails so.
+/// A writer that fails this way.
 fn writer(alloc: Global, fails_at: u64, with: Failure) -> FailingWriter {
     FailingWriter {
         taken: Vec::new(alloc),
@@ -89,10 +89,10 @@ fn a_script_is_run(rt: HostRuntime) -> Result<(), Fail> {
     Ok(())
 }
 
-/// A script of one session of `ines`, who is there by the configuration alone.
+/// A script with a session of `ines`, whom only the configuration `BY_INES` has as a subject.
 const OF_INES: &str = "n: HELLO north\ni: HELLO ines\ni: EXPLAIN read north mast POINT (3 4)\n";
 
-/// This script by this configuration is answered so.
+/// Checks the replies to this script under this configuration.
 fn configured(
     rt: &impl Abort,
     host: &HostRuntime,
@@ -123,7 +123,8 @@ fn a_configuration_is_read(rt: HostRuntime) -> Result<(), Fail> {
     Ok(())
 }
 
-/// This configuration is none, and this is its code: the run ends with status 1, and nothing is answered.
+/// Checks that this configuration has the fault of this code: the run ends with status 1, and
+/// nothing is answered.
 fn misconfigured(
     rt: &impl Abort,
     host: &HostRuntime,
@@ -164,7 +165,7 @@ fn a_configuration_at_fault(rt: HostRuntime) -> Result<(), Fail> {
     Ok(())
 }
 
-/// A configuration of so many subjects, and no policies.
+/// A configuration of this many subjects, with an empty policy document.
 fn of_subjects(alloc: Global, count: u32) -> Result<String, AllocError> {
     let mut text = String::from_str(
         alloc,
@@ -177,7 +178,7 @@ fn of_subjects(alloc: Global, count: u32) -> Result<String, AllocError> {
     Ok(text)
 }
 
-/// A configuration of one subject by these policies is none, and this is its code.
+/// Checks the code of a configuration of one subject and these faulty policies.
 fn ruled(
     rt: &impl Abort,
     host: &HostRuntime,
@@ -190,11 +191,11 @@ fn ruled(
     misconfigured(rt, host, config.as_str(), code)
 }
 
-/// A set in a set, and so on, nine deep.
+/// Sets nested nine deep.
 const NINE_DEEP: &str =
     r#"{"root":{"set":"s0","combine":"deny-overrides","of":[{"set":"s1","combine":"deny-overrides","of":[{"set":"s2","combine":"deny-overrides","of":[{"set":"s3","combine":"deny-overrides","of":[{"set":"s4","combine":"deny-overrides","of":[{"set":"s5","combine":"deny-overrides","of":[{"set":"s6","combine":"deny-overrides","of":[{"set":"s7","combine":"deny-overrides","of":[{"set":"s8","combine":"deny-overrides","of":[]}]}]}]}]}]}]}]}]}}"#;
 
-/// A policy of so many rules.
+/// A policy of this many rules.
 fn of_rules(alloc: Global, count: u32) -> Result<String, AllocError> {
     let mut text = String::from_str(
         alloc,
@@ -242,7 +243,8 @@ fn policies_too_large(rt: HostRuntime) -> Result<(), Fail> {
     Ok(())
 }
 
-/// The words over the folder of two files, of which this is the configuration's, end with status 1 and this line.
+/// Checks that a run ends with status 1 and this line, over the folder of two files, one of them
+/// this configuration.
 fn ends_with(
     rt: &impl Abort,
     host: &HostRuntime,
@@ -290,7 +292,7 @@ fn files_are_opened_in_turn(rt: HostRuntime) -> Result<(), Fail> {
     Ok(())
 }
 
-/// A folder in which each file is one byte longer than a configuration may be.
+/// A folder whose files are all one byte longer than a configuration may be.
 #[derive(Drop)]
 struct TooLong;
 
@@ -349,7 +351,8 @@ fn a_read_fails(rt: HostRuntime) -> Result<(), Fail> {
     Ok(())
 }
 
-/// Each read of the configuration's file fails in turn; the last would tell its end. The script's file is not there.
+/// Each read of the configuration's file fails in turn, also the one that would find its end. The
+/// script's file does not exist.
 #[test]
 fn a_read_of_the_configuration_fails(rt: HostRuntime) -> Result<(), Fail> {
     for at in 0..=AS_BUILT_IN.len() {
@@ -370,7 +373,8 @@ fn a_read_of_the_configuration_fails(rt: HostRuntime) -> Result<(), Fail> {
     Ok(())
 }
 
-/// The configuration is read, and the first read of the script's file fails: nothing is told of the configuration's.
+/// The configuration is read, and the first read of the script's file fails: the fault is that of
+/// the script.
 #[test]
 fn a_read_of_the_script_fails(rt: HostRuntime) -> Result<(), Fail> {
     let folder = Two {
@@ -390,8 +394,8 @@ fn a_read_of_the_script_fails(rt: HostRuntime) -> Result<(), Fail> {
     Ok(())
 }
 
-/// What a run tells whose allocation of this number is refused, among those that its world and its buffers take. It
-/// prints nothing.
+/// What a run reports if the allocation of this number is refused, among those for its world and
+/// its buffers. It prints nothing.
 fn without_memory(rt: &impl Abort, alloc: Global, at: u64) -> Result<Vec<u8>, AllocError> {
     let config = built_in_config(alloc, alloc);
     assert!(rt; config.is_ok(), "the built-in configuration is read");
@@ -413,7 +417,8 @@ fn without_memory(rt: &impl Abort, alloc: Global, at: u64) -> Result<Vec<u8>, Al
     Ok(errors)
 }
 
-/// How many allocations a world takes when it is opened. Where one of them is refused, the run ends by X12.
+/// The number of allocations when a world is opened. If one of them is refused, the run ends with
+/// X12.
 fn openings(rt: &impl Abort, alloc: Global) -> Result<u64, AllocError> {
     for at in 1..20 {
         let told = without_memory(rt, alloc, at)?;
@@ -426,7 +431,7 @@ fn openings(rt: &impl Abort, alloc: Global) -> Result<u64, AllocError> {
 
 #[test]
 fn memory_is_refused(rt: HostRuntime) -> Result<(), Fail> {
-    // Behind the world's own allocations come those of the table of sessions and of the held line.
+    // After the world's own allocations come those of the table of sessions and of the line buffer.
     let opened = openings(&rt, rt.alloc())?;
     assert!(rt; opened > 0);
     for at in 1..3 {
@@ -438,7 +443,7 @@ fn memory_is_refused(rt: HostRuntime) -> Result<(), Fail> {
     Ok(())
 }
 
-/// The fault of a configuration that finds no memory.
+/// The fault of a configuration read without memory.
 fn refused_config(rt: &impl Abort, alloc: Global) -> ConfigFault {
     let memory = Refusing::new(alloc, 1);
     let made = built_in_config(&memory, alloc);
@@ -448,13 +453,13 @@ fn refused_config(rt: &impl Abort, alloc: Global) -> ConfigFault {
     fault
 }
 
-/// A configuration that finds no memory is told as B5.
+/// Out of memory for a configuration is shown as B5.
 fn config_without_memory(rt: &impl Abort, alloc: Global) {
     let fault = refused_config(rt, alloc);
     is_told(rt, alloc, &ProgramFault::Config(fault), "landmap: B5\n");
 }
 
-/// A buffer of the output that finds none is told as V4.
+/// Out of memory for the output's buffer is shown as V4.
 fn buffer_without_memory(rt: &impl Abort, alloc: Global) {
     let ConfigFault::Memory(refused) = refused_config(rt, alloc) else {
         panic!(rt; "a growth was refused")
@@ -474,15 +479,15 @@ fn faults_of_a_server(rt: HostRuntime) {
     is_told(&rt, alloc, &gone, "landmap: the server is gone\n");
 }
 
-/// This fault is told by this line.
+/// Checks the line shown for this fault.
 fn is_told(rt: &impl Abort, alloc: Global, fault: &ProgramFault<'_>, line: &str) {
     let mut errors = Vec::new(alloc);
     assert!(rt; tell(fault, &mut errors).is_ok());
     assert_eq!(rt; errors.as_slice(), line.as_bytes());
 }
 
-/// A run whose output fails so ends with status 1 and its line. What the output has taken begins and ends so; nothing where
-/// these are empty.
+/// Checks that a run whose output fails in this way ends with status 1 and its line, and how the
+/// bytes taken by the output begin and end. If these texts are empty, nothing was taken.
 fn with_output(
     rt: &impl Abort,
     host: &HostRuntime,
@@ -510,7 +515,8 @@ fn with_output(
     Ok(())
 }
 
-/// A script is flushed before its first read, and once more where that failed; help behind all that is written.
+/// A script flushes before its first read, and again if that flush failed; help is flushed after
+/// its last write.
 #[test]
 fn the_output_fails(rt: HostRuntime) -> Result<(), Fail> {
     for with in [Failure::Error, Failure::Nothing] {
@@ -536,7 +542,7 @@ fn the_output_fails(rt: HostRuntime) -> Result<(), Fail> {
     Ok(())
 }
 
-/// A run whose standard error fails ends with this status, and writes nothing there.
+/// Checks that a run whose standard error fails ends with this status, and writes nothing there.
 fn with_errors(
     rt: &impl Abort,
     host: &HostRuntime,

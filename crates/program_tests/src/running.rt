@@ -1,4 +1,4 @@
-//! What the tests run the program over: words, folders, and how it ends.
+//! How the tests run the program: command lines, folders, and checks of the result.
 use byte_streams::{NotOpened, open_file};
 use failing_streams::FailingReader;
 use program::{Folder, Next, run_program};
@@ -9,15 +9,15 @@ use std::process::Abort;
 pub(crate) const FIRST_POINT: &str =
     "n: HELLO north\nn: ADD 1 mast POINT (3 4)\nn: COMMIT\nn: SEARCH point(3 4)\nn: SEARCH POINT (3 5)\n";
 
-/// A configuration of one subject, by whose policies nothing is permitted.
+/// A configuration of one subject, whose policies permit nothing.
 pub(crate) const BY_INES: &str =
     r#"{"subjects":[{"name":"ines","office":"north","role":"editor"}],"policies":{"root":{"combine":"first-applicable","policy":"start","rules":[]}}}"#;
 
-/// The configuration of a run that names none.
+/// The built-in configuration.
 pub(crate) const AS_BUILT_IN: &str =
     r#"{"subjects":[{"name":"north","office":"north","role":"editor"},{"name":"south","office":"south","role":"viewer"},{"name":"chief","office":"hq","role":"chief","steward":true}],"policies":{"root":{"combine":"first-applicable","policy":"start","rules":[{"effect":"permit","rule":"open"}]}}}"#;
 
-/// What the host tells of a file that is not there.
+/// The host's error for a file that does not exist.
 fn absent<'a>(host: &HostRuntime) -> Result<FailingReader<'a>, NotOpened> {
     open_file(host, "no/such/file")?;
     Ok(FailingReader {
@@ -26,7 +26,7 @@ fn absent<'a>(host: &HostRuntime) -> Result<FailingReader<'a>, NotOpened> {
     })
 }
 
-/// A folder with one file, `a.map`, which reads this.
+/// A folder with one file, `a.map`, of these bytes. Its reads fail as those of `FailingReader`.
 #[derive(Drop)]
 pub(crate) struct Text<'a> {
     pub(crate) host: &'a HostRuntime,
@@ -54,7 +54,8 @@ impl<'a> Folder for Text<'a> {
     }
 }
 
-/// A folder with two files, `a.json` and `a.map`. One read of the latter fails, counted from 1, or none at 0.
+/// A folder with two files, `a.json` and `a.map`. One read of `a.map` fails, counted from 1; 0 for
+/// none.
 #[derive(Drop)]
 pub(crate) struct Two<'a> {
     pub(crate) host: &'a HostRuntime,
@@ -82,7 +83,7 @@ impl<'a> Folder for Two<'a> {
     }
 }
 
-/// The words of a command line, with the program's name before them.
+/// The words of a command line, after the program's name.
 pub(crate) fn words(alloc: Global, texts: &[&str]) -> Result<Vec<String>, AllocError> {
     let mut words = Vec::new(alloc);
     words.push(String::from_str(alloc, "landmap")?)?;
@@ -92,7 +93,7 @@ pub(crate) fn words(alloc: Global, texts: &[&str]) -> Result<Vec<String>, AllocE
     Ok(words)
 }
 
-/// The exit status of a run that has ended, and leaves nothing to do.
+/// The exit status of a run that has ended.
 pub(crate) fn status_of(rt: &impl Abort, next: &Next<'_>) -> u8 {
     match next {
         Next::Exit(ended) => ended.status(),
@@ -101,7 +102,7 @@ pub(crate) fn status_of(rt: &impl Abort, next: &Next<'_>) -> u8 {
     }
 }
 
-/// The program, run with these words over this folder, ends with this status, and writes this to both writers.
+/// Checks the exit status and the text on both writers of a run with these words over this folder.
 pub(crate) fn check<F: Folder>(
     rt: &impl Abort,
     alloc: Global,
@@ -120,7 +121,8 @@ pub(crate) fn check<F: Folder>(
     Ok(())
 }
 
-/// The words are shown a text of clap's, which begins so, and has these parts, on the output or on standard error.
+/// Checks that clap's text is shown, on the output if the status is 0 and otherwise on standard
+/// error, with this beginning and these parts.
 pub(crate) fn shows(
     rt: &impl Abort,
     host: &HostRuntime,
@@ -151,7 +153,7 @@ pub(crate) fn shows(
     Ok(())
 }
 
-/// A text has each of these parts, and no line of more than 80 columns.
+/// Checks that a text has each of these parts, and no line longer than 80 columns.
 fn has_parts(rt: &impl Abort, text: &[u8], parts: &[&str]) {
     let read = str::from_utf8(text);
     assert!(rt; read.is_ok());

@@ -1,11 +1,12 @@
-//! How a server is asked for: its options, its configuration, and what comes first of what is wrong.
+//! How a command line asks for a server: its options, its configuration, and which fault is
+//! reported first.
 use crate::running::{BY_INES, Two, check, shows, words};
 use program::{Next, ServerOptions, run_program};
 use std::alloc::{AllocError, Global};
 use std::process::Abort;
 use std::test::Fail;
 
-/// What `serve --socket m.sock --connections 7` asks for.
+/// The options that `serve --socket m.sock --connections 7` asks for.
 const PLAIN: ServerOptions<'static> = ServerOptions {
     socket: "m.sock",
     connections: 7,
@@ -15,7 +16,7 @@ const PLAIN: ServerOptions<'static> = ServerOptions {
     until_stdin_ends: false,
 };
 
-/// Lines that clap turns down, with the beginnings of what it says.
+/// Lines that clap rejects, each with the beginning of its message.
 const TURNED_DOWN: [(&str, &str); 15] = [
     (
         "serve",
@@ -79,12 +80,13 @@ const TURNED_DOWN: [(&str, &str); 15] = [
     ),
 ];
 
-/// The words of a line, parted by single spaces.
+/// The words of a line, separated by single spaces.
 fn parted<'a>(alloc: Global, line: &'a str) -> Result<Vec<&'a str>, AllocError> {
     line.split(' ').collect(alloc)
 }
 
-/// The words ask for a server of these options, opened by a configuration of so many subjects. Nothing is written.
+/// Checks that the words ask for a server with these options and a configuration of this many
+/// subjects, and that nothing is written.
 fn asks(
     rt: &impl Abort,
     host: &HostRuntime,
@@ -113,7 +115,7 @@ fn asks(
     Ok(())
 }
 
-/// The options are these.
+/// Checks all options.
 fn is_same(rt: &impl Abort, options: &ServerOptions<'_>, expected: &ServerOptions<'_>) {
     assert_eq!(rt; options.socket, expected.socket);
     assert_eq!(rt; options.connections, expected.connections);
@@ -123,7 +125,7 @@ fn is_same(rt: &impl Abort, options: &ServerOptions<'_>, expected: &ServerOption
     assert_eq!(rt; options.until_stdin_ends, expected.until_stdin_ends);
 }
 
-/// Behind `serve --socket m.sock` this line asks for these options.
+/// Checks the options asked for by `serve --socket m.sock`, followed by this line.
 fn gives(
     rt: &impl Abort,
     host: &HostRuntime,
@@ -184,7 +186,7 @@ fn a_configuration_of_its_own(rt: HostRuntime) -> Result<(), Fail> {
     Ok(())
 }
 
-/// This line is turned down with status 2, by a text that begins so.
+/// Checks that this line is rejected with status 2 and a message with this beginning.
 fn turns_down(
     rt: &impl Abort,
     host: &HostRuntime,
@@ -203,7 +205,7 @@ fn wrong_words(rt: HostRuntime) -> Result<(), Fail> {
     Ok(())
 }
 
-/// Over a folder with this configuration, this line ends with this status, and tells this.
+/// Checks the exit status and the output of this line, over a folder with this configuration.
 fn ends_with(
     rt: &impl Abort,
     host: &HostRuntime,
@@ -221,7 +223,8 @@ fn ends_with(
     check(rt, host.alloc(), texts.as_slice(), &folder, 1, ("", told))
 }
 
-/// A configuration at fault is told though the socket might be bound; a wrong command line comes before it.
+/// A faulty configuration is reported before the socket is bound; a wrong command line is reported
+/// before it.
 #[test]
 fn the_first_fault(rt: HostRuntime) -> Result<(), Fail> {
     let cases = [

@@ -6,7 +6,7 @@ use std::os::unix::net::UnixStream;
 use std::process::Abort;
 use std::{io, thread};
 
-/// Connects, as soon as somebody listens.
+/// Connects as soon as somebody listens; `None` after a million tries.
 pub fn connected<R: Net>(rt: &R, path: &str) -> Option<UnixStream> {
     for _ in 0..1_000_000 {
         if let Ok(stream) = UnixStream::connect(rt, path) {
@@ -17,7 +17,7 @@ pub fn connected<R: Net>(rt: &R, path: &str) -> Option<UnixStream> {
     None
 }
 
-/// What a client is told that sends these bytes, and nothing more.
+/// The replies to a client that sends these bytes and then closes its side.
 pub fn told<R: Net>(rt: &R, heap: Global, path: &str, bytes: &[u8]) -> Option<String> {
     let mut stream = connected(rt, path)?;
     stream.write_all(bytes).ok()?;
@@ -40,7 +40,7 @@ impl Talk {
         Some(Talk { stream, replies })
     }
 
-    /// Sends lines, and answers the next lines of the replies, so many.
+    /// Sends lines, and returns the next `count` lines of the replies.
     pub fn ask(&mut self, heap: Global, lines: &str, count: u32) -> Option<String> {
         self.stream.write_all(lines.as_bytes()).ok()?;
         let mut told = String::new(heap);
@@ -51,7 +51,7 @@ impl Talk {
     }
 }
 
-/// Adds a point, finds it, deletes it and finds nothing: all replies are those that are due.
+/// Adds a point, finds it, deletes it and finds nothing. Checks all replies.
 fn go_round(rt: &impl Abort, heap: Global, talk: &mut Talk) {
     let added = talk.ask(heap, "ADD 900 mast POINT (-900 5)\nCOMMIT\n", 2);
     let added = added.expect(rt, "replies");
@@ -72,10 +72,10 @@ fn go_round(rt: &impl Abort, heap: Global, talk: &mut Talk) {
     assert!(rt; told.ends_with("\nrows 0\n"), "{told}");
 }
 
-/// How many records a round of a watcher's leaves.
+/// How many records a round of `watch` leaves.
 pub const ROUND: u64 = 4;
 
-/// A client that knows all its replies beforehand, and goes round so many times.
+/// A client that knows all replies beforehand, and makes this many rounds.
 pub fn watch<R: Net + Abort>(rt: &R, heap: Global, path: &str, rounds: u32) {
     let mut talk = Talk::begin(rt, heap, path).expect(rt, "a connection");
     let hello = talk.ask(heap, "HELLO north\n", 1).expect(rt, "a reply");

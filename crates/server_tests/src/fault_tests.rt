@@ -1,4 +1,4 @@
-//! Sessions over a hall whose streams fail: what is written, and what the next session finds.
+//! Sessions over a hall with failing streams: what is written, and what the next session finds.
 use crate::memory_streams::{Replies, failing, whole};
 use crate::servers::closed_by;
 use failing_streams::{FailingReader, FailingWriter, Failure};
@@ -10,11 +10,11 @@ use std::sync::{Mutex, Wait};
 use std::thread::Threads;
 use std::time::Clock;
 
-/// A point is committed, and a further one is staged.
+/// Lines that commit a point and stage another.
 const LINES: &str =
     "HELLO north\nADD 1 mast POINT (3 4)\nCOMMIT\nADD 2 mast POINT (3 4)\nSEARCH POINT (3 4)\nBYE\n";
 
-/// The replies to each number of whole lines.
+/// The replies after each number of whole lines.
 const REPLIES: [&str; 7] = [
     "",
     "hello north\n",
@@ -28,10 +28,11 @@ const REPLIES: [&str; 7] = [
 const ALL_REPLIES: &str =
     "hello north\nstaged\napplied 1\nstaged\nrows 1\n1 1 north mast POINT (3 4)\nbye\n";
 
-/// What the next session asks: whether a list is staged, and what stands.
+/// The next session's lines: they show whether a list is staged, and which features there are.
 const NEXT: &str = "HELLO north\nCOMMIT\nSEARCH POINT (3 4)\nBYE\n";
 
-/// Serves a session whose reader fails at this read, or at none, and behind it, by the same worker, the next one.
+/// Serves a session whose reader fails at this read (0 for none) and then, by the same worker, the
+/// next session.
 fn serve_both<H, R>(
     rt: &R,
     own: H,
@@ -62,8 +63,8 @@ where
     }
 }
 
-/// The next session finds the point where so many lines have committed it, and no staged list; and the hall has the records and
-/// the seats of both sessions.
+/// Checks that the next session finds the point if `lines` lines have committed it, and no staged
+/// list, and that the hall has the records and seats of both sessions.
 fn check_left(rt: &impl Abort, closed: Closed, found: Mutex<FailingWriter>, lines: usize) {
     let expected = if lines < 3 {
         "hello north\nerror E7\nrows 0\nbye\n"
@@ -85,7 +86,8 @@ fn check_left(rt: &impl Abort, closed: Closed, found: Mutex<FailingWriter>, line
     assert_eq!(rt; closed, Closed { records, seats }, "after {lines}");
 }
 
-/// One byte is read at a time. Behind BYE nothing is read, so the last of these reads is not made.
+/// One byte is read at a time. Nothing is read after BYE, so the read with the last number is never
+/// made.
 #[test]
 fn each_read_fails(rt: HostRuntime) {
     let mut lines = 0;
@@ -106,7 +108,7 @@ fn each_read_fails(rt: HostRuntime) {
     assert_eq!(rt; lines, 6);
 }
 
-/// How many lines were answered when a write fails behind so many bytes of the replies.
+/// How many lines were answered when a write fails after this many bytes of the replies.
 fn answered(written: usize) -> usize {
     REPLIES
         .iter()
@@ -114,8 +116,8 @@ fn answered(written: usize) -> usize {
         .unwrap_or(6)
 }
 
-/// Each write fails in turn, of which each takes five bytes: what was written is a front of the replies, which has more from one
-/// time to the next.
+/// Each write in turn fails, and each takes five bytes. What was written is a prefix of the
+/// replies, longer each time.
 fn fail_each_write<H, R>(rt: &R, own: H, heap: Global, with: Failure)
 where
     H: Wait + Drop + Send + Copy,
@@ -133,7 +135,7 @@ where
         );
         check_left(rt, closed, found, answered(written));
         if told.fails_at > 0 {
-            // There are fewer writes.
+            // The session makes fewer writes than `fails_at`.
             assert_eq!(rt; written, ALL_REPLIES.len());
             return;
         }
@@ -152,8 +154,8 @@ fn each_write_fails(rt: HostRuntime) {
     fail_each_write(&rt, rt, rt.alloc(), Failure::Nothing);
 }
 
-/// A flush is made before each read, of which each reads one byte, and one behind BYE. What was answered before the flush that
-/// fails is written, and nothing is written behind it.
+/// There is a flush before each read of one byte, and one after BYE. The replies up to the failing
+/// flush are written, and nothing after them.
 #[test]
 fn each_flush_fails(rt: HostRuntime) {
     let mut lines = 0;

@@ -1,4 +1,4 @@
-//! A list of a session that another session's search holds back.
+//! A list of one session that another session's search holds back.
 use crate::memory_streams::{Client, Meeting, Replies, Step, check_told, whole};
 use crate::servers::closed_by;
 use failing_streams::FailingWriter;
@@ -9,12 +9,13 @@ use std::sync::atomic::{AtomicU64, Ordering};
 use std::sync::{Mutex, Wait};
 use std::test::Fail;
 
-/// A search, which waits where it has passed the place that the list below looks for, until that list is answered.
+/// A search that waits, after it has passed the place that the list below changes, until that list
+/// is answered.
 const SEARCHES: [Step; 1] = [Step::Sends(
     "HELLO north\nSEARCH POLYGON ((0 0, 4 0, 4 4, 0 4, 0 0))\n",
 )];
 
-/// A list that is committed while that search waits, and once more.
+/// A list that is committed while that search waits, and again afterwards.
 const COMMITS: [Step; 4] = [
     Step::Awaits,
     Step::Sends("HELLO south\nADD 1 mast POINT (2 2)\nCOMMIT\n"),
@@ -22,13 +23,14 @@ const COMMITS: [Step; 4] = [
     Step::Sends("COMMIT\n"),
 ];
 
-/// Searches elsewhere, until the list is answered.
+/// Searches elsewhere, repeated until the list is answered.
 const ELSEWHERE: [Step; 2] = [
     Step::Sends("HELLO chief\n"),
     Step::Repeats("SEARCH POINT (100 100)\n"),
 ];
 
-/// A client that takes these steps, and whose search waits behind its first event, or which never waits.
+/// A client that takes these steps. Its gate lets `passes` calls pass, then waits once, for
+/// `answered`.
 fn client<'a, R: Wait>(
     rt: &'a R,
     steps: &'static [Step],
@@ -50,13 +52,14 @@ fn client<'a, R: Wait>(
     (client, Replies::kept_in(rt, told), gate)
 }
 
-/// How many searches were answered with no row.
+/// How many searches were answered with no rows.
 fn searched(told: &[u8]) -> u64 {
     let lines = told.split(|byte| *byte == b'\n');
     lines.filter(|line| *line == b"rows 0".as_slice()).count() as u64
 }
 
-/// The list is tried again each time that another search ends, until it is given up. It stays, and is applied when it is committed again.
+/// The list is retried each time another search ends, until the hall gives up and answers `held`.
+/// The list stays staged, and is applied when it is committed again.
 #[test]
 fn held_by_another_session(rt: HostRuntime) -> Result<(), Fail> {
     let heap: Global = rt.alloc();

@@ -1,4 +1,4 @@
-//! Tests of streams and sockets that threads serve.
+//! Tests of streams and sockets served by threads.
 #![tactic(auto)]
 
 #[cfg(test)]

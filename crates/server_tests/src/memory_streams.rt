@@ -8,10 +8,10 @@ use std::sync::atomic::{AtomicU64, Ordering};
 use std::sync::{Mutex, Wait};
 use std::{io, thread};
 
-/// How many turns a thread waits for another at most.
+/// How often a thread yields while it waits for another, at most.
 const TURNS: u32 = 10_000_000;
 
-/// Where the replies of a session go: into a writer that is looked at when the session has ended.
+/// Writes a session's replies into a shared writer, which is read after the session has ended.
 #[derive(Drop)]
 pub struct Replies<'a, R: Wait> {
     rt: &'a R,
@@ -19,7 +19,7 @@ pub struct Replies<'a, R: Wait> {
 }
 
 impl<'a, R: Wait> Replies<'a, R> {
-    /// The replies go into this writer.
+    /// Replies written into this writer.
     pub fn kept_in(rt: &'a R, told: &'a Mutex<FailingWriter>) -> Self {
         Replies { rt, told }
     }
@@ -35,12 +35,13 @@ impl<R: Wait> Write for Replies<'_, R> {
     }
 }
 
-/// A writer that takes all replies.
+/// A writer that takes everything.
 pub fn whole(heap: Global) -> Mutex<FailingWriter> {
     failing(heap, usize::MAX, 0, Failure::Error)
 }
 
-/// A writer that takes so many bytes a call. One call fails, counted from 1, or none at 0, and the next goes on.
+/// A writer that takes at most `most` bytes a call. The call number `fails_at`, counted from 1,
+/// fails as `with` says, and later calls succeed; 0 for none.
 pub fn failing(heap: Global, most: usize, fails_at: u64, with: Failure) -> Mutex<FailingWriter> {
     Mutex::new(FailingWriter {
         taken: Vec::new(heap),
@@ -50,12 +51,12 @@ pub fn failing(heap: Global, most: usize, fails_at: u64, with: Failure) -> Mutex
     })
 }
 
-/// Compares what a session was told.
+/// Checks what a session was answered.
 pub fn check_told(rt: &impl Abort, told: Mutex<FailingWriter>, expected: &str) {
     assert_eq!(rt; told.into_inner().taken.as_slice(), expected.as_bytes());
 }
 
-/// Waits until a flag is set, for `TURNS` turns at most, and answers whether it is.
+/// Waits until a flag is set, for at most `TURNS` turns, and returns whether it is set.
 fn wait_for(flag: &AtomicU64) -> bool {
     for _ in 0..TURNS {
         if flag.load(Ordering::SeqCst) != 0 {
@@ -66,7 +67,8 @@ fn wait_for(flag: &AtomicU64) -> bool {
     false
 }
 
-/// A gate that lets so many calls pass. Behind these it sets a flag, once, and waits until the other's is set.
+/// A gate that lets the first `passes` calls pass. The next call sets the flag `mine` and waits
+/// until the flag `other` is set; all later calls pass.
 #[derive(Drop)]
 pub struct Meeting<'a> {
     pub passes: u64,
@@ -75,7 +77,7 @@ pub struct Meeting<'a> {
 }
 
 impl Meeting<'_> {
-    /// What the flag is once the other's has been seen.
+    /// The value of `mine` once `other` has been seen.
     pub const MET: u64 = 2;
 }
 
@@ -95,17 +97,18 @@ impl Gate for Meeting<'_> {
 /// What a client does next.
 #[derive(Clone, Copy, Drop)]
 pub enum Step {
-    /// It sends a text.
+    /// Sends a text.
     Sends(&'static str),
-    /// It sends a text again and again, until the flag `answered` is set.
+    /// Sends a text again and again, until the flag `answered` is set.
     Repeats(&'static str),
-    /// It waits until the flag `seen` is set.
+    /// Waits until the flag `seen` is set.
     Awaits,
-    /// It sets the flag `answered`: all that it has sent is answered.
+    /// Sets the flag `answered`: everything sent before has been answered.
     Sets,
 }
 
-/// A client that takes one step after another. It is asked for more only when what it has sent is answered.
+/// A client that takes one step after another. It is read from only when everything it has sent is
+/// answered.
 #[derive(Drop)]
 pub struct Client<'a> {
     pub steps: &'static [Step],
@@ -114,7 +117,7 @@ pub struct Client<'a> {
 }
 
 impl Client<'_> {
-    /// What it sends next, or nothing behind its last step.
+    /// What it sends next; empty after its last step.
     fn next_text(&mut self) -> &'static str {
         for _ in 0..self.steps.len() {
             let [step, rest @ ..] = self.steps else {

@@ -11,11 +11,11 @@ use std::sync::Wait;
 use std::thread::Threads;
 use std::time::Clock;
 
-/// Everything is permitted.
+/// A document that permits everything.
 pub const OPEN: &str =
     r#"{"root":{"combine":"first-applicable","policy":"start","rules":[{"effect":"permit","rule":"open"}]}}"#;
 
-/// The document by which everything is permitted.
+/// The document that permits everything.
 fn open_document(rt: &impl Abort, heap: Global) -> Document<Global> {
     match read_document(heap, heap, OPEN.as_bytes()) {
         Ok(document) => document,
@@ -23,7 +23,7 @@ fn open_document(rt: &impl Abort, heap: Global) -> Document<Global> {
     }
 }
 
-/// A subject with an office of its own name.
+/// A subject whose name, office and role are equal.
 fn subject(rt: &impl Abort, name: &[u8], steward: bool) -> Subject {
     let name = Name::new(name).expect(rt, "a name");
     Subject {
@@ -47,7 +47,7 @@ fn three_subjects(rt: &impl Abort) -> Subjects {
     }
 }
 
-/// Three subjects, to whom everything is permitted, and so many workers.
+/// Three subjects, for whom everything is permitted, and this many workers.
 pub fn serving_by(rt: &impl Abort, heap: Global, workers: usize) -> Serving {
     Serving {
         subjects: three_subjects(rt),
@@ -56,12 +56,12 @@ pub fn serving_by(rt: &impl Abort, heap: Global, workers: usize) -> Serving {
     }
 }
 
-/// Three subjects, to whom everything is permitted.
+/// Three subjects, for whom everything is permitted, and the default number of workers.
 pub fn serving(rt: &impl Abort, heap: Global) -> Serving {
     serving_by(rt, heap, WORKER_COUNT)
 }
 
-/// What is closed when these streams are served by so many workers.
+/// What closing yields after this many workers have served these streams.
 pub fn closed_by<H, R, I, O, G>(
     rt: &R,
     own: H,

@@ -13,7 +13,7 @@ use std::sync::atomic::AtomicU64;
 use std::test::Fail;
 use std::{fs, thread};
 
-/// One connection, without bounds.
+/// One connection, without an idle limit.
 const ONE: SocketOptions<'static> = SocketOptions {
     connections: 1,
     idle: None,
@@ -56,7 +56,7 @@ fn a_first_point(rt: HostRuntime) -> Result<(), Fail> {
     Ok(())
 }
 
-/// What is done with roads is permitted, and nothing is said of anything else.
+/// Everything is permitted for roads; for anything else no rule applies.
 const ROADS: &str =
     r#"{"root":{"combine":"first-applicable","policy":"p","rules":[{"effect":"permit","rule":"roads","target":[[[{"class":"road"}]]]}]}}"#;
 
@@ -111,7 +111,7 @@ fn a_path_that_is_taken(rt: HostRuntime) -> Result<(), Fail> {
         Err(ServerFault::Bind)
     );
     drop(listener);
-    // Nobody does any more, but the file is still there.
+    // Nobody listens any more, but the file still exists.
     assert_eq!(rt;
         serve_socket(&rt, rt, heap, path, serving(&rt, heap), ONE),
         Err(ServerFault::Bind)
@@ -126,7 +126,7 @@ fn a_socket_is_taken_over(rt: HostRuntime) -> Result<(), Fail> {
     let path = "server_left_behind.sock";
     let _ = fs::remove_file(&rt, path);
     drop(UnixListener::bind(&rt, path)?);
-    // Nobody is served, since the flag is set.
+    // Nobody is served, because the flag is set.
     let flag = AtomicU64::new(1);
     let options = SocketOptions {
         connections: 9,
@@ -164,7 +164,7 @@ fn a_file_is_not_taken_over(rt: HostRuntime) -> Result<(), Fail> {
     Ok(())
 }
 
-/// Waits, silent, until the server ends the connection. Whether it did.
+/// Connects and sends nothing until the server ends the connection. Returns whether it did.
 fn is_left<R: Net>(rt: &R, path: &str) -> bool {
     let Some(mut stream) = connected(rt, path) else {
         return false;

@@ -3,7 +3,8 @@ use crate::servers::OPEN;
 use std::alloc::{AllocError, Global};
 use std::iter;
 
-/// Each byte in a line of its own, all but the line feed in one line, a line that is too long, and a last one without an end.
+/// Each byte in a line of its own, all bytes except the line feed in one line, a line that is too
+/// long, and a last line without a line feed.
 pub fn bytes_of_every_value(heap: Global) -> Result<Vec<u8>, AllocError> {
     let mut lines = Vec::new(heap);
     for byte in 0..=255u8 {
@@ -16,7 +17,7 @@ pub fn bytes_of_every_value(heap: Global) -> Result<Vec<u8>, AllocError> {
     Ok(lines)
 }
 
-/// Adds a POLICY line of so many bytes: behind its document it has blanks.
+/// Adds a POLICY line of this many bytes, with spaces after its document.
 fn push_policy(lines: &mut Vec<u8>, bytes: usize) -> Result<(), AllocError> {
     let end = lines.len().saturating_add(bytes);
     lines.extend_from_slice(b"POLICY ")?;
@@ -26,7 +27,7 @@ fn push_policy(lines: &mut Vec<u8>, bytes: usize) -> Result<(), AllocError> {
     Ok(())
 }
 
-/// A steward's POLICY lines of 65,536 bytes and of one more.
+/// A steward's POLICY lines of 65,536 and of 65,537 bytes.
 pub fn long_policies(heap: Global) -> Result<Vec<u8>, AllocError> {
     let mut lines = Vec::new(heap);
     lines.extend_from_slice(b"HELLO chief\n")?;
@@ -36,7 +37,7 @@ pub fn long_policies(heap: Global) -> Result<Vec<u8>, AllocError> {
     Ok(lines)
 }
 
-/// How many searches stand in the trail that `long_trail` rolls out.
+/// How many searches `long_trail` makes and rolls out.
 pub const SEARCHES: u32 = 1_000;
 
 /// A search whose record has some 400 bytes.
@@ -52,26 +53,26 @@ pub fn long_trail(heap: Global) -> Result<String, AllocError> {
     Ok(lines)
 }
 
-/// Lines that are right.
+/// Valid lines.
 const RIGHT: &str =
     "SEARCH POINT (5 7)\nSEARCH POLYGON ((0 0, 9 0, 9 9, 0 9, 0 0))\nCOMMIT\nCOMMIT\nCOMMIT\nABORT\nADD 1 mast POINT (1 7)\nADD 2 road LINESTRING (1 1, 9 9)\nADD 3 mast POINT (3 7)\nADD 4 mast POINT (4 7)\nADD 5 mast POINT (5 7)\nADD 6 mast POINT (6 7)\nRESHAPE 1 1 POINT (7 7)\nDELETE 2 2\nEXPLAIN read north mast POINT (1 1)";
 
-/// Words with which a line may begin.
+/// Words that a line may begin with.
 const COMMANDS: &str =
     "HELLO\nSEARCH\nADD\nRESHAPE\nDELETE\nCOMMIT\nABORT\nEXPLAIN\nPOLICY\nROLL\nOPEN\nSTEP\nFINISH\nhello\nSEARCHES\n#\n";
 
-/// What may stand behind it.
+/// Words that may follow.
 const WORDS: &str =
     "north\nsouth\nmast\nread\nadd\nPOINT (1 2)\nPOINT(1 2\nLINESTRING (0 0, 3 4)\nLINESTRING (0 0, 0 0)\nPOLYGON ((0 0, 4 0, 4 4, 0 4, 0 0))\nPOLYGON ((0 0, 4 0, 0 4, 4 4, 0 0))\nMULTIPOINT (1 1)\nPOINT (1e3 2)\nPOINT (10000001 0)\nPOINT EMPTY\n1\n0\n18446744073709551615\n18446744073709551616\n-1\n+1\n{}\n[\n\t\n{\"root\":{\"combine\":\"first-applicable\",\"policy\":\"p\",\"rules\":[]}}\né\n%\n((((((";
 
-/// Numbers that look like chance, from a linear congruence.
+/// Pseudo-random numbers, from a linear congruential generator.
 #[derive(Drop)]
 struct Dice {
     state: u64,
 }
 
 impl Dice {
-    /// A number below this one, or 0 where that is 0.
+    /// A number below `sides`; 0 if `sides` is 0.
     fn below(&mut self, sides: usize) -> usize {
         self.state = self
             .state
@@ -81,14 +82,14 @@ impl Dice {
         drawn.checked_rem(sides).unwrap_or(0)
     }
 
-    /// A line of a text.
+    /// A random line of the text.
     fn line_of<'a>(&mut self, text: &'a str) -> &'a str {
         let count = text.lines().count();
         text.lines().nth(self.below(count)).unwrap_or("")
     }
 }
 
-/// Changes a byte of the last line, which begins here.
+/// Replaces one byte of the last line, which begins at `begin`.
 fn spoil(dice: &mut Dice, lines: &mut Vec<u8>, begin: usize) {
     let at = begin.saturating_add(dice.below(lines.len().saturating_sub(begin)));
     let byte = u8::try_from(dice.below(256)).unwrap_or(b'?');
@@ -99,7 +100,7 @@ fn spoil(dice: &mut Dice, lines: &mut Vec<u8>, begin: usize) {
     }
 }
 
-/// Adds a line that a session might send, with something wrong in most of them.
+/// Adds a line that a session might send. Most of them have an error.
 fn push_line(dice: &mut Dice, lines: &mut Vec<u8>) -> Result<(), AllocError> {
     let begin = lines.len();
     if dice.below(10) < 4 {
@@ -118,7 +119,7 @@ fn push_line(dice: &mut Dice, lines: &mut Vec<u8>) -> Result<(), AllocError> {
     Ok(())
 }
 
-/// HELLO, and so many lines that are nearly right, which begin from this number.
+/// HELLO, and `count` lines that are nearly right, from this seed.
 pub fn nearly_right(heap: Global, seed: u64, count: usize) -> Result<Vec<u8>, AllocError> {
     let mut dice = Dice { state: seed };
     let mut lines = Vec::new(heap);

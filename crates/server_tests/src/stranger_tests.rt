@@ -1,4 +1,4 @@
-//! Strangers at a socket, and a client whose replies have to be right beside them.
+//! Strangers at a socket, beside a client whose replies must be right.
 use crate::clients::{ROUND, Talk, connected, told, watch};
 use crate::servers::serving;
 use crate::stranger_lines::{
@@ -13,7 +13,7 @@ use std::process::Abort;
 use std::test::Fail;
 use std::{fs, thread};
 
-/// So many connections, without bounds.
+/// This many connections, without an idle limit.
 fn connections(count: u16) -> SocketOptions<'static> {
     SocketOptions {
         connections: count,
@@ -23,14 +23,14 @@ fn connections(count: u16) -> SocketOptions<'static> {
     }
 }
 
-/// What a stranger is told. Behind it a watcher goes round.
+/// The replies to a stranger; a watcher's round follows.
 fn told_before<R: Net + Abort>(rt: &R, heap: Global, path: &str, bytes: &[u8]) -> Option<String> {
     let told = told(rt, heap, path, bytes);
     watch(rt, heap, path, 1);
     told
 }
 
-/// 257 lines of a byte or none, the line of all bytes, the long one, and the last.
+/// 257 lines of one byte or none, the line of all bytes, the long line, and the last one.
 #[test]
 fn every_byte(rt: HostRuntime) -> Result<(), Fail> {
     let heap: Global = rt.alloc();
@@ -86,7 +86,7 @@ fn policies_of_65536_bytes(rt: HostRuntime) -> Result<(), Fail> {
     Ok(())
 }
 
-/// How many lines a stranger sends behind HELLO.
+/// How many lines a stranger sends after HELLO.
 const LINES: usize = 300;
 
 /// How many of a stranger's lines were answered, and how many records they left.
@@ -96,8 +96,8 @@ struct Tally {
     records: u64,
 }
 
-/// Counts the replies: a line is a row, which begins with a number, or a reply that begins with one of these words. Each `rows`, and
-/// each verdict on a list, is a record.
+/// Counts the replies. A line is a row, which begins with a number, or a reply, which begins with
+/// one of these words. Each `rows` and each verdict on a list is a record.
 fn counted(rt: &impl Abort, told: &str) -> Tally {
     let mut tally = Tally {
         answered: 0,
@@ -118,14 +118,14 @@ fn counted(rt: &impl Abort, told: &str) -> Tally {
     tally
 }
 
-/// Sends lines that are nearly right.
+/// Sends lines that are nearly right, and counts the replies.
 fn pour<R: Net + Abort>(rt: &R, heap: Global, path: &str, seed: u64) -> Tally {
     let lines = nearly_right(heap, seed, LINES).expect(rt, "lines");
     let told = told(rt, heap, path, lines.as_slice());
     counted(rt, told.expect(rt, "replies").as_str())
 }
 
-/// Each line is answered, and each answer that makes a record is counted as one.
+/// Each line is answered, and each reply that makes a record is counted as one.
 #[test]
 fn lines_that_are_nearly_right(rt: HostRuntime) {
     let heap: Global = rt.alloc();
@@ -159,13 +159,14 @@ fn lines_that_are_nearly_right(rt: HostRuntime) {
     );
 }
 
-/// Sends half a line, and goes.
+/// Sends half a line, and disconnects.
 fn half_a_line<R: Net + Abort>(rt: &R, path: &str, line: &str) {
     let mut stream = connected(rt, path).expect(rt, "a connection");
     assert!(rt; stream.write_all(line.as_bytes()).is_ok());
 }
 
-/// A steward reads the front of a long answer, and goes when a watcher has gone round beside it.
+/// A steward reads the first lines of a long answer, and disconnects after a watcher has made a
+/// round.
 fn half_an_answer<R: Net + Abort>(rt: &R, heap: Global, path: &str) {
     let lines = long_trail(heap).expect(rt, "lines");
     let mut talk = Talk::begin(rt, heap, path).expect(rt, "a connection");
@@ -175,7 +176,7 @@ fn half_an_answer<R: Net + Abort>(rt: &R, heap: Global, path: &str) {
     watch(rt, heap, path, 1);
 }
 
-/// Those who go leave their records and their seats.
+/// Clients that disconnect leave their records and their seats.
 #[test]
 fn clients_that_go(rt: HostRuntime) {
     let heap: Global = rt.alloc();

@@ -1,4 +1,4 @@
-//! Streams in memory, served side by side.
+//! Streams in memory, served concurrently.
 use crate::memory_streams::{Meeting, Replies, check_told, failing, whole};
 use crate::servers::closed_by;
 use failing_streams::Failure;
@@ -50,7 +50,7 @@ fn two_wait_for_each_other(rt: HostRuntime) -> Result<(), Fail> {
     Ok(())
 }
 
-/// A line that is longer than a line may be, and a session behind it.
+/// A line longer than the limit, and a session after it.
 fn long_line(heap: Global) -> Result<Vec<u8>, Fail> {
     let mut input = vec![in heap; b'?'; 70_000]?;
     input.extend_from_slice(b"\nHELLO south\nBYE\n")?;
@@ -155,7 +155,7 @@ fn one_worker_serves_many(rt: HostRuntime) -> Result<(), Fail> {
             NoGate,
         ))?;
     }
-    // No worker is asked for, and one is started.
+    // Zero workers are asked for, and one is started.
     let closed = closed_by(&rt, rt, heap, 0, streams);
     assert_eq!(rt;
         closed,

@@ -1,4 +1,5 @@
-//! A session by itself, whose lines have no label: what stands when its run ends by a fault, and that BYE ends it.
+//! Unlabelled sessions: what a run that ends with a fault has written and changed, and that BYE
+//! ends a session.
 use crate::fakes::{FailingReader, FailingWriter, Failure};
 use crate::worlds::{opened, replies, serve_first};
 use sessions::{ServeFault, serve_world};
@@ -6,11 +7,11 @@ use std::alloc::Global;
 use std::process::Abort;
 use transactions::World;
 
-/// A point is committed, and a further one is staged.
+/// Lines that commit a point and stage another.
 const TWO_POINTS: &str =
     "HELLO north\nADD 1 mast POINT (3 4)\nCOMMIT\nADD 2 mast POINT (3 4)\nSEARCH POINT (3 4)\n";
 
-/// The replies to each number of whole lines.
+/// The replies after each number of whole lines.
 const REPLIES: [&str; 6] = [
     "",
     "hello north\n",
@@ -23,7 +24,7 @@ const REPLIES: [&str; 6] = [
 const ALL_REPLIES: &str =
     "hello north\nstaged\napplied 1\nstaged\nrows 1\n1 1 north mast POINT (3 4)\n";
 
-/// A new run over the world that so many lines have left finds the point where it was committed, and no staged list.
+/// Checks that a new run finds the point if `lines` lines have committed it, and no staged list.
 fn check_left(rt: &impl Abort, alloc: Global, world: &mut World<Global>, lines: usize) {
     let output = replies(
         rt,
@@ -41,7 +42,7 @@ fn check_left(rt: &impl Abort, alloc: Global, world: &mut World<Global>, lines: 
 
 #[test]
 fn each_read_fails(rt: HostRuntime) {
-    // The last of these reads would tell that the input ends.
+    // The read with the last number would find the end of the input.
     let mut lines = 0;
     for at in 0..=TWO_POINTS.len() {
         let mut world = opened(&rt, rt.alloc(), rt.alloc());
@@ -65,8 +66,8 @@ fn each_read_fails(rt: HostRuntime) {
     assert_eq!(rt; lines, 5);
 }
 
-/// Serves the session into a writer that fails, and a new run over the world that so many lines have left. One byte is read at a
-/// time; answers how many bytes were not read.
+/// Serves the session into a failing writer, and checks the world as after `lines` lines. One byte
+/// is read at a time. Returns how many bytes were not read.
 fn serve_into(rt: &impl Abort, alloc: Global, writer: &mut FailingWriter, lines: usize) -> usize {
     let mut world = opened(rt, alloc, alloc);
     let mut reader = FailingReader {
@@ -89,7 +90,7 @@ fn each_write_fails(rt: HostRuntime) {
             fails_at: at as u64 + 1,
             with: Failure::Error,
         };
-        // The last two writes are both of the fifth line.
+        // The fifth line's reply is written by the last two writes.
         serve_into(&rt, rt.alloc(), &mut writer, at.saturating_add(1).min(5));
         assert_eq!(rt;
             Some(writer.taken.as_slice()),
@@ -101,7 +102,8 @@ fn each_write_fails(rt: HostRuntime) {
     assert_eq!(rt; written, ALL_REPLIES.len());
 }
 
-/// A flush is made before each read, and one at the end: where it fails nothing more is read, and what was read before is answered.
+/// There is a flush before each read, and one at the end. If one fails, nothing more is read; the
+/// whole lines read before it are answered.
 #[test]
 fn each_flush_fails(rt: HostRuntime) {
     let mut lines = 0;
@@ -126,7 +128,8 @@ fn each_flush_fails(rt: HostRuntime) {
     assert_eq!(rt; lines, 5);
 }
 
-/// No line is skipped: an empty one and a comment have no command that is known. Behind BYE no line is answered.
+/// No line is skipped: an empty line and a comment are unknown commands. After BYE no line is
+/// answered.
 #[test]
 fn lines_behind_bye(rt: HostRuntime) {
     let ran = serve_first(

@@ -1,4 +1,4 @@
-//! What stands when a run ends by a fault.
+//! What a run that ends with a fault has written and changed.
 use crate::fakes::{
     CountingReader, FIRST_POINT, FIRST_REPLIES, FailingReader, FailingWriter, Failure, LongReader,
 };
@@ -9,7 +9,7 @@ use std::alloc::Global;
 use std::process::Abort;
 use transactions::World;
 
-/// The replies to each number of whole lines of the worked script.
+/// The replies to the worked script after each number of whole lines.
 const REPLIES: [&str; 6] = [
     "",
     "n: hello north\n",
@@ -19,7 +19,7 @@ const REPLIES: [&str; 6] = [
     FIRST_REPLIES,
 ];
 
-/// What a search finds, and a commit, in a world that so many lines of the worked script have left.
+/// The replies to a COMMIT and a search after a run of each number of lines of the worked script.
 const LEFT: [&str; 6] = [
     "n: hello north\nn: error E7\nn: rows 0\n",
     "n: hello north\nn: error E7\nn: rows 0\n",
@@ -29,7 +29,7 @@ const LEFT: [&str; 6] = [
     "n: hello north\nn: error E7\nn: rows 1\nn: 1 1 north mast POINT (3 4)\n",
 ];
 
-/// A new run finds the world that so many lines have left, and no staged list.
+/// Checks that a new run finds the world that `lines` lines have left, and no staged list.
 fn check_left(rt: &impl Abort, alloc: Global, world: &mut World<Global>, lines: usize) {
     let output = replies(
         rt,
@@ -46,7 +46,7 @@ fn check_left(rt: &impl Abort, alloc: Global, world: &mut World<Global>, lines: 
 
 #[test]
 fn each_read_fails(rt: HostRuntime) {
-    // The last of these reads would tell that the input ends.
+    // The read with the last number would find the end of the input.
     let mut lines = 0;
     for at in 0..=FIRST_POINT.len() {
         let mut world = opened(&rt, rt.alloc(), rt.alloc());
@@ -70,10 +70,12 @@ fn each_read_fails(rt: HostRuntime) {
     assert_eq!(rt; lines, 5);
 }
 
-/// How many lines of the worked script were answered when each line of its replies is written.
+/// For each line of the replies, how many lines of the worked script are answered when it is
+/// written.
 const ANSWERED: [usize; 6] = [1, 2, 3, 4, 4, 5];
 
-/// Runs the worked script into a writer that fails, to an end of this code, and a new run over the world that is left.
+/// Runs the worked script into a failing writer, checks the code of the fault, and checks the world
+/// with a new run.
 fn run_into(
     rt: &impl Abort,
     alloc: Global,
@@ -140,20 +142,21 @@ fn each_byte_fails(rt: HostRuntime) {
     }
 }
 
-/// What leaves two records.
+/// Lines that leave two records.
 const RECORDS: &str =
     "n: HELLO north\nn: ADD 1 mast POINT (3 4)\nn: COMMIT\nn: SEARCH POINT (3 4)\n";
 
 const ROLL: &str = "c: HELLO chief\nc: ROLL\n";
 
-/// What their roll is answered.
+/// The replies to `ROLL` after `RECORDS`.
 const ROLLED: &str = r#"c: hello chief
 c: rolled 2
 c: {"changes":[{"class":"mast","id":1,"shape":"POINT (3 4)","what":"add"}],"kind":"applied","number":1,"seat":1,"subject":"north","version":1}
 c: {"ids":[1],"kind":"answered","number":2,"seat":1,"subject":"north","window":"POINT (3 4)"}
 "#;
 
-/// Rolls two records into a writer that fails. Its code, and a new run finds that they are taken out.
+/// Rolls two records into a failing writer, and checks that a new run finds an empty trail. Returns
+/// the code of the fault.
 fn roll_into(rt: &impl Abort, alloc: Global, writer: &mut FailingWriter) -> Option<&'static str> {
     let mut world = opened(rt, alloc, alloc);
     replies(rt, alloc, &mut world, RECORDS);
@@ -166,8 +169,8 @@ fn roll_into(rt: &impl Abort, alloc: Global, writer: &mut FailingWriter) -> Opti
     ended.err().map(|fault| fault.code())
 }
 
-/// Each write of a roll's reply fails in turn, from this one on, where each takes so many bytes: what was written is the
-/// front of the reply, which has more from one time to the next.
+/// Each write of a roll's reply in turn fails, from number `first` on, and each takes at most
+/// `most` bytes. What was written is a prefix of the reply, longer each time.
 fn fail_each_of_a_roll(rt: &impl Abort, alloc: Global, most: usize, first: u64) {
     let mut least = "c: hello chief\n".len();
     for fails_at in first..1_000 {
@@ -184,7 +187,7 @@ fn fail_each_of_a_roll(rt: &impl Abort, alloc: Global, most: usize, first: u64) 
         );
         assert!(rt; writer.taken.len() >= least, "at {fails_at}");
         if writer.fails_at > 0 {
-            // There are fewer writes.
+            // The run makes fewer writes than `fails_at`.
             assert_eq!(rt; code, None);
             assert_eq!(rt; writer.taken.len(), ROLLED.len());
             return;
@@ -215,7 +218,8 @@ fn writes_go_on(rt: HostRuntime) {
     }
 }
 
-/// Runs an input of so many bytes, each given by a call of its own, to an end of this code.
+/// Runs an input of this many bytes, one per read, and checks the code of the fault and the number
+/// of reads.
 fn run_bytes(rt: &impl Abort, alloc: Global, bytes: u64, code: Option<&str>, calls: u64) {
     let mut world = opened(rt, alloc, alloc);
     let mut output = Vec::new(alloc);
@@ -230,7 +234,7 @@ fn run_bytes(rt: &impl Abort, alloc: Global, bytes: u64, code: Option<&str>, cal
     assert_eq!(rt; output.len(), 0);
 }
 
-/// More bytes than a run has reads, many of which a read gives.
+/// An input with more bytes than the limit of reads is served if each read returns many bytes.
 fn run_long(rt: &impl Abort, alloc: Global) {
     let mut world = opened(rt, alloc, alloc);
     let mut output = Vec::new(alloc);
@@ -258,7 +262,7 @@ fn buffers_refused(rt: HostRuntime) {
         let mut reader = FIRST_POINT.as_bytes();
         memory.refuse(at);
         let end = run_script(&memory, rt.alloc(), &mut world, &mut reader, &mut output);
-        // The table of sessions and the held line: nothing is read.
+        // The allocations of the table of sessions and of the line buffer: nothing is read.
         assert!(rt; matches!(end, Err(ServeFault::Memory(_))));
         assert_eq!(rt; (reader.len(), output.len()), (FIRST_POINT.len(), 0));
     }

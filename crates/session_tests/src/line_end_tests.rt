@@ -1,5 +1,5 @@
-//! Session lines at the ends of counters and limits, and each line that takes memory of the world, its allocations
-//! refused in turn.
+//! Session lines at the ends of counters and limits; and each kind of line that allocates in the
+//! world, with each of its allocations refused in turn.
 use crate::fakes::{SEVENTEEN_ROWS, SIXTEEN, SIXTEEN_ROWS};
 use crate::script_lines::{BEHIND_SIXTEEN, SEATED, check_cases_at};
 use crate::worlds::{LIMITS, opened_at};
@@ -50,7 +50,7 @@ const DEFAULTS: &str = r#"=== what is decided by default, and which rule decides
 < s: applied 2
 "#;
 
-/// Where a trail takes one record.
+/// The trail has room for one record.
 const ONE_RECORD: &str =
     r#"=== a trail without room: X10 of a search and of a COMMIT, and what comes before it
 > n: DELETE 1 1
@@ -100,7 +100,7 @@ const ONE_RECORD: &str =
 < n: 1 1 north mast POINT (3 4)
 "#;
 
-/// Where no more records can be rolled out.
+/// No more records can be rolled out: only the roll of an empty trail succeeds.
 const LAST_ROLL: &str = r#"=== the last record that a roll can take out
 > c: ROLL
 < c: rolled 0
@@ -110,7 +110,7 @@ const LAST_ROLL: &str = r#"=== the last record that a roll can take out
 < c: error X8
 "#;
 
-/// Where the last version was given.
+/// The last version was given.
 const LAST_VERSION: &str = r#"=== no version is left for a list that would be applied
 > n: ADD 1 mast POINT (3 4)
 < n: staged
@@ -124,19 +124,19 @@ const LAST_VERSION: &str = r#"=== no version is left for a list that would be ap
 < n: absent change 1
 "#;
 
-/// Where the last edition is in force.
+/// The last edition is in force.
 const LAST_EDITION: &str = r#"=== no edition is left for a policy
 > c: POLICY {"root":{"combine":"first-applicable","policy":"p","rules":[{"effect":"permit","rule":"roads","target":[[[{"class":"road"}]]]}]}}
 < c: error X8
 "#;
 
-/// Where the last search was numbered.
+/// The last search number was given.
 const LAST_SEARCH: &str = r#"=== no number is left for a search
 > n: SEARCH POINT (0 0)
 < n: error S6
 "#;
 
-/// Where the store takes one feature.
+/// The store has room for one feature.
 const ONE_FEATURE: &str = r#"=== there is no room for a second feature
 > n: ADD 1 mast POINT (3 4)
 < n: staged
@@ -152,8 +152,8 @@ const ONE_FEATURE: &str = r#"=== there is no room for a second feature
 < n: aborted
 "#;
 
-/// Where a walk makes one step. The seventeenth point parts the root, which is a leaf so far: one step. From the root down to a
-/// leaf is one more, and placing is the last.
+/// The walk of one COMMIT may make one step. The seventeenth point takes three: splitting the root,
+/// which is a leaf until then; going down to a leaf; and placing the point.
 const ONE_STEP: &str =
     r#"=== parting the root is one step: the walk goes no further, however often it is sent
 > n: COMMIT
@@ -166,7 +166,7 @@ const ONE_STEP: &str =
 < n: error E7
 "#;
 
-/// Where walks and searches make two steps. A search that the index gives up is gone.
+/// The walk of one COMMIT and a search may make two steps. A search that the index drops is gone.
 const TWO_STEPS: &str =
     r#"=== down to a leaf and placing are two more, made by the second COMMIT; a search of one leaf
 > n: COMMIT
@@ -240,14 +240,14 @@ const TWO_STEPS: &str =
 < n: opened
 "#;
 
-/// Where a walk makes three steps.
+/// The walk of one COMMIT may make three steps.
 const THREE_STEPS: &str = r#"=== three steps are enough for the seventeenth point
 > n: COMMIT
 < n: applied 2
 "#;
 
-/// Where the index's counter is at its end. The seventeenth point parts the root, and sixteen more, all at one place, a leaf
-/// below it.
+/// The index's counter is at its end. The seventeenth point splits the root; the next sixteen, all
+/// at one place, would split a leaf below it.
 const LAST_COUNT: &str = r#"=== no number is left to part a leaf below the root
 > n: COMMIT
 < n: applied 2
@@ -316,7 +316,8 @@ const LAST_COUNT: &str = r#"=== no number is left to part a leaf below the root
 < n: applied 3
 "#;
 
-/// Behind three seats, over a world whose numbers start as usual.
+/// Checks cases after three seats are given, in worlds with these limits and the usual first
+/// numbers.
 fn check_limits(
     rt: &impl Abort,
     heap: Global,
@@ -390,7 +391,8 @@ fn ends_of_numbers(rt: HostRuntime) -> Result<(), Fail> {
     Ok(())
 }
 
-/// Behind sixteen points and one that is staged, in a world whose walks and searches make so many steps.
+/// Checks cases after sixteen points are committed and one is staged, in worlds with this limit of
+/// steps.
 fn check_steps(rt: &impl Abort, heap: Global, steps: u32, cases: &str) -> Result<(), AllocError> {
     let limits = Limits { steps, ..LIMITS };
     check_cases_at(rt, heap, Starts::FIRST, limits, BEHIND_SIXTEEN, cases)
@@ -410,7 +412,7 @@ fn ends_of_steps(rt: HostRuntime) -> Result<(), Fail> {
     Ok(())
 }
 
-/// A kind of line that takes memory of the world.
+/// A kind of line that allocates in the world.
 #[derive(Clone, Copy, Drop)]
 enum LineKind {
     Hello,
@@ -423,9 +425,9 @@ enum LineKind {
     Finish,
 }
 
-/// A script with a line of this kind, which is sent again where an allocation was refused.
+/// A script with a line of this kind, which is sent again if an allocation was refused.
 impl LineKind {
-    /// What comes before the line, in two parts.
+    /// The first part of the lines before it; `before` has the second.
     fn first(self) -> &'static str {
         match self {
             Self::Hello => "#\n",
@@ -460,7 +462,7 @@ impl LineKind {
         }
     }
 
-    /// The replies to the line, where no allocation is refused.
+    /// The replies to the line if no allocation is refused.
     fn reply(self) -> &'static str {
         match self {
             Self::Hello => "n: hello north\n",
@@ -473,7 +475,8 @@ impl LineKind {
         }
     }
 
-    /// What is read before the line is sent again: of a list whose COMMIT was refused nothing is found.
+    /// What is read before the line is sent again: after a refused COMMIT, a search that finds
+    /// nothing of its list.
     fn between(self) -> &'static str {
         match self {
             Self::Commit => SEARCH,
@@ -481,7 +484,7 @@ impl LineKind {
         }
     }
 
-    /// The replies to that.
+    /// The replies to `between`.
     fn found(self) -> &'static str {
         match self {
             Self::Commit => SIXTEEN_ROWS,
@@ -492,23 +495,24 @@ impl LineKind {
 
 const SEARCH: &str = "n: SEARCH POLYGON ((0 -1, 500 -1, 500 1, 0 1, 0 -1))\n";
 
-/// A document by which nothing is permitted.
+/// A document that permits nothing.
 const NOTHING: &str =
     "n: POLICY {\"root\":{\"combine\":\"first-applicable\",\"policy\":\"p\",\"rules\":[]}}\n";
 
-/// The roll of a trail of one record.
+/// The roll of a trail with one record.
 const ROLLED: &str =
     "n: rolled 1\nn: {\"ids\":[],\"kind\":\"answered\",\"number\":2,\"seat\":2,\"subject\":\"chief\",\"window\":\"POINT (900 0)\"}\n";
 
-/// The parts of a script, one a read. An allocation of the line is to be refused, counted from its beginning, and none of
-/// what comes behind, which is there only where that allocation was reached.
+/// Reads one part of a script at a time. The allocation number `refused`, counted from the
+/// beginning of the line, is refused, and none later. The parts after the line are read only if
+/// that allocation was reached.
 #[derive(Drop)]
 struct PartReader<'a> {
     kind: LineKind,
     next: usize,
     memory: &'a Refusing<Global>,
     refused: u64,
-    // whether that allocation was reached
+    /// Whether that allocation was reached.
     reached: bool,
 }
 
@@ -540,7 +544,8 @@ impl Read for PartReader<'_> {
     }
 }
 
-/// An allocation of this line is refused, in a world that was just opened; whether it was reached.
+/// Refuses one allocation of this line in a new world, checks the replies, and returns whether the
+/// allocation was reached.
 fn refuse(rt: &impl Abort, heap: Global, at: u64, kind: LineKind) -> Result<bool, AllocError> {
     let memory = Refusing::new(heap, 0);
     let mut world = opened_at(rt, &memory, heap, Starts::FIRST, LIMITS);
@@ -564,8 +569,8 @@ fn refuse(rt: &impl Abort, heap: Global, at: u64, kind: LineKind) -> Result<bool
     Ok(reader.reached)
 }
 
-/// Each allocation of this line is refused in turn, up to the first that is not reached: it is answered `memory`, and what
-/// stands behind it as it would have been.
+/// Each allocation of this line in turn is refused, up to the first that is not reached. The line
+/// is answered `memory`, and what follows is answered as usual.
 fn refuse_each(rt: &impl Abort, heap: Global, kind: LineKind) -> Result<(), AllocError> {
     for at in 1..60 {
         if !refuse(rt, heap, at, kind)? {

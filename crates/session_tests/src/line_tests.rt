@@ -9,7 +9,7 @@ use std::process::Abort;
 use std::test::Fail;
 use transactions::World;
 
-/// Policies, lists, refusals and rolls, behind three seats.
+/// Policies, lists, refusals and rolls, in sessions with three seats.
 const CASES: &str = r#"=== the first rule that decides is named
 > c: POLICY {"root":{"combine":"deny-overrides","of":[{"combine":"permit-overrides","policy":"soft","rules":[{"effect":"deny","rule":"early"},{"effect":"permit","rule":"grant"}]},{"combine":"deny-overrides","policy":"hard","rules":[{"effect":"deny","rule":"late"}]}],"set":"top"}}
 < c: edition 2
@@ -145,7 +145,7 @@ fn behind_three_seats(rt: HostRuntime) -> Result<(), Fail> {
     Ok(())
 }
 
-/// The worked script of a point, without its labels; then an empty line, and the end of the session.
+/// The worked script of a point, without labels; then an empty line, and the end of the session.
 const UNLABELLED: &str =
     "HELLO north\nADD 1 mast POINT (3 4)\nCOMMIT\nSEARCH point(3 4)\nSEARCH POINT (3 5)\n\nBYE\n";
 
@@ -158,8 +158,8 @@ fn without_labels(rt: HostRuntime) {
     );
 }
 
-/// A run over the world that a run has left, in which a line was answered `memory`: it finds the point exactly where its
-/// commit was answered, and no staged list.
+/// After a run in which a line was answered `memory`, checks that a new run finds the point if and
+/// only if its COMMIT was answered `applied`, and no staged list.
 fn check_behind<'a>(
     rt: &impl Abort,
     heap: Global,
@@ -185,8 +185,8 @@ fn check_behind<'a>(
     Ok(())
 }
 
-/// Each allocation that a world makes for the worked script is refused in turn: a line is answered `memory`, and a new
-/// run over the world finds what was committed before.
+/// Each allocation in a world during the worked script is refused in turn: a line is answered
+/// `memory`, and a new run finds what was committed before.
 #[test]
 fn each_allocation_refused(rt: HostRuntime) -> Result<(), Fail> {
     let memory = Refusing::new(rt.alloc(), 0);

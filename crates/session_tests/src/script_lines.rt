@@ -1,19 +1,20 @@
-//! Scripts with their replies, as text. A line that begins with `=== ` begins a case and says what it shows; one that begins
-//! with `> ` is a line of its script, and one that begins with `< ` is a reply.
+//! Scripts with their replies, as text. A line that begins with `=== ` begins a case and says what
+//! it shows, one that begins with `> ` is a line of its script, and one that begins with `< ` is a
+//! reply.
 use crate::fakes::{SIXTEEN, SIXTEEN_TOLD};
 use crate::worlds::{opened, opened_at, replies};
 use std::alloc::{AllocError, Global};
 use std::process::Abort;
 use transactions::{Limits, Starts, World};
 
-/// Lines that come before those of a case, and their replies.
+/// Lines before those of a case, and their replies.
 #[derive(Clone, Copy, Drop)]
 pub struct Opening {
     pub lines: &'static str,
     pub replies: &'static str,
 }
 
-/// Nothing comes before.
+/// No lines before.
 pub const AT_ONCE: Opening = Opening {
     lines: "",
     replies: "",
@@ -31,7 +32,7 @@ pub const BEHIND_SIXTEEN: Opening = Opening {
     replies: SIXTEEN_TOLD,
 };
 
-/// The lines of a case that begin with this mark, without it, behind these lines.
+/// The lines `before`, followed by the lines of a case with this mark, without the mark.
 fn marked(heap: Global, before: &str, case: &str, mark: &str) -> Result<String, AllocError> {
     let mut text = String::from_str(heap, before)?;
     for line in case.split_inclusive('\n') {
@@ -42,7 +43,7 @@ fn marked(heap: Global, before: &str, case: &str, mark: &str) -> Result<String, 
     Ok(text)
 }
 
-/// What was written is this, line by line, and no more.
+/// Checks that the output is exactly this text, first line by line.
 fn check_lines(rt: &impl Abort, output: &[u8], expected: &str, case: &str) {
     let Ok(written) = str::from_utf8(output) else {
         panic!(rt; "{case}")
@@ -53,7 +54,7 @@ fn check_lines(rt: &impl Abort, output: &[u8], expected: &str, case: &str) {
     assert_eq!(rt; written, expected, "{case}");
 }
 
-/// The script of a case is answered so over this world.
+/// Checks the replies to the script of a case over this world.
 fn check_case(
     rt: &impl Abort,
     heap: Global,
@@ -68,7 +69,7 @@ fn check_case(
     Ok(())
 }
 
-/// The script of each case is answered so over a world of its own, which has just been opened.
+/// Checks the replies to the script of each case, each over a new world.
 pub fn check_cases(
     rt: &impl Abort,
     heap: Global,
@@ -82,7 +83,7 @@ pub fn check_cases(
     Ok(())
 }
 
-/// The same, where the numbers of each world start so, and its limits are these.
+/// The same, with these first numbers and limits for each world.
 pub fn check_cases_at(
     rt: &impl Abort,
     heap: Global,

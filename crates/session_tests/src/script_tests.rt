@@ -5,7 +5,7 @@ use std::alloc::{AllocError, Global};
 use std::process::Abort;
 use std::test::Fail;
 
-/// The second is the lines of examples/three_shapes.map.
+/// The second case has the lines of examples/three_shapes.map.
 const CASES: &str = r#"=== a point is added and found again
 > n: HELLO north
 < n: hello north
@@ -278,7 +278,8 @@ fn worked_scripts(rt: HostRuntime) -> Result<(), Fail> {
     Ok(())
 }
 
-/// What a text of lines does not show: returns, tabs and blanks at their ends, and a last line without its end.
+/// Line ends that the cases above cannot show: returns, tabs and spaces, and a last line without a
+/// line feed.
 #[test]
 fn lines_and_labels(rt: HostRuntime) {
     let cases = [
@@ -310,7 +311,7 @@ fn lines_and_labels(rt: HostRuntime) {
 const LABELS: &str =
     "s0: BYE\ns1: BYE\ns2: BYE\ns3: BYE\ns4: BYE\ns5: BYE\ns6: BYE\ns7: BYE\ns8: BYE\ns9: BYE\ns10: BYE\ns11: BYE\ns12: BYE\ns13: BYE\ns14: BYE\ns15: BYE\ns16: BYE\ns17: BYE\ns18: BYE\ns19: BYE\ns20: BYE\ns21: BYE\ns22: BYE\ns23: BYE\ns24: BYE\ns25: BYE\ns26: BYE\ns27: BYE\ns28: BYE\ns29: BYE\ns30: BYE\ns31: BYE\ns32: BYE\ns33: BYE\ns34: BYE\ns35: BYE\ns36: BYE\ns37: BYE\ns38: BYE\ns39: BYE\ns40: BYE\ns41: BYE\ns42: BYE\ns43: BYE\ns44: BYE\ns45: BYE\ns46: BYE\ns47: BYE\ns48: BYE\ns49: BYE\ns50: BYE\ns51: BYE\ns52: BYE\ns53: BYE\ns54: BYE\ns55: BYE\ns56: BYE\ns57: BYE\ns58: BYE\ns59: BYE\ns60: BYE\ns61: BYE\ns62: BYE\ns63: BYE\ns64: BYE\ns65: BYE\n";
 
-/// The replies to a script end so.
+/// Checks how the replies to a script end.
 fn check_end(rt: &impl Abort, alloc: Global, script: &str, end: &str) {
     let ran = run_first(rt, alloc, script);
     assert!(rt; ran.output.ends_with(end.as_bytes()), "{end}");
@@ -318,23 +319,23 @@ fn check_end(rt: &impl Abort, alloc: Global, script: &str, end: &str) {
 
 #[test]
 fn limits(rt: HostRuntime) -> Result<(), Fail> {
-    // 64 labels have a session, and each further one is refused, also after a BYE.
+    // 64 labels get a session; each further label is refused, even after a BYE.
     let end = "s63: bye\n?: error E9\n?: error E9\n";
     check_end(&rt, rt.alloc(), LABELS, end);
-    // 1,024 seats are given.
+    // 1,024 seats are given; the next HELLO is refused.
     let seats = "n: HELLO north\nn: BYE\n".repeat(rt.alloc(), 1_026)?;
     let end = "n: hello north\nn: bye\nn: error H2\nn: bye\nn: error H2\nn: bye\n";
     check_end(&rt, rt.alloc(), seats.as_str(), end);
     Ok(())
 }
 
-/// A line of this length, that names no command, and what comes behind it.
+/// A line of this length that names no command, followed by `end`.
 fn long_line(alloc: Global, len: usize, end: &str) -> Result<String, AllocError> {
     let word = "X".repeat(alloc, len.saturating_sub("n: ".len()))?;
     format!(in alloc; "n: {word}{end}")
 }
 
-/// A line of this length is answered so, and what comes behind it.
+/// Checks the replies to a script with a line of this length, followed by `end`.
 fn check_long(
     rt: &impl Abort,
     alloc: Global,
@@ -348,7 +349,7 @@ fn check_long(
     Ok(())
 }
 
-/// A session by itself is answered so to a line of this length, and a BYE behind it.
+/// Checks the replies of an unlabelled session to a line of this length and a BYE.
 fn served_alone(
     rt: &impl Abort,
     alloc: Global,

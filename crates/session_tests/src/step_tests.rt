@@ -1,4 +1,4 @@
-//! Searches that go step by step: OPEN, STEP and FINISH of a script.
+//! Searches made step by step: OPEN, STEP and FINISH of a script.
 use crate::fakes::{FailingReader, FailingWriter, Failure, SIXTEEN_OPEN, SIXTEEN_OPENED};
 use crate::script_lines::{BEHIND_SIXTEEN, Opening, SEATED, check_cases};
 use crate::worlds::{opened, replies, serve_first};
@@ -8,7 +8,7 @@ use std::process::Abort;
 use std::test::Fail;
 use transactions::World;
 
-/// Searches beside lists and policies, behind three seats.
+/// Searches beside lists and policies, in sessions with three seats.
 const CASES: &str = r#"=== a search is finished by the policy in force
 > n: ADD 1 parcel POINT (1 1)
 < n: staged
@@ -117,8 +117,8 @@ const CASES: &str = r#"=== a search is finished by the policy in force
 < n: rows 0
 "#;
 
-/// Seventeen points are a root and two leaves, since a leaf holds sixteen: a search that looks for all of them is ready
-/// after three steps. A STEP makes as many as it says, or those that are left.
+/// A leaf holds sixteen points, so seventeen make a root and two leaves: a search for all of them
+/// is ready after three steps. A STEP makes at most as many steps as it says.
 const COUNTED: &str = r#"=== three steps, one by one
 > n: COMMIT
 < n: applied 2
@@ -185,7 +185,7 @@ const COUNTED: &str = r#"=== three steps, one by one
 < n: 17 2 north road POINT (17 0)
 "#;
 
-/// A seventeenth search, until one of the sixteen sessions that have one has ended.
+/// A seventeenth search is refused until one of the sixteen sessions with a search has ended.
 const BESIDE_SIXTEEN: &str = r#"=== no room for another search
 > s16: OPEN POINT (0 0)
 < s16: error S2
@@ -220,17 +220,17 @@ fn dropped_at_the_end(rt: HostRuntime) {
     }
 }
 
-/// A session that opens a search, and lets it go on.
+/// A session that opens a search and makes a step.
 const OPENING: &str = "n: HELLO north\nn: OPEN POINT (3 4)\nn: STEP 1\n";
 
-/// Nobody holds a place of the sixteen in a world that a run has left.
+/// Checks that a run has left all sixteen places for searches free.
 fn check_places(rt: &impl Abort, alloc: Global, world: &mut World<Global>) {
     let output = replies(rt, alloc, world, SIXTEEN_OPEN);
     assert!(rt; output.ends_with(b"s14: opened\ns15: opened\n"));
 }
 
-/// A read of the session fails, of one byte each; the last would tell that the input ends. The search is open where its line
-/// was read.
+/// Each read of one byte in turn fails; the last would find the end of the input. The search is
+/// open if its line was read.
 #[test]
 fn dropped_where_a_read_fails(rt: HostRuntime) {
     for at in 0..=OPENING.len() {
@@ -246,7 +246,8 @@ fn dropped_where_a_read_fails(rt: HostRuntime) {
     }
 }
 
-/// A write of its replies fails, counted from 1: the search is open where that tells `opened`.
+/// Each write of the replies in turn fails. When the reply `opened` or the next one fails, the
+/// search is open.
 #[test]
 fn dropped_where_a_write_fails(rt: HostRuntime) {
     for at in 1..4 {

@@ -1,4 +1,5 @@
-//! Sessions by themselves over a writer that is buffered: replies leave before a read waits, and BYE ends the stream.
+//! Unlabelled sessions over a buffered writer: replies are flushed before a read waits, and BYE
+//! ends the stream.
 use crate::worlds::opened;
 use byte_streams::let_go;
 use failing_streams::{CountingReader, FailingReader, FailingWriter, Failure};
@@ -10,14 +11,14 @@ use std::io;
 use std::io::{BufWriter, ErrorKind, Read, Write};
 use std::process::Abort;
 
-/// What has come to a client, and by how many writes.
+/// The bytes that a client has received, and the number of writes.
 #[derive(Drop)]
 struct Received {
     bytes: Vec<u8>,
     writes: u64,
 }
 
-/// The end of a connection at which a client receives.
+/// The receiving end of a client's connection.
 #[derive(Drop)]
 struct Replies<'a> {
     received: &'a RefCell<Received>,
@@ -40,7 +41,8 @@ impl Write for Replies<'_> {
     }
 }
 
-/// A client that sends more only once it has read what it is owed: a read before that would wait for ever, and fails here.
+/// A client that sends more only after it has received every reply it is owed. An earlier read
+/// would wait for ever; here it fails.
 #[derive(Drop)]
 struct Client<'a> {
     talk: &'a [(&'a str, &'a str)],
@@ -49,7 +51,7 @@ struct Client<'a> {
 }
 
 impl Client<'_> {
-    /// Whether all replies that are owed have come.
+    /// Whether all owed replies have come.
     fn has_all(&self) -> bool {
         match self.received.try_borrow() {
             Ok(received) => received.bytes.len() == self.owed,
@@ -74,7 +76,8 @@ impl Read for Client<'_> {
     }
 }
 
-/// A client's lines, some of which it sends together, and what it is owed then. Nobody reads what stands behind BYE.
+/// The texts that a client sends, some of several lines, each with the replies that it is then
+/// owed. Nothing after BYE is read.
 const TALK: [(&str, &str); 6] = [
     ("HELLO north\n", "hello north\n"),
     ("ADD 1 mast POINT (3 4)\n", "staged\n"),
@@ -90,13 +93,13 @@ const TALK: [(&str, &str); 6] = [
 const TALKED: &str =
     "hello north\nstaged\napplied 1\nrows 1\n1 1 north mast POINT (3 4)\naborted\nrows 0\nerror E7\nbye\n";
 
-/// The last of these lines has no line feed, so it is answered where the input ends.
+/// The last line has no line feed, and is answered at the end of the input.
 const CUT_OFF: [(&str, &str); 2] = [
     ("HELLO north\n", "hello north\n"),
     ("SEARCH POINT (3 5)", ""),
 ];
 
-/// What has come to a client that was served to the end of its run, and how much of what it has to say it has not said.
+/// What a client has received when its run has ended, and how many of its texts it has not sent.
 fn converse(rt: &impl Abort, alloc: Global, talk: &[(&str, &str)]) -> (Received, usize) {
     let mut world = opened(rt, alloc, alloc);
     let received = RefCell::new(Received {
@@ -123,7 +126,7 @@ fn converse(rt: &impl Abort, alloc: Global, talk: &[(&str, &str)]) -> (Received,
     (received.into_inner(), left)
 }
 
-/// The replies to what is sent together leave together: by one write for each read.
+/// The replies to lines sent together are written together: one write for each read.
 #[test]
 fn a_client_waits_for_its_replies(rt: HostRuntime) {
     let (received, left) = converse(&rt, rt.alloc(), &TALK);
@@ -137,7 +140,7 @@ fn a_client_waits_for_its_replies(rt: HostRuntime) {
     assert_eq!(rt; (received.writes, left), (2, 0));
 }
 
-/// Behind the line that is answered `bye` nothing more is read: the next read would fail.
+/// After the reply `bye` nothing more is read: the next read would fail.
 #[test]
 fn nothing_is_read_behind_bye(rt: HostRuntime) {
     for lines in [
@@ -158,7 +161,7 @@ fn nothing_is_read_behind_bye(rt: HostRuntime) {
     }
 }
 
-/// A line that does not end is read as often as a run reads, and not once more.
+/// A line without an end is read up to the limit of reads, and not once more.
 #[test]
 fn a_client_that_does_not_end(rt: HostRuntime) {
     let mut world = opened(&rt, rt.alloc(), rt.alloc());
@@ -174,7 +177,7 @@ fn a_client_that_does_not_end(rt: HostRuntime) {
     assert_eq!(rt; output.len(), 0);
 }
 
-/// Where the line that is held is refused, nothing is read.
+/// If the line buffer cannot be allocated, nothing is read.
 #[test]
 fn the_held_line_is_refused(rt: HostRuntime) {
     let memory = Refusing::new(rt.alloc(), 0);
@@ -187,7 +190,7 @@ fn the_held_line_is_refused(rt: HostRuntime) {
     assert_eq!(rt; (reader.len(), output.len()), (12, 0));
 }
 
-/// A flush that fails before the first read.
+/// The flush before the first read fails.
 #[test]
 fn the_first_flush_fails(rt: HostRuntime) {
     let mut world = opened(&rt, rt.alloc(), rt.alloc());
@@ -204,8 +207,8 @@ fn the_first_flush_fails(rt: HostRuntime) {
     assert_eq!(rt; writer.taken.as_slice(), b"(flush)".as_slice());
 }
 
-/// A flush that fails behind a line, since the writer behind the buffer fails: the line was answered, and what its buffer
-/// holds is not written once more.
+/// The flush after a line fails, because the writer under the buffer fails. The line was answered,
+/// and the buffered bytes are not written again.
 #[test]
 fn a_later_flush_fails(rt: HostRuntime) {
     let mut world = opened(&rt, rt.alloc(), rt.alloc());

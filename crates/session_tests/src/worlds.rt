@@ -1,5 +1,6 @@
 //! Worlds to run scripts over.
-// What takes an `Abort` may stand in a crate of tests alone, so this repeats a part of `worlds.rt` of `world_tests`.
+// Functions that take an `Abort` may be in test crates only, so this repeats part of `worlds.rt` of
+// `world_tests`.
 use features::FEATURE_LIMIT;
 use policy_text::{Document, read_document};
 use sessions::{built_in_subjects, run_script, serve_world};
@@ -7,7 +8,7 @@ use std::alloc::{Allocator, Global};
 use std::process::Abort;
 use transactions::{Limits, ROLLED_LIMIT, STEP_LIMIT, Starts, World};
 
-/// Everything is permitted.
+/// A document that permits everything.
 const OPEN: &str =
     r#"{"root":{"combine":"first-applicable","policy":"start","rules":[{"effect":"permit","rule":"open"}]}}"#;
 
@@ -18,7 +19,7 @@ pub const LIMITS: Limits = Limits {
     features: 1_000,
 };
 
-/// The document by which everything is permitted.
+/// The document that permits everything.
 fn open_document(rt: &impl Abort, heap: Global) -> Document<Global> {
     match read_document(heap, heap, OPEN.as_bytes()) {
         Ok(document) => document,
@@ -34,7 +35,7 @@ pub fn opened<A: Allocator + Copy>(rt: &impl Abort, alloc: A, heap: Global) -> W
     }
 }
 
-/// The same, where the numbers start so, and the limits are these.
+/// The same, with these first numbers and limits.
 pub fn opened_at<A: Allocator + Copy>(
     rt: &impl Abort,
     alloc: A,
@@ -51,7 +52,7 @@ pub fn opened_at<A: Allocator + Copy>(
     }
 }
 
-/// What the lines of a script are answered over a world.
+/// The replies to the lines of a script over a world.
 pub fn replies(rt: &impl Abort, heap: Global, world: &mut World<Global>, script: &str) -> Vec<u8> {
     let mut output = Vec::new(heap);
     let end = run_script(heap, heap, world, &mut script.as_bytes(), &mut output);
@@ -59,7 +60,7 @@ pub fn replies(rt: &impl Abort, heap: Global, world: &mut World<Global>, script:
     output
 }
 
-/// What the lines of a session by itself are answered over a world.
+/// The replies to the lines of an unlabelled session over a world.
 pub fn served(rt: &impl Abort, heap: Global, world: &mut World<Global>, lines: &str) -> Vec<u8> {
     let mut output = Vec::new(heap);
     let end = serve_world(heap, heap, world, &mut lines.as_bytes(), &mut output);
@@ -67,14 +68,14 @@ pub fn served(rt: &impl Abort, heap: Global, world: &mut World<Global>, lines: &
     output
 }
 
-/// What a run has written, and how many slots the index has behind it.
+/// What a run has written, and how many slots the index has afterwards.
 #[derive(Drop)]
 pub struct Ran {
     pub output: Vec<u8>,
     pub slots: u32,
 }
 
-/// Runs a script over a world that has just been opened.
+/// Runs a script over a new world.
 pub fn run_first(rt: &impl Abort, heap: Global, script: &str) -> Ran {
     let mut world = opened(rt, heap, heap);
     let output = replies(rt, heap, &mut world, script);
@@ -82,7 +83,7 @@ pub fn run_first(rt: &impl Abort, heap: Global, script: &str) -> Ran {
     Ran { output, slots }
 }
 
-/// Serves a session by itself over a world that has just been opened.
+/// Serves an unlabelled session over a new world.
 pub fn serve_first(rt: &impl Abort, heap: Global, lines: &str) -> Ran {
     let mut world = opened(rt, heap, heap);
     let output = served(rt, heap, &mut world, lines);

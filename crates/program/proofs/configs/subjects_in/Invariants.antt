@@ -4,6 +4,6 @@ use Rattle.program.specs.Configs.{subjects_in}
 use Rattle.program.proofs.ConfigLemmas.{behind, left_at}
 use Rattle.program.proofs.configs.subjects_in.Given as goal
 
--- what was read, before what is read of the rest
+-- the subjects read so far, followed by those of the rest
 abbrev pub invariant-loop-value : goal.invariant-loop-value
 invariant-loop-value g l = behind l.subjects.items (left_at l.value-index l.items) ≡ subjects_in (items_view l.items)
