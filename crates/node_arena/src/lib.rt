@@ -274,7 +274,8 @@ impl<T, A: Allocator> Arena<T, A> {
     /// The value under the handle, for writing.
     fn value_mut(&mut self, handle: Handle) -> &mut T
         requires { IsSome (value_at self.old handle) }
-        ensures* writes_back { sem 𝓛 (lends_value T.row A.row A.Allocator self.entry handle result) }
+        ensures* writes_back { sem 𝓛
+            (lends_value T.row A.row A.Allocator self.entry handle result) }
         ensures value { value_at self.old handle ≡ Some result.now }
     {
         self.slots[handle.slot as usize].value_mut()

@@ -37,7 +37,8 @@ impl<T> Slot<T> {
     /// The value that the slot holds, for writing.
     pub(crate) fn value_mut(&mut self) -> &mut T
         requires { IsSome (value_of self.old) }
-        ensures* lends { sem 𝓛 (Lends (the_row T.row) T.row self.entry result (rewritten self.entry.now)) }
+        ensures* lends { sem 𝓛
+            (Lends (the_row T.row) T.row self.entry result (rewritten self.entry.now)) }
         ensures value { value_of self.old ≡ Some result.now }
     {
         match self {
