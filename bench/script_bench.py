@@ -9,7 +9,7 @@ kinds      points, segments and polygons, searched by polygons of 4 and of 16 co
 
 All three are run if none is named. FEATURES is 1000 10000 100000 if left out (for commits, what is added on top counts among them).
 What a line costs is the difference of two runs, each the least of five, one of them with these lines left out. The program itself is
-run: `./landmap` is asked once, so that it is built.
+run: `./landmap build` is called once.
 """
 
 import json
@@ -169,7 +169,7 @@ def main():
     benches = {"searches": bench_searches, "commits": bench_commits, "kinds": bench_kinds}
     named = [word for word in sys.argv[1:] if word in benches] or list(benches)
     sizes = [int(word) for word in sys.argv[1:] if word.isdigit()] or [1000, 10_000, 100_000]
-    subprocess.run([os.path.join(TOP, "landmap"), "--help"], check=True, stdout=subprocess.DEVNULL)
+    subprocess.run([os.path.join(TOP, "landmap"), "build"], check=True)
     for name in named:
         for features in sizes:
             benches[name](features)

@@ -215,7 +215,7 @@ def main():
     parser.add_argument("program", nargs="?", default=bench.PROGRAM)
     arguments = parser.parse_args()
     if not os.access(arguments.program, os.X_OK):
-        sys.exit(f"beside.py: {arguments.program} cannot be run; ./landmap --help builds the program")
+        sys.exit(f"beside.py: {arguments.program} cannot be run; ./landmap build builds the program")
     with tempfile.TemporaryDirectory() as folder:
         programs = Programs(os.path.abspath(arguments.program), folder)
         if arguments.profile:
