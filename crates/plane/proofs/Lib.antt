@@ -4,6 +4,7 @@ pub mod Covering
 pub mod Frames
 pub mod Hulls
 pub mod Least
+pub mod Long
 pub mod Narrowing
 pub mod Orders
 pub mod Turns

@@ -1,7 +1,7 @@
 -- The rows of shapes, as the code makes them.
-use Rattle.std.specs.Prelude.{◌≡◌, ℕ, Option, Some, None, IfSome, IfNone, IsSome, ◌↔◌, ◌<ℤ◌, List, [], ◌∷◌, ◌++◌, All, length, map, slice_index_or, ◌≤◌, ◌<◌, ◌^◌, ℤ, pos, ◌-ℤ◌, ◌*ℤ◌, neg_ℤ, unsigned_abs, FitsSigned, refl}
+use Rattle.std.specs.Prelude.{◌≡◌, ℕ, Option, Some, None, IfSome, IfNone, IsSome, ◌↔◌, ◌<ℤ◌, List, [], ◌∷◌, ◌++◌, All, length, map, slice_index_or, ◌≤◌, ◌<◌, ◌^◌, ℤ, pos, ◌-ℤ◌, ◌*ℤ◌, neg_ℤ, unsigned_abs, refl}
 use Rattle.std.proofs.Common.{arith, suc, lit<, lit≤, ◌∙◌, ap, sym, subst}
-use Rattle.std.proofs.lemmas.Int.{ints, to_z-of_z}
+use Rattle.std.proofs.lemmas.Int.{ints}
 use Rattle.plane.specs.Bounds.{IsSmallRow}
 use Rattle.plane.specs.Coordinates.{IsCoordinate}
 use Rattle.plane.specs.Points.{IsInRange}
@@ -16,10 +16,10 @@ use Rattle.std.proofs.lemmas.Bool.{false≢true}
 use Rattle.plane.specs.declared.fraction.Fraction.{Fraction}
 use Rattle.plane.proofs.Orders.{size-cross, le_refl}
 use Rattle.plane.proofs.Frames.{narrow, reads_narrow, IsFrame-joined}
-use Rattle.plane.proofs.Wide.{read, reads, fits}
+use Rattle.plane.proofs.Long.{long, reads_long}
+use Rattle.plane.proofs.Wide.{read, reads}
 use Rattle.plane.specs.declared.point.Point.{Point}
 use Rattle.plane.specs.declared.rows.Row.{Row}
-use mir.Syntax.{w128}
 
 pub coordinate_size : (z : ℤ) → IsCoordinate z → unsigned_abs z ≤ 10000000
 coordinate_size z h = omega (arith, ints, h.low, h.high)
@@ -36,44 +36,53 @@ negated_read z r n h k e = ap (λ x. read (pos 0 -ℤ x)) e ∙ reads (pos 0 -�
     minus : (z : ℤ) → pos 0 -ℤ z ≡ neg_ℤ z
     minus z = omega (arith, ints)
 
-pub negated_fits : (z : ℤ) (n : ℕ) → unsigned_abs z ≤ n → n < 2 ^ 127 → FitsSigned w128 (pos 0 -ℤ read z)
-negated_fits z n h k = rw (reads z n h k) (fits (pos 0 -ℤ z) n (size z n h) k)
-  where
-    size : (z : ℤ) (n : ℕ) → unsigned_abs z ≤ n → unsigned_abs (pos 0 -ℤ z) ≤ n
-    size z n h = omega (arith, ints)
-
 abbrev pub row : ℤ → ℤ → ℤ → Row
 row a b c = record { a = a; b = b; c = c }
 
 pub same_row : (a b c a' b' c' : ℤ) → a ≡ a' → b ≡ b' → c ≡ c' → row a b c ≡ row a' b' c'
 same_row a b c a' b' c' p q r = cc
 
--- the numbers that the code computes for an edge
-pub record IsEdge (p q : Point) (dx dy x y c : ℤ) : Type 0 where
+-- the numbers that the code computes for an edge, in 64 bits and then in 128
+pub record IsEdge (p q : Point) (dx dy x y c wide_dy wide_dx wide_c : ℤ) : Type 0 where
   pub dx_is : dx ≡ narrow q.x -ℤ narrow p.x
   pub dx_size : unsigned_abs dx ≤ 20000000
   pub dy_is : dy ≡ narrow q.y -ℤ narrow p.y
   pub dy_size : unsigned_abs dy ≤ 20000000
   pub x_is : x ≡ narrow p.x
   pub y_is : y ≡ narrow p.y
-  pub c_is : c ≡ read dy *ℤ read x -ℤ read dx *ℤ read y
-  pub c_fits : FitsSigned w128 c
+  pub c_is : c ≡ long dy *ℤ long x -ℤ long dx *ℤ long y
+  pub wide_dy_is : wide_dy ≡ long dy
+  pub wide_dx_is : wide_dx ≡ long (pos 0 -ℤ long dx)
+  pub wide_c_is : wide_c ≡ long c
 
-pub edge_is : (p q : Point) (dx dy x y c : ℤ) → IsInRange p → IsInRange q → IsEdge p q dx dy x y c → row (read dy) (read (pos 0 -ℤ read dx)) (read c) ≡ edge_row (p, q)
-edge_is p q dx dy x y c h k e =
-    let dx_read : read dx ≡ q.x -ℤ p.x = reads dx 20000000 e.dx_size (lit< tt) ∙ e.dx_is ∙ difference q.x p.x k.x_in_range h.x_in_range in
-    let dy_read : read dy ≡ q.y -ℤ p.y = reads dy 20000000 e.dy_size (lit< tt) ∙ e.dy_is ∙ difference q.y p.y k.y_in_range h.y_in_range in
-    let x_read : read x ≡ p.x = coordinate_read p.x p.x x h.x_in_range refl e.x_is in
-    let y_read : read y ≡ p.y = coordinate_read p.y p.y y h.y_in_range refl e.y_is in
-    same_row _ _ _ _ _ _ dy_read
-    (negated_read (q.x -ℤ p.x) dx 20000000 (size q.x p.x k.x_in_range h.x_in_range) (lit< tt) dx_read)
-    (to_z-of_z w128 c e.c_fits ∙ e.c_is ∙ products _ _ _ _ _ _ _ _ dy_read x_read dx_read y_read)
+pub edge_is : (p q : Point) (dx dy x y c wide_dy wide_dx wide_c : ℤ) → IsInRange p → IsInRange q → IsEdge p q dx dy x y c wide_dy wide_dx wide_c
+    → row (read wide_dy) (read wide_dx) (read wide_c) ≡ edge_row (p, q)
+edge_is p q dx dy x y c wide_dy wide_dx wide_c h k e =
+    let dx_read : long dx ≡ q.x -ℤ p.x = reads_long dx 20000000 e.dx_size (lit< tt) ∙ e.dx_is ∙ difference q.x p.x k.x_in_range h.x_in_range in
+    let dy_read : long dy ≡ q.y -ℤ p.y = reads_long dy 20000000 e.dy_size (lit< tt) ∙ e.dy_is ∙ difference q.y p.y k.y_in_range h.y_in_range in
+    let x_read : long x ≡ p.x = ap long (e.x_is ∙ reads_narrow p.x h.x_in_range) ∙ reads_long p.x 10000000 (coordinate_size p.x h.x_in_range) (lit< tt) in
+    let y_read : long y ≡ p.y = ap long (e.y_is ∙ reads_narrow p.y h.y_in_range) ∙ reads_long p.y 10000000 (coordinate_size p.y h.y_in_range) (lit< tt) in
+    let dx_size = size q.x p.x k.x_in_range h.x_in_range in
+    let dy_size = size q.y p.y k.y_in_range h.y_in_range in
+    let c_read : c ≡ (q.y -ℤ p.y) *ℤ p.x -ℤ (q.x -ℤ p.x) *ℤ p.y = e.c_is ∙ products _ _ _ _ _ _ _ _ dy_read x_read dx_read y_read in
+    let c_size = size-cross (q.y -ℤ p.y) p.x (q.x -ℤ p.x) p.y 20000000 10000000 20000000 10000000 dy_size (coordinate_size p.x h.x_in_range) dx_size (coordinate_size p.y h.y_in_range) in
+    same_row _ _ _ _ _ _
+    (ap read (e.wide_dy_is ∙ dy_read) ∙ reads (q.y -ℤ p.y) 20000000 dy_size (lit< tt))
+    (ap read (e.wide_dx_is ∙ ap (λ z. long (pos 0 -ℤ z)) dx_read ∙ reads_long (pos 0 -ℤ (q.x -ℤ p.x)) 20000000 (minus_size (q.x -ℤ p.x) dx_size) (lit< tt))
+    ∙ reads (pos 0 -ℤ (q.x -ℤ p.x)) 20000000 (minus_size (q.x -ℤ p.x) dx_size) (lit< tt) ∙ minus (q.x -ℤ p.x))
+    (ap read (e.wide_c_is ∙ ap long c_read ∙ reads_long ((q.y -ℤ p.y) *ℤ p.x -ℤ (q.x -ℤ p.x) *ℤ p.y) 400000000000000 c_size (lit< tt)) ∙ reads ((q.y -ℤ p.y) *ℤ p.x -ℤ (q.x -ℤ p.x) *ℤ p.y) 400000000000000 c_size (lit< tt))
   where
     difference : (a b : ℤ) → IsCoordinate a → IsCoordinate b → narrow a -ℤ narrow b ≡ a -ℤ b
     difference a b h k = rw (reads_narrow a h, reads_narrow b k) refl
 
     size : (a b : ℤ) → IsCoordinate a → IsCoordinate b → unsigned_abs (a -ℤ b) ≤ 20000000
     size a b h k = omega (arith, ints, h.low, h.high, k.low, k.high)
+
+    minus_size : (z : ℤ) → unsigned_abs z ≤ 20000000 → unsigned_abs (pos 0 -ℤ z) ≤ 20000000
+    minus_size z h = omega (arith, ints)
+
+    minus : (z : ℤ) → pos 0 -ℤ z ≡ neg_ℤ z
+    minus z = omega (arith, ints)
 
     products : (a b c d a' b' c' d' : ℤ) → a ≡ a' → b ≡ b' → c ≡ c' → d ≡ d' → a *ℤ b -ℤ c *ℤ d ≡ a' *ℤ b' -ℤ c' *ℤ d'
     products a b c d a' b' c' d' p q r s = cc
@@ -92,8 +101,9 @@ edge_small p q h k = record {
     negated : (z : ℤ) → unsigned_abs z ≤ 20000000 → unsigned_abs (neg_ℤ z) ≤ 20000000
     negated z h = omega (arith, ints)
 
-pub edge_is_small : (p q : Point) (dx dy x y c : ℤ) → IsInRange p → IsInRange q → IsEdge p q dx dy x y c → IsSmallRow (row (read dy) (read (pos 0 -ℤ read dx)) (read c))
-edge_is_small p q dx dy x y c h k e = subst IsSmallRow (sym (edge_is p q dx dy x y c h k e)) (edge_small p q h k)
+pub edge_is_small : (p q : Point) (dx dy x y c wide_dy wide_dx wide_c : ℤ) → IsInRange p → IsInRange q → IsEdge p q dx dy x y c wide_dy wide_dx wide_c
+    → IsSmallRow (row (read wide_dy) (read wide_dx) (read wide_c))
+edge_is_small p q dx dy x y c wide_dy wide_dx wide_c h k e = subst IsSmallRow (sym (edge_is p q dx dy x y c wide_dy wide_dx wide_c h k e)) (edge_small p q h k)
 
 pub negated_small : (r : Row) → IsSmallRow r → IsSmallRow (negated r)
 negated_small r h = record { a_small = same r.a 20000000 h.a_small; b_small = same r.b 20000000 h.b_small; c_small = same r.c 400000000000000 h.c_small }

@@ -1,7 +1,7 @@
 -- Numbers of 128 bits, as the operations of the code see them.
 use Rattle.std.specs.Prelude.{◌≡◌, ℕ, ◌+◌, ◌*◌, ◌≤◌, ◌<◌, ◌^◌, ℤ, ◌-ℤ◌, ◌*ℤ◌, ◌≤ℤ◌, ◌↔◌, IsTrue, unsigned_abs, refl, FitsSigned}
 use Rattle.std.specs.Int.Signed.{le_z, le_z_yes}
-use Rattle.std.proofs.Common.{arith, lit<, sym, subst, T, to_z, of_z}
+use Rattle.std.proofs.Common.{arith, sym, subst, T, to_z, of_z}
 use Rattle.std.proofs.lemmas.Int.{to_z-of_z, fits_signed_from_abs}
 use Rattle.plane.proofs.Orders.{size-mul, size-cross}
 use mir.Syntax.{w128}
@@ -69,17 +69,3 @@ pub le_test-reached : (p q a b r s : ℤ) (m n : ℕ) → r ≡ p → s ≡ q �
     → m < 2 ^ 127 → n < 2 ^ 127 → m * n < 2 ^ 127
     → IsTrue (le_z (read (read r *ℤ read b)) (read (read s *ℤ read a))) ↔ ((p *ℤ b) ≤ℤ (q *ℤ a))
 le_test-reached p q a b r s m n e f hr hs ha hb fm fn fmn = rw (← e, ← f) (le_test-products r b s a m n m n hr hb hs ha fm fn fmn fm fn fmn)
-
-pub coordinate_cross : (a b c d : ℤ) → unsigned_abs a ≤ 20000000 → unsigned_abs b ≤ 20000000 → unsigned_abs c ≤ 20000000 → unsigned_abs d ≤ 20000000
-    → IsCross a b c d 20000000 20000000 20000000 20000000
-coordinate_cross a b c d ha hb hc hd = record {
-  a_size = ha;
-  b_size = hb;
-  c_size = hc;
-  d_size = hd;
-  m_fits = lit< tt;
-  n_fits = lit< tt;
-  k_fits = lit< tt;
-  l_fits = lit< tt;
-  fits = lit< tt;
-}

@@ -35,7 +35,7 @@ pub fn next_point(ring: &[Point], index: usize) -> Point
 /// Twice the signed area of the triangle of three points: above 0 if the third is left of the
 /// directed line from the first to the second, below 0 if it is right of it, and 0 if the three are
 /// on one line.
-fn turn(p: Point, q: Point, r: Point) -> i128
+fn turn(p: Point, q: Point, r: Point) -> i64
     requires p { IsInRange p }
     requires q { IsInRange q }
     requires r { IsInRange r }

@@ -22,8 +22,8 @@ const ORIGIN: Point = Point { x: 0, y: 0 };
 /// least x, then least y.
 #[derive(Clone, Copy, Debug)]
 pub struct Shape {
-    places: [Point; CORNER_LIMIT],
     count: u8,
+    places: [Point; CORNER_LIMIT],
 }
 
 // The unused places hold the origin, so that equal shapes have equal places.

@@ -25,8 +25,12 @@ fn edge_row(from: Point, to: Point) -> Row
 {
     let dx = difference(from.x, to.x);
     let dy = difference(from.y, to.y);
-    let c = cross(dy, i128::from(from.x), dx, i128::from(from.y));
-    Row { a: dy, b: -dx, c }
+    let c = cross(dy, i64::from(from.x), dx, i64::from(from.y));
+    Row {
+        a: i128::from(dy),
+        b: i128::from(-dx),
+        c: i128::from(c),
+    }
 }
 
 /// The half plane on the other side of a row's line.
