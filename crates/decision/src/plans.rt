@@ -1,16 +1,18 @@
 //! Documents compiled for deciding.
 
 ghost use Rattle.std.specs.Prelude.{◌≡◌, IfOk};
-ghost use Rattle.combining.specs.Deciding.{Answers};
+ghost use Rattle.combining.specs.Deciding.{Answers, verdict_of};
 ghost use Rattle.combining.specs.declared.questions.Question.{Question};
 ghost use Rattle.decision.specs.Known.{Fits};
-ghost use Rattle.decision.specs.Plans.{Decides};
+ghost use Rattle.decision.specs.Plans.{Decides, IsFlat};
+ghost use Rattle.policy_documents.specs.Documents.{NodeData};
 
 use crate::compiling::compile_node;
 use crate::known::Known;
 use crate::running::run_steps;
 use crate::steps::Step;
 use combining::{Question, Verdict, met_zones};
+use features::Name;
 use memory::Refused;
 use policy_documents::{Algorithm, Document};
 use std::alloc::Allocator;
@@ -55,12 +57,19 @@ impl<A: Allocator> Plan<A> {
         ensures { Answers document.now question.now result }
     {
         let _root = document.root();
+        if document.zone_count() == 0 {
+            return self.verdict_by(question, &[]);
+        }
         let met = met_zones(document, &question.shape, question.class);
-        run_steps(
-            question,
-            met.as_slice(),
-            Algorithm::FirstApplicable,
-            &self.steps,
-        )
+        self.verdict_by(question, met.as_slice())
+    }
+
+    /// What the steps decide where the zones with these names are met.
+    fn verdict_by(&self, question: &Question, met: &[Name]) -> Verdict
+        requires { IsFlat A self.now }
+        ensures { (root : NodeData) → Decides A self.now root question.now
+            → result ≡ verdict_of question.now met.now root }
+    {
+        run_steps(question, met, Algorithm::FirstApplicable, &self.steps)
     }
 }
