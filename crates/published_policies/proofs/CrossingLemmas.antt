@@ -8,23 +8,13 @@ use denote.Param.Send.{IsSend, IsSync, sendable}
 use Rattle.left_right.proofs.reader.Reader.TheSendSync.{the_field_send as reader_send}
 use Rattle.left_right.proofs.writer.Writer.TheSendSync.{the_field_send as copies_send}
 use Rattle.logbook.proofs.word.Word.TheSendSync.{the_send as word_send}
-use Rattle.policy_documents.proofs.matches.Items.TheSendSync.{the_send as items_send, the_sync as items_sync}
-use Rattle.policy_documents.proofs.nodes.Node.TheLaws.TheKnot.{crosses as nodes_cross}
-use Rattle.policy_documents.proofs.rules.Rule.TheSendSync.{the_send as rule_send, the_sync as rule_sync}
-use Rattle.decision.proofs.plans.Plan.TheSendSync.{the_send as plan_send, the_sync as plan_sync}
-use Rattle.decision.specs.contracts.deciders.Decider as decider
+use Rattle.decision.proofs.CrossingLemmas.{decider_send, decider_sync}
 use Rattle.published_policies.specs.declared.lists.ListName.{Ghosts}
 use Rattle.published_policies.specs.contracts.policies.Policy as policy
 use Rattle.published_policies.specs.contracts.publishers.Publisher as publisher
 use Rattle.published_policies.specs.contracts.views.View as view
 use Rattle.published_policies.specs.contracts.writers.ListWriter as writer
 use Rattle.published_policies.proofs.seen_lists.SeenList.TheSendSync.{the_send as list_send, the_sync as list_sync}
-
-pub decider_send : IsSend decider.the_row
-decider_send = search (nodes_cross, rule_send, items_send, plan_send, crosses, sendable) depth 40
-
-pub decider_sync : IsSync decider.the_row
-decider_sync = search (nodes_cross, rule_sync, items_sync, plan_sync, crosses, sendable) depth 40
 
 policy_send : IsSend policy.the_row
 policy_send = search (decider_send, decider_sync, list_send, crosses, sendable) depth 40
