@@ -1,10 +1,12 @@
-//! Growths of vectors and strings.
+//! Growths of vectors, strings and lists in chunks.
 
 ghost use Rattle.std.specs.Prelude.{◌≡◌, ◌+◌, ◌*◌, ◌<◌, ◌≤◌, ◌++◌, ◌∷◌, [], length, is_ok, vec_len, vec_capacity, string_bytes, string_len, string_capacity, if◌then◌else◌, IfErr, OnOk, OnErr, IsOk};
 ghost use prog.Memory.{size};
 ghost use denote.Param.{layout};
+ghost use Rattle.chunks.specs.declared.chunked.TheConstants.{MOST_ELEMENTS};
 
 use crate::refused::{NotStored, Refused};
+use chunks::Chunked;
 use std::alloc::Allocator;
 
 /// The most bytes that `make_room` and `vec_with_room` may ask for, so that no caller provokes a
@@ -127,6 +129,19 @@ pub fn try_extend<T: Copy, A: Allocator>(list: &mut Vec<T, A>, values: &[T]) -> 
     ensures full { OnErr result (vec_capacity list.old < vec_len list.old + length values.now) }
 {
     match list.extend_from_slice(values) {
+        Ok(()) => Ok(()),
+        Err(_) => Err(Refused::seen()),
+    }
+}
+
+/// Makes places for 256 more elements of a list in chunks. No element moves.
+pub fn make_chunk<S, A: Allocator>(list: &mut Chunked<S, A>) -> Result<(), Refused>
+    requires { list.old.places < MOST_ELEMENTS }
+    ensures items { list.new.items ≡ list.old.items }
+    ensures ok { OnOk result (list.new.places ≡ list.old.places + 256) }
+    ensures err { OnErr result (list.new ≡ list.old) }
+{
+    match list.make_places() {
         Ok(()) => Ok(()),
         Err(_) => Err(Refused::seen()),
     }

@@ -9,7 +9,7 @@ mod makes;
 mod refused;
 
 pub use collections::{buffered, put};
-pub use growths::{GrowText, GrowVec, MOST_BYTES, MOST_PLACES, try_extend};
+pub use growths::{GrowText, GrowVec, MOST_BYTES, MOST_PLACES, make_chunk, try_extend};
 pub use json::{JsonFault, json_string, json_text, json_value, put_member};
 pub use makes::{another, boxed, copied, shared, text, vec_with_places, vec_with_room};
 pub use refused::{NotStored, Refused};

@@ -7,7 +7,8 @@ ghost use Rattle.std.specs.Borrow.{sem};
 ghost use Rattle.node_arena.specs.Slots.{last_generation, slot_at, next_generation, value_at, IsUsed, value_count, IsSize, slot_count, taken_count, HasRoomFor, SameButRoom, empty_from, with_slot, with_value, IsEmpty, IsGiven, CountsGiven, IsChangedAt, SameCounts};
 ghost use Rattle.memory.specs.Refused.{refused};
 
-use memory::GrowVec;
+use chunks::Chunked;
+use memory::make_chunk;
 use slot::Slot;
 use std::alloc::Allocator;
 use std::marker::Model;
@@ -16,16 +17,18 @@ mod fault;
 mod handle;
 mod laws;
 mod slot;
+mod threads;
 
 pub use fault::ArenaFault;
 pub use handle::Handle;
 pub use laws::map_laws;
+pub use threads::crosses_threads;
 
 /// How many slots an arena has at most.
 pub const MAX_SLOTS: u32 = 1_048_576;
 
-/// How many values `reserve` makes room for at most.
-pub const MOST_RESERVED: u32 = 4_096;
+/// How many values `reserve` makes room for at most: a chunk of slots.
+pub const MOST_RESERVED: u32 = 256;
 
 /// A map from handles to values. `insert` picks the handle, and gives no handle twice in the life
 /// of the arena.
@@ -33,9 +36,12 @@ pub const MOST_RESERVED: u32 = 4_096;
 /// A slot's handles differ in their generation. It begins at 0 (or where `starting_at` says) and
 /// rises by 1 each time the slot's value is removed. After its last generation, 4,294,967,295, the
 /// slot is worn out: it is never used again.
+///
+/// The slots lie in chunks of 256, which are allocated as they are needed and freed with the arena.
+/// A value is not moved as long as it is in the arena.
 #[derive(Drop)]
 pub struct Arena<T, A: Allocator> {
-    slots: Vec<Slot<T>, A>,
+    slots: Chunked<Slot<T>, A>,
     /// The generation at which each slot begins.
     first: u32,
     /// How many slots hold a value.
@@ -46,7 +52,7 @@ pub struct Arena<T, A: Allocator> {
 }
 
 impl<T, A: Allocator> Model for Arena<T, A> {
-    ghost use Rattle.std.specs.Prelude.{map, min, vec_capacity};
+    ghost use Rattle.std.specs.Prelude.{map, min};
     ghost use Rattle.node_arena.specs.Slots.{Slots, slots_code};
     ghost use Rattle.node_arena.specs.declared.TheConstants.{MAX_SLOTS};
 
@@ -59,7 +65,7 @@ impl<T, A: Allocator> Model for Arena<T, A> {
     ghost view = { λ a. record {
       first = a.first;
       slots = map seen a.slots.items;
-      places = min (vec_capacity a.slots) MAX_SLOTS;
+      places = min a.slots.places MAX_SLOTS;
     } };
 
     ghost invariant = { λ a. IsSound a.first a.slots.items a.live a.free a.next_free };
@@ -82,7 +88,7 @@ impl<T, A: Allocator> Arena<T, A> {
         ensures empty { IsEmpty result }
     {
         Arena {
-            slots: Vec::new(alloc),
+            slots: Chunked::new(alloc),
             first: generation,
             live: 0,
             free: 0,
@@ -172,7 +178,7 @@ impl<T, A: Allocator> Arena<T, A> {
     /// Makes room for `more` values, so that the next `more` calls of `insert` take no memory and
     /// cannot fail.
     ///
-    /// A1 where fewer than `more` values fit below `MAX_SLOTS`, A2 where the allocation for the
+    /// A1 where fewer than `more` values fit below `MAX_SLOTS`, A2 where an allocation for a chunk of
     /// slots is refused. On an error nothing changes.
     pub fn reserve(&mut self, more: u32) -> Result<(), ArenaFault>
         requires { more ≤ MOST_RESERVED }
@@ -187,17 +193,19 @@ impl<T, A: Allocator> Arena<T, A> {
         if !self.has_room(more) {
             return Err(ArenaFault::Full);
         }
-        if more > self.free {
-            self.slots.make_places((more - self.free) as usize)?;
+        let taken = self.slots.len() - self.free as usize;
+        if taken + more as usize > self.slots.places() {
+            make_chunk(&mut self.slots)?;
         }
         Ok(())
     }
 
-    /// Puts `value` under a new handle. It takes memory only where no slot is free, and none where
-    /// `reserve` made room.
+    /// Puts `value` under a new handle. It takes memory only where no slot is free and no chunk has
+    /// a place, and none where `reserve` made room.
     ///
-    /// A1 where `MAX_SLOTS` slots hold a value or are worn out, A2 where no slot is free and the
-    /// allocation for one more is refused. On an error the value is returned, and nothing changes.
+    /// A1 where `MAX_SLOTS` slots hold a value or are worn out, A2 where no slot is free and an
+    /// allocation for a chunk of slots is refused. On an error the value is returned, and nothing
+    /// changes.
     pub fn insert(&mut self, value: T) -> Result<Handle, (T, ArenaFault)>
         ensures ok { IfOk result (λ handle. IsGiven self.old self.new handle value) }
         ensures counts { IfOk result (CountsGiven self.old self.new) }
@@ -223,8 +231,8 @@ impl<T, A: Allocator> Arena<T, A> {
         if self.slots.len() == MAX_SLOTS as usize {
             return Err((value, ArenaFault::Full));
         }
-        if self.slots.len() == self.slots.capacity() {
-            if let Err(refused) = self.slots.make_place() {
+        if self.slots.len() == self.slots.places() {
+            if let Err(refused) = make_chunk(&mut self.slots) {
                 return Err((value, ArenaFault::Memory(refused)));
             }
         }
@@ -278,7 +286,7 @@ impl<T, A: Allocator> Arena<T, A> {
             (lends_value T.row A.row A.Allocator self.entry handle result) }
         ensures value { value_at self.old handle ≡ Some result.now }
     {
-        self.slots[handle.slot as usize].value_mut()
+        self.slots.at_mut(handle.slot as usize).value_mut()
     }
 
     /// Puts `value` into the first of the free slots.
@@ -292,7 +300,7 @@ impl<T, A: Allocator> Arena<T, A> {
         let Some(slot) = self.next_free else {
             unreachable!();
         };
-        let (generation, next) = self.slots[slot as usize].fill(value);
+        let (generation, next) = self.slots.at_mut(slot as usize).fill(value);
         self.live += 1;
         self.free -= 1;
         self.next_free = next;
@@ -313,7 +321,7 @@ impl<T, A: Allocator> Arena<T, A> {
         self.live -= 1;
         self.free += 1;
         self.next_free = Some(handle.slot);
-        self.slots[handle.slot as usize].take(freed)
+        self.slots.at_mut(handle.slot as usize).take(freed)
     }
 
     /// Removes the value of a slot's last generation.
@@ -324,6 +332,6 @@ impl<T, A: Allocator> Arena<T, A> {
         ensures worn_out { self.new ≡ with_slot self.old handle None }
     {
         self.live -= 1;
-        self.slots[handle.slot as usize].take(Slot::WornOut)
+        self.slots.at_mut(handle.slot as usize).take(Slot::WornOut)
     }
 }
