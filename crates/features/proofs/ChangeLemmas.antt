@@ -69,8 +69,7 @@ additions_first (Delete id known) changes = omega arith
 
 pub room_for_less : {A : Type 0} (n m : ℕ) (table : Table A) → m ≤ n → HasRoom n table → HasRoom m table
 room_for_less n m table le room = record {
-  ids_room = omega (arith, le, room.ids_room);
-  places_room = omega (arith, le, room.places_room);
+  entries_room = omega (arith, le, room.entries_room);
   features_room = omega (arith, le, room.features_room);
   numbers = omega (arith, le, room.numbers);
 }

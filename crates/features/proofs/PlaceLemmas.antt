@@ -26,7 +26,7 @@ differ_at ids i j d rising i_in j_in apart same = elim (cases_lt i j) [
   | inr le ↦ (let up = strictly_rising_at ids j i d rising (let ne : i ≡ j → ⊥ = apart in omega (arith, le, ne)) i_in in omega (arith, up, same))
 ]
 
-rising_at : (ids : List ℕ) (i j d : ℕ) → AreRising ids → i ≤ j → j < length ids → get_or ids i d ≤ get_or ids j d
+pub rising_at : (ids : List ℕ) (i j d : ℕ) → AreRising ids → i ≤ j → j < length ids → get_or ids i d ≤ get_or ids j d
 rising_at [] i j d rising le lt = absurd (omega arith)
 rising_at (id ∷ ids) zero zero d rising le lt = omega arith
 rising_at (id ∷ ids) zero (suc j) d rising le lt = omega (arith, less_at id ids j d rising.0 (omega arith))

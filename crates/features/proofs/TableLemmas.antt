@@ -15,13 +15,13 @@ use Rattle.features.specs.Tables.{blank, feature_at, ids_of, rows_at, AreTied, I
 use Rattle.features.proofs.PlaceLemmas.{differ_at}
 use Rattle.features.proofs.RowLemmas.{ids_rising, found_at, insert_at_gap, remove_at, set_at, reshaped, sorted_with_row, sorted_with_shape, sorted_without, ids-with_shape}
 
-map-insert : {X Y : Type 0} (f : X → Y) (xs : List X) (i : ℕ) (x : X) → map f (insert xs i x) ≡ insert (map f xs) i (f x)
+pub map-insert : {X Y : Type 0} (f : X → Y) (xs : List X) (i : ℕ) (x : X) → map f (insert xs i x) ≡ insert (map f xs) i (f x)
 map-insert f [] zero x = refl
 map-insert f [] (suc i) x = refl
 map-insert f (y ∷ xs) zero x = refl
 map-insert f (y ∷ xs) (suc i) x = ap (λ ys. f y ∷ ys) (map-insert f xs i x)
 
-map-remove : {X Y : Type 0} (f : X → Y) (xs : List X) (i : ℕ) → map f (remove xs i) ≡ remove (map f xs) i
+pub map-remove : {X Y : Type 0} (f : X → Y) (xs : List X) (i : ℕ) → map f (remove xs i) ≡ remove (map f xs) i
 map-remove f [] zero = refl
 map-remove f [] (suc i) = refl
 map-remove f (y ∷ xs) zero = refl

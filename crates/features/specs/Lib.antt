@@ -5,5 +5,6 @@ pub mod Rows
 pub mod Changes
 pub mod Equality
 pub mod Places
+pub mod Blocks
 pub mod Tables
 pub mod FaultCodes

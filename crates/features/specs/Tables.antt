@@ -4,6 +4,7 @@ use Rattle.std.specs.Prelude.{◌≡◌, ℕ, ◌+◌, ◌<◌, ◌≤◌, ◌^�
 use Rattle.features.specs.declared.rows.Feature.{Feature}
 use Rattle.features.specs.declared.tables.Table.{Table}
 use Rattle.features.specs.Rows.{IsSortedById}
+use Rattle.features.specs.Blocks.{ids_in, places_in}
 
 -- what is read at a place that does not exist
 abbrev pub blank : Feature
@@ -31,15 +32,14 @@ pub record AreTied (ids places : List ℕ) (features : List Feature) : Type 0 wh
 module _ {A : Type 0} where
   -- the features of a table, by rising id
   abbrev pub rows_of : Table A → List Feature
-  rows_of table = rows_at table.places.items table.features.items
+  rows_of table = rows_at (places_in table.entries.items) table.features.items
 
   abbrev pub IsSound : Table A → Type 0
-  IsSound table = AreTied table.ids.items table.places.items table.features.items
+  IsSound table = AreTied (ids_in table.entries.items) (places_in table.entries.items) table.features.items
 
   -- n more features fit without growth, and their places fit into 32 bits
   pub record HasRoom (n : ℕ) (table : Table A) : Type 0 where
-    pub ids_room : vec_len table.ids + n ≤ vec_capacity table.ids
-    pub places_room : vec_len table.places + n ≤ vec_capacity table.places
+    pub entries_room : n ≤ table.entries.room
     pub features_room : vec_len table.features + n ≤ vec_capacity table.features
     pub numbers : vec_len table.features + n ≤ 2 ^ 32
 

@@ -2,6 +2,7 @@
 #![tactic(auto)]
 
 mod actors;
+mod entries;
 mod meters;
 mod names;
 mod rows;

@@ -1,13 +1,14 @@
 //! The store of features.
 
-ghost use Rattle.std.specs.Prelude.{◌≡◌, ◌+◌, ◌<◌, ◌≤◌, ◌↔◌, ◌++◌, [], ◌∷◌, All, List, ℕ, length, vec_len, vec_capacity, slice_get, IsTrue, IfOk, IfErr, OnOk, OnErr};
+ghost use Rattle.std.specs.Prelude.{◌≡◌, ◌+◌, ◌<◌, ◌≤◌, ◌↔◌, [], ◌∷◌, List, ℕ, length, slice_get, IsTrue, IfOk, IfErr, OnOk, OnErr};
 ghost use Rattle.std.specs.Option.{option_copied};
 ghost use Rattle.memory.specs.Refused.{refused};
 ghost use Rattle.features.specs.Changes.{CanApply, CanChange, additions, after, after_change, deletions};
 ghost use Rattle.features.specs.Rows.{IsSortedById, feature_with};
-ghost use Rattle.features.specs.Tables.{HasRoom, IsSound, rows_at, rows_of};
+ghost use Rattle.features.specs.Tables.{HasRoom, IsSound, rows_of};
 ghost use Rattle.features.specs.Ticks.{ticked_by};
 
+use crate::entries::Entries;
 use crate::meters::Meter;
 use crate::names::Name;
 use crate::rows::{Change, Feature};
@@ -86,8 +87,7 @@ impl<A: Allocator + Copy> Store<A> {
     {
         Store {
             table: Table {
-                ids: Vec::new(alloc),
-                places: Vec::new(alloc),
+                entries: Entries::new(alloc),
                 features: Vec::new(alloc),
             },
         }
@@ -100,14 +100,14 @@ impl<A: Allocator> Store<A> {
         ensures value { result ≡ length self.now }
         ensures within { length self.now ≤ FEATURE_LIMIT }
     {
-        self.table.places.len()
+        self.table.features.len()
     }
 
     /// Whether there is no feature.
     pub fn is_empty(&self) -> bool
         ensures { IsTrue result ↔ (self.now ≡ []) }
     {
-        self.table.places.is_empty()
+        self.table.features.is_empty()
     }
 
     /// The feature with this id. Costs one tick.
@@ -119,14 +119,15 @@ impl<A: Allocator> Store<A> {
         tables::find(&self.table, id)
     }
 
-    /// The feature at this index of the list sorted by id. Costs no tick.
+    /// The feature at this index of the list sorted by id. Costs no tick. It walks over the list, a
+    /// block of up to 512 features at a time.
     pub fn row_at(&self, at: usize) -> Option<&Feature>
         ensures value { option_copied result ≡ slice_get self.now at }
         ensures sorted { IsSortedById self.now }
         ensures within { length self.now ≤ FEATURE_LIMIT }
     {
-        let place = self.table.places.get(at)?;
-        Some(&self.table.features[*place as usize])
+        let place = self.table.entries.place_at(at)?;
+        Some(&self.table.features[place as usize])
     }
 
     /// A copy of all features, by rising id. Costs one tick for each. The only error is `Memory`;
@@ -141,8 +142,10 @@ impl<A: Allocator> Store<A> {
         ensures err { OnErr result (meter.new ≡ meter.old) }
         ensures memory { IfErr result (λ fault. fault ≡ StoreFault.Memory refused) }
     {
-        let mut rows = vec_with_room(alloc, self.table.places.len())?;
-        copy_rows(&mut rows, &self.table.places, &self.table.features);
+        let mut rows = vec_with_room(alloc, self.table.features.len())?;
+        self.table
+            .entries
+            .copy_rows(&mut rows, &self.table.features);
         meter.tick(rows.len() as u64);
         Ok(rows)
     }
@@ -156,7 +159,7 @@ impl<A: Allocator> Store<A> {
     {
         let added = count_additions(changes);
         let deleted = count_deletions(changes);
-        self.table.places.len() + added - deleted
+        self.table.features.len() + added - deleted
     }
 
     /// Makes all changes of a list, or none. `Full` exactly if there would be more than 100,000
@@ -176,23 +179,12 @@ impl<A: Allocator> Store<A> {
     {
         let added = count_additions(changes);
         let deleted = count_deletions(changes);
-        if self.table.places.len() + added > FEATURE_LIMIT + deleted {
+        if self.table.features.len() + added > FEATURE_LIMIT + deleted {
             return Err(StoreFault::Full);
         }
         tables::make_room(&mut self.table, added)?;
         make_all(&mut self.table, version, office, changes);
         Ok(())
-    }
-}
-
-/// Appends copies of the features at these places.
-fn copy_rows<A: Allocator>(rows: &mut Vec<Feature, A>, places: &[u32], features: &[Feature])
-    requires in_range { All (λ place. place < length features.now) places.now }
-    requires room { vec_len rows.old + length places.now ≤ vec_capacity rows.old }
-    ensures { rows.new.items ≡ rows.old.items ++ rows_at places.now features.now }
-{
-    for place in places {
-        rows.push_reserved(features[*place as usize]);
     }
 }
 

@@ -1,11 +1,11 @@
 //! The table in which a store keeps its features.
 
-ghost use Rattle.std.specs.Prelude.{◌≡◌, ◌+◌, ◌<◌, ◌≤◌, length, vec_len, vec_capacity, ℕ, OnOk, OnErr, None, IsSome};
+ghost use Rattle.std.specs.Prelude.{◌≡◌, ◌+◌, ◌≤◌, vec_len, ℕ, OnOk, None, IsSome};
 ghost use Rattle.std.specs.Option.{option_copied};
-ghost use Rattle.features.specs.Places.{AreRising, IsPlaceOf};
 ghost use Rattle.features.specs.Rows.{feature_with, with_row, with_shape, without};
-ghost use Rattle.features.specs.Tables.{HasRoom, IsRenumbered, IsSound, rows_of};
+ghost use Rattle.features.specs.Tables.{HasRoom, IsSound, rows_of};
 
+use crate::entries::{Entries, Entry};
 use crate::rows::Feature;
 use memory::{GrowVec, Refused};
 use plane::Shape;
@@ -14,22 +14,12 @@ use std::alloc::Allocator;
 /// The most features of a store.
 pub const FEATURE_LIMIT: usize = 100_000;
 
-/// Features, each at a place, and apart from them their ids, sorted, with the place of each. An
-/// insertion moves about twelve bytes for each greater id, and no feature; a look-up searches ids
-/// that are close together in memory.
+/// Features, each at a place, and apart from them the place of each id. An insertion and a deletion
+/// move entries of ids, and no feature but one.
 #[derive(Debug, Drop)]
 pub(crate) struct Table<A: Allocator> {
-    pub(crate) ids: Vec<u64, A>,
-    pub(crate) places: Vec<u32, A>,
+    pub(crate) entries: Entries<A>,
     pub(crate) features: Vec<Feature, A>,
-}
-
-/// The index of an id, or the index at which it would be inserted.
-fn place_of(ids: &[u64], id: u64) -> Result<usize, usize>
-    requires { AreRising ids.now }
-    ensures { IsPlaceOf id ids.now result }
-{
-    ids.binary_search(&id)
 }
 
 /// The feature with this id.
@@ -37,9 +27,9 @@ pub(crate) fn find<A: Allocator>(table: &Table<A>, id: u64) -> Option<&Feature>
     requires { IsSound table.now }
     ensures { option_copied result ≡ feature_with id (rows_of table.now) }
 {
-    match place_of(&table.ids, id) {
-        Ok(at) => Some(&table.features[table.places[at] as usize]),
-        Err(_) => None,
+    match table.entries.place_of(id) {
+        Some(place) => Some(&table.features[place as usize]),
+        None => None,
     }
 }
 
@@ -49,13 +39,13 @@ pub(crate) fn make_room<A: Allocator>(
     additional: usize,
 ) -> Result<(), Refused>
     requires few { additional ≤ FEATURE_LIMIT }
+    requires sound { IsSound table.old }
     requires numbers { vec_len table.old.features ≤ FEATURE_LIMIT }
     ensures rows { rows_of table.new ≡ rows_of table.old }
-    ensures sound { IsSound table.old → IsSound table.new }
+    ensures sound { IsSound table.new }
     ensures ok { OnOk result (HasRoom additional table.new) }
 {
-    table.ids.make_room(additional)?;
-    table.places.make_room(additional)?;
+    table.entries.make_room(table.features.len(), additional)?;
     table.features.make_room(additional)
 }
 
@@ -69,15 +59,9 @@ pub(crate) fn put<A: Allocator>(table: &mut Table<A>, row: Feature)
     ensures room { (n : ℕ) → HasRoom (n + 1) table.old → HasRoom n table.new }
 {
     let id = row.id;
-    match place_of(&table.ids, id) {
-        Ok(_) => unreachable!(),
-        Err(at) => {
-            let place = table.features.len() as u32;
-            table.features.push_reserved(row);
-            table.places.insert(at, place).unwrap();
-            table.ids.insert(at, id).unwrap();
-        }
-    }
+    let place = table.features.len() as u32;
+    table.features.push_reserved(row);
+    table.entries.insert(Entry { id, place });
 }
 
 /// Gives a feature another shape and version.
@@ -88,17 +72,16 @@ pub(crate) fn reshape<A: Allocator>(table: &mut Table<A>, id: u64, version: u64,
     ensures sound { IsSound table.new }
     ensures room { (n : ℕ) → HasRoom n table.old → HasRoom n table.new }
 {
-    match place_of(&table.ids, id) {
-        Ok(at) => {
-            let place = table.places[at] as usize;
-            let row = table.features[place];
-            table.features[place] = Feature {
+    match table.entries.place_of(id) {
+        Some(place) => {
+            let row = table.features[place as usize];
+            table.features[place as usize] = Feature {
                 version,
                 shape,
                 ..row
             };
         }
-        Err(_) => unreachable!(),
+        None => unreachable!(),
     }
 }
 
@@ -110,32 +93,15 @@ pub(crate) fn take_out<A: Allocator>(table: &mut Table<A>, id: u64)
     ensures sound { IsSound table.new }
     ensures room { (n : ℕ) → HasRoom n table.old → HasRoom n table.new }
 {
-    match place_of(&table.ids, id) {
-        Ok(at) => {
-            table.ids.remove(at);
-            let place = table.places.remove(at);
+    match table.entries.remove(id) {
+        Some(place) => {
             table.features.swap_remove(place as usize);
             let last = table.features.len() as u32;
             if place < last {
                 let moved = table.features[place as usize].id;
-                renumber(&table.ids, &mut table.places, moved, last, place);
+                table.entries.renumber(moved, last, place);
             }
         }
-        Err(_) => unreachable!(),
-    }
-}
-
-/// Changes the place of an id to `to`, if it is `from`.
-fn renumber<A: Allocator>(ids: &[u64], places: &mut Vec<u32, A>, id: u64, from: u32, to: u32)
-    requires rising { AreRising ids.now }
-    requires same_length { length ids.now ≡ length places.old.items }
-    ensures renumbered { IsRenumbered ids.now id from to places.old.items places.new.items }
-    ensures len { vec_len places.new ≡ vec_len places.old }
-    ensures capacity { vec_capacity places.new ≡ vec_capacity places.old }
-{
-    if let Ok(at) = place_of(ids, id) {
-        if places[at] == from {
-            places[at] = to;
-        }
+        None => unreachable!(),
     }
 }

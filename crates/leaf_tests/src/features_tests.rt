@@ -297,6 +297,72 @@ fn as_a_plain_list(rt: HostRuntime) -> Result<(), Fail> {
     Ok(())
 }
 
+/// Random additions and deletions among so many ids that blocks are split, and then deletions of
+/// all, so that they are joined: the store has the ids of a plain sorted list.
+#[test]
+fn blocks_as_a_plain_list(rt: HostRuntime) -> Result<(), Fail> {
+    let mut store = Store::new(rt.alloc());
+    let mut plain: Vec<u64> = Vec::new(rt.alloc());
+    let mut state = 11;
+    for version in 1..12_001 {
+        let id = next_random(&mut state) % 5_000;
+        let was_there = toggle(&rt, &mut plain, id);
+        let change = if was_there {
+            deletion(id)
+        } else {
+            addition(&rt, id)
+        };
+        assert!(rt; make(&rt, &mut store, version, change).is_ok());
+        if version % 1_500 == 0 {
+            assert_ids(&rt, &store, plain.as_slice());
+        }
+    }
+    for step in 0..5_000 {
+        let id = step * 1_237 % 5_000;
+        if plain.binary_search(&id).is_ok() {
+            toggle(&rt, &mut plain, id);
+            assert!(rt; make(&rt, &mut store, 1, deletion(id)).is_ok());
+        }
+        if step % 500 == 0 {
+            assert_ids(&rt, &store, plain.as_slice());
+        }
+    }
+    assert!(rt; store.is_empty());
+    Ok(())
+}
+
+/// Adds 3,500 ids, greater ones in each round, and deletes all of them but each
+/// 256th.
+fn fill_and_thin<A: Allocator>(rt: &impl Abort, store: &mut Store<A>, round: u64) {
+    for step in 0..3_500 {
+        let id = round % 100 * 10_000 + step;
+        assert!(rt; make(rt, store, 1, addition(rt, id)).is_ok());
+    }
+    for step in 0..3_500 {
+        let id = round % 100 * 10_000 + step;
+        if step % 256 != 0 {
+            assert!(rt; make(rt, store, 2, deletion(id)).is_ok());
+        }
+    }
+}
+
+/// Blocks that are left with one id each are joined, so that they are few, and ten times as many
+/// additions take no memory. Nor do the deletions.
+#[test]
+fn few_ids_are_in_few_blocks(rt: HostRuntime) -> Result<(), Fail> {
+    let memory = Refusing::new(rt.alloc(), 0);
+    let mut store = Store::new(&memory);
+    fill_and_thin(&rt, &mut store, 0);
+    fill_and_thin(&rt, &mut store, 1);
+    memory.refuse(1);
+    for round in 2..20 {
+        fill_and_thin(&rt, &mut store, round);
+    }
+    assert!(rt; !memory.has_refused());
+    assert_eq!(rt; store.len(), 280);
+    Ok(())
+}
+
 /// A store of the ids 5, 6, 8 and 9, which fill its capacity.
 fn full_of_four<A: Allocator + Copy>(rt: &impl Abort, alloc: A) -> Store<A> {
     let mut store = Store::new(alloc);
@@ -304,22 +370,62 @@ fn full_of_four<A: Allocator + Copy>(rt: &impl Abort, alloc: A) -> Store<A> {
     store
 }
 
+/// A store of this many features, of the ids from 0 on.
+fn of_many<A: Allocator + Copy>(rt: &impl Abort, alloc: A, count: u64) -> Store<A> {
+    let mut store = Store::new(alloc);
+    for id in 0..count {
+        assert!(rt; make(rt, &mut store, 1, addition(rt, id)).is_ok());
+    }
+    store
+}
+
+/// How many features a store has, and how many of its lists grow when one is added: both the first
+/// time, then that of the features, and that of the blocks of ids.
+const GROWTHS: [(u64, u64); 4] = [(0, 2), (4, 1), (512, 1), (769, 1)];
+
+/// Adds a feature while an allocation is refused, and checks that nothing has changed; answers
+/// whether one was refused.
+fn is_refused<A: Allocator + Copy>(
+    rt: &impl Abort,
+    memory: &Refusing<A>,
+    count: u64,
+    at: u64,
+) -> bool {
+    memory.refuse(0);
+    let mut store = of_many(rt, memory, count);
+    memory.refuse(at);
+    let answer = make(rt, &mut store, 2, addition(rt, u64::MAX));
+    if memory.has_refused() {
+        assert!(rt; matches!(answer, Err(StoreFault::Memory(_))), "at {at}");
+        assert!(rt; store.len() as u64 == count);
+        assert!(rt; store.get(u64::MAX, &mut Meter::new()).is_none());
+        return true;
+    }
+    assert!(rt; answer.is_ok());
+    assert!(rt; store.get(u64::MAX, &mut Meter::new()).is_some());
+    false
+}
+
 #[test]
 fn each_allocation_refused(rt: HostRuntime) -> Result<(), Fail> {
     let memory = Refusing::new(rt.alloc(), 0);
-    for at in 1..8 {
-        memory.refuse(0);
-        let mut store = full_of_four(&rt, &memory);
-        memory.refuse(at);
-        let answer = make(&rt, &mut store, 2, addition(&rt, 7));
-        if !memory.has_refused() {
-            assert!(rt; answer.is_ok() && at > 3, "each list grows");
-            break;
+    for (count, growths) in GROWTHS {
+        for at in 1..4 {
+            let refused = is_refused(&rt, &memory, count, at);
+            assert!(rt; refused == (at <= growths), "{count}: {at}");
         }
-        assert!(rt; matches!(answer, Err(StoreFault::Memory(_))), "at {at}");
-        assert_ids(&rt, &store, &[5, 6, 8, 9]);
-        assert!(rt; at < 7, "each allocation was refused");
     }
+    Ok(())
+}
+
+/// A refused growth leaves every row as it was.
+#[test]
+fn rows_after_a_refusal(rt: HostRuntime) -> Result<(), Fail> {
+    let memory = Refusing::new(rt.alloc(), 0);
+    let mut store = full_of_four(&rt, &memory);
+    memory.refuse(1);
+    assert!(rt; make(&rt, &mut store, 2, addition(&rt, 7)).is_err() && memory.has_refused());
+    assert_ids(&rt, &store, &[5, 6, 8, 9]);
     Ok(())
 }
 

@@ -4,10 +4,10 @@ use Rattle.features.proofs.TableLemmas.{rising, gap_row, row_found}
 use Rattle.features.proofs.tables.find.Goals as goal
 
 pub place_of-requires : goal.place_of-requires
-place_of-requires g c = rw c.deref.ensures.value (rising _ _ _ c.requires)
+place_of-requires g c = rising _ _ _ c.requires
 
-pub returns-in-Ok : goal.returns-in-Ok
-returns-in-Ok g c = row_found _ _ _ c.requires _ _ _ (rw c.deref.ensures.value at c.in-Ok.ensures) c.index.ensures _ c.index-in-Ok.ensures
+pub returns-in-Some : goal.returns-in-Some
+returns-in-Some g c = row_found _ _ _ c.requires _ _ _ c.in-Some.ensures.found.at c.in-Some.ensures.found.place_is _ c.index.ensures
 
-pub returns-in-Err : goal.returns-in-Err
-returns-in-Err g c = sym (absent_at_gap _ _ _ (gap_row _ _ _ c.requires _ _ (rw c.deref.ensures.value at c.in-Err.ensures)))
+pub returns-in-None : goal.returns-in-None
+returns-in-None g c = sym (absent_at_gap _ _ _ (gap_row _ _ _ c.requires _ _ c.in-None.ensures.missing.gap))

@@ -1,27 +1,21 @@
-use Rattle.std.proofs.Common.{arith}
+use Rattle.std.proofs.Common.{◌∙◌, refl, arith}
 use Rattle.features.specs.Tables.{blank}
 use Rattle.features.proofs.RowLemmas.{found_at}
-use Rattle.features.proofs.TableLemmas.{rising, at_row, rows_put, tied_put}
+use Rattle.features.proofs.TableLemmas.{rising, at_row}
+use Rattle.features.proofs.EntryLemmas.{rows_inserted, tied_inserted}
 use Rattle.features.proofs.tables.put.Goals as goal
 
-pub place_of-requires : goal.place_of-requires
-place_of-requires g c = rw c.deref.ensures.value (rising _ _ _ c.requires.sound)
+pub insert-requires-clause-rising : goal.insert-requires-clause-rising
+insert-requires-clause-rising g c = rising _ _ _ c.requires.sound
 
-pub unreachable-requires : goal.unreachable-requires
-unreachable-requires g c =
-    let at = rw c.deref.ensures.value at c.in-Ok.ensures in
-    let found = found_at _ _ _ blank c.requires.sound.sorted (at_row _ _ _ c.requires.sound _ _ at) in
-    cc (found, c.requires.absent)
+pub insert-requires-clause-absent : goal.insert-requires-clause-absent
+insert-requires-clause-absent g c = λ i is. (let found = found_at _ _ i blank c.requires.sound.sorted (at_row _ _ _ c.requires.sound _ i is) in cc (found, c.requires.absent))
 
 pub returns-clause-rows : goal.returns-clause-rows
 returns-clause-rows g c =
-    let gap = rw c.deref.ensures.value at c.in-Err.ensures in
-    let places = rw (c.unwrap.ensures, c.len-place.ensures, c.args.table.now.features.ok.0) at c.insert.ensures.items in
-    rw (places, c.push_reserved.ensures.items) (rows_put _ _ _ c.requires.sound _ _ gap)
+    rw c.push_reserved.ensures.items (rows_inserted _ _ c.requires.sound c.args.row _ _ refl (c.len-place.ensures ∙ c.args.table.now.features.ok.0) c.insert.ensures.inserted)
 
 pub returns-clause-sound : goal.returns-clause-sound
 returns-clause-sound g c =
-    let gap = rw c.deref.ensures.value at c.in-Err.ensures in
-    let places = rw (c.unwrap.ensures, c.len-place.ensures, c.args.table.now.features.ok.0) at c.insert.ensures.items in
-    let ids = rw c.unwrap-in-Err.ensures at c.insert-in-Err.ensures.items in
-    rw (ids, places, c.push_reserved.ensures.items) (tied_put _ _ _ c.requires.sound _ _ gap c.requires.absent (omega (arith, c.requires.room.numbers, c.args.table.now.features.ok.0)))
+    rw c.push_reserved.ensures.items (tied_inserted _ _ c.requires.sound c.args.row _ _ refl (c.len-place.ensures ∙ c.args.table.now.features.ok.0) c.insert.ensures.inserted
+    c.requires.absent (omega (arith, c.requires.room.numbers, c.args.table.now.features.ok.0)))
