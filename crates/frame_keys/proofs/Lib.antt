@@ -3,3 +3,4 @@ pub mod MaskBits
 pub mod Middles
 pub mod MaskHulls
 pub mod Stretches
+pub mod Meetings

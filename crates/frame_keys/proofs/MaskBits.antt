@@ -1,7 +1,7 @@
 -- Masks with a bit for each key.
-use Rattle.std.specs.Prelude.{◌≡◌, ◌≢◌, ◌↔◌, ℕ, zero, suc, ◌+◌, ◌-◌, ◌/◌, ◌%◌, ◌^◌, ◌<◌, List, Some, IsBitSet, count_ones, slice_get}
+use Rattle.std.specs.Prelude.{◌≡◌, ◌≢◌, ◌↔◌, ℕ, zero, suc, ◌+◌, ◌-◌, ◌/◌, ◌%◌, ◌^◌, ◌<◌, List, Some, Bool, true, false, IsTrue, IsBitSet, count_ones, slice_get}
 use Rattle.std.proofs.Common.{arith, refl, sym, ◌∙◌, subst, ⊎_elim}
-use Rattle.std.proofs.lemmas.Bool.{cases_lt}
+use Rattle.std.proofs.lemmas.Bool.{cases_lt, false≢true}
 use Rattle.std.proofs.lemmas.Option.{get_or_from_slice_get}
 use Rattle.plane.specs.Extents.{Extent}
 use lib.Count.{ones_step, ones-le}
@@ -58,6 +58,12 @@ tells_not P keys mask n key here fails told = record { each = each; no_other = �
 
     each : (i : ℕ) (k : Extent) → i < n + 1 → slice_get keys i ≡ Some k → (IsBitSet mask i ↔ P i k)
     each i k within found = ⊎_elim (λ below. told.each i k below found) (λ past. last i k (omega arith) found) (cases_lt i n)
+
+-- the next key's bit is set exactly if a test passes that tells whether it has the property
+pub tells_tested : (P : ℕ → Extent → Type 0) (keys : List Extent) (mask next n : ℕ) (key : Extent) → slice_get keys n ≡ Some key → (tested : Bool) → (IsTrue tested ↔ P n key)
+    → (IsTrue tested → IsBitSet next n) → ((i : ℕ) → i ≢ n → (IsBitSet next i ↔ IsBitSet mask i)) → (tested ≡ false → next ≡ mask) → Tells P keys mask n → Tells P keys next (n + 1)
+tells_tested P keys mask next n key here true exact set others unset told = tells_set P keys mask next n key here (exact.0 refl) (set refl) others told
+tells_tested P keys mask next n key here false exact set others unset told = subst (λ m. Tells P keys m (n + 1)) (sym (unset refl)) (tells_not P keys mask n key here (λ h. false≢true (exact.1 h)) told)
 
 -- a mask of w bits and its complement have w bits set together
 pub ones_both : (w n : ℕ) → n < 2 ^ w → count_ones n + count_ones (2 ^ w - 1 - n) ≡ w

@@ -8,10 +8,11 @@ ghost use Rattle.frame_keys.specs.Measures.{area, margin};
 ghost use Rattle.frame_keys.specs.Splits.{PicksRight};
 ghost use Rattle.tree_theory.specs.declared.TheConstants.{NODE_SIZE};
 
+use crate::masks::meeting_mask;
 use crate::measure::{area, margin};
 use crate::split::right_part;
 use plane::{Frame, Shape, covers, frame_of, frames_meet, hull, meets};
-use tree_theory::{KeyClass, with_bit};
+use tree_theory::KeyClass;
 
 /// The class whose keys are frames, and whose items and queries are shapes: a search finds the
 /// shapes that meet its own.
@@ -72,19 +73,16 @@ impl KeyClass for Frames {
     }
 
     /// The query's frame is computed once.
-    fn consistent_mask(keys: &[Frame], query: Shape) -> u16 {
-        let frame = frame_of(&query);
-        let mut mask: u16 = 0;
-        for (i, key) in keys.iter().enumerate() {
-            if frames_meet(*key, frame) {
-                mask = with_bit(mask, i);
-            }
-        }
-        mask
+    fn matching_mask(keys: &[Frame], query: &Shape) -> u16 {
+        meeting_mask(keys, frame_of(query))
     }
 
     fn matches(item: Shape, query: Shape) -> bool {
         meets(&item, &query)
+    }
+
+    fn matches_in_place(item: &Shape, query: &Shape) -> bool {
+        meets(item, query)
     }
 
     /// The growth of the area.

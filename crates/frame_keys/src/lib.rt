@@ -3,6 +3,7 @@
 
 mod frames;
 mod laws;
+mod masks;
 mod measure;
 mod split;
 

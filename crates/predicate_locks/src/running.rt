@@ -1,6 +1,6 @@
 //! The running searches.
 
-ghost use Rattle.std.specs.Prelude.{◌≡◌, ◌↔◌, ℕ, ◌+◌, ◌<◌, ◌≤◌, [], ◌∷◌, ◌++◌, false, true, length, Contains, slice_index_or, is_some, option_map, IsTrue, IsSome, IsOk, IfOk, IfErr, IfSome, IfNone, OnErr, Some, Ok, Err};
+ghost use Rattle.std.specs.Prelude.{◌≡◌, ◌↔◌, ℕ, ◌+◌, ◌<◌, ◌≤◌, [], ◌∷◌, ◌++◌, false, true, length, Contains, slice_index_or, is_some, option_copied, option_map, IsTrue, IsSome, IsOk, IfOk, IfErr, IfSome, IfNone, OnErr, Some, Ok, Err};
 ghost use Rattle.std.specs.Fn.{FnReturnsAt};
 ghost use Rattle.std.specs.List.Sorted.{IsStrictlyIncreasing};
 ghost use Rattle.predicate_locks.specs.Sound.{IsRising};
@@ -139,6 +139,15 @@ impl<Q: Copy, A: Allocator> Running<Q, A> {
     {
         let at = self.position(number)?;
         Some(self.searches[at].query)
+    }
+
+    /// `query` without a copy.
+    pub fn query_in_place(&self, number: u64) -> Option<&Q>
+        ensures { option_copied result
+            ≡ option_map (λ search. search.query) (search_at self.now number) }
+    {
+        let at = self.position(number)?;
+        Some(&self.searches[at].query)
     }
 
     /// The stamp at which the search with this number began, if it runs.

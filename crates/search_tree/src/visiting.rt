@@ -89,7 +89,7 @@ impl<C: KeyClass, A: Allocator + Copy> Tree<C, A> {
             (IsUntouched (class_of C.covered C.may_match C.is_match C.key_with C.united) self.old
             self.new) }
     {
-        let Some(query) = self.running.query(search) else {
+        let Some(query) = self.running.query_in_place(search) else {
             unreachable!();
         };
         visit_last::<C, A>(

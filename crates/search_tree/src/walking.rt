@@ -28,7 +28,10 @@ pub(crate) fn holder_of<C: KeyClass, A: Allocator>(
         (NoneHolds (class_of C.covered C.may_match C.is_match C.key_with C.united) running.now
         attached.now.numbers item) }
 {
-    running.first_meeting(attached, &|query: &C::Query| C::matches(item, *query))
+    running.first_meeting(
+        attached,
+        &|query: &C::Query| C::matches_in_place(&item, query),
+    )
 }
 
 impl<C: KeyClass, A: Allocator> Tree<C, A> {

@@ -1,7 +1,6 @@
 pub mod Zips
 pub mod ListEnds
 pub mod VisitLemmas
-pub mod StepLemmas
 pub mod UnionLemmas
 pub mod PenaltyLemmas
 pub mod StandingLemmas

@@ -122,6 +122,15 @@ impl<I: Copy, A: Allocator> Progress<I, A> {
         self.stack.push_reserved((node, memo));
     }
 
+    /// Adds a copy of a found pair; there must be room. `add` would copy it once more, since it
+    /// takes the pair's parts.
+    pub(crate) fn add_copy(&mut self, pair: &(u64, I))
+        requires { length self.old.found < self.old.found_places }
+        ensures { self.new ≡ record self.old { found = self.old.found ++ pair.now ∷ [] } }
+    {
+        self.found.push_reserved(*pair);
+    }
+
     /// Adds a found pair; there must be room.
     pub fn add(&mut self, key: u64, item: I)
         requires { length self.old.found < self.old.found_places }

@@ -11,7 +11,7 @@ ghost use Rattle.tree_theory.specs.declared.TheConstants.{NODE_SIZE};
 
 use crate::node::TreeNode;
 use crate::progress::Progress;
-use crate::setters::{Nodes, attach};
+use crate::setters::Nodes;
 use memory::Refused;
 use predicate_locks::Running;
 use std::alloc::Allocator;
@@ -24,23 +24,26 @@ pub fn visit_last<C: KeyClass, A: Allocator + Copy>(
     nodes: &mut Nodes<C::Key, C::Item, A>,
     running: &Running<C::Query, A>,
     progress: &mut Progress<C::Item, A>,
-    query: C::Query,
+    query: &C::Query,
     counter: u64,
 ) -> Result<(), Refused>
     requires stack { progress.old.stack ≢ [] }
     requires steps { progress.old.steps < last_number }
     ensures ok { OnOk result
-        (HasVisited (class_of C.covered C.may_match C.is_match C.key_with C.united) query counter
-        running.now nodes.old nodes.new progress.old progress.new) }
+        (HasVisited (class_of C.covered C.may_match C.is_match C.key_with C.united) query.now
+        counter running.now nodes.old nodes.new progress.old progress.new) }
     ensures nodes_kept { OnErr result (AreSame nodes.old nodes.new) }
     ensures progress_kept { OnErr result (SameButRoom progress.old progress.new) }
 {
     progress.make_room()?;
     let (x, memo) = progress.last();
-    attach(nodes, running, x, progress.number())?;
-    progress.step();
-    if let Some(node) = nodes.get(x) {
-        see::<C, A>(progress, node, query, memo, counter);
+    match nodes.get_mut(x) {
+        Some(node) => {
+            node.attach(running, progress.number())?;
+            progress.step();
+            see::<C, A>(progress, node, query, memo, counter);
+        }
+        None => progress.step(),
     }
     Ok(())
 }
@@ -50,13 +53,13 @@ pub fn visit_last<C: KeyClass, A: Allocator + Copy>(
 fn see<C: KeyClass, A: Allocator>(
     progress: &mut Progress<C::Item, A>,
     node: &TreeNode<C::Key, C::Item, A>,
-    query: C::Query,
+    query: &C::Query,
     memo: u64,
     counter: u64,
 )
     requires { HasVisitRoom progress.old }
-    ensures { HasSeen (class_of C.covered C.may_match C.is_match C.key_with C.united) query counter
-        memo node.now progress.old progress.new }
+    ensures { HasSeen (class_of C.covered C.may_match C.is_match C.key_with C.united) query.now
+        counter memo node.now progress.old progress.new }
 {
     go_right(progress, node, memo);
     push_children::<C, A>(progress, node, query, counter);
@@ -91,14 +94,14 @@ fn is_followed(place: Place, seq: u64, memo: u64) -> bool
 fn push_children<C: KeyClass, A: Allocator>(
     progress: &mut Progress<C::Item, A>,
     node: &TreeNode<C::Key, C::Item, A>,
-    query: C::Query,
+    query: &C::Query,
     counter: u64,
 )
     requires { length progress.old.stack + NODE_SIZE ≤ progress.old.stack_places }
-    ensures { HasChildren (class_of C.covered C.may_match C.is_match C.key_with C.united) query
+    ensures { HasChildren (class_of C.covered C.may_match C.is_match C.key_with C.united) query.now
         counter (entries_of node.now.body) progress.old progress.new }
 {
-    let mask = C::consistent_mask(node.keys(), query);
+    let mask = C::matching_mask(node.keys(), query);
     for (i, child) in node.children().iter().enumerate() {
         if has_bit(mask, i) {
             progress.push(*child, counter);
@@ -110,16 +113,16 @@ fn push_children<C: KeyClass, A: Allocator>(
 fn add_matching<C: KeyClass, A: Allocator>(
     progress: &mut Progress<C::Item, A>,
     node: &TreeNode<C::Key, C::Item, A>,
-    query: C::Query,
+    query: &C::Query,
 )
     requires { length progress.old.found + NODE_SIZE ≤ progress.old.found_places }
     ensures most { length (pairs_of node.now.body) ≤ NODE_SIZE }
     ensures matching { HasMatching (class_of C.covered C.may_match C.is_match C.key_with C.united)
-        query (pairs_of node.now.body) progress.old progress.new }
+        query.now (pairs_of node.now.body) progress.old progress.new }
 {
     for pair in node.pairs() {
-        if C::matches(pair.1, query) {
-            progress.add(pair.0, pair.1);
+        if C::matches_in_place(&pair.1, query) {
+            progress.add_copy(pair);
         }
     }
 }

@@ -1,11 +1,11 @@
 //! Changes of one node in the tree's arena. Nothing happens where the handle names no node.
 
-ghost use Rattle.std.specs.Prelude.{◌≡◌, ◌∷◌, ◌++◌, ◌+◌, ◌<◌, ◌≤◌, [], Some, IfOk, OnOk, OnErr, filter, length, slice_get, slice_set, remove};
+ghost use Rattle.std.specs.Prelude.{◌≡◌, ◌∷◌, ◌++◌, ◌+◌, ◌<◌, ◌≤◌, [], Some, IfOk, filter, length, slice_get, slice_set, remove};
 ghost use Rattle.node_arena.specs.declared.handle.Handle.{Handle};
-ghost use Rattle.predicate_locks.specs.Numbers.{with_number, with_numbers};
+ghost use Rattle.predicate_locks.specs.Numbers.{with_numbers};
 ghost use Rattle.predicate_locks.specs.Searches.{does_run};
 ghost use Rattle.predicate_locks.specs.declared.TheConstants.{MAX_ROOM};
-ghost use Rattle.tree_nodes.specs.Arenas.{IsChanged, AreSame, Holds};
+ghost use Rattle.tree_nodes.specs.Arenas.{IsChanged, Holds};
 ghost use Rattle.tree_nodes.specs.Bodies.{plain_body, IsLeaf, IsInner};
 ghost use Rattle.tree_nodes.specs.NewNodes.{HasAdopted, left_of};
 ghost use Rattle.tree_theory.specs.Nodes.{entries_of, pairs_of, size_of, under};
@@ -129,26 +129,6 @@ pub fn keep<K: Copy, I: Copy, T: Keeper<I>, A: Allocator>(
 {
     if let Some(node) = nodes.get_mut(at) {
         node.keep(keeper);
-    }
-}
-
-/// Attaches a search to a node, and removes numbers that do not run. No node changes where an
-/// allocation is refused.
-pub fn attach<K: Copy, I: Copy, Q: Copy, A: Allocator + Copy>(
-    nodes: &mut Nodes<K, I, A>,
-    running: &Running<Q, A>,
-    at: Handle,
-    search: u64,
-) -> Result<(), Refused>
-    ensures ok { OnOk result
-        (IsChanged nodes.old nodes.new at
-        (λ node. record node
-        { attached = filter (does_run running.now) (with_number search node.attached) })) }
-    ensures err { OnErr result (AreSame nodes.old nodes.new) }
-{
-    match nodes.get_mut(at) {
-        Some(node) => node.attach(running, search),
-        None => Ok(()),
     }
 }
 

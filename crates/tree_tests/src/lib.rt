@@ -10,6 +10,8 @@ mod search_tree_refusals;
 #[cfg(test)]
 mod search_tree_runs;
 #[cfg(test)]
+mod search_tree_segments;
+#[cfg(test)]
 mod search_tree_splits;
 #[cfg(test)]
 mod search_tree_tests;

@@ -3,6 +3,7 @@ use crate::tree_steps::Dice;
 use node_arena::{Arena, ArenaFault, Handle, MAX_SLOTS};
 use refusing::Refusing;
 use std::alloc::{AllocError, Allocator, Global};
+use std::cell::Cell;
 use std::process::Abort;
 use std::test::Fail;
 
@@ -129,54 +130,59 @@ fn held<A: Allocator + Drop>(arena: &Arena<u64, A>, slots: u32) -> u32 {
     held
 }
 
-/// Inserts the values 0 to 3, and returns the handle of 0.
-fn put_four<A: Allocator + Drop>(rt: &impl Abort, arena: &mut Arena<u64, A>) -> Handle {
-    let first = inserted(rt, arena, 0);
-    for value in 1..4 {
+/// Inserts the values from 0 to `count - 1`.
+fn put<A: Allocator + Drop>(rt: &impl Abort, arena: &mut Arena<u64, A>, count: u64) {
+    for value in 0..count {
         inserted(rt, arena, value);
     }
-    first
 }
 
-/// Inserts a fifth value with allocation number `at` refused, and returns whether that was asked
-/// for. If it was, checks that the four others are unchanged, and that a free slot is reused
-/// without an allocation.
-fn insert_refused<B: Allocator>(rt: &impl Abort, memory: &Refusing<B>, at: u64) -> bool {
+/// Fills `count` slots, inserts one value more with allocation number `at` refused, and returns
+/// whether that was asked for. If it was, checks that the others are unchanged, that the value is
+/// inserted once there is memory, and that a free slot is reused without an allocation.
+fn insert_refused<B: Allocator>(
+    rt: &impl Abort,
+    memory: &Refusing<B>,
+    count: u32,
+    at: u64,
+) -> bool {
     memory.refuse(0);
     let mut arena = Arena::new(memory);
-    let first = put_four(rt, &mut arena);
+    let more = u64::from(count);
+    put(rt, &mut arena, more);
     memory.refuse(at);
-    let answer = arena.insert(4);
+    let answer = arena.insert(more);
     if !memory.has_refused() {
-        assert!(rt; answer.is_ok() && at > 1, "nothing was refused");
+        assert!(rt; answer.is_ok(), "nothing was refused");
         return false;
     }
     assert!(rt;
-        matches!(&answer, Err((4, ArenaFault::Memory(_)))),
-        "at {at}"
+        matches!(&answer, Err((value, ArenaFault::Memory(_))) if *value == more),
+        "{at} of {count}"
     );
-    assert_eq!(rt; (arena.len(), arena.slots()), (4, 4), "at {at}");
-    assert_eq!(rt; held(&arena, 4), 4, "at {at}");
+    assert_eq!(rt; (arena.len(), arena.slots()), (count as usize, count));
+    assert_eq!(rt; held(&arena, count), count, "{at} of {count}");
+    memory.refuse(0);
+    let last = inserted(rt, &mut arena, more);
     memory.refuse(1);
-    assert_eq!(rt; arena.remove(first), Some(0), "at {at}");
-    let again = Handle {
-        slot: 0,
-        generation: 1,
-    };
-    assert_eq!(rt; inserted(rt, &mut arena, 5), again, "at {at}");
-    assert!(rt; !memory.has_refused(), "at {at}");
+    assert_eq!(rt; arena.remove(last), Some(more));
+    assert_eq!(rt; inserted(rt, &mut arena, 5).slot, count);
+    assert!(rt; !memory.has_refused(), "{at} of {count}");
     true
 }
 
 #[test]
 fn each_allocation_refused(rt: HostRuntime) -> Result<(), Fail> {
     let memory = Refusing::new(rt.alloc(), 0);
-    for at in 1..8 {
-        if !insert_refused(&rt, &memory, at) {
-            return Ok(());
+    // How many slots are filled, and how many allocations the next insertion asks for: a table and
+    // a chunk, nothing while the chunk has places, one more chunk, a larger table and a chunk.
+    let cases: [(u32, u64); 5] = [(0, 2), (1, 0), (255, 0), (256, 1), (4_096, 2)];
+    for (count, wanted) in cases {
+        for at in 1..4 {
+            let refused = insert_refused(&rt, &memory, count, at);
+            assert_eq!(rt; refused, at <= wanted, "{at} of {count}");
         }
     }
-    assert!(rt; false, "each allocation was refused");
     Ok(())
 }
 
@@ -218,17 +224,17 @@ fn each_allocation_of_reserve_refused(rt: HostRuntime) -> Result<(), Fail> {
     for at in 1..8 {
         memory.refuse(0);
         let mut arena = Arena::new(&memory);
-        put_four(&rt, &mut arena);
+        put(&rt, &mut arena, 256);
         memory.refuse(at);
         let answer = arena.reserve(2);
         if !memory.has_refused() {
             assert!(rt; answer.is_ok() && at > 1, "nothing was refused");
             // Room was made for two: they are inserted without an allocation.
             memory.refuse(1);
-            inserted(&rt, &mut arena, 4);
-            inserted(&rt, &mut arena, 5);
+            inserted(&rt, &mut arena, 256);
+            inserted(&rt, &mut arena, 257);
             assert!(rt; !memory.has_refused());
-            assert_eq!(rt; held(&arena, 6), 6);
+            assert_eq!(rt; held(&arena, 258), 258);
             return Ok(());
         }
         let Err(fault) = answer else {
@@ -237,8 +243,8 @@ fn each_allocation_of_reserve_refused(rt: HostRuntime) -> Result<(), Fail> {
         };
         assert_eq!(rt; fault.code(), "A2");
         assert_eq!(rt; format!(in rt.alloc(); "{fault}")?.as_str(), "A2");
-        assert_eq!(rt; (arena.len(), arena.slots()), (4, 4));
-        assert_eq!(rt; held(&arena, 4), 4);
+        assert_eq!(rt; (arena.len(), arena.slots()), (256, 256));
+        assert_eq!(rt; held(&arena, 256), 256);
     }
     assert!(rt; false, "each allocation was refused");
     Ok(())
@@ -249,20 +255,20 @@ fn reserve_counts_free_slots(rt: HostRuntime) -> Result<(), Fail> {
     let memory = Refusing::new(rt.alloc(), 0);
     let mut arena = Arena::new(&memory);
     let mut handles = Vec::new(rt.alloc());
-    for value in 0..4 {
+    for value in 0..256 {
         handles.push(inserted(&rt, &mut arena, value))?;
     }
-    for handle in &handles {
+    for handle in handles.iter().take(4) {
         assert!(rt; arena.remove(*handle).is_some());
     }
-    // Four slots are free: room for four values needs no allocation.
+    // Four slots of the one chunk are free: room for four values needs no allocation.
     memory.refuse(1);
     assert!(rt; arena.reserve(4).is_ok() && !memory.has_refused());
     for value in 4..8 {
         assert!(rt; inserted(&rt, &mut arena, value).slot < 4);
     }
     assert!(rt; !memory.has_refused());
-    assert_eq!(rt; (arena.len(), arena.slots()), (4, 4));
+    assert_eq!(rt; (arena.len(), arena.slots()), (256, 256));
     Ok(())
 }
 
@@ -270,18 +276,50 @@ fn reserve_counts_free_slots(rt: HostRuntime) -> Result<(), Fail> {
 fn reserve_passes_worn_out_slots(rt: HostRuntime) -> Result<(), Fail> {
     let memory = Refusing::new(rt.alloc(), 0);
     let mut arena = Arena::starting_at(&memory, u32::MAX);
-    for value in 0..4 {
+    for value in 0..256 {
         let handle = inserted(&rt, &mut arena, value);
         assert_eq!(rt; arena.remove(handle), Some(value));
     }
-    // Four slots are worn out, and none is free.
-    assert_eq!(rt; (arena.len(), arena.slots()), (0, 4));
+    // The slots of one chunk are worn out, and none is free.
+    assert_eq!(rt; (arena.len(), arena.slots()), (0, 256));
     memory.refuse(1);
     assert!(rt; arena.reserve(1).is_err() && memory.has_refused());
     memory.refuse(0);
     assert!(rt; arena.reserve(1).is_ok());
     memory.refuse(1);
-    assert_eq!(rt; inserted(&rt, &mut arena, 9).slot, 4);
+    assert_eq!(rt; inserted(&rt, &mut arena, 9).slot, 256);
     assert!(rt; !memory.has_refused());
+    Ok(())
+}
+
+/// Counts how often a value of it is dropped.
+struct Counted<'a> {
+    drops: &'a Cell<u64>,
+}
+
+impl Drop for Counted<'_> {
+    fn drop(self) {
+        let Counted { drops } = self;
+        drops.set(drops.get().saturating_add(1));
+    }
+}
+
+#[test]
+fn each_value_is_dropped_once(rt: HostRuntime) -> Result<(), Fail> {
+    let drops = Cell::new(0);
+    let mut arena = Arena::new(rt.alloc());
+    let mut handles = Vec::new(rt.alloc());
+    for _ in 0..600 {
+        if let Ok(handle) = arena.insert(Counted { drops: &drops }) {
+            handles.push(handle)?;
+        }
+    }
+    assert_eq!(rt; (handles.len(), drops.get()), (600, 0));
+    for handle in handles.iter().take(100) {
+        drop(arena.remove(*handle));
+    }
+    assert_eq!(rt; drops.get(), 100);
+    drop(arena);
+    assert_eq!(rt; drops.get(), 600);
     Ok(())
 }

@@ -65,16 +65,30 @@ pub trait KeyClass {
         ensures { IsTrue result ↔ may_match key query };
 
     /// `consistent` for each key of a node: bit i is set exactly if key i is consistent, and bits
-    /// beyond the keys are clear.
+    /// beyond the keys are clear. The query is not copied.
+    fn matching_mask(keys: &[Self::Key], query: &Self::Query) -> u16
+        requires { length keys.now ≤ NODE_SIZE }
+        ensures each { (i : ℕ) (key : Self.Key) → slice_get keys.now i ≡ Some key
+            → (IsBitSet result i ↔ may_match key query.now) }
+        ensures no_other { (i : ℕ) → IsBitSet result i → i < length keys.now };
+
+    /// `matching_mask` of a query in hand.
     fn consistent_mask(keys: &[Self::Key], query: Self::Query) -> u16
         requires { length keys.now ≤ NODE_SIZE }
         ensures each { (i : ℕ) (key : Self.Key) → slice_get keys.now i ≡ Some key
             → (IsBitSet result i ↔ may_match key query) }
-        ensures no_other { (i : ℕ) → IsBitSet result i → i < length keys.now };
+        ensures no_other { (i : ℕ) → IsBitSet result i → i < length keys.now }
+    {
+        Self::matching_mask(keys, &query)
+    }
 
     /// Whether the item matches the query.
     fn matches(item: Self::Item, query: Self::Query) -> bool
         ensures { IsTrue result ↔ is_match item query };
+
+    /// `matches` for an item and a query that stay where they are: neither is copied.
+    fn matches_in_place(item: &Self::Item, query: &Self::Query) -> bool
+        ensures { IsTrue result ↔ is_match item.now query.now };
 
     /// How much a key grows when it is united with the other one. A walk descends by an entry of
     /// least penalty.

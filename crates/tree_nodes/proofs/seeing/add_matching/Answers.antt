@@ -4,7 +4,7 @@ use Rattle.std.proofs.lemmas.Option.{slice_get_read}
 use Rattle.tree_nodes.proofs.ListEnds.{take_one}
 use Rattle.tree_nodes.proofs.VisitLemmas.{matching_none, matching_more, matching_past}
 use Rattle.tree_nodes.proofs.seeing.add_matching.Goals as goal
-use Rattle.tree_nodes.proofs.seeing.add_matching.Goals.{then-matches, else-matches}
+use Rattle.tree_nodes.proofs.seeing.add_matching.Goals.{then-matches_in_place, else-matches_in_place}
 
 pub loop-pair-init : goal.loop-pair-init
 loop-pair-init g c = matching_none _ _ _
@@ -13,7 +13,7 @@ pub loop-pair-preserved : goal.loop-pair-preserved
 loop-pair-preserved g c =
     let here = slice_get_read c.pairs-pair-items.result.now _ c.loop-pair.pair-index _ refl c.loop-pair-test.true c.pair-item.is in
     let more = take_one c.pairs-pair-items.result.now c.loop-pair.pair-index c.pair-item.result here in
-    elim c.if-matches.branch [
-      | then-matches w ↦ rw (more, w.progress-is) (matching_more _ _ _ _ _ _ c.pair-item.result c.loop-pair.invariant (c.matches.ensures.0 w.if-matches.true) w.add.ensures)
-      | else-matches w ↦ rw (more, w.progress-is) (matching_past _ _ _ _ _ c.pair-item.result c.loop-pair.invariant (λ h. false≢true (sym w.if-matches.false ∙ c.matches.ensures.1 h)))
+    elim c.if-matches_in_place.branch [
+      | then-matches_in_place w ↦ rw (more, w.progress-is) (matching_more _ _ _ _ _ _ c.pair-item.result c.loop-pair.invariant (c.matches_in_place.ensures.0 w.if-matches_in_place.true) w.add_copy.ensures)
+      | else-matches_in_place w ↦ rw (more, w.progress-is) (matching_past _ _ _ _ _ c.pair-item.result c.loop-pair.invariant (λ h. false≢true (sym w.if-matches_in_place.false ∙ c.matches_in_place.ensures.1 h)))
     ]

@@ -16,7 +16,7 @@ loop-i-preserved g c =
     let there : slice_get (children_of c.args.node.now.body) c.loop-i.i ≡ Some child = subst (λ (cs : List Handle). slice_get cs c.loop-i.i ≡ Some child) c.children-child-items.ensures.value (get_some c.children-child-items.result.now c.loop-i.i (record { slot = 0; generation = 0 }) c.loop-i-test.true) in
     let both = both_at (entries_of c.args.node.now.body) c.loop-i.i child there in
     let key = subst (λ ks. slice_get ks c.loop-i.i ≡ Some both.first) (sym c.keys.ensures.value) both.first_is in
-    let told = c.consistent_mask-mask.ensures.each c.loop-i.i both.first key in
+    let told = c.matching_mask-mask.ensures.each c.loop-i.i both.first key in
     let more = take_one (entries_of c.args.node.now.body) c.loop-i.i (both.first, child) both.is in
     elim c.if-has_bit.branch [
       | then-has_bit w ↦ rw (more, w.progress-is) (children_more _ _ _ _ _ _ _ (both.first, child) c.loop-i.invariant (told.0 (c.has_bit.ensures.0 w.if-has_bit.true)) w.push.ensures)

@@ -1,4 +1,5 @@
-use Rattle.std.proofs.Common.{refl, sym, ◌∙◌}
+use Rattle.std.proofs.Common.{refl, sym, ap, ◌∙◌}
+use Rattle.std.specs.Option.{option_copied}
 use Rattle.std.proofs.lemmas.Grind.{get_or-set_at}
 use Rattle.predicate_locks.specs.Searches.{search_at}
 use Rattle.tree_theory.specs.KeyClasses.{Laws, class_of}
@@ -10,7 +11,7 @@ use Rattle.search_tree.proofs.tree.Tree.visit_at.Goals as goal
 pub unreachable-requires : goal.unreachable-requires
 unreachable-requires g c =
     let may = rw (← c.self.view_is) at c.requires in
-    no_query (search_at c.self.inside.running c.args.search) (sym c.query.ensures ∙ c.in_default.is) (runs_somewhere _ _ c.args.search c.args.at c.self.invariant may.first)
+    no_query (search_at c.self.inside.running c.args.search) (sym c.query_in_place.ensures ∙ ap option_copied c.in_default.is) (runs_somewhere _ _ c.args.search c.args.at c.self.invariant may.first)
 
 pub invariant_of-self : goal.invariant_of-self
 invariant_of-self g c =
@@ -28,10 +29,10 @@ invariant_of-self-2 g c =
     let law = g.met.C.KeyClass in
     let laws : Laws (class_of key.covered key.may_match key.is_match key.key_with key.united) = record { reflexive = law.reflexive; transitive = law.transitive; covers_first = law.covers_first; covers_second = law.covers_second; least = law.least; monotone = law.monotone; sound = law.sound } in
     let may = rw (← c.self.view_is) at c.requires in
-    after_visit _ _ c.args.search c.args.at laws c.in-Some.query c.index_mut.result.now c.visit_last.new.progress c.visit_last.new.nodes c.self.invariant may.first (sym c.index_mut.ensures.value) (sym c.in-Some.is ∙ c.query.ensures) c.in_ok-visit_last.ensures.ok
+    after_visit _ _ c.args.search c.args.at laws c.in-Some.query.now c.index_mut.result.now c.visit_last.new.progress c.visit_last.new.nodes c.self.invariant may.first (sym c.index_mut.ensures.value) (sym (ap option_copied c.in-Some.is) ∙ c.query_in_place.ensures) c.in_ok-visit_last.ensures.ok
 
 pub returns-clause-ok : goal.returns-clause-ok
 returns-clause-ok g c =
     let may = rw (← c.self.view_is) at c.requires in
     let ready = c.visit_of.ensures ∙ same_ready c.index.result.now c.visit_last.new.progress (c.index.ensures ∙ get_or-set_at c.self.inside.progress.items c.args.at c.args.at c.visit_last.new.progress c.index.result.now refl may.first.within) in
-    rw (← c.self.view_is, ready) (visit_call _ _ c.args.search c.args.at c.in-Some.query c.index_mut.result.now c.visit_last.new.progress c.visit_last.new.nodes c.self.invariant may.first (sym c.index_mut.ensures.value) (sym c.in-Some.is ∙ c.query.ensures) c.in_ok-visit_last.ensures.ok)
+    rw (← c.self.view_is, ready) (visit_call _ _ c.args.search c.args.at c.in-Some.query.now c.index_mut.result.now c.visit_last.new.progress c.visit_last.new.nodes c.self.invariant may.first (sym c.index_mut.ensures.value) (sym (ap option_copied c.in-Some.is) ∙ c.query_in_place.ensures) c.in_ok-visit_last.ensures.ok)
