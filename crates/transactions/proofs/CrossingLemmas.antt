@@ -9,6 +9,7 @@ use Rattle.frame_keys.specs.contracts.frames.Frames as Frames
 use Rattle.frame_keys.specs.contracts.frames.FramesKeyClass.TheImpl as frames
 use Rattle.search_tree.proofs.tree.Tree.TheSendSync as tree
 use Rattle.plain_world.proofs.CrossingLemmas.{plain_world_send}
+use Rattle.transactions.proofs.kept_slots.KeptSlots.TheSendSync as kept
 use Rattle.transactions.proofs.walks.Walks.TheSendSync as walks
 use Rattle.transactions.specs.contracts.worlds.World as World
 use Rattle.transactions.specs.contracts.worlds.World.TheInside as inside
@@ -17,4 +18,4 @@ module _ (A : RattleType) (g : Ghosts A.Denot) (s : IsSend A) (y : IsSync A) (f 
   pub world_send : IsSend (World.the_row A g)
   world_send =
       let index = tree.the_send Frames.the_row A _ _ _ frames.ghosts g s frame.the_send area.the_send area.the_send f in
-      model_send (inside.the_type A g) (plain_world_send A g s y f & index & walks.the_send A g s f & tt)
+      model_send (inside.the_type A g) (plain_world_send A g s y f & index & walks.the_send A g s f & kept.the_field_send & tt)

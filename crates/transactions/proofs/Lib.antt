@@ -1,12 +1,14 @@
 pub mod SearchLemmas
 pub mod PairLemmas
 pub mod KeptLemmas
+pub mod KeptSlotLemmas
 pub mod ServeLemmas
 pub mod WalkLemmas
 pub mod BesideLemmas
 pub mod StepLemmas
 pub mod EventWalkLemmas
 pub mod WorldLemmas
+pub mod TendedLemmas
 pub mod AdvanceLemmas
 pub mod TendLemmas
 pub mod WorkedRunLemmas

@@ -28,7 +28,6 @@ use Rattle.plain_world.specs.Staging.{TransactionData, transaction_with, next_pl
 use Rattle.plain_world.specs.declared.outcomes.Outcome.{Outcome}
 use Rattle.plain_world.specs.States.{WorldData, opened}
 use Rattle.plain_world.proofs.AdmittedLemmas.{admitted, finisher, seat_same}
-use Rattle.plain_world.proofs.RefusalLemmas.{leaves}
 use Rattle.plain_world.proofs.RunLemmas.{and_then_ok, given_ok}
 use Rattle.plain_world.proofs.EventLemmas.{admitted as admits}
 use Rattle.plain_world.proofs.OrderLemmas.{opened_ordered, ordered_event}
@@ -66,10 +65,6 @@ beside event w v t js ks reply happens h b walks = world_by event w v t t js ks 
 same_transactions : (w v : WorldData) (js : List JourneyData) → v.transactions ≡ w.transactions → AreWalks w.transactions js → AreWalks v.transactions js
 same_transactions w v js same h = subst (λ (ts : List TransactionData). AreWalks ts js) (sym same) h
 
--- a refused event leaves the world unchanged
-same_world : (w v : WorldData) (t : Index) (js : List JourneyData) → v ≡ w → IsWorld (indexed w t js) → IsWorld (indexed v t js)
-same_world w v t js e h = subst (λ (x : WorldData). IsWorld (indexed x t js)) (sym e) h
-
 pub world_seat : (name : List ℕ) (w v : WorldData) (t : Index) (js : List JourneyData) (reply : Reply) → Happens (TakeSeat name) w v reply → IsWorld (indexed w t js) → IsWorld (indexed v t js)
 world_seat name w v t js reply happens h = beside (TakeSeat name) w v t js js reply happens h (beside_seat name w v reply happens) (same_transactions w v js (transactions_seat name w v reply happens) h.walks)
 
@@ -83,9 +78,6 @@ pub world_roll : (seat : ℕ) (w v : WorldData) (t : Index) (js : List JourneyDa
 world_roll seat w v t js reply happens h = beside (Roll seat) w v t js js reply happens h (beside_roll seat w v reply happens) (same_transactions w v js (transactions_roll seat w v reply happens) h.walks)
 
 -- ---- transactions begin and end
-
-pub world_begin_refused : (seat : ℕ) (w v : WorldData) (t : Index) (js : List JourneyData) (fault : Fault) → Happens (Begin seat) w v (Refused fault) → IsWorld (indexed w t js) → IsWorld (indexed v t js)
-world_begin_refused seat w v t js fault happens h = same_world w v t js (leaves (Begin seat) w v fault happens) h
 
 pub world_begun : (seat number : ℕ) (w v : WorldData) (t : Index) (js : List JourneyData) → Happens (Begin seat) w v (Number number) → IsWorld (indexed w t js) → IsWorld (indexed v t (begun number js))
 world_begun seat number w v t js happens h = beside (Begin seat) w v t js (begun number js) (Number number) happens h (beside_begin seat w v (Number number) happens) (walks_begin seat number w v js happens h.walks)
@@ -103,14 +95,8 @@ few_walks seat number w v t js happens h =
     room x n l true last is e = absurd cc
     room x n l false last is e = grind (arith, nat_tests, is)
 
-pub world_abort_refused : (seat number : ℕ) (w v : WorldData) (t : Index) (js : List JourneyData) (fault : Fault) → Happens (Abort seat number) w v (Refused fault) → IsWorld (indexed w t js) → IsWorld (indexed v t js)
-world_abort_refused seat number w v t js fault happens h = same_world w v t js (leaves (Abort seat number) w v fault happens) h
-
 pub world_aborted : (seat number : ℕ) (w v : WorldData) (t : Index) (js : List JourneyData) → Happens (Abort seat number) w v Done → IsWorld (indexed w t js) → IsWorld (indexed v t (ended number js))
 world_aborted seat number w v t js happens h = beside (Abort seat number) w v t js (ended number js) Done happens h (beside_abort seat number w v Done happens) (walks_abort seat number w v js happens h.walks)
-
-pub world_commit_refused : (seat number : ℕ) (w v : WorldData) (t : Index) (js : List JourneyData) (fault : Fault) → Happens (Commit seat number) w v (Refused fault) → IsWorld (indexed w t js) → IsWorld (indexed v t js)
-world_commit_refused seat number w v t js fault happens h = same_world w v t js (leaves (Commit seat number) w v fault happens) h
 
 pub world_committed : (seat number : ℕ) (w v : WorldData) (t : Index) (js : List JourneyData) (outcome : Outcome) → Happens (Commit seat number) w v (Ended outcome) → IsWorld (indexed w t js) → IsWorld (indexed v t (ended number js))
 world_committed seat number w v t js outcome happens h = beside (Commit seat number) w v t js (ended number js) (Ended outcome) happens h (beside_commit seat number w v (Ended outcome) happens) (walks_commit seat number w v js outcome happens h.walks)
@@ -124,12 +110,6 @@ goes_on_with seat number w s e =
     let b = and_then_ok (given (search_with number w.searches)) (owned seat) s a.2 in
     let same = seat_same seat b.0 s b.2 in
     given_ok (search_with number w.searches) b.0 b.1 ∙ ap (λ (x : Search). Some x) same.0
-
-pub world_drop_refused : (seat number : ℕ) (w v : WorldData) (t : Index) (js : List JourneyData) (fault : Fault) → Happens (DropSearch seat number) w v (Refused fault) → IsWorld (indexed w t js) → IsWorld (indexed v t js)
-world_drop_refused seat number w v t js fault happens h = same_world w v t js (leaves (DropSearch seat number) w v fault happens) h
-
-pub world_finish_refused : (seat number : ℕ) (w v : WorldData) (t : Index) (js : List JourneyData) (fault : Fault) → Happens (Finish seat number) w v (Refused fault) → IsWorld (indexed w t js) → IsWorld (indexed v t js)
-world_finish_refused seat number w v t js fault happens h = same_world w v t js (leaves (Finish seat number) w v fault happens) h
 
 pub world_dropped : (seat number : ℕ) (w v : WorldData) (t u : Index) (js : List JourneyData) → Happens (DropSearch seat number) w v Done → IsShut frames t u number → IsWorld (indexed w t js) → IsWorld (indexed v u js)
 world_dropped seat number w v t u js happens shut h =
@@ -214,6 +194,10 @@ world_first subjects decider starts limits w t is first = subst (λ (x : WorldDa
   serves = serves_first subjects decider starts limits t first;
   walks = tt;
 })
+
+pub ready_of : (b : Bool) → not b ≡ false → b ≡ true
+ready_of true e = refl
+ready_of false e = absurd cc
 
 pub unready_of : (b : Bool) → not b ≡ true → b ≡ false
 unready_of true e = absurd cc

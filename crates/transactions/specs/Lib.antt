@@ -4,5 +4,6 @@ pub mod Refusing
 pub mod Walks
 pub mod Walking
 pub mod Stepping
+pub mod Kept
 pub mod Turns
 pub mod WorkedRun

@@ -7,6 +7,7 @@ ghost use Rattle.transactions.specs.Walking.{WalksOn, next_walk};
 ghost use Rattle.transactions.specs.Walks.{begun, ended, if_done, with_walk};
 
 use crate::faults::{fault_of, is_overrun};
+use crate::kept_slots::KeptSlots;
 use crate::walks::Walks;
 use crate::worlds::World;
 use features::Change;
@@ -40,6 +41,7 @@ impl<A: Allocator> World<A> {
     {
         self.plain.abort(seat, number)?;
         self.walks.end(number);
+        self.kept = KeptSlots::none();
         Ok(())
     }
 }
@@ -76,6 +78,7 @@ impl<A: Allocator + Copy> World<A> {
             return Ok(Advance::AllPlaced);
         };
         let mut walk = next_walk(&mut self.walks, &self.index, number, placement);
+        self.kept = KeptSlots::none();
         match self.index.advance(&mut walk) {
             Ok(step) => {
                 if walk.placed() {
@@ -114,6 +117,7 @@ impl<A: Allocator + Copy> World<A> {
     {
         let outcome = self.plain.commit(seat, number)?;
         self.walks.end(number);
+        self.kept = KeptSlots::none();
         Ok(outcome)
     }
 }

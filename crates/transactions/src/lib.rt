@@ -5,6 +5,7 @@
 mod changing;
 mod faults;
 mod governing;
+mod kept_slots;
 mod searching;
 mod tending;
 mod walks;

@@ -24,7 +24,7 @@ impl<A: Allocator> World<A> {
         ensures walks { self.new.walks ≡ self.old.walks }
         ensures index { TendsIndex self.old.plain slot self.old.index self.new.index result }
     {
-        match self.index.tend(slot, &self.plain) {
+        match self.kept.tend(&mut self.index, &self.plain, slot) {
             Ok(tending) => Ok(tending),
             Err(fault) => Err(Fault::Tree(fault)),
         }

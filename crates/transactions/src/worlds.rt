@@ -15,6 +15,7 @@ ghost use Rattle.search_tree.specs.Trees.{IsFirst};
 ghost use Rattle.transactions.specs.Index.{Serves, frames, slots_of};
 ghost use Rattle.transactions.specs.Walks.{AreWalks};
 
+use crate::kept_slots::KeptSlots;
 use crate::walks::Walks;
 use audit_trail::{RECORD_LIMIT, Trail};
 use decision::Decider;
@@ -39,12 +40,14 @@ pub struct World<A: Allocator> {
     pub(crate) plain: PlainWorld<A>,
     pub(crate) index: Tree<Frames, A>,
     pub(crate) walks: Walks<A>,
+    pub(crate) kept: KeptSlots,
 }
 
 impl<A: Allocator> Model for World<A> {
     ghost use Rattle.std.specs.Coded.{code_by, codes};
     ghost use Rattle.transactions.specs.Coding.{StoredIndexed, stored_indexed, restored_indexed, restored_indexed-stored_indexed};
-    ghost use Rattle.transactions.specs.Index.{IndexedWorld, IsWorld};
+    ghost use Rattle.transactions.specs.Index.{IndexedWorld};
+    ghost use Rattle.transactions.specs.Kept.{IsTended};
 
     ghost Value = { IndexedWorld };
 
@@ -52,7 +55,7 @@ impl<A: Allocator> Model for World<A> {
 
     ghost view = { λ w. record { plain = w.plain; index = w.index; walks = w.walks } };
 
-    ghost invariant = { λ w. IsWorld (record { plain = w.plain; index = w.index; walks = w.walks }) };
+    ghost invariant = { λ w. IsTended (record { plain = w.plain; index = w.index; walks = w.walks }) w.kept };
 }
 
 impl<A: Allocator> World<A> {
@@ -262,6 +265,7 @@ impl<A: Allocator + Copy> World<A> {
             plain,
             index,
             walks,
+            kept: KeptSlots::none(),
         })
     }
 }

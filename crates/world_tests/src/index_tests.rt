@@ -404,6 +404,18 @@ fn delete_and_fill(rt: &impl Abort, world: &mut World<Global>) {
     assert!(rt; world.slots() <= slots);
 }
 
+/// Slots where nothing was to do are tended again once their features are deleted, and freed.
+fn tend_and_delete(rt: &impl Abort, world: &mut World<Global>) {
+    check_tended(rt, world, 120);
+    check_tended(rt, world, 120);
+    delete(rt, world, 1, 119);
+    let tended = tend_all(rt, world);
+    assert!(rt; tended.cleaned > 4 && tended.retired > 4);
+    assert_eq!(rt; tended.freed, tended.retired);
+    check_tended(rt, world, 1);
+    check_found(rt, world, 120, 120);
+}
+
 /// All features but the last are deleted while a search has more to see.
 fn delete_under_search(rt: &impl Abort, world: &mut World<Global>) {
     let search = begun(rt, world, 300);
@@ -468,6 +480,7 @@ enum Course {
     AbortedShapesAreLetGo,
     CommittedShapesStay,
     DeletedFeaturesAreLetGo,
+    TendedBeforeTheyAreDeleted,
     FreedOnceTheSearchHasEnded,
     WalksBeginAnew,
     FoundCountBoundsTheMeter,
@@ -476,9 +489,9 @@ enum Course {
 /// The world for a case.
 fn world_for(rt: &impl Abort, heap: Global, trial: Course) -> World<Global> {
     match trial {
-        Course::DeletedFeaturesAreLetGo | Course::FreedOnceTheSearchHasEnded => filled(
-            rt, heap, 120,
-        ),
+        Course::DeletedFeaturesAreLetGo
+        | Course::TendedBeforeTheyAreDeleted
+        | Course::FreedOnceTheSearchHasEnded => filled(rt, heap, 120),
         _ => filled(rt, heap, 40),
     }
 }
@@ -497,6 +510,7 @@ fn go_on(rt: &impl Abort, heap: Global, world: &mut World<Global>, trial: Course
         Course::AbortedShapesAreLetGo => place_and_abort(rt, world),
         Course::CommittedShapesStay => place_sixteen_and_commit(rt, world),
         Course::DeletedFeaturesAreLetGo => delete_and_fill(rt, world),
+        Course::TendedBeforeTheyAreDeleted => tend_and_delete(rt, world),
         Course::FreedOnceTheSearchHasEnded => delete_under_search(rt, world),
         Course::WalksBeginAnew => delete_under_walk(rt, world),
         Course::FoundCountBoundsTheMeter => delete_what_was_found(rt, world),
@@ -548,6 +562,7 @@ fn let_go_by_tending(rt: HostRuntime) {
             Course::AbortedShapesAreLetGo,
             Course::CommittedShapesStay,
             Course::DeletedFeaturesAreLetGo,
+            Course::TendedBeforeTheyAreDeleted,
             Course::FreedOnceTheSearchHasEnded,
             Course::WalksBeginAnew,
             Course::FoundCountBoundsTheMeter,

@@ -5,6 +5,7 @@ use Rattle.tree_answers.specs.declared.answers.Tending.{Tending}
 use Rattle.tree_answers.specs.declared.fault.TreeFault.{TreeFault}
 use Rattle.transactions.specs.Stepping.{told_as}
 use Rattle.transactions.proofs.ServeLemmas.{serves_after_tending}
+use Rattle.transactions.proofs.TendedLemmas.{tended_by}
 use Rattle.transactions.proofs.TendLemmas.{tends_as, told_spent}
 use Rattle.transactions.proofs.WorldLemmas.{index_of, plain_of, world_served}
 use Rattle.transactions.proofs.worlds.World.tend.Goals as goal
@@ -12,8 +13,9 @@ use Rattle.transactions.proofs.worlds.World.tend.Goals.{in-Ok, in-Err}
 
 pub invariant_of-self : goal.invariant_of-self
 invariant_of-self g c =
-    world_served c.self.inside.plain c.self.inside.index c.tend.new.self c.self.inside.walks c.self.invariant
-    (serves_after_tending c.self.inside.plain c.self.inside.index c.tend.new.self c.tend.result c.self.invariant.ordered c.self.invariant.serves c.tend.ensures.tended c.tend.ensures.contents c.tend.ensures.err)
+    let tends = c.tend.ensures.tends in
+    tended_by c.tend.ensures.kept (world_served c.self.inside.plain c.self.inside.index c.tend.new.index c.self.inside.walks c.self.invariant.world
+    (serves_after_tending c.self.inside.plain c.self.inside.index c.tend.new.index c.tend.result c.self.invariant.world.ordered c.self.invariant.world.serves tends.tended tends.contents tends.refused))
 
 pub returns-clause-index : goal.returns-clause-index
 returns-clause-index g c =
@@ -21,14 +23,14 @@ returns-clause-index g c =
       | in-Ok x ↦ x.result-is ∙ sym (ap (λ (r : Result Tending TreeFault). told_as r) x.in-Ok.is)
       | in-Err x ↦ x.result-is ∙ told_spent (λ f. c.self.inside.index.counter ≡ last_number) c.tend.result x.in-Err.fault x.in-Err.is c.tend.ensures.spent
     ] in
-    tends_as c.self.inside.plain _ c.args.slot c.self.inside.index _ c.tend.new.self _ (plain_of _ _ c.self.view_is) (index_of _ _ c.self.view_is) (record {
+    tends_as c.self.inside.plain _ c.args.slot c.self.inside.index _ c.tend.new.index _ (plain_of _ _ c.self.view_is) (index_of _ _ c.self.view_is) (record {
       answer = c.tend.result;
       is = told;
-      tended = c.tend.ensures.tended;
-      contents = c.tend.ensures.contents;
-      first = c.tend.ensures.first;
-      step = c.tend.ensures.step;
-      refused = c.tend.ensures.err;
-      nobody = c.tend.ensures.nobody;
-      untouched = c.tend.ensures.untouched;
+      tended = c.tend.ensures.tends.tended;
+      contents = c.tend.ensures.tends.contents;
+      first = c.tend.ensures.tends.first;
+      step = c.tend.ensures.tends.step;
+      refused = c.tend.ensures.tends.refused;
+      nobody = c.tend.ensures.tends.nobody;
+      untouched = c.tend.ensures.tends.untouched;
     })
