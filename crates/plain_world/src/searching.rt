@@ -40,7 +40,12 @@ impl<A: Allocator> PlainWorld<A> {
         ensures { self.new
             ≡ record self.old {
               searches = self.old.searches
-                  ++ record { number = self.old.next_search; seat = seat; window = window; ready = false }
+                  ++ record {
+                    number = self.old.next_search;
+                    seat = seat;
+                    window = window;
+                    ready = false;
+                  }
                   ∷ [];
               next_search = self.old.next_search + 1;
             } }
@@ -125,7 +130,13 @@ impl<A: Allocator + Copy> PlainWorld<A> {
     ) -> Result<Answer<A>, Refused>
         requires { FindsAll self.now.state.features window found.now }
         ensures told { IfOk result (λ a. Listed self.now.state subject window a.rows
-            × (a ≡ record { subject = subject; window = window; decider = self.now.state.decider; rows = a.rows })) }
+            × (a
+            ≡ record {
+              subject = subject;
+              window = window;
+              decider = self.now.state.decider;
+              rows = a.rows;
+            })) }
         ensures metered { meter.new ≤ meter.old + length found.now }
         ensures raised { meter.old ≤ meter.new }
     {
