@@ -1,0 +1,7 @@
+pub mod Words
+pub mod Marks
+pub mod Faults
+pub mod Gathering
+pub mod Elements
+pub mod Pictures
+pub mod Drawings
