@@ -4,11 +4,10 @@
 
 use byte_streams::{WriteFailed, flush, let_go, write_shown};
 use client::{End, TalkFault, talk};
+use command_line::{WordsFault, host_words};
 use log::Log;
 use memory::{Refused, another, buffered, shared, text};
-use program::{
-    HostFolder, Next, ProgramFault, WantedServer, WordsFault, host_words, run_program, tell,
-};
+use program::{HostFolder, Next, ProgramFault, WantedServer, run_program, tell};
 use server::{Closed, ServerFault, Serving, SocketOptions, serve_socket, watch};
 use std::alloc::Global;
 use std::fs::Files;

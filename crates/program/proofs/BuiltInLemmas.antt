@@ -8,10 +8,10 @@ use Rattle.serde_json.proofs.OnLiterals.{serde_json_on_literals}
 use Rattle.sessions.specs.BuiltIn.{built_in}
 use Rattle.policy_text.specs.Reading.{document_in, zones_at, node_at, policy_at, head_at, rule_at, target_at, when_at, each_at, optional_array_in}
 use Rattle.program.specs.BuiltIn.{built_in_config, open_document}
-use Rattle.program.specs.ConfigFaults.{Gives}
-use Rattle.program.specs.Configs.{config_data, config_of, config_in, config_from, subject_in, subjects_in}
-use Rattle.program.specs.declared.config_faults.ConfigFault.{ConfigFault}
-use Rattle.program.specs.declared.configs.Config.{Config}
+use Rattle.configuration.specs.ConfigFaults.{Gives}
+use Rattle.configuration.specs.Configs.{config_data, config_of, config_in, config_from, subject_in, subjects_in}
+use Rattle.configuration.specs.declared.config_faults.ConfigFault.{ConfigFault}
+use Rattle.configuration.specs.declared.configs.Config.{Config}
 
 abbrev subject_value : List ℕ → List ℕ → List ℕ → Members → Data
 subject_value name office role rest =

@@ -1,13 +1,6 @@
-pub mod AskedLemmas
 pub mod BuiltInLemmas
-pub mod CommandLemmas
-pub mod CommandLineRows
-pub mod ConfigLemmas
-pub mod FileLemmas
-pub mod HelpLemmas
-pub mod NumberLemmas
+pub mod CheckLemmas
+pub mod DrawLemmas
 pub mod ProgramLemmas
-pub mod RowLemmas
 pub mod RunLemmas
-pub mod SpellingLaws
 pub mod TellLemmas

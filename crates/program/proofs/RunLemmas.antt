@@ -8,13 +8,13 @@ use Rattle.byte_streams.specs.declared.writing.Flushed.{Flushed}
 use Rattle.line_streams.specs.declared.streams.ServeFault.{ServeFault}
 use Rattle.line_streams.specs.declared.streams.ServeFault.TheVariants as reasons
 use Rattle.plain_world.specs.States.{WorldData}
-use Rattle.program.specs.ConfigFiles.{FileGives, IsConfigFault, IsConfigText}
-use Rattle.program.specs.Configs.{ConfigData, config_data}
+use Rattle.configuration.specs.ConfigFiles.{FileGives, IsConfigFault, IsConfigText}
+use Rattle.configuration.specs.Configs.{ConfigData, config_data}
 use Rattle.program.specs.Ends.{told_as}
 use Rattle.program.specs.RunFaults.{BrokeOff, CameTo, IsOfRun}
 use Rattle.program.specs.Runs.{IsConfigOf, RanScript, Served, world_of}
-use Rattle.program.specs.declared.config_faults.ConfigFault.{ConfigFault}
-use Rattle.program.specs.declared.configs.Config.{Config}
+use Rattle.configuration.specs.declared.config_faults.ConfigFault.{ConfigFault}
+use Rattle.configuration.specs.declared.configs.Config.{Config}
 use Rattle.program.specs.declared.faults.ProgramFault.{ProgramFault}
 
 -- the configuration read from a file is the file's configuration

@@ -4,7 +4,7 @@ use Rattle.policy_documents.specs.Documents.{DocumentData, policy}
 use Rattle.policy_documents.specs.declared.algorithms.Algorithm.TheVariants.{FirstApplicable}
 use Rattle.policy_documents.specs.declared.algorithms.Effect.TheVariants.{Permit}
 use Rattle.sessions.specs.BuiltIn.{built_in}
-use Rattle.program.specs.Configs.{ConfigData}
+use Rattle.configuration.specs.Configs.{ConfigData}
 
 -- everything is permitted, by the rule `open`
 abbrev pub open_document : DocumentData

@@ -3,8 +3,9 @@ use Rattle.std.specs.Prelude.{ℕ, List, [], ◌++◌, codes}
 use Rattle.program.specs.declared.ends.Ended.{Ended}
 use Rattle.program.specs.declared.ends.Ended.TheVariants.{Well, Failed, TurnedDown}
 use Rattle.program.specs.declared.faults.ProgramFault.{ProgramFault}
-use Rattle.program.specs.declared.faults.ProgramFault.TheVariants.{CannotRead, CannotBind, CannotConnect, CannotWrite, Words, Memory, Config, World, Run, Server, Talk}
-use Rattle.program.specs.ConfigFaults.{config_code_of}
+use Rattle.program.specs.declared.faults.ProgramFault.TheVariants.{CannotRead, CannotBind, CannotConnect, CannotWrite, Words, Memory, Config, World, Run, Draw, Server, Talk}
+use Rattle.configuration.specs.ConfigFaults.{config_code_of}
+use Rattle.drawing.specs.Faults.{code_of as draw_code}
 use Rattle.line_streams.specs.Faults.{serve_code_of}
 use Rattle.line_streams.specs.declared.streams.ServeFault.{ServeFault}
 use Rattle.line_streams.specs.declared.streams.ServeFault.TheVariants as reasons
@@ -28,6 +29,7 @@ fault_word (Memory refused) = codes "V4"
 fault_word (Config fault) = config_code_of fault
 fault_word (World fault) = fault_code fault
 fault_word (Run fault) = serve_code_of fault
+fault_word (Draw fault) = draw_code fault
 fault_word (Server code) = code.now
 fault_word (Talk word) = word.now
 

@@ -1,11 +1,6 @@
-pub mod Asking
 pub mod BuiltIn
-pub mod CommandLine
-pub mod ConfigFaults
-pub mod ConfigFiles
-pub mod Configs
+pub mod Checks
 pub mod Ends
 pub mod Programs
 pub mod RunFaults
 pub mod Runs
-pub mod Spelling

@@ -11,13 +11,13 @@ use Rattle.sessions.specs.States.{SessionState}
 use Rattle.line_streams.specs.Streams.{NeverEnds, Ran}
 use Rattle.byte_streams.specs.declared.writing.Flushed.{Flushed}
 use Rattle.line_streams.specs.declared.streams.ServeFault.{ServeFault}
-use Rattle.program.specs.ConfigFiles.{IsConfigFault, IsReadFault}
-use Rattle.program.specs.Configs.{ConfigData}
+use Rattle.configuration.specs.ConfigFiles.{IsConfigFault, IsReadFault}
+use Rattle.configuration.specs.Configs.{ConfigData}
 use Rattle.program.specs.Ends.{told_as}
 use Rattle.program.specs.Runs.{IsConfigOf, world_of}
-use Rattle.program.specs.declared.config_faults.ConfigFault.TheVariants.{Memory}
+use Rattle.configuration.specs.declared.config_faults.ConfigFault.TheVariants.{Memory}
 use Rattle.program.specs.declared.faults.ProgramFault.{ProgramFault}
-use Rattle.program.specs.declared.files.ReadFault.TheVariants.{NotOpened}
+use Rattle.configuration.specs.declared.files.ReadFault.TheVariants.{NotOpened}
 use Rattle.program.specs.declared.faults.ProgramFault.TheVariants.{CannotRead, CannotWrite, Config, World, Run}
 
 -- the fault is that the file of this name was not opened, and `closed` holds for the name

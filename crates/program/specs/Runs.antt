@@ -7,8 +7,8 @@ use Rattle.plain_world.specs.declared.settings.TheConstants.{STEP_LIMIT}
 use Rattle.audit_trail.specs.declared.trails.TheConstants.{RECORD_LIMIT}
 use Rattle.features.specs.declared.tables.TheConstants.{FEATURE_LIMIT}
 use Rattle.program.specs.BuiltIn.{built_in_config}
-use Rattle.program.specs.ConfigFiles.{IsConfigText}
-use Rattle.program.specs.Configs.{ConfigData}
+use Rattle.configuration.specs.ConfigFiles.{IsConfigText}
+use Rattle.configuration.specs.Configs.{ConfigData}
 
 -- the world that a configuration opens: its subjects, its policies in force as the first edition,
 -- no features, no records

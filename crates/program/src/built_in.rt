@@ -2,11 +2,10 @@
 
 ghost use Rattle.std.specs.Prelude.{Ok};
 ghost use Rattle.program.specs.BuiltIn.{built_in_config};
-ghost use Rattle.program.specs.ConfigFaults.{Gives};
-ghost use Rattle.program.specs.Configs.{config_data};
+ghost use Rattle.configuration.specs.ConfigFaults.{Gives};
+ghost use Rattle.configuration.specs.Configs.{config_data};
 
-use crate::config_faults::ConfigFault;
-use crate::configs::{Config, read_config};
+use configuration::{Config, ConfigFault, read_config};
 use std::alloc::{Allocator, Global};
 
 /// The text of the built-in configuration.

@@ -3,10 +3,10 @@
 ghost use Rattle.std.specs.Prelude.{◌≡◌};
 ghost use Rattle.program.specs.Ends.{exit_status};
 
-use crate::configs::Config;
 use crate::faults::ProgramFault;
-use crate::options::ServerOptions;
 use byte_streams::{Flushed, WriteFailed};
+use command_line::ServerOptions;
+use configuration::Config;
 use std::alloc::Global;
 
 /// How a run of the program ended.

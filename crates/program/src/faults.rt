@@ -2,10 +2,10 @@
 
 ghost use Rattle.std.specs.Prelude.{◌≡◌};
 
-use crate::command_line::WordsRefused;
-use crate::config_faults::ConfigFault;
-use crate::files::ReadFault;
 use byte_streams::WriteFailed;
+use command_line::WordsRefused;
+use configuration::{ConfigFault, ReadFault};
+use drawing::DrawFault;
 use memory::Refused;
 use sessions::ServeFault;
 use std::fmt;
@@ -33,6 +33,8 @@ pub enum ProgramFault<'a> {
     World(Fault),
     /// The run ended with this fault.
     Run(ServeFault),
+    /// A drawing was not made.
+    Draw(DrawFault),
     /// The server ended with a fault of this code.
     Server(&'static str),
     /// A talk with a server ended with a fault, which is shown as this text.
@@ -55,6 +57,7 @@ impl ProgramFault<'_> {
             ProgramFault::Config(fault) => fault.code(),
             ProgramFault::World(fault) => fault.code(),
             ProgramFault::Run(fault) => fault.code(),
+            ProgramFault::Draw(fault) => fault.code(),
             ProgramFault::Server(code) => code,
             ProgramFault::Talk(word) => word,
         }

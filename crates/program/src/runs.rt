@@ -1,23 +1,20 @@
 //! Runs of the program, from the words of the command line to its end.
 
-ghost use Rattle.std.specs.Prelude.{◌≡◌, ◌↔◌, ℕ, List, Option, Some, OnOk, IfOk, IfErr, IfSome, IsTrue, map, option_map, string_bytes};
-ghost use Rattle.clap.specs.Words.{kind_of};
-ghost use Rattle.program.specs.Configs.{config_data};
+ghost use Rattle.std.specs.Prelude.{◌≡◌, ℕ, List, Option, Some, OnOk, IfOk, IfErr, IfSome, map, option_map, string_bytes};
+ghost use Rattle.configuration.specs.Configs.{config_data};
 ghost use Rattle.program.specs.Ends.{IsUnwritten};
-ghost use Rattle.program.specs.Programs.{IsAnswer, IsNext, IsServerFault, IsServerOf};
+ghost use Rattle.program.specs.Programs.{DrawAnswered, IsAnswer, IsNext, IsServerFault, IsServerOf, LookAnswered, PageAnswered};
 ghost use Rattle.program.specs.RunFaults.{BrokeOff, IsOfConfig, IsOfRun};
 ghost use Rattle.program.specs.Runs.{IsConfigOf, RanScript, Served};
 
 use crate::built_in::built_in_config;
-use crate::configs::Config;
+use crate::checks::{check_named, draw_named, print_asked};
 use crate::ends::{Ended, Next, WantedServer};
 use crate::faults::ProgramFault;
-use crate::files::{FileFault, ReadFault, read_config_file};
 use crate::telling::tell;
-use crate::words::{Asked, ScriptWords, ServeWords, read_words};
 use byte_streams::{Flushed, NotOpened, flush, write_shown};
-use clap::Error;
-use clap::error::ErrorKind;
+use command_line::{Asked, ScriptWords, ServeWords, Shell, Shown, read_words};
+use configuration::{Config, FileFault, ReadFault, read_config_file};
 use sessions::run_script;
 use std::alloc::{Allocator, Global};
 use std::io::{Read, Write};
@@ -146,15 +143,8 @@ pub fn run_named<'a, F: Folder, W: Write>(
     run_file(heap, heap, config, &mut file, output)
 }
 
-/// Whether clap's text is the help that was asked for.
-fn is_help(text: &Error) -> bool
-    ensures { IsTrue result ↔ (kind_of text.now ≡ ErrorKind.DisplayHelp) }
-{
-    matches!(text.kind(), ErrorKind::DisplayHelp)
-}
-
 /// Writes help to the output, and flushes it.
-fn show_help<'a, W: Write>(help: &Error, output: &mut W) -> Result<Flushed, ProgramFault<'a>>
+fn show_help<'a, W: Write>(help: &Shown<'_>, output: &mut W) -> Result<Flushed, ProgramFault<'a>>
     ensures { IfErr result (λ fault. IsUnwritten fault) }
 {
     write_shown(help, output)?;
@@ -171,7 +161,7 @@ enum Answer<'a> {
     /// They ask for a talk with the server at this path.
     Connect(&'a str),
     /// clap rejected them, with this text.
-    Mistaken(Error),
+    Mistaken(Shown<'a>),
 }
 
 /// The server that the command line asks for. The faults are those of its configuration.
@@ -193,11 +183,58 @@ fn wanted_server<'a, F: Folder>(
     }
 }
 
+/// Looks at the configuration in the file of this name.
+fn answer_check<'a, F: Folder, O: Write>(
+    heap: Global,
+    name: &'a str,
+    folder: &F,
+    output: &mut O,
+) -> Result<Answer<'a>, ProgramFault<'a>>
+    ensures { LookAnswered (F.holds folder.now) (F.closed folder.now) name.now
+        (O.contents output.old) (O.contents output.new) result }
+{
+    match check_named(heap, name, folder, output) {
+        Ok(flushed) => Ok(Answer::Done(flushed)),
+        Err(fault) => Err(fault),
+    }
+}
+
+/// Draws the script in the file of this name.
+fn answer_draw<'a, F: Folder, O: Write>(
+    heap: Global,
+    name: &'a str,
+    folder: &F,
+    output: &mut O,
+) -> Result<Answer<'a>, ProgramFault<'a>>
+    ensures { DrawAnswered (F.holds folder.now) (F.closed folder.now) name.now
+        (O.contents output.old) (O.contents output.new) result }
+{
+    match draw_named(heap, name, folder, output) {
+        Ok(flushed) => Ok(Answer::Done(flushed)),
+        Err(fault) => Err(fault),
+    }
+}
+
+/// Prints the manual page, or the completions for a shell.
+fn answer_page<'a, O: Write>(
+    heap: Global,
+    shell: Option<Shell>,
+    output: &mut O,
+) -> Result<Answer<'a>, ProgramFault<'a>>
+    ensures { PageAnswered shell (O.contents output.old) (O.contents output.new) result }
+{
+    match print_asked(heap, shell, output) {
+        Ok(flushed) => Ok(Answer::Done(flushed)),
+        Err(fault) => Err(fault),
+    }
+}
+
 /// Does what the words of the command line ask for. For a server it reads only the configuration;
 /// for a talk it returns only the path. If clap rejects the words, nothing is done and clap's text
 /// is returned.
 /// Faults: `Words` if there is no memory for the command line; `CannotWrite` if help cannot be
-/// written; those of `run_named`; those of a server's configuration.
+/// written; those of `run_named`, of `check_named`, of `draw_named`, and of a page that is printed;
+/// those of a server's configuration.
 fn run_asked<'a, F: Folder, O: Write>(
     alloc: Global,
     words: &'a [String],
@@ -217,11 +254,15 @@ fn run_asked<'a, F: Folder, O: Write>(
             Err(fault) => Err(fault),
         },
         Ok(Asked::Connect(path)) => Ok(Answer::Connect(path)),
-        Ok(Asked::Text(help)) if is_help(&help) => match show_help(&help, output) {
+        Ok(Asked::Check(name)) => answer_check(alloc, name, folder, output),
+        Ok(Asked::Draw(name)) => answer_draw(alloc, name, folder, output),
+        Ok(Asked::Man) => answer_page(alloc, None, output),
+        Ok(Asked::Completions(shell)) => answer_page(alloc, Some(shell), output),
+        Ok(Asked::Help(help)) => match show_help(&help, output) {
             Ok(flushed) => Ok(Answer::Done(flushed)),
             Err(fault) => Err(fault),
         },
-        Ok(Asked::Text(mistake)) => Ok(Answer::Mistaken(mistake)),
+        Ok(Asked::Mistake(mistake)) => Ok(Answer::Mistaken(mistake)),
         Err(refused) => Err(ProgramFault::Words(refused)),
     }
 }
@@ -239,7 +280,8 @@ pub fn run_program<'a, F: Folder, O: Write, E: Write>(
     errors: &mut E,
 ) -> Next<'a>
     ensures { IsNext (map (λ word. string_bytes word) words.entry.now) (F.holds folder.now)
-        (F.closed folder.now) O.contents output.old output.new E.contents errors.old errors.new result }
+        (F.closed folder.now) O.contents output.old output.new E.contents errors.old errors.new
+        result }
 {
     match run_asked(alloc, words, folder, output) {
         Ok(Answer::Done(flushed)) => Next::Exit(Ended::Well(flushed)),

@@ -1,9 +1,9 @@
 //! Configurations: what is read from a text or a file, and the first fault of a faulty one.
-use failing_streams::LongReader;
-use program::{
-    CONFIG_LIMIT, Config, ConfigFault, FileFault, ReadFault, built_in_config, read_config,
-    read_config_file,
+use configuration::{
+    CONFIG_LIMIT, Config, ConfigFault, FileFault, ReadFault, read_config, read_config_file,
 };
+use failing_streams::LongReader;
+use program::built_in_config;
 use refusing::Refusing;
 use std::alloc::{AllocError, Allocator, Global};
 use std::process::Abort;

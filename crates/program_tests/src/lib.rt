@@ -3,6 +3,8 @@
 #![tactic(auto)]
 
 #[cfg(test)]
+mod check_tests;
+#[cfg(test)]
 mod config_tests;
 #[cfg(test)]
 mod connect_tests;

@@ -3,11 +3,9 @@ use crate::running::{
     AS_BUILT_IN, BY_INES, FIRST_POINT, Text, Two, check, shows, status_of, words,
 };
 use byte_streams::NotOpened;
+use configuration::{CONFIG_LIMIT, ConfigFault};
 use failing_streams::{CountingReader, FailingWriter, Failure, LongReader};
-use program::{
-    CONFIG_LIMIT, ConfigFault, Ended, Folder, Next, ProgramFault, built_in_config, run_file,
-    run_program, tell,
-};
+use program::{Ended, Folder, Next, ProgramFault, built_in_config, run_file, run_program, tell};
 use refusing::Refusing;
 use std::alloc::{AllocError, Global};
 use std::io::Read;
@@ -588,7 +586,7 @@ fn help_of_the_program(rt: HostRuntime) -> Result<(), Fail> {
             "\n  landmap script --config agency.json day.map\n",
             "\n  landmap serve --socket map.sock --connections 100\n",
             "\n  landmap connect --socket map.sock\n",
-            "\n`landmap script --help` has the lines of a script, and the codes by which a run\nends; `landmap serve --help` has the options of a server, and its codes;\n`landmap connect --help` tells how to talk to a server.\n",
+            "\n`landmap script --help` has the lines of a script, and the codes by which a run\nends; `landmap serve --help` has the options of a server, and its codes;\n`landmap connect --help` tells how to talk to a server. `landmap check` looks at\na configuration alone;",
             "\nExit status:\n  0  ",
             "\n  1  a file cannot be read, the configuration is faulty, the socket cannot be\n     bound or connected, or the run or the talk broke off; one line on standard\n     error says which\n",
             "\n  2  the command line is wrong",

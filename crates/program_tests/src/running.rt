@@ -76,7 +76,7 @@ impl<'a> Folder for Two<'a> {
     fn open_file(&self, name: &str) -> Result<FailingReader<'a>, NotOpened> {
         let (bytes, fails_at) = match name {
             "a.json" => (self.config, 0),
-            "a.map" => (self.script, self.fails_at),
+            "a.map" | "-" => (self.script, self.fails_at),
             _ => return absent(self.host),
         };
         Ok(FailingReader { bytes, fails_at })

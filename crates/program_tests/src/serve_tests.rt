@@ -1,7 +1,8 @@
 //! How a command line asks for a server: its options, its configuration, and which fault is
 //! reported first.
 use crate::running::{BY_INES, Two, check, shows, words};
-use program::{Next, ServerOptions, run_program};
+use command_line::ServerOptions;
+use program::{Next, run_program};
 use std::alloc::{AllocError, Global};
 use std::process::Abort;
 use std::test::Fail;

@@ -1,45 +1,70 @@
-use Rattle.std.proofs.Common.{List, IfOk, map, string_bytes, refl, subst}
-use Rattle.clap.specs.Words.{Text}
-use Rattle.program.specs.Asking.{IsAsked}
+use Rattle.std.proofs.Common.{ℕ, List, IfOk, None, Some, map, string_bytes, refl, subst}
+use Rattle.command_line.specs.Asking.{IsAsked}
 use Rattle.program.specs.Programs.{IsFault}
-use Rattle.program.proofs.ProgramLemmas.{help_asked, script_broke, script_served, server_failed, server_wanted}
+use Rattle.program.proofs.ProgramLemmas.{draw_answers, look_answers, page_answers, script_broke, script_served, server_failed, server_wanted}
 use Rattle.program.proofs.runs.run_asked.Goals as goal
 
 pub returns-in-Ok : goal.returns-in-Ok
 returns-in-Ok g c =
-    let words : List Text = map (λ word. string_bytes word) c.args.words.now in
+    let words : List (List ℕ) = map (λ word. string_bytes word) c.args.words.now in
     let asked = subst (λ r. IfOk r (IsAsked words)) c.in-Ok-Script.is c.read_words.ensures in
     script_served words _ _ _ c.in-Ok-Script.field-0 c.in-Ok-Script.files asked c.in-Ok-Script.field-0-is c.in-Ok.ensures.ran
 
 pub returns-in-Ok-Script : goal.returns-in-Ok-Script
 returns-in-Ok-Script g c =
-    let words : List Text = map (λ word. string_bytes word) c.args.words.now in
+    let words : List (List ℕ) = map (λ word. string_bytes word) c.args.words.now in
     let asked = subst (λ r. IfOk r (IsAsked words)) c.in-Ok-Script.is c.read_words.ensures in
     script_broke words _ _ _ _ c.in-Ok-Script.field-0 c.in-Ok-Script.files c.in-Err-run_named.fault asked c.in-Ok-Script.field-0-is c.in-Err-run_named.ensures.err
 
 pub returns-in-Ok-wanted_server : goal.returns-in-Ok-wanted_server
 returns-in-Ok-wanted_server g c =
-    let words : List Text = map (λ word. string_bytes word) c.args.words.now in
+    let words : List (List ℕ) = map (λ word. string_bytes word) c.args.words.now in
     let asked = subst (λ r. IfOk r (IsAsked words)) c.in-Ok-Serve.is c.read_words.ensures in
     (server_wanted words _ c.in-Ok-Serve.field-0 c.in-Ok-Serve.given c.in-Ok-wanted_server.server asked c.in-Ok-Serve.field-0-is c.in-Ok-wanted_server.ensures.ok, refl)
 
 pub returns-in-Ok-Serve : goal.returns-in-Ok-Serve
 returns-in-Ok-Serve g c =
-    let words : List Text = map (λ word. string_bytes word) c.args.words.now in
+    let words : List (List ℕ) = map (λ word. string_bytes word) c.args.words.now in
     let asked = subst (λ r. IfOk r (IsAsked words)) c.in-Ok-Serve.is c.read_words.ensures in
     server_failed words _ _ _ c.in-Ok-Serve.field-0 c.in-Ok-Serve.given c.in-Err-wanted_server.fault asked c.in-Ok-Serve.field-0-is c.in-Err-wanted_server.ensures.err
 
 pub returns-in-Ok-Connect : goal.returns-in-Ok-Connect
 returns-in-Ok-Connect g c =
-    let words : List Text = map (λ word. string_bytes word) c.args.words.now in
+    let words : List (List ℕ) = map (λ word. string_bytes word) c.args.words.now in
     let asked = subst (λ r. IfOk r (IsAsked words)) c.in-Ok-Connect.is c.read_words.ensures in
     (subst (IsAsked words) c.in-Ok-Connect.field-0-is asked, refl)
 
-pub returns-in-Ok-Text : goal.returns-in-Ok-Text
-returns-in-Ok-Text g c =
-    let words : List Text = map (λ word. string_bytes word) c.args.words.now in
-    let asked = subst (λ r. IfOk r (IsAsked words)) c.in-Ok-Text.is c.read_words.ensures in
-    IsFault.help c.in-Err-show_help.fault (help_asked words c.in-Ok-Text.field-0 c.in-Ok-Text.help asked c.in-Ok-Text.field-0-is (c.is_help.ensures.0 c.if-is_help.true)) c.in-Err-show_help.ensures
+pub returns-in-Ok-Check : goal.returns-in-Ok-Check
+returns-in-Ok-Check g c =
+    let words : List (List ℕ) = map (λ word. string_bytes word) c.args.words.now in
+    let asked = subst (λ r. IfOk r (IsAsked words)) c.in-Ok-Check.is c.read_words.ensures in
+    let given = subst (IsAsked words) c.in-Ok-Check.field-0-is asked in
+    look_answers words _ _ g.O.Write.contents c.args.output.now c.answer_check.new.output c.in-Ok-Check.name.now c.answer_check.result given.0 given.1 c.answer_check.ensures
+
+pub returns-in-Ok-Draw : goal.returns-in-Ok-Draw
+returns-in-Ok-Draw g c =
+    let words : List (List ℕ) = map (λ word. string_bytes word) c.args.words.now in
+    let asked = subst (λ r. IfOk r (IsAsked words)) c.in-Ok-Draw.is c.read_words.ensures in
+    let given = subst (IsAsked words) c.in-Ok-Draw.field-0-is asked in
+    draw_answers words _ _ g.O.Write.contents c.args.output.now c.answer_draw.new.output c.in-Ok-Draw.name.now c.answer_draw.result given.0 given.1 c.answer_draw.ensures
+
+pub returns-in-Ok-Man : goal.returns-in-Ok-Man
+returns-in-Ok-Man g c =
+    let words : List (List ℕ) = map (λ word. string_bytes word) c.args.words.now in
+    let asked = subst (λ r. IfOk r (IsAsked words)) c.in-Ok-Man.is c.read_words.ensures in
+    page_answers words _ _ g.O.Write.contents c.args.output.now c.answer_page.new.output None c.answer_page.result (subst (IsAsked words) c.in-Ok-Man.field-0-is asked) c.answer_page.ensures
+
+pub returns-in-Ok-Completions : goal.returns-in-Ok-Completions
+returns-in-Ok-Completions g c =
+    let words : List (List ℕ) = map (λ word. string_bytes word) c.args.words.now in
+    let asked = subst (λ r. IfOk r (IsAsked words)) c.in-Ok-Completions.is c.read_words.ensures in
+    page_answers words _ _ g.O.Write.contents c.args.output.now c.answer_page-in-Ok-Completions.new.output (Some c.in-Ok-Completions.shell) c.answer_page-in-Ok-Completions.result (subst (IsAsked words) c.in-Ok-Completions.field-0-is asked) c.answer_page-in-Ok-Completions.ensures
+
+pub returns-in-Ok-Help : goal.returns-in-Ok-Help
+returns-in-Ok-Help g c =
+    let words : List (List ℕ) = map (λ word. string_bytes word) c.args.words.now in
+    let asked = subst (λ r. IfOk r (IsAsked words)) c.in-Ok-Help.is c.read_words.ensures in
+    IsFault.help c.in-Err-show_help.fault (subst (IsAsked words) c.in-Ok-Help.field-0-is asked) c.in-Err-show_help.ensures
 
 pub returns : goal.returns
 returns g c = IsFault.unread c.in-Err.refused refl

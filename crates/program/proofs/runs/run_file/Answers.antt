@@ -1,7 +1,7 @@
 use Rattle.std.proofs.Common.{Err, IfErr}
 use Rattle.line_streams.proofs.LeavingLemmas.{left_by}
 use Rattle.program.proofs.RunLemmas.{came, of_run, served}
-use Rattle.program.specs.Configs.{config_data}
+use Rattle.configuration.specs.Configs.{config_data}
 use Rattle.program.specs.RunFaults.{IsOfRun}
 use Rattle.program.proofs.runs.run_file.Goals as goal
 

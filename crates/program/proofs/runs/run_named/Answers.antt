@@ -1,5 +1,5 @@
 use Rattle.std.proofs.Common.{refl}
-use Rattle.program.specs.Configs.{config_data}
+use Rattle.configuration.specs.Configs.{config_data}
 use Rattle.program.specs.RunFaults.{BrokeOff}
 use Rattle.program.proofs.runs.run_named.Goals as goal
 

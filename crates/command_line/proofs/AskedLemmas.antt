@@ -1,0 +1,406 @@
+-- If clap accepts the words of a command line, they name one of its subcommands, and give it what
+-- it needs.
+use Rattle.std.proofs.Common.{◌≡◌, inl, inr, Bool, true, false, not, ◌&&◌, ◌||◌, if◌then◌else◌, List, [], Option, None, Some, is_some, option_map, refl, ap, sym, subst, codes, true≢false}
+use Rattle.std.specs.Prelude.{Box}
+use Rattle.std.specs.Box.{box_value}
+use Rattle.std.specs.List.{list_any}
+use Rattle.std.specs.Option.{option_map_or}
+use Rattle.std.specs.Str.{bytes_eq}
+use Rattle.std.proofs.lemmas.Slice.Eq.{bytes_eq-Decides}
+use Rattle.clap.specs.Facts.{explicit_source}
+use Rattle.clap.specs.Faults.{check_fault, entered_fault, level_fault}
+use Rattle.clap.specs.Kinds.{check_kinds}
+use Rattle.clap.specs.Simple.{App, Shape, argument_words, built, built_leaf, entered, filled, help_shape, inherited, marked_built, names_of, new_rule, on_top, rows_at, with_index, with_leaf_noted}
+use Rattle.clap.specs.Takes.{is_given}
+use Rattle.clap.specs.Walk.{Row, Rule, Text, finished, first_of, nothing_held, walk, walk_from}
+use Rattle.clap.specs.Words.{subcommand_name_of, subcommand_of, subcommand_rows, subcommand_rows_of}
+use Rattle.clap.specs.declared.parser.matches.ArgMatches.{ArgMatches}
+use Rattle.clap.specs.declared.parser.matches.ArgMatches.TheViews.{out-ArgMatches, out-SubCommand}
+use Rattle.clap.specs.declared.parser.matches.SubCommand.{SubCommand}
+use Rattle.command_line.specs.CommandLine.{check_line, command_for, command_line, completions_line, connect_line, draw_line, flag_rule, man_line, needed, option_rule, refusals, script_line, serve_line, up_to}
+use Rattle.command_line.specs.declared.options.TheConstants.{CONNECTION_LIMIT, IDLE_LIMIT, WORKER_LIMIT}
+use Rattle.command_line.proofs.HelpLemmas.{EntersNoHelp, IsNoHelp, walk_no_help}
+use Rattle.command_line.proofs.NumberLemmas.{Passes, has_first, passes}
+use Rattle.command_line.proofs.RowLemmas.{AreKnown, ArePassed, level_passed, level_steps}
+
+-- ---- the subcommands, as clap builds them
+
+abbrev built_below : App → Shape
+built_below line = built_leaf (inherited (on_top with_leaf_noted (on_top marked_built command_line)).top line.top)
+
+abbrev script_built : Shape
+script_built = built_below script_line
+
+abbrev serve_built : Shape
+serve_built = built_below serve_line
+
+abbrev connect_built : Shape
+connect_built = built_below connect_line
+
+abbrev check_built : Shape
+check_built = built_below check_line
+
+abbrev draw_built : Shape
+draw_built = built_below draw_line
+
+abbrev man_built : Shape
+man_built = built_below man_line
+
+abbrev completions_built : Shape
+completions_built = built_below completions_line
+
+abbrev help_built : Shape
+help_built = built_leaf help_shape
+
+abbrev file_rule : Rule
+file_rule = with_index 1 (filled (needed (new_rule (codes "FILE"))))
+
+abbrev shell_rule : Rule
+shell_rule = with_index 1 (filled (needed (new_rule (codes "SHELL"))))
+
+abbrev drawn_rule : Rule
+drawn_rule = with_index 1 (filled (needed (new_rule (codes "SCRIPT"))))
+
+abbrev config_rule : Rule
+config_rule = filled (needed (option_rule (codes "config")))
+
+abbrev socket_rule : Rule
+socket_rule = filled (needed (option_rule (codes "socket")))
+
+abbrev pub connections_rule : Rule
+connections_rule = filled (needed (up_to CONNECTION_LIMIT (option_rule (codes "connections"))))
+
+abbrev pub workers_rule : Rule
+workers_rule = filled (up_to WORKER_LIMIT (option_rule (codes "workers")))
+
+abbrev pub idle_rule : Rule
+idle_rule = filled (up_to IDLE_LIMIT (option_rule (codes "idle")))
+
+abbrev pub takeover_rule : Rule
+takeover_rule = filled (flag_rule (codes "takeover"))
+
+abbrev pub until_rule : Rule
+until_rule = filled (flag_rule (codes "until-stdin-ends"))
+
+script_known : AreKnown script_built.rules script_built.rules
+script_known = (
+  record { plain = inl (tt, inl refl); own = refl; defaults = refl },
+  (record { plain = inl (tt, inl refl); own = refl; defaults = refl }, (record { plain = inr refl; own = refl; defaults = refl }, tt)),
+)
+
+serve_known : AreKnown serve_built.rules serve_built.rules
+serve_known = (
+  record { plain = inl (tt, inl refl); own = refl; defaults = refl },
+  (
+    record { plain = inl (tt, inl refl); own = refl; defaults = refl },
+    (
+      record { plain = inl (tt, inl refl); own = refl; defaults = refl },
+      (
+        record { plain = inl (tt, inl refl); own = refl; defaults = refl },
+        (
+          record { plain = inl (tt, inl refl); own = refl; defaults = refl },
+          (
+            record { plain = inl (tt, inr tt); own = refl; defaults = refl },
+            (
+              record { plain = inl (tt, inr tt); own = refl; defaults = refl },
+              (record { plain = inr refl; own = refl; defaults = refl }, tt),
+            ),
+          ),
+        ),
+      ),
+    ),
+  ),
+)
+
+connect_known : AreKnown connect_built.rules connect_built.rules
+connect_known = (record { plain = inl (tt, inl refl); own = refl; defaults = refl }, (record { plain = inr refl; own = refl; defaults = refl }, tt))
+
+check_known : AreKnown check_built.rules check_built.rules
+check_known = (record { plain = inl (tt, inl refl); own = refl; defaults = refl }, (record { plain = inr refl; own = refl; defaults = refl }, tt))
+
+draw_known : AreKnown draw_built.rules draw_built.rules
+draw_known = (record { plain = inl (tt, inl refl); own = refl; defaults = refl }, (record { plain = inr refl; own = refl; defaults = refl }, tt))
+
+completions_known : AreKnown completions_built.rules completions_built.rules
+completions_known = (record { plain = inl (tt, inl refl); own = refl; defaults = refl }, (record { plain = inr refl; own = refl; defaults = refl }, tt))
+
+-- ---- what clap lets through
+
+-- `script` has its FILE
+abbrev pub NamesFile : List Row → Type 0
+NamesFile rows = is_some (first_of (codes "FILE") rows) ≡ true
+
+-- `connect` has its socket
+abbrev pub NamesSocket : List Row → Type 0
+NamesSocket rows = is_some (first_of (codes "socket") rows) ≡ true
+
+-- `check` has its configuration's file
+abbrev pub NamesConfig : List Row → Type 0
+NamesConfig rows = is_some (first_of (codes "config") rows) ≡ true
+
+-- `draw` has its script
+abbrev pub NamesScript : List Row → Type 0
+NamesScript rows = is_some (first_of (codes "SCRIPT") rows) ≡ true
+
+-- `completions` has its shell
+abbrev pub NamesShell : List Row → Type 0
+NamesShell rows = is_some (first_of (codes "SHELL") rows) ≡ true
+
+-- `serve` has what it needs, and its values passed
+pub record HasNeeded (rows : List Row) : Type 0 where
+  pub socket : is_some (first_of (codes "socket") rows) ≡ true
+  pub some_connections : is_some (first_of (codes "connections") rows) ≡ true
+  pub connections : Passes connections_rule rows
+  pub workers : Passes workers_rule rows
+  pub idle : Passes idle_rule rows
+  pub takeover : Passes takeover_rule rows
+  pub until_stdin_ends : Passes until_rule rows
+
+wanted : (b : Bool) → check_kinds false false (not b || false) ≡ [] → b ≡ true
+wanted true e = refl
+wanted false e = absurd cc
+
+both_wanted : (a b : Bool) → check_kinds false false (not a || (not b || false)) ≡ [] → (a ≡ true) × (b ≡ true)
+both_wanted true true e = (refl, refl)
+both_wanted true false e = absurd cc
+both_wanted false b e = absurd cc
+
+script_passed : (words : List Text) → level_fault script_built [] nothing_held words false [] ≡ [] → NamesFile (rows_at script_built words).1
+script_passed words e =
+    let rows = finished script_built.rules (walk script_built.rules [] nothing_held words).held in
+    let passed : ArePassed script_built.rules rows = level_passed script_built [] words false [] script_known e in
+    let file : Passes file_rule rows = passes script_built.rules file_rule rows refl passed in
+    has_first file_rule rows file (wanted (is_given (codes "FILE") rows) (level_steps script_built [] words false [] e).3)
+
+serve_passed : (words : List Text) → level_fault serve_built [] nothing_held words false [] ≡ [] → HasNeeded (rows_at serve_built words).1
+serve_passed words e =
+    let rules = serve_built.rules in
+    let rows = finished rules (walk rules [] nothing_held words).held in
+    let passed : ArePassed rules rows = level_passed serve_built [] words false [] serve_known e in
+    let there = both_wanted (is_given (codes "socket") rows) (is_given (codes "connections") rows) (level_steps serve_built [] words false [] e).3 in
+    let socket : Passes socket_rule rows = passes rules socket_rule rows refl passed in
+    let connections : Passes connections_rule rows = passes rules connections_rule rows refl passed in
+    record {
+      socket = has_first socket_rule rows socket there.0;
+      some_connections = has_first connections_rule rows connections there.1;
+      connections = connections;
+      workers = passes rules workers_rule rows refl passed;
+      idle = passes rules idle_rule rows refl passed;
+      takeover = passes rules takeover_rule rows refl passed;
+      until_stdin_ends = passes rules until_rule rows refl passed;
+    }
+
+connect_passed : (words : List Text) → level_fault connect_built [] nothing_held words false [] ≡ [] → NamesSocket (rows_at connect_built words).1
+connect_passed words e =
+    let rows = finished connect_built.rules (walk connect_built.rules [] nothing_held words).held in
+    let passed : ArePassed connect_built.rules rows = level_passed connect_built [] words false [] connect_known e in
+    let socket : Passes socket_rule rows = passes connect_built.rules socket_rule rows refl passed in
+    has_first socket_rule rows socket (wanted (is_given (codes "socket") rows) (level_steps connect_built [] words false [] e).3)
+
+check_passed : (words : List Text) → level_fault check_built [] nothing_held words false [] ≡ [] → NamesConfig (rows_at check_built words).1
+check_passed words e =
+    let rows = finished check_built.rules (walk check_built.rules [] nothing_held words).held in
+    let passed : ArePassed check_built.rules rows = level_passed check_built [] words false [] check_known e in
+    let config : Passes config_rule rows = passes check_built.rules config_rule rows refl passed in
+    has_first config_rule rows config (wanted (is_given (codes "config") rows) (level_steps check_built [] words false [] e).3)
+
+draw_passed : (words : List Text) → level_fault draw_built [] nothing_held words false [] ≡ [] → NamesScript (rows_at draw_built words).1
+draw_passed words e =
+    let rows = finished draw_built.rules (walk draw_built.rules [] nothing_held words).held in
+    let passed : ArePassed draw_built.rules rows = level_passed draw_built [] words false [] draw_known e in
+    let script : Passes drawn_rule rows = passes draw_built.rules drawn_rule rows refl passed in
+    has_first drawn_rule rows script (wanted (is_given (codes "SCRIPT") rows) (level_steps draw_built [] words false [] e).3)
+
+completions_passed : (words : List Text) → level_fault completions_built [] nothing_held words false [] ≡ [] → NamesShell (rows_at completions_built words).1
+completions_passed words e =
+    let rows = finished completions_built.rules (walk completions_built.rules [] nothing_held words).held in
+    let passed : ArePassed completions_built.rules rows = level_passed completions_built [] words false [] completions_known e in
+    let shell : Passes shell_rule rows = passes completions_built.rules shell_rule rows refl passed in
+    has_first shell_rule rows shell (wanted (is_given (codes "SHELL") rows) (level_steps completions_built [] words false [] e).3)
+
+-- a subcommand and its rows, from words that clap accepts
+pub data IsTaken (taken : Option (Text × List Row)) : Type 0 where
+  takes_script : (rows : List Row) → taken ≡ Some (codes "script", rows) → NamesFile rows → IsTaken taken
+  takes_serve : (rows : List Row) → taken ≡ Some (codes "serve", rows) → HasNeeded rows → IsTaken taken
+  takes_connect : (rows : List Row) → taken ≡ Some (codes "connect", rows) → NamesSocket rows → IsTaken taken
+  takes_check : (rows : List Row) → taken ≡ Some (codes "check", rows) → NamesConfig rows → IsTaken taken
+  takes_draw : (rows : List Row) → taken ≡ Some (codes "draw", rows) → NamesScript rows → IsTaken taken
+  takes_man : (rows : List Row) → taken ≡ Some (codes "man", rows) → IsTaken taken
+  takes_completions : (rows : List Row) → taken ≡ Some (codes "completions", rows) → NamesShell rows → IsTaken taken
+
+abbrev app : App
+app = built command_line
+
+-- without a subcommand there is a fault
+none_entered : (rows : List Row) → check_fault app.top rows false ≡ [] → ⊥
+none_entered rows e = by (list_any (λ (r : Row). explicit_source r.source) rows) (list_any (λ (a : Rule). a.required && not (is_given a.id rows)) app.top.rules) e
+  where
+    by : (given wants : Bool) → check_kinds (not given) true wants ≡ [] → ⊥
+    by true wants e = cc
+    by false wants e = cc
+
+no_help : (name : Text) → IsNoHelp name → (bytes_eq (codes "help") name || false) ≡ false
+no_help name other = by (bytes_eq (codes "help") name) refl
+  where
+    by : (b : Bool) → bytes_eq (codes "help") name ≡ b → (b || false) ≡ false
+    by false is = refl
+    by true is = absurd (true≢false (subst (λ n. IsNoHelp n) (sym ((bytes_eq-Decides (codes "help") name).0 is)) other))
+
+-- the subcommand of a name, by whether it is each of them
+abbrev by_name : Bool → Bool → Bool → Bool → Bool → Bool → Bool → Bool → Option Shape
+by_name is_script is_serve is_connect is_check is_draw is_man is_completions is_help =
+    if is_script then Some script_built
+    else (if is_serve then Some serve_built
+    else (if is_connect then Some connect_built
+    else (if is_check then Some check_built
+    else (if is_draw then Some draw_built
+    else (if is_man then Some man_built
+    else (if is_completions then Some completions_built
+    else (if is_help then Some help_built else None)))))))
+
+-- the entered subcommand is not `help`
+one_entered : (rows : List Row) (words : List Text) (is_script is_serve is_connect is_check is_draw is_man is_completions is_help : Bool) → is_help ≡ false
+    → option_map_or (λ s. level_fault s [] nothing_held words false []) (by_name is_script is_serve is_connect is_check is_draw is_man is_completions is_help) [] ≡ []
+    → check_fault app.top rows (is_some (option_map (λ s. rows_at s words) (by_name is_script is_serve is_connect is_check is_draw is_man is_completions is_help))) ≡ []
+    → IsTaken (option_map (λ s. rows_at s words) (by_name is_script is_serve is_connect is_check is_draw is_man is_completions is_help))
+one_entered rows words true is_serve is_connect is_check is_draw is_man is_completions is_help other below check = IsTaken.takes_script (rows_at script_built words).1 refl (script_passed words below)
+one_entered rows words false true is_connect is_check is_draw is_man is_completions is_help other below check = IsTaken.takes_serve (rows_at serve_built words).1 refl (serve_passed words below)
+one_entered rows words false false true is_check is_draw is_man is_completions is_help other below check = IsTaken.takes_connect (rows_at connect_built words).1 refl (connect_passed words below)
+one_entered rows words false false false true is_draw is_man is_completions is_help other below check = IsTaken.takes_check (rows_at check_built words).1 refl (check_passed words below)
+one_entered rows words false false false false true is_man is_completions is_help other below check = IsTaken.takes_draw (rows_at draw_built words).1 refl (draw_passed words below)
+one_entered rows words false false false false false true is_completions is_help other below check = IsTaken.takes_man (rows_at man_built words).1 refl
+one_entered rows words false false false false false false true is_help other below check = IsTaken.takes_completions (rows_at completions_built words).1 refl (completions_passed words below)
+one_entered rows words false false false false false false false true other below check = absurd (true≢false other)
+one_entered rows words false false false false false false false false other below check = absurd (none_entered rows check)
+
+-- if clap accepts the words, they name a subcommand, which has what it needs
+pub taken : (words : List Text) → refusals words ≡ [] → IsTaken (subcommand_of command_line words)
+taken words e =
+    let given = argument_words command_line words in
+    let end = walk app.top.rules (names_of app) nothing_held given in
+    let p = level_steps app.top (names_of app) given (is_some (entered app end.stopped)) (entered_fault app end.stopped) e in
+    by end.stopped (walk_no_help app.top refl (names_of app) (walk_from nothing_held) given p.0 tt) (finished app.top.rules end.held) p.1 p.3
+  where
+    by : (stop : Option (Text × List Text)) → EntersNoHelp stop → (rows : List Row) → entered_fault app stop ≡ [] → check_fault app.top rows (is_some (entered app stop)) ≡ [] → IsTaken (entered app stop)
+    by None n rows below check = absurd (none_entered rows check)
+    by (Some stop) n rows below check = one_entered rows stop.1 (bytes_eq (codes "script") stop.0 || false) (bytes_eq (codes "serve") stop.0 || false) (bytes_eq (codes "connect") stop.0 || false) (bytes_eq (codes "check") stop.0 || false) (bytes_eq (codes "draw") stop.0 || false) (bytes_eq (codes "man") stop.0 || false) (bytes_eq (codes "completions") stop.0 || false) (bytes_eq (codes "help") stop.0 || false) (no_help stop.0 n) below check
+
+-- ---- what a subcommand of each name has
+
+-- the rows of a subcommand, if its name is this one
+abbrev AtName : Text → (List Row → Type 0) → Option (Text × List Row) → Type 0
+AtName name P None = Unit {0}
+AtName name P (Some sub) = sub.0 ≡ name → P sub.1
+
+at_script : (o : Option (Text × List Row)) → IsTaken o → AtName (codes "script") NamesFile o
+at_script o (IsTaken.takes_script rows is h) = subst (AtName (codes "script") NamesFile) (sym is) (λ same. h)
+at_script o (IsTaken.takes_serve rows is h) = subst (AtName (codes "script") NamesFile) (sym is) (λ same. absurd (true≢false (ap (bytes_eq (codes "serve")) same)))
+at_script o (IsTaken.takes_connect rows is h) = subst (AtName (codes "script") NamesFile) (sym is) (λ same. absurd (true≢false (ap (bytes_eq (codes "connect")) same)))
+at_script o (IsTaken.takes_check rows is h) = subst (AtName (codes "script") NamesFile) (sym is) (λ same. absurd (true≢false (ap (bytes_eq (codes "check")) same)))
+at_script o (IsTaken.takes_draw rows is h) = subst (AtName (codes "script") NamesFile) (sym is) (λ same. absurd (true≢false (ap (bytes_eq (codes "draw")) same)))
+at_script o (IsTaken.takes_man rows is) = subst (AtName (codes "script") NamesFile) (sym is) (λ same. absurd (true≢false (ap (bytes_eq (codes "man")) same)))
+at_script o (IsTaken.takes_completions rows is h) = subst (AtName (codes "script") NamesFile) (sym is) (λ same. absurd (true≢false (ap (bytes_eq (codes "completions")) same)))
+
+pub script_has_file : (words : List Text) (rows : List Row) → refusals words ≡ [] → subcommand_of command_line words ≡ Some (codes "script", rows) → NamesFile rows
+script_has_file words rows e is = subst (AtName (codes "script") NamesFile) is (at_script (subcommand_of command_line words) (taken words e)) refl
+
+at_serve : (o : Option (Text × List Row)) → IsTaken o → AtName (codes "serve") HasNeeded o
+at_serve o (IsTaken.takes_script rows is h) = subst (AtName (codes "serve") HasNeeded) (sym is) (λ same. absurd (true≢false (ap (bytes_eq (codes "script")) same)))
+at_serve o (IsTaken.takes_serve rows is h) = subst (AtName (codes "serve") HasNeeded) (sym is) (λ same. h)
+at_serve o (IsTaken.takes_connect rows is h) = subst (AtName (codes "serve") HasNeeded) (sym is) (λ same. absurd (true≢false (ap (bytes_eq (codes "connect")) same)))
+at_serve o (IsTaken.takes_check rows is h) = subst (AtName (codes "serve") HasNeeded) (sym is) (λ same. absurd (true≢false (ap (bytes_eq (codes "check")) same)))
+at_serve o (IsTaken.takes_draw rows is h) = subst (AtName (codes "serve") HasNeeded) (sym is) (λ same. absurd (true≢false (ap (bytes_eq (codes "draw")) same)))
+at_serve o (IsTaken.takes_man rows is) = subst (AtName (codes "serve") HasNeeded) (sym is) (λ same. absurd (true≢false (ap (bytes_eq (codes "man")) same)))
+at_serve o (IsTaken.takes_completions rows is h) = subst (AtName (codes "serve") HasNeeded) (sym is) (λ same. absurd (true≢false (ap (bytes_eq (codes "completions")) same)))
+
+pub serve_has_needed : (words : List Text) (rows : List Row) → refusals words ≡ [] → subcommand_of command_line words ≡ Some (codes "serve", rows) → HasNeeded rows
+serve_has_needed words rows e is = subst (AtName (codes "serve") HasNeeded) is (at_serve (subcommand_of command_line words) (taken words e)) refl
+
+at_connect : (o : Option (Text × List Row)) → IsTaken o → AtName (codes "connect") NamesSocket o
+at_connect o (IsTaken.takes_script rows is h) = subst (AtName (codes "connect") NamesSocket) (sym is) (λ same. absurd (true≢false (ap (bytes_eq (codes "script")) same)))
+at_connect o (IsTaken.takes_serve rows is h) = subst (AtName (codes "connect") NamesSocket) (sym is) (λ same. absurd (true≢false (ap (bytes_eq (codes "serve")) same)))
+at_connect o (IsTaken.takes_connect rows is h) = subst (AtName (codes "connect") NamesSocket) (sym is) (λ same. h)
+at_connect o (IsTaken.takes_check rows is h) = subst (AtName (codes "connect") NamesSocket) (sym is) (λ same. absurd (true≢false (ap (bytes_eq (codes "check")) same)))
+at_connect o (IsTaken.takes_draw rows is h) = subst (AtName (codes "connect") NamesSocket) (sym is) (λ same. absurd (true≢false (ap (bytes_eq (codes "draw")) same)))
+at_connect o (IsTaken.takes_man rows is) = subst (AtName (codes "connect") NamesSocket) (sym is) (λ same. absurd (true≢false (ap (bytes_eq (codes "man")) same)))
+at_connect o (IsTaken.takes_completions rows is h) = subst (AtName (codes "connect") NamesSocket) (sym is) (λ same. absurd (true≢false (ap (bytes_eq (codes "completions")) same)))
+
+pub connect_has_socket : (words : List Text) (rows : List Row) → refusals words ≡ [] → subcommand_of command_line words ≡ Some (codes "connect", rows) → NamesSocket rows
+connect_has_socket words rows e is = subst (AtName (codes "connect") NamesSocket) is (at_connect (subcommand_of command_line words) (taken words e)) refl
+
+at_check : (o : Option (Text × List Row)) → IsTaken o → AtName (codes "check") NamesConfig o
+at_check o (IsTaken.takes_script rows is h) = subst (AtName (codes "check") NamesConfig) (sym is) (λ same. absurd (true≢false (ap (bytes_eq (codes "script")) same)))
+at_check o (IsTaken.takes_serve rows is h) = subst (AtName (codes "check") NamesConfig) (sym is) (λ same. absurd (true≢false (ap (bytes_eq (codes "serve")) same)))
+at_check o (IsTaken.takes_connect rows is h) = subst (AtName (codes "check") NamesConfig) (sym is) (λ same. absurd (true≢false (ap (bytes_eq (codes "connect")) same)))
+at_check o (IsTaken.takes_check rows is h) = subst (AtName (codes "check") NamesConfig) (sym is) (λ same. h)
+at_check o (IsTaken.takes_draw rows is h) = subst (AtName (codes "check") NamesConfig) (sym is) (λ same. absurd (true≢false (ap (bytes_eq (codes "draw")) same)))
+at_check o (IsTaken.takes_man rows is) = subst (AtName (codes "check") NamesConfig) (sym is) (λ same. absurd (true≢false (ap (bytes_eq (codes "man")) same)))
+at_check o (IsTaken.takes_completions rows is h) = subst (AtName (codes "check") NamesConfig) (sym is) (λ same. absurd (true≢false (ap (bytes_eq (codes "completions")) same)))
+
+pub check_has_config : (words : List Text) (rows : List Row) → refusals words ≡ [] → subcommand_of command_line words ≡ Some (codes "check", rows) → NamesConfig rows
+check_has_config words rows e is = subst (AtName (codes "check") NamesConfig) is (at_check (subcommand_of command_line words) (taken words e)) refl
+
+at_draw : (o : Option (Text × List Row)) → IsTaken o → AtName (codes "draw") NamesScript o
+at_draw o (IsTaken.takes_script rows is h) = subst (AtName (codes "draw") NamesScript) (sym is) (λ same. absurd (true≢false (ap (bytes_eq (codes "script")) same)))
+at_draw o (IsTaken.takes_serve rows is h) = subst (AtName (codes "draw") NamesScript) (sym is) (λ same. absurd (true≢false (ap (bytes_eq (codes "serve")) same)))
+at_draw o (IsTaken.takes_connect rows is h) = subst (AtName (codes "draw") NamesScript) (sym is) (λ same. absurd (true≢false (ap (bytes_eq (codes "connect")) same)))
+at_draw o (IsTaken.takes_check rows is h) = subst (AtName (codes "draw") NamesScript) (sym is) (λ same. absurd (true≢false (ap (bytes_eq (codes "check")) same)))
+at_draw o (IsTaken.takes_draw rows is h) = subst (AtName (codes "draw") NamesScript) (sym is) (λ same. h)
+at_draw o (IsTaken.takes_man rows is) = subst (AtName (codes "draw") NamesScript) (sym is) (λ same. absurd (true≢false (ap (bytes_eq (codes "man")) same)))
+at_draw o (IsTaken.takes_completions rows is h) = subst (AtName (codes "draw") NamesScript) (sym is) (λ same. absurd (true≢false (ap (bytes_eq (codes "completions")) same)))
+
+pub draw_has_script : (words : List Text) (rows : List Row) → refusals words ≡ [] → subcommand_of command_line words ≡ Some (codes "draw", rows) → NamesScript rows
+draw_has_script words rows e is = subst (AtName (codes "draw") NamesScript) is (at_draw (subcommand_of command_line words) (taken words e)) refl
+
+at_completions : (o : Option (Text × List Row)) → IsTaken o → AtName (codes "completions") NamesShell o
+at_completions o (IsTaken.takes_script rows is h) = subst (AtName (codes "completions") NamesShell) (sym is) (λ same. absurd (true≢false (ap (bytes_eq (codes "script")) same)))
+at_completions o (IsTaken.takes_serve rows is h) = subst (AtName (codes "completions") NamesShell) (sym is) (λ same. absurd (true≢false (ap (bytes_eq (codes "serve")) same)))
+at_completions o (IsTaken.takes_connect rows is h) = subst (AtName (codes "completions") NamesShell) (sym is) (λ same. absurd (true≢false (ap (bytes_eq (codes "connect")) same)))
+at_completions o (IsTaken.takes_check rows is h) = subst (AtName (codes "completions") NamesShell) (sym is) (λ same. absurd (true≢false (ap (bytes_eq (codes "check")) same)))
+at_completions o (IsTaken.takes_draw rows is h) = subst (AtName (codes "completions") NamesShell) (sym is) (λ same. absurd (true≢false (ap (bytes_eq (codes "draw")) same)))
+at_completions o (IsTaken.takes_man rows is) = subst (AtName (codes "completions") NamesShell) (sym is) (λ same. absurd (true≢false (ap (bytes_eq (codes "man")) same)))
+at_completions o (IsTaken.takes_completions rows is h) = subst (AtName (codes "completions") NamesShell) (sym is) (λ same. h)
+
+pub completions_has_shell : (words : List Text) (rows : List Row) → refusals words ≡ [] → subcommand_of command_line words ≡ Some (codes "completions", rows) → NamesShell rows
+completions_has_shell words rows e is = subst (AtName (codes "completions") NamesShell) is (at_completions (subcommand_of command_line words) (taken words e)) refl
+
+-- the names of the subcommands
+pub data IsNamed (name : Option Text) : Type 0 where
+  names_script : name ≡ Some (codes "script") → IsNamed name
+  names_serve : name ≡ Some (codes "serve") → IsNamed name
+  names_connect : name ≡ Some (codes "connect") → IsNamed name
+  names_check : name ≡ Some (codes "check") → IsNamed name
+  names_draw : name ≡ Some (codes "draw") → IsNamed name
+  names_man : name ≡ Some (codes "man") → IsNamed name
+  names_completions : name ≡ Some (codes "completions") → IsNamed name
+
+-- one of them is named
+pub one_named : (words : List Text) → refusals words ≡ [] → IsNamed (command_for words)
+one_named words e = by (subcommand_of command_line words) (taken words e)
+  where
+    by : (o : Option (Text × List Row)) → IsTaken o → IsNamed (option_map (λ sub. sub.0) o)
+    by o (IsTaken.takes_script rows is h) = IsNamed.names_script (ap (option_map (λ (sub : Text × List Row). sub.0)) is)
+    by o (IsTaken.takes_serve rows is h) = IsNamed.names_serve (ap (option_map (λ (sub : Text × List Row). sub.0)) is)
+    by o (IsTaken.takes_connect rows is h) = IsNamed.names_connect (ap (option_map (λ (sub : Text × List Row). sub.0)) is)
+    by o (IsTaken.takes_check rows is h) = IsNamed.names_check (ap (option_map (λ (sub : Text × List Row). sub.0)) is)
+    by o (IsTaken.takes_draw rows is h) = IsNamed.names_draw (ap (option_map (λ (sub : Text × List Row). sub.0)) is)
+    by o (IsTaken.takes_man rows is) = IsNamed.names_man (ap (option_map (λ (sub : Text × List Row). sub.0)) is)
+    by o (IsTaken.takes_completions rows is h) = IsNamed.names_completions (ap (option_map (λ (sub : Text × List Row). sub.0)) is)
+
+-- so it cannot be that none is
+pub none_left : (name : Option Text) → IsNamed name → (name ≡ Some (codes "script") → ⊥) → (name ≡ Some (codes "serve") → ⊥) → (name ≡ Some (codes "connect") → ⊥) → (name ≡ Some (codes "check") → ⊥) → (name ≡ Some (codes "draw") → ⊥) → (name ≡ Some (codes "man") → ⊥) → (name ≡ Some (codes "completions") → ⊥) → ⊥
+none_left name (IsNamed.names_script is) no_script no_serve no_connect no_check no_draw no_man no_completions = no_script is
+none_left name (IsNamed.names_serve is) no_script no_serve no_connect no_check no_draw no_man no_completions = no_serve is
+none_left name (IsNamed.names_connect is) no_script no_serve no_connect no_check no_draw no_man no_completions = no_connect is
+none_left name (IsNamed.names_check is) no_script no_serve no_connect no_check no_draw no_man no_completions = no_check is
+none_left name (IsNamed.names_draw is) no_script no_serve no_connect no_check no_draw no_man no_completions = no_draw is
+none_left name (IsNamed.names_man is) no_script no_serve no_connect no_check no_draw no_man no_completions = no_man is
+none_left name (IsNamed.names_completions is) no_script no_serve no_connect no_check no_draw no_man no_completions = no_completions is
+
+-- the subcommand that a parse entered has the name in its rows
+pub name_of_rows : (matches : ArgMatches) → subcommand_name_of matches ≡ option_map (λ sub. sub.0) (subcommand_rows_of matches)
+name_of_rows matches = by (out-ArgMatches matches).subcommand
+  where
+    by : {Z : Type 0} (o : Option (Box SubCommand Z)) → option_map (λ b. (out-SubCommand (box_value b)).name.now) o ≡ option_map (λ (sub : Text × List Row). sub.0) (subcommand_rows o)
+    by None = refl
+    by (Some b) = refl

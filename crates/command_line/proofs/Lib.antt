@@ -1,0 +1,6 @@
+pub mod AskedLemmas
+pub mod CommandLemmas
+pub mod CommandLineRows
+pub mod HelpLemmas
+pub mod NumberLemmas
+pub mod RowLemmas

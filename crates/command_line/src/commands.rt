@@ -1,0 +1,231 @@
+//! The host's words, and how clap reads them. Only this module makes a `WordsRefused`.
+
+ghost use Rattle.std.specs.Prelude.{◌≡◌, map, string_bytes, IfOk};
+ghost use Rattle.clap.specs.Words.{app_of};
+ghost use Rattle.command_line.specs.Asking.{IsReading};
+ghost use Rattle.command_line.specs.CommandLine.{IsArgument, IsCommand, bare_line, check_line, command_line, completions_line, connect_line, draw_line, flag_rule, man_line, option_rule, script_line, serve_line};
+
+use crate::help_texts::{
+    ABOUT, CHECK_ABOUT, CHECK_CONFIG_HELP, CHECK_EXAMPLES, CHECK_LONG_ABOUT, COMPLETIONS_ABOUT,
+    COMPLETIONS_EXAMPLES, COMPLETIONS_LONG_ABOUT, CONFIG_HELP, CONNECT_ABOUT, CONNECT_EXAMPLES,
+    CONNECT_LONG_ABOUT, CONNECT_SOCKET_HELP, CONNECTIONS_HELP, DRAW_ABOUT, DRAW_EXAMPLES,
+    DRAW_LONG_ABOUT, DRAW_SCRIPT_HELP, EXAMPLES, IDLE_HELP, LONG_ABOUT, MAN_ABOUT, MAN_EXAMPLES,
+    MAN_LONG_ABOUT, SCRIPT_ABOUT, SCRIPT_EXAMPLES, SCRIPT_FILE_HELP, SCRIPT_LONG_ABOUT,
+    SERVE_ABOUT, SERVE_EXAMPLES, SERVE_LONG_ABOUT, SHELL_HELP, SOCKET_HELP, TAKEOVER_HELP,
+    UNTIL_STDIN_ENDS_HELP, WORKERS_HELP,
+};
+use crate::options::{CONNECTION_LIMIT, IDLE_LIMIT, WORKER_LIMIT};
+use clap::error::ErrorKind;
+use clap::{Arg, ArgAction, ArgMatches, Command, Error, value_parser};
+use std::alloc::{AllocError, Global};
+use std::{env, io};
+
+/// Out of memory while the words of the command line were collected or read. Only this module makes
+/// one, and only after std or clap has reported it, so no caller can invent one.
+#[derive(Debug, Drop, PartialEq, Eq)]
+pub struct WordsRefused {
+    seal: (),
+}
+
+impl WordsRefused {
+    /// Call only after std or clap has reported that it is out of memory.
+    fn seen() -> Self {
+        WordsRefused { seal: () }
+    }
+}
+
+/// Why the host gives no command line.
+#[derive(Debug, Drop, PartialEq, Eq)]
+pub enum WordsFault {
+    /// A word is not UTF-8.
+    NotUtf8,
+    /// Out of memory.
+    Memory(WordsRefused),
+}
+
+/// The words with which the host started the program; the first is its name. `NotUtf8` if a word is
+/// not UTF-8, `Memory` if an allocation is refused.
+pub fn host_words(rt: &HostRuntime) -> Result<Vec<String>, WordsFault> {
+    let words = match env::args(rt) {
+        Ok(words) => words,
+        Err(error) if error.kind() == io::ErrorKind::OutOfMemory => {
+            return Err(WordsFault::Memory(WordsRefused::seen()));
+        }
+        Err(_) => return Err(WordsFault::NotUtf8),
+    };
+    match words.collect(rt.alloc()) {
+        Ok(words) => Ok(words),
+        Err(_) => Err(WordsFault::Memory(WordsRefused::seen())),
+    }
+}
+
+/// An option with one value, `--NAME VALUE`.
+fn option_argument<'a>(alloc: Global, name: &'a str, value_name: &'a str, help: &'a str) -> Arg<'a>
+    ensures { IsArgument (option_rule name.entry.now) result }
+{
+    Arg::new(alloc, name)
+        .long(name)
+        .value_name(value_name)
+        .help(help)
+}
+
+/// A flag, `--NAME`.
+fn flag_argument<'a>(alloc: Global, name: &'a str, help: &'a str) -> Arg<'a>
+    ensures { IsArgument (flag_rule name.entry.now) result }
+{
+    Arg::new(alloc, name)
+        .long(name)
+        .action(ArgAction::SetTrue)
+        .help(help)
+}
+
+/// The subcommand that runs a script.
+fn script_command<'a>(alloc: Global) -> Result<Command<'a>, AllocError>
+    ensures { IfOk result (IsCommand script_line) }
+{
+    let file = Arg::new(alloc, "FILE")
+        .help(SCRIPT_FILE_HELP)
+        .required(true);
+    Command::new(alloc, "script")
+        .about(SCRIPT_ABOUT)
+        .long_about(SCRIPT_LONG_ABOUT)
+        .after_long_help(SCRIPT_EXAMPLES)
+        .arg(option_argument(alloc, "config", "FILE", CONFIG_HELP))?
+        .arg(file)
+}
+
+/// The subcommand that serves a socket.
+fn serve_command<'a>(alloc: Global) -> Result<Command<'a>, AllocError>
+    ensures { IfOk result (IsCommand serve_line) }
+{
+    let socket = option_argument(alloc, "socket", "PATH", SOCKET_HELP).required(true);
+    let connection_range = value_parser!(u16).range(1..=i64::from(CONNECTION_LIMIT));
+    let worker_range = value_parser!(u8).range(1..=i64::from(WORKER_LIMIT));
+    let idle_range = value_parser!(u32).range(1..=i64::from(IDLE_LIMIT));
+    let connections = option_argument(alloc, "connections", "N", CONNECTIONS_HELP)
+        .required(true)
+        .value_parser(connection_range);
+    let workers = option_argument(alloc, "workers", "N", WORKERS_HELP).value_parser(worker_range);
+    let idle = option_argument(alloc, "idle", "SECONDS", IDLE_HELP).value_parser(idle_range);
+    Command::new(alloc, "serve")
+        .about(SERVE_ABOUT)
+        .long_about(SERVE_LONG_ABOUT)
+        .after_long_help(SERVE_EXAMPLES)
+        .arg(socket)?
+        .arg(option_argument(alloc, "config", "FILE", CONFIG_HELP))?
+        .arg(connections)?
+        .arg(workers)?
+        .arg(idle)?
+        .arg(flag_argument(alloc, "takeover", TAKEOVER_HELP))?
+        .arg(flag_argument(alloc, "until-stdin-ends", UNTIL_STDIN_ENDS_HELP))
+}
+
+/// The subcommand that talks with a server.
+fn connect_command<'a>(alloc: Global) -> Result<Command<'a>, AllocError>
+    ensures { IfOk result (IsCommand connect_line) }
+{
+    Command::new(alloc, "connect")
+        .about(CONNECT_ABOUT)
+        .long_about(CONNECT_LONG_ABOUT)
+        .after_long_help(CONNECT_EXAMPLES)
+        .arg(option_argument(alloc, "socket", "PATH", CONNECT_SOCKET_HELP).required(true))
+}
+
+/// The subcommand that looks at a configuration.
+fn check_command<'a>(alloc: Global) -> Result<Command<'a>, AllocError>
+    ensures { IfOk result (IsCommand check_line) }
+{
+    Command::new(alloc, "check")
+        .about(CHECK_ABOUT)
+        .long_about(CHECK_LONG_ABOUT)
+        .after_long_help(CHECK_EXAMPLES)
+        .arg(option_argument(alloc, "config", "FILE", CHECK_CONFIG_HELP).required(true))
+}
+
+/// The subcommand that draws a script.
+fn draw_command<'a>(alloc: Global) -> Result<Command<'a>, AllocError>
+    ensures { IfOk result (IsCommand draw_line) }
+{
+    let script = Arg::new(alloc, "SCRIPT")
+        .help(DRAW_SCRIPT_HELP)
+        .required(true);
+    Command::new(alloc, "draw")
+        .about(DRAW_ABOUT)
+        .long_about(DRAW_LONG_ABOUT)
+        .after_long_help(DRAW_EXAMPLES)
+        .arg(script)
+}
+
+/// The subcommand that prints the manual page.
+fn man_command<'a>(alloc: Global) -> Command<'a>
+    ensures { IsCommand man_line result }
+{
+    Command::new(alloc, "man")
+        .about(MAN_ABOUT)
+        .long_about(MAN_LONG_ABOUT)
+        .after_long_help(MAN_EXAMPLES)
+}
+
+/// The subcommand that prints completions.
+fn completions_command<'a>(alloc: Global) -> Result<Command<'a>, AllocError>
+    ensures { IfOk result (IsCommand completions_line) }
+{
+    let shell = Arg::new(alloc, "SHELL").help(SHELL_HELP).required(true);
+    Command::new(alloc, "completions")
+        .about(COMPLETIONS_ABOUT)
+        .long_about(COMPLETIONS_LONG_ABOUT)
+        .after_long_help(COMPLETIONS_EXAMPLES)
+        .arg(shell)
+}
+
+/// The command line, without its subcommands.
+fn bare_command<'a>(alloc: Global) -> Command<'a>
+    ensures { app_of result ≡ bare_line }
+{
+    Command::new(alloc, "landmap")
+        .about(ABOUT)
+        .long_about(LONG_ABOUT)
+        .after_long_help(EXAMPLES)
+        .subcommand_required(true)
+        .arg_required_else_help(true)
+}
+
+/// The whole command line.
+fn command<'a>(alloc: Global) -> Result<Command<'a>, AllocError>
+    ensures { IfOk result (λ command. app_of command ≡ command_line) }
+{
+    bare_command(alloc)
+        .subcommand(script_command(alloc)?)?
+        .subcommand(serve_command(alloc)?)?
+        .subcommand(connect_command(alloc)?)?
+        .subcommand(check_command(alloc)?)?
+        .subcommand(draw_command(alloc)?)?
+        .subcommand(man_command(alloc))?
+        .subcommand(completions_command(alloc)?)
+}
+
+/// What clap makes of the words of a command line.
+pub(crate) enum Reading<'a> {
+    /// The words are valid, and give these arguments.
+    Given(ArgMatches<'a>),
+    /// clap's own text: help, or what is wrong with the words.
+    Told(Error),
+}
+
+/// Reads the words of a command line with clap; the first word is the program's name.
+/// `WordsRefused` if clap runs out of memory.
+pub(crate) fn clap_reading<'a>(
+    alloc: Global,
+    words: &'a [String],
+) -> Result<Reading<'a>, WordsRefused>
+    ensures { IfOk result (IsReading (map (λ word. string_bytes word) words.entry.now)) }
+{
+    let Ok(command) = command(alloc) else {
+        return Err(WordsRefused::seen());
+    };
+    match command.try_get_matches_from(words) {
+        Ok(matches) => Ok(Reading::Given(matches)),
+        Err(error) if error.kind() == ErrorKind::OutOfMemory => Err(WordsRefused::seen()),
+        Err(error) => Ok(Reading::Told(error)),
+    }
+}

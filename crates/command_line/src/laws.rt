@@ -1,0 +1,13 @@
+//! Consequences of the definitions alone. The function does nothing: it is its contract.
+
+ghost use Rattle.std.specs.Prelude.{◌≡◌};
+ghost use Rattle.command_line.specs.declared.options.TheConstants.{CONNECTION_LIMIT, DEFAULT_WORKERS, IDLE_LIMIT, WORKER_LIMIT};
+
+/// The limits of a server's options, in numbers: connections, workers, workers by default, and
+/// seconds of `--idle`.
+pub fn option_limits_in_numbers()
+    ensures connections { CONNECTION_LIMIT ≡ 1024 }
+    ensures workers { WORKER_LIMIT ≡ 64 }
+    ensures default_workers { DEFAULT_WORKERS ≡ 4 }
+    ensures idle { IDLE_LIMIT ≡ 86400 }
+{}

@@ -1,0 +1,18 @@
+//! The command line of `landmap`: its words, its help texts, and what the words ask for. Only this
+//! crate uses clap.
+#![tactic(auto)]
+
+mod commands;
+mod help_texts;
+mod laws;
+mod options;
+mod shells;
+mod tables;
+mod words;
+
+pub use commands::{WordsFault, WordsRefused, host_words};
+pub use laws::option_limits_in_numbers;
+pub use options::{CONNECTION_LIMIT, DEFAULT_WORKERS, IDLE_LIMIT, ServerOptions, WORKER_LIMIT};
+pub use shells::Shell;
+pub use tables::{ArgumentText, COMMAND_COUNT, CommandText, HelpTable, help_table};
+pub use words::{Asked, ScriptWords, ServeWords, Shown, read_words};

@@ -1,0 +1,214 @@
+//! What the words of a command line ask for.
+
+ghost use Rattle.std.specs.Prelude.{◌≡◌, ◌↔◌, List, Some, codes, map, string_bytes, IfOk, IsTrue};
+ghost use Rattle.clap.specs.Words.{IsAmong, Text, first_of, found_of, kind_of, rows_of};
+ghost use Rattle.command_line.specs.CommandLine.{refusals};
+ghost use Rattle.command_line.specs.Asking.{HasFiles, HasServer, IsAsked, IsAskedShell, IsGiven};
+
+use crate::commands::{Reading, WordsRefused, clap_reading};
+use crate::options::{DEFAULT_WORKERS, ServerOptions};
+use crate::shells::{Shell, shell_named};
+use clap::error::ErrorKind;
+use clap::{ArgMatches, Error};
+use std::alloc::Global;
+use std::fmt;
+
+/// Help, or what is wrong with the words: a text to be written as it is.
+#[derive(Drop)]
+pub enum Shown<'a> {
+    /// A text of clap's.
+    Told(Error),
+    /// There are no completions for the shell of this name.
+    NoShell(&'a str),
+}
+
+impl fmt::Display for Shown<'_> {
+    fn fmt<W: fmt::Write>(&self, f: &mut fmt::Formatter<W>) -> fmt::Result {
+        match self {
+            Shown::Told(text) => write!(f, "{text}"),
+            Shown::NoShell(name) => write!(
+                f,
+                "error: invalid value '{name}' for '<SHELL>'\n  [possible values: bash, zsh, fish]\n\nFor more information, try '--help'.\n"
+            ),
+        }
+    }
+}
+
+/// What the command line asks for.
+#[derive(Drop)]
+pub enum Asked<'a> {
+    /// Run the script of a file.
+    Script(ScriptWords<'a>),
+    /// Serve a socket.
+    Serve(ServeWords<'a>),
+    /// Talk with the server at this path.
+    Connect(&'a str),
+    /// Look at the configuration in this file.
+    Check(&'a str),
+    /// Draw the script in this file.
+    Draw(&'a str),
+    /// Print the manual page.
+    Man,
+    /// Print completions for a shell.
+    Completions(Shell),
+    /// Show help.
+    Help(Shown<'a>),
+    /// Nothing: the words are wrong, and this text says why.
+    Mistake(Shown<'a>),
+}
+
+/// The files that `script` names.
+#[derive(Clone, Copy)]
+pub struct ScriptWords<'a> {
+    /// The script's file.
+    pub script: &'a str,
+    /// The configuration's file; `None` for the built-in configuration.
+    pub config: Option<&'a str>,
+}
+
+/// What `serve` is given.
+#[derive(Clone, Copy)]
+pub struct ServeWords<'a> {
+    /// The configuration's file; `None` for the built-in configuration.
+    pub config: Option<&'a str>,
+    /// All other options.
+    pub options: ServerOptions<'a>,
+}
+
+/// The arguments of `script`. FILE is required, so it is there.
+fn script_words<'a>(given: &ArgMatches<'a>) -> ScriptWords<'a>
+    requires { IsGiven (codes "script") (rows_of (found_of given.now)) }
+    ensures { HasFiles (λ id. first_of id (rows_of (found_of given.now))) result }
+{
+    let Some(script) = given.get_str("FILE") else {
+        unreachable!()
+    };
+    ScriptWords {
+        script,
+        config: given.get_str("config"),
+    }
+}
+
+/// The arguments of `serve`. `--socket` and `--connections` are required, so they are there.
+fn serve_words<'a>(given: &ArgMatches<'a>) -> ServeWords<'a>
+    requires { IsGiven (codes "serve") (rows_of (found_of given.now)) }
+    ensures { HasServer (λ id. first_of id (rows_of (found_of given.now))) result }
+{
+    let Some(socket) = given.get_str("socket") else {
+        unreachable!()
+    };
+    let Some(connections) = given.get_one::<u16>("connections") else {
+        unreachable!()
+    };
+    let options = ServerOptions {
+        socket,
+        connections,
+        workers: given.get_one::<u8>("workers").unwrap_or(DEFAULT_WORKERS),
+        idle_seconds: given.get_one::<u32>("idle"),
+        takeover: given.get_flag("takeover"),
+        until_stdin_ends: given.get_flag("until-stdin-ends"),
+    };
+    ServeWords {
+        config: given.get_str("config"),
+        options,
+    }
+}
+
+/// The path given to `connect`. It is required, so it is there.
+fn connect_path<'a>(given: &ArgMatches<'a>) -> &'a str
+    requires { IsGiven (codes "connect") (rows_of (found_of given.now)) }
+    ensures { first_of (codes "socket") (rows_of (found_of given.now)) ≡ Some result.now }
+{
+    let Some(path) = given.get_str("socket") else {
+        unreachable!()
+    };
+    path
+}
+
+/// The file given to `check`. It is required, so it is there.
+fn check_file<'a>(given: &ArgMatches<'a>) -> &'a str
+    requires { IsGiven (codes "check") (rows_of (found_of given.now)) }
+    ensures { first_of (codes "config") (rows_of (found_of given.now)) ≡ Some result.now }
+{
+    let Some(file) = given.get_str("config") else {
+        unreachable!()
+    };
+    file
+}
+
+/// The file given to `draw`. It is required, so it is there.
+fn draw_script<'a>(given: &ArgMatches<'a>) -> &'a str
+    requires { IsGiven (codes "draw") (rows_of (found_of given.now)) }
+    ensures { first_of (codes "SCRIPT") (rows_of (found_of given.now)) ≡ Some result.now }
+{
+    let Some(script) = given.get_str("SCRIPT") else {
+        unreachable!()
+    };
+    script
+}
+
+/// The shell given to `completions`, if it has completions. Its name is required, so it is there.
+fn completions_shell<'a>(given: &ArgMatches<'a>) -> Asked<'a>
+    requires { IsGiven (codes "completions") (rows_of (found_of given.now)) }
+    ensures { IsAskedShell (first_of (codes "SHELL") (rows_of (found_of given.now))) result }
+{
+    let Some(name) = given.get_str("SHELL") else {
+        unreachable!()
+    };
+    match shell_named(name) {
+        Some(shell) => Asked::Completions(shell),
+        None => Asked::Mistake(Shown::NoShell(name)),
+    }
+}
+
+/// Whether clap's text is the help that was asked for.
+fn is_help(text: &Error) -> bool
+    ensures { IsTrue result ↔ (kind_of text.now ≡ ErrorKind.DisplayHelp) }
+{
+    matches!(text.kind(), ErrorKind::DisplayHelp)
+}
+
+/// What words ask for that clap answers with a text.
+fn asked_text<'a>(text: Error) -> Asked<'a>
+    ensures { (words : List Text) → IsAmong (kind_of text) (refusals words) → IsAsked words result }
+{
+    if is_help(&text) {
+        Asked::Help(Shown::Told(text))
+    } else {
+        Asked::Mistake(Shown::Told(text))
+    }
+}
+
+/// Reads the command line; the first word is the program's name. `WordsRefused` if an allocation is
+/// refused. If clap accepts the words, they name one of the subcommands, because one is required.
+pub fn read_words<'a>(alloc: Global, words: &'a [String]) -> Result<Asked<'a>, WordsRefused>
+    ensures { IfOk result (IsAsked (map (λ word. string_bytes word) words.entry.now)) }
+{
+    let matches = match clap_reading(alloc, words) {
+        Ok(Reading::Given(matches)) => matches,
+        Ok(Reading::Told(text)) => return Ok(asked_text(text)),
+        Err(refused) => return Err(refused),
+    };
+    if let Some(given) = matches.subcommand_matches("script") {
+        return Ok(Asked::Script(script_words(given)));
+    }
+    if let Some(given) = matches.subcommand_matches("serve") {
+        return Ok(Asked::Serve(serve_words(given)));
+    }
+    if let Some(given) = matches.subcommand_matches("connect") {
+        return Ok(Asked::Connect(connect_path(given)));
+    }
+    if let Some(given) = matches.subcommand_matches("check") {
+        return Ok(Asked::Check(check_file(given)));
+    }
+    if let Some(given) = matches.subcommand_matches("draw") {
+        return Ok(Asked::Draw(draw_script(given)));
+    }
+    if let Some(_given) = matches.subcommand_matches("man") {
+        return Ok(Asked::Man);
+    }
+    let Some(given) = matches.subcommand_matches("completions") else {
+        unreachable!()
+    };
+    Ok(completions_shell(given))
+}

@@ -1,0 +1,4 @@
+pub mod ConfigLemmas
+pub mod FileLemmas
+pub mod PermitLemmas
+pub mod SpellingLaws

@@ -1,0 +1,7 @@
+use Rattle.std.proofs.Common.{◌≡◌, drop}
+use Rattle.serde_json.specs.View.{view}
+use Rattle.configuration.specs.Places.{value_at}
+use Rattle.configuration.proofs.places.value_at.Given as goal
+
+abbrev pub invariant-loop-step : goal.invariant-loop-step
+invariant-loop-step l = value_at (drop l.step-index l.place) (view l.here) ≡ value_at l.place (view l.value)

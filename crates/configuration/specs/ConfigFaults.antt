@@ -1,0 +1,47 @@
+-- The faults of configurations: their codes, and what a reader returns.
+use Rattle.std.specs.Prelude.{◌≡◌, ℕ, List, codes, Result, Ok, Err}
+use Rattle.features.specs.FaultCodes.{subjects_code}
+use Rattle.memory.specs.declared.json.JsonFault.{JsonFault}
+use Rattle.memory.specs.declared.json.JsonFault.TheVariants as unread
+use Rattle.policy_text.specs.FaultCodes.{code_of}
+use Rattle.policy_text.specs.declared.faults.TextFault.{TextFault}
+use Rattle.policy_text.specs.declared.faults.TextFault.TheVariants as texts
+use Rattle.configuration.specs.declared.config_faults.ConfigFault.{ConfigFault}
+use Rattle.configuration.specs.declared.config_faults.ConfigFault.TheVariants.{NotJson, Form, Subjects, Policies, Memory}
+
+abbrev pub config_code_of : ConfigFault → List ℕ
+config_code_of NotJson = codes "B1"
+config_code_of Form = codes "B2"
+config_code_of (Subjects fault) = subjects_code fault
+config_code_of (Policies fault) = code_of fault
+config_code_of (Memory refused) = codes "B5"
+
+-- why no JSON value was read: out of memory, or the text is not JSON
+abbrev pub unread_fault : JsonFault → ConfigFault
+unread_fault (unread.Text error) = NotJson
+unread_fault (unread.Memory refused) = Memory refused
+
+-- why no document was read: out of memory, or a fault of the document
+abbrev pub policies_fault : TextFault → ConfigFault
+policies_fault (texts.Memory refused) = Memory refused
+policies_fault texts.NotJson = Policies texts.NotJson
+policies_fault (texts.Form path) = Policies (texts.Form path)
+policies_fault (texts.UnknownKey path) = Policies (texts.UnknownKey path)
+policies_fault (texts.NameTwice name) = Policies (texts.NameTwice name)
+policies_fault (texts.NoZone name) = Policies (texts.NoZone name)
+policies_fault (texts.BadZone name fault) = Policies (texts.BadZone name fault)
+policies_fault texts.TooDeep = Policies texts.TooDeep
+policies_fault texts.TooMany = Policies texts.TooMany
+
+-- the fault is the one that reading gives, or `Memory`
+abbrev pub Fails : {Y : Type 0} → ConfigFault → Result Y ConfigFault → Type 0
+Fails (Memory refused) reading = Unit {0}
+Fails NotJson reading = reading ≡ Err NotJson
+Fails Form reading = reading ≡ Err Form
+Fails (Subjects fault) reading = reading ≡ Err (Subjects fault)
+Fails (Policies fault) reading = reading ≡ Err (Policies fault)
+
+-- the function's result, seen through `view`, is what reading gives, or the error is `Memory`
+abbrev pub Gives : {X Y : Type 0} → (X → Y) → Result X ConfigFault → Result Y ConfigFault → Type 0
+Gives view (Ok x) reading = reading ≡ Ok (view x)
+Gives view (Err e) reading = Fails e reading

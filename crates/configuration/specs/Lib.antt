@@ -1,0 +1,7 @@
+pub mod Checking
+pub mod ConfigFaults
+pub mod ConfigFiles
+pub mod Configs
+pub mod Places
+pub mod Spelling
+pub mod Summaries

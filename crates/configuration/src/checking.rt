@@ -1,0 +1,118 @@
+//! Looking at a configuration: what it has, or its first fault with its place.
+
+ghost use Rattle.std.specs.Prelude.{◌≡◌, IfOk, IfSome};
+ghost use Rattle.configuration.specs.Checking.{CheckGives, IsCheckOf, IsPlaceOf, byte_of};
+
+use crate::config_faults::ConfigFault;
+use crate::configs::read_config;
+use crate::files::{FileFault, whole_file};
+use crate::finding::place_of;
+use crate::places::Place;
+use crate::summaries::{Summary, summary_of};
+use memory::{JsonFault, Refused, json_value};
+use policy_text::TextFault;
+use std::alloc::{Allocator, Global};
+use std::fmt;
+use std::io::Read;
+use wkt::WktFault;
+
+/// What there is to tell of a configuration.
+#[derive(Debug, Drop)]
+pub enum Checked<A: Allocator> {
+    /// It is right, and has this.
+    Right(Summary),
+    /// It has this fault first, at this place, if that is known.
+    Wrong(ConfigFault, Option<Place<A>>),
+}
+
+/// The byte, within the text of a zone's shape, at which that is at fault.
+fn byte_of(fault: &ConfigFault) -> Option<usize>
+    ensures { result ≡ byte_of fault.now }
+{
+    let ConfigFault::Policies(TextFault::BadZone(_, shape)) = fault else {
+        return None;
+    };
+    match shape {
+        WktFault::UnknownWord(at)
+        | WktFault::LeftOut(at)
+        | WktFault::Syntax(at)
+        | WktFault::Number(at)
+        | WktFault::OutOfRange(at) => Some(*at),
+        WktFault::Bad(_) => None,
+    }
+}
+
+impl<A: Allocator> fmt::Display for Checked<A> {
+    ghost use Rattle.std.specs.Prelude.{Some};
+    ghost use Rattle.configuration.specs.Checking.{checked_text};
+
+    ghost output = { λ checked. Some (checked_text checked) };
+
+    /// Of what is right some lines, each a word and a number; of a fault one line: its code and its
+    /// place, and of a zone's shape the byte within its text.
+    fn fmt<W: fmt::Write>(&self, f: &mut fmt::Formatter<W>) -> fmt::Result {
+        match self {
+            Checked::Right(summary) => fmt::Display::fmt(summary, f),
+            Checked::Wrong(fault, place) => {
+                f.write_str(fault.code())?;
+                if let Some(place) = place {
+                    write!(f, " at \"{place}\"")?;
+                }
+                if let Some(byte) = byte_of(fault) {
+                    write!(f, ", byte {byte}")?;
+                }
+                f.write_str("\n")
+            }
+        }
+    }
+}
+
+/// The place of a fault of a text, if it has one. The text is read once more as a JSON value.
+fn place_in<A: Allocator>(
+    alloc: A,
+    heap: Global,
+    fault: &ConfigFault,
+    text: &[u8],
+) -> Result<Option<Place<A>>, Refused>
+    ensures { IfOk result
+        (λ found. IfSome found (λ place. IsPlaceOf fault.now text.now place.steps.items)) }
+{
+    match json_value(heap, text) {
+        Ok(value) => place_of(alloc, fault, &value),
+        Err(JsonFault::Text(_)) => Ok(None),
+        Err(JsonFault::Memory(refused)) => Err(refused),
+    }
+}
+
+/// What there is to tell of the configuration in a text. The only error is that an allocation was
+/// refused.
+pub fn check_config<A: Allocator + Copy>(
+    alloc: A,
+    heap: Global,
+    text: &[u8],
+) -> Result<Checked<A>, Refused>
+    ensures { IfOk result (IsCheckOf text.now) }
+{
+    match read_config(alloc, heap, text) {
+        Ok(config) => Ok(Checked::Right(summary_of(alloc, &config)?)),
+        Err(ConfigFault::Memory(refused)) => Err(refused),
+        Err(fault) => {
+            let place = place_in(alloc, heap, &fault, text)?;
+            Ok(Checked::Wrong(fault, place))
+        }
+    }
+}
+
+/// What there is to tell of the configuration in a file, which is held whole meanwhile.
+/// Faults: `CannotRead` if a read fails or the file is longer than 16,777,216 bytes; `Config` with
+/// `Memory` if an allocation is refused.
+pub fn check_config_file<A: Allocator + Copy, R: Read>(
+    alloc: A,
+    heap: Global,
+    file: &mut R,
+) -> Result<Checked<A>, FileFault>
+    ensures { CheckGives result (R.remaining file.old) }
+{
+    let text = whole_file(alloc, file)?;
+    Ok(check_config(alloc, heap, text.as_slice())?)
+}

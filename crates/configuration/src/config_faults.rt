@@ -1,0 +1,103 @@
+//! Why a text is not a configuration.
+
+ghost use Rattle.std.specs.Prelude.{◌≡◌};
+
+use features::SubjectsFault;
+use memory::{JsonFault, Refused};
+use policy_text::TextFault;
+use std::fmt;
+
+/// Why a text is not a configuration. Of several faults, the first in this order is reported.
+#[derive(Debug, Drop, PartialEq, Eq)]
+pub enum ConfigFault {
+    /// B1: the text is not JSON.
+    NotJson,
+    /// B2: outside the policy document, a value is missing or of the wrong form, or a key is
+    /// unknown.
+    Form,
+    /// N1 to N3, the code of the fault inside: the list of subjects is rejected.
+    Subjects(SubjectsFault),
+    /// D2 to D8, the code of the fault inside: the policies are not a policy document.
+    Policies(TextFault),
+    /// B5: an allocation was refused. It can occur with any text and replaces any other fault,
+    /// except that `read_config` always returns `NotJson` for an empty text.
+    Memory(Refused),
+}
+
+impl ConfigFault {
+    ghost use Rattle.configuration.specs.ConfigFaults.{config_code_of};
+
+    /// The code that users see. For `Subjects` and `Policies` it is the code of the fault inside.
+    pub fn code(&self) -> &'static str
+        ensures { result.now ≡ config_code_of self.now }
+    {
+        match self {
+            ConfigFault::NotJson => "B1",
+            ConfigFault::Form => "B2",
+            ConfigFault::Subjects(fault) => (*fault).code(),
+            ConfigFault::Policies(fault) => fault.code(),
+            ConfigFault::Memory(_) => "B5",
+        }
+    }
+}
+
+impl fmt::Display for ConfigFault {
+    ghost use Rattle.std.specs.Prelude.{Some};
+    ghost use Rattle.configuration.specs.ConfigFaults.{config_code_of};
+
+    ghost output = { λ fault. Some (config_code_of fault) };
+
+    fn fmt<W: fmt::Write>(&self, f: &mut fmt::Formatter<W>) -> fmt::Result {
+        f.write_str(self.code())
+    }
+}
+
+impl From<Refused> for ConfigFault {
+    ghost use Rattle.std.specs.Prelude.{◌≡◌};
+    ghost use Rattle.configuration.specs.declared.config_faults.ConfigFault.TheVariants.{Memory};
+
+    ghost from_gives = { λ refused fault. fault ≡ Memory refused };
+
+    fn from(refused: Refused) -> Self {
+        ConfigFault::Memory(refused)
+    }
+}
+
+impl From<JsonFault> for ConfigFault {
+    ghost use Rattle.std.specs.Prelude.{◌≡◌};
+    ghost use Rattle.configuration.specs.ConfigFaults.{unread_fault};
+
+    ghost from_gives = { λ unread fault. fault ≡ unread_fault unread };
+
+    fn from(unread: JsonFault) -> Self {
+        match unread {
+            JsonFault::Text(_) => ConfigFault::NotJson,
+            JsonFault::Memory(refused) => ConfigFault::Memory(refused),
+        }
+    }
+}
+
+impl From<SubjectsFault> for ConfigFault {
+    ghost use Rattle.std.specs.Prelude.{◌≡◌};
+    ghost use Rattle.configuration.specs.declared.config_faults.ConfigFault.TheVariants.{Subjects};
+
+    ghost from_gives = { λ given fault. fault ≡ Subjects given };
+
+    fn from(given: SubjectsFault) -> Self {
+        ConfigFault::Subjects(given)
+    }
+}
+
+impl From<TextFault> for ConfigFault {
+    ghost use Rattle.std.specs.Prelude.{◌≡◌};
+    ghost use Rattle.configuration.specs.ConfigFaults.{policies_fault};
+
+    ghost from_gives = { λ unread fault. fault ≡ policies_fault unread };
+
+    fn from(unread: TextFault) -> Self {
+        match unread {
+            TextFault::Memory(refused) => ConfigFault::Memory(refused),
+            fault => ConfigFault::Policies(fault),
+        }
+    }
+}

@@ -1,0 +1,133 @@
+//! Configurations: who may work on a server, and under which policies.
+
+ghost use Rattle.std.specs.Prelude.{◌≡◌, Err, length};
+ghost use Rattle.std.specs.Option.{ok_or};
+ghost use Rattle.serde_json.specs.View.{view, items_view};
+ghost use Rattle.configuration.specs.ConfigFaults.{Gives};
+ghost use Rattle.configuration.specs.Configs.{config_data, config_from, config_in, config_of, subject_in, subjects_in, taken_over, policies_in};
+ghost use Rattle.configuration.specs.declared.config_faults.ConfigFault.TheVariants.{Form};
+
+use crate::config_faults::ConfigFault;
+use crate::fields::{Key, array_in, is_object_of, name_in, steward_in, value_in};
+use features::{Subject, Subjects};
+use memory::{GrowVec, json_value};
+use policy_text::{Document, document_of_value};
+use serde_json::Value;
+use std::alloc::{Allocator, Global};
+
+pub(crate) const CONFIG_KEYS: [Key; 2] = [Key::Subjects, Key::Policies];
+
+pub(crate) const SUBJECT_KEYS: [Key; 4] = [Key::Name, Key::Office, Key::Role, Key::Steward];
+
+/// What a server is opened with: its subjects and its first policy document.
+#[derive(Debug, Drop)]
+pub struct Config<A: Allocator> {
+    /// The subjects that sessions may name.
+    pub subjects: Subjects,
+    /// The first policies in force.
+    pub document: Document<A>,
+}
+
+/// The subject that a JSON value spells, or `None`.
+#[tactic(auto, unfolding(crate::specs::Configs::subject_in))]
+pub(crate) fn subject_in(value: &Value) -> Option<Subject>
+    ensures { ok_or result Form ≡ subject_in (view value.now) }
+{
+    if !is_object_of(value, &SUBJECT_KEYS) {
+        return None;
+    }
+    let name = name_in(value, Key::Name)?;
+    let office = name_in(value, Key::Office)?;
+    let role = name_in(value, Key::Role)?;
+    let steward = steward_in(value)?;
+    Some(Subject {
+        name,
+        office,
+        role,
+        steward,
+    })
+}
+
+/// The subjects of an array, in order.
+fn subjects_in<A: Allocator>(alloc: A, items: &[Value]) -> Result<Vec<Subject, A>, ConfigFault>
+    ensures { Gives (λ subjects. subjects.items) result (subjects_in (items_view items.now)) }
+{
+    let mut subjects = Vec::new(alloc);
+    for value in items {
+        let Some(subject) = subject_in(value) else {
+            return Err(ConfigFault::Form);
+        };
+        subjects.try_push(subject)?;
+    }
+    Ok(subjects)
+}
+
+/// The checked list of subjects.
+fn taken_over(subjects: &[Subject]) -> Result<Subjects, ConfigFault>
+    ensures { result ≡ taken_over subjects.now }
+{
+    Ok(Subjects::new(subjects)?)
+}
+
+/// The document that a JSON value spells.
+fn policies_in<A: Allocator + Copy>(alloc: A, value: &Value) -> Result<Document<A>, ConfigFault>
+    ensures { Gives (λ document. document) result (policies_in (view value.now)) }
+{
+    Ok(document_of_value(alloc, value)?)
+}
+
+/// The configuration made of an array of subjects and a policy document.
+#[tactic(auto, unfolding(crate::specs::Configs::config_from))]
+fn config_from<A: Allocator + Copy>(
+    alloc: A,
+    items: &[Value],
+    policies: &Value,
+) -> Result<Config<A>, ConfigFault>
+    ensures { Gives config_data result (config_from (items_view items.now) (view policies.now)) }
+{
+    let given = subjects_in(alloc, items)?;
+    let subjects = taken_over(given.as_slice())?;
+    let document = policies_in(alloc, policies)?;
+    Ok(Config { subjects, document })
+}
+
+/// The configuration that a JSON value spells.
+#[tactic(auto, unfolding(crate::specs::Configs::config_in))]
+fn config_in<A: Allocator + Copy>(alloc: A, value: &Value) -> Result<Config<A>, ConfigFault>
+    ensures { Gives config_data result (config_in (view value.now)) }
+{
+    if !is_object_of(value, &CONFIG_KEYS) {
+        return Err(ConfigFault::Form);
+    }
+    let Some(items) = array_in(value, Key::Subjects) else {
+        return Err(ConfigFault::Form);
+    };
+    let Some(policies) = value_in(value, Key::Policies) else {
+        return Err(ConfigFault::Form);
+    };
+    config_from(alloc, items, policies)
+}
+
+/// Reads the configuration that a JSON text (RFC 8259) spells: an object with two keys, `subjects`
+/// and `policies`.
+///
+/// `subjects` is an array of 1 to 64 objects with distinct names. Each has the keys `name`,
+/// `office` and `role`, which are names, and optionally `steward`, true or false (default false).
+/// `policies` is a policy document.
+///
+/// The error is the first in this order: `NotJson` if the text is not JSON or not UTF-8; `Form` if,
+/// outside the policies, a value is missing or of the wrong form, or a key is unknown; `Subjects`
+/// if the list is empty, too long, or has a name twice; `Policies` for the first fault of the
+/// document. If an allocation is refused, it is `Memory`. The parsed JSON lies in `heap` until this
+/// returns; the document, and a temporary list of the subjects, are allocated in `alloc`.
+pub fn read_config<A: Allocator + Copy>(
+    alloc: A,
+    heap: Global,
+    text: &[u8],
+) -> Result<Config<A>, ConfigFault>
+    ensures value { Gives config_data result (config_of text.now) }
+    ensures empty { length text.now ≡ 0 → result ≡ Err ConfigFault.NotJson }
+{
+    let value = json_value(heap, text)?;
+    config_in(alloc, &value)
+}

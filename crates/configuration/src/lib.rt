@@ -1,0 +1,22 @@
+//! Configurations: reading and checking them, from texts and from files.
+#![tactic(auto)]
+
+mod checking;
+mod config_faults;
+mod configs;
+mod fields;
+mod files;
+mod finding;
+mod laws;
+mod places;
+mod searches;
+mod summaries;
+mod wrongs;
+
+pub use checking::{Checked, check_config, check_config_file};
+pub use config_faults::ConfigFault;
+pub use configs::{Config, read_config};
+pub use files::{CONFIG_LIMIT, FileFault, ReadFault, read_config_file};
+pub use laws::{configurations_are_one, read_is_spelled};
+pub use places::{Place, Step};
+pub use summaries::Summary;

@@ -1,0 +1,132 @@
+//! Whether the value at a place is the one at fault.
+
+ghost use Rattle.std.specs.Prelude.{◌≡◌, option_map};
+ghost use Rattle.serde_json.specs.View.{view};
+ghost use Rattle.configuration.specs.Places.{is_name_place, is_name_text, is_needed, is_no_shape, is_text, is_wrong, is_wrong_after, is_wrong_form, is_wrong_list, is_wrong_policy, last_step};
+
+use crate::config_faults::ConfigFault;
+use crate::configs::{CONFIG_KEYS, SUBJECT_KEYS};
+use crate::fields::is_object_of;
+use crate::places::{Step, TOO_DEEP, ends_in};
+use features::{Name, SubjectsFault};
+use policy_text::TextFault;
+use serde_json::Value;
+use wkt::read_shape;
+
+/// Whether a value is a name.
+fn is_name_text(value: &Value) -> bool
+    ensures { result ≡ is_name_text (view value.now) }
+{
+    match value.as_str() {
+        Some(text) => Name::new(text.as_bytes()).is_some(),
+        None => false,
+    }
+}
+
+/// Whether a value is this text.
+fn is_text(text: &[u8], value: &Value) -> bool
+    ensures { result ≡ is_text text.now (view value.now) }
+{
+    match value.as_str() {
+        Some(given) => given.as_bytes() == text,
+        None => false,
+    }
+}
+
+/// Whether a value has not the form that is wanted at a place.
+fn is_wrong_after(place: &[Step], value: &Value) -> bool
+    ensures { result ≡ is_wrong_after (last_step place.now) (view value.now) }
+{
+    match place.last() {
+        None => !is_object_of(value, &CONFIG_KEYS),
+        Some(Step::Item(_)) => !is_object_of(value, &SUBJECT_KEYS),
+        Some(Step::Key(key)) => {
+            if *key == "subjects" {
+                value.as_array().is_none()
+            } else if *key == "steward" {
+                value.as_bool().is_none()
+            } else {
+                !is_name_text(value)
+            }
+        }
+    }
+}
+
+/// Whether the key of a place must be there.
+fn is_needed(place: &[Step]) -> bool
+    ensures { result ≡ is_needed place.now }
+{
+    ends_in("subjects", place)
+        || ends_in("policies", place)
+        || ends_in("name", place)
+        || ends_in("office", place)
+        || ends_in("role", place)
+}
+
+/// Whether a value is missing, or not of the form that is wanted.
+fn is_wrong_form(place: &[Step], value: Option<&Value>) -> bool
+    ensures { result ≡ is_wrong_form place.now (option_map (λ v. view v.now) value.entry) }
+{
+    match value {
+        Some(value) => is_wrong_after(place, value),
+        None => is_needed(place),
+    }
+}
+
+/// Whether a value is at fault with this fault of the list of subjects.
+fn is_wrong_list(fault: SubjectsFault, place: &[Step], value: &Value) -> bool
+    ensures { result ≡ is_wrong_list fault place.now (view value.now) }
+{
+    match fault {
+        SubjectsFault::NameTwice => ends_in("name", place) && is_name_text(value),
+        SubjectsFault::NoneGiven | SubjectsFault::TooMany => ends_in("subjects", place),
+    }
+}
+
+/// Whether a place is one of a name of a zone, a set, a policy or a rule.
+fn is_name_place(place: &[Step]) -> bool
+    ensures { result ≡ is_name_place place.now }
+{
+    ends_in("zone", place)
+        || ends_in("set", place)
+        || ends_in("policy", place)
+        || ends_in("rule", place)
+}
+
+/// Whether a value is a text that spells no shape.
+fn is_no_shape(value: &Value) -> bool
+    ensures { result ≡ is_no_shape (view value.now) }
+{
+    match value.as_str() {
+        Some(text) => read_shape(text.as_bytes()).is_err(),
+        None => false,
+    }
+}
+
+/// Whether a value is at fault with this fault of the policies, which has no path.
+fn is_wrong_policy(fault: &TextFault, place: &[Step], value: &Value) -> bool
+    ensures { result ≡ is_wrong_policy fault.now place.now (view value.now) }
+{
+    match fault {
+        TextFault::NameTwice(name) => is_name_place(place) && is_text(name.as_bytes(), value),
+        TextFault::NoZone(name) => ends_in("zone", place) && is_text(name.as_bytes(), value),
+        TextFault::BadZone(_, _) => ends_in("shape", place) && is_no_shape(value),
+        TextFault::TooDeep => place.len() == TOO_DEEP,
+        TextFault::TooMany => !ends_in("policies", place),
+        TextFault::NotJson | TextFault::Form(_) | TextFault::UnknownKey(_) | TextFault::Memory(_) =>
+            false,
+    }
+}
+
+/// Whether the value at a place is the one at fault.
+pub(crate) fn is_wrong(fault: &ConfigFault, place: &[Step], value: Option<&Value>) -> bool
+    ensures { result
+        ≡ is_wrong fault.now place.now (option_map (λ v. view v.now) value.entry) }
+{
+    match (fault, value) {
+        (ConfigFault::Form, _) => is_wrong_form(place, value),
+        (ConfigFault::Subjects(fault), Some(value)) => is_wrong_list(*fault, place, value),
+        (ConfigFault::Policies(fault), Some(value)) => is_wrong_policy(fault, place, value),
+        _ => false,
+    }
+}

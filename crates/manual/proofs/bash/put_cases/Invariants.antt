@@ -1,0 +1,6 @@
+use Rattle.std.proofs.Common.{◌≡◌, fold, take}
+use Rattle.manual.specs.Pages.{bash_case}
+use Rattle.manual.proofs.bash.put_cases.Given as goal
+
+abbrev pub invariant-loop-command : goal.invariant-loop-command
+invariant-loop-command g l = l.page.items ≡ fold bash_case l.fn.page.items (take l.command-index l.commands)

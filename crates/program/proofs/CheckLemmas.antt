@@ -1,0 +1,26 @@
+-- What was found of a configuration.
+use Rattle.std.proofs.Common.{◌≡◌, ℕ, List, Option, IfSome, subst}
+use Rattle.std.specs.Io.KnownBytes.{Appends}
+use Rattle.configuration.specs.Checking.{IsCheckOf, IsWrong, checked_text, steps_of, wrong_text}
+use Rattle.configuration.specs.declared.checking.Checked.{Checked}
+use Rattle.configuration.specs.declared.checking.Checked.TheVariants.{Right, Wrong}
+use Rattle.configuration.specs.declared.config_faults.ConfigFault.{ConfigFault}
+use Rattle.configuration.specs.declared.config_faults.ConfigFault.TheVariants.{NotJson, Form, Subjects, Policies, Memory}
+use Rattle.configuration.specs.declared.places.Place.{Place}
+use Rattle.configuration.specs.declared.summaries.Summary.{Summary}
+use Rattle.program.specs.Checks.{IsFoundRight, IsFoundWrong}
+
+module _ {A : Type 0} (held before after : Option (List ℕ)) (checked : Checked A) where
+  pub found_right : (summary : Summary) → checked ≡ Right summary → IfSome held (λ text. IsCheckOf text checked) → Appends before after (checked_text checked) → IsFoundRight held before after
+  found_right summary is found written = (summary, subst (λ c. IfSome held (λ text. IsCheckOf text c)) is found, subst (λ c. Appends before after (checked_text c)) is written)
+
+  pub found_wrong : (fault : ConfigFault) (place : Option (Place A)) → checked ≡ Wrong fault place → IfSome held (λ text. IsCheckOf text checked) → Appends before after (checked_text checked)
+      → IsFoundWrong fault held before after
+  found_wrong fault place is found written = by fault (subst (λ c. IfSome held (λ text. IsCheckOf text c)) is found) (subst (λ c. Appends before after (checked_text c)) is written)
+    where
+      by : (fault : ConfigFault) → IfSome held (IsWrong fault (steps_of place)) → Appends before after (wrong_text fault (steps_of place)) → IsFoundWrong fault held before after
+      by NotJson f w = (steps_of place, f, w)
+      by Form f w = (steps_of place, f, w)
+      by (Subjects inner) f w = (steps_of place, f, w)
+      by (Policies inner) f w = (steps_of place, f, w)
+      by (Memory refused) f w = tt

@@ -1,0 +1,349 @@
+//! `landmap check`: what it writes of a right configuration, and each fault with its place. Also
+//! the manual page, completions, and a script from standard input.
+use crate::running::{AS_BUILT_IN, FIRST_POINT, Two, check, shows, status_of, words};
+use program::run_program;
+use std::alloc::AllocError;
+use std::process::Abort;
+use std::test::Fail;
+
+/// Looks at the configuration in `a.json`, and checks the status and what both writers have.
+fn found(
+    rt: &impl Abort,
+    host: &HostRuntime,
+    text: &str,
+    status: u8,
+    written: (&str, &str),
+) -> Result<(), AllocError> {
+    let folder = Two {
+        host,
+        config: text.as_bytes(),
+        script: b"",
+        fails_at: 0,
+    };
+    let texts = ["check", "--config", "a.json"];
+    check(rt, host.alloc(), &texts, &folder, status, written)
+}
+
+/// Policies with one zone and two rules.
+const RIGHT: &str =
+    r#"{"subjects":[{"name":"a","office":"o","role":"r"},{"name":"b","office":"o","role":"r","steward":true}],
+"policies":{"zones":[{"zone":"z","shape":"POINT (1 2)"}],"root":{"set":"s","combine":"deny-overrides","of":[{"policy":"p","combine":"deny-overrides",
+"rules":[{"rule":"q","effect":"permit"},{"rule":"t","effect":"deny","target":[[[{"zone":"z"}]]]}]}]}}}"#;
+
+#[test]
+fn right_ones(rt: HostRuntime) -> Result<(), Fail> {
+    let two = "subjects 2\nstewards 1\nzones 1\nrules that permit 1\nrules that deny 1\n";
+    found(&rt, &rt, RIGHT, 0, (two, ""))?;
+    let three = "subjects 3\nstewards 1\nzones 0\nrules that permit 1\nrules that deny 0\n";
+    found(&rt, &rt, AS_BUILT_IN, 0, (three, ""))?;
+    Ok(())
+}
+
+/// Texts that are wrong outside the policies, with what is written.
+const WRONG: [(&str, &str, &str); 11] = [
+    ("", "B1\n", "landmap: B1\n"),
+    ("[1,", "B1\n", "landmap: B1\n"),
+    ("[]", "B2 at \"\"\n", "landmap: B2\n"),
+    (
+        r#"{"subjects":[],"policy":1}"#,
+        "B2 at \"\"\n",
+        "landmap: B2\n",
+    ),
+    (
+        r#"{"subjects":{},"policies":1}"#,
+        "B2 at \"/subjects\"\n",
+        "landmap: B2\n",
+    ),
+    (
+        r#"{"subjects":[]}"#,
+        "B2 at \"/policies\"\n",
+        "landmap: B2\n",
+    ),
+    (
+        r#"{"subjects":[{"name":"a","office":"o","role":"r"},7],"policies":1}"#,
+        "B2 at \"/subjects/1\"\n",
+        "landmap: B2\n",
+    ),
+    (
+        r#"{"subjects":[{"name":"A","office":"o","role":"r"}],"policies":1}"#,
+        "B2 at \"/subjects/0/name\"\n",
+        "landmap: B2\n",
+    ),
+    (
+        r#"{"subjects":[{"name":"a","office":"o","role":"r","steward":1}],"policies":1}"#,
+        "B2 at \"/subjects/0/steward\"\n",
+        "landmap: B2\n",
+    ),
+    (
+        r#"{"subjects":[],"policies":1}"#,
+        "N1 at \"/subjects\"\n",
+        "landmap: N1\n",
+    ),
+    (
+        r#"{"subjects":[{"name":"a","office":"o","role":"r"},{"name":"b","office":"o","role":"r"},{"name":"a","office":"p","role":"r"}],"policies":1}"#,
+        "N3 at \"/subjects/2/name\"\n",
+        "landmap: N3\n",
+    ),
+];
+
+#[test]
+fn wrong_ones(rt: HostRuntime) -> Result<(), Fail> {
+    for (text, output, errors) in WRONG {
+        found(&rt, &rt, text, 1, (output, errors))?;
+    }
+    Ok(())
+}
+
+/// Policies that are wrong, with what is written.
+const POLICIES: [(&str, &str, &str); 8] = [
+    ("1", "D2 at \"/policies\"\n", "landmap: D2\n"),
+    (
+        r#"{"root":{"policy":"p","combine":"deny-overrides","rules":[{"rule":"q","effect":"maybe"}]}}"#,
+        "D2 at \"/policies/root/rules/0/effect\"\n",
+        "landmap: D2\n",
+    ),
+    (
+        r#"{"root":{"policy":"p","combine":"deny-overrides","rules":[],"more":1}}"#,
+        "D3 at \"/policies/root\"\n",
+        "landmap: D3\n",
+    ),
+    (
+        r#"{"zones":[{"zone":"z","shape":"POINT (1 2)"},{"zone":"z","shape":"POINT (1 2)"}],"root":{"policy":"p","combine":"deny-overrides","rules":[]}}"#,
+        "D4 at \"/policies/zones/1/zone\"\n",
+        "landmap: D4\n",
+    ),
+    (
+        r#"{"root":{"policy":"p","combine":"deny-overrides","rules":[{"rule":"q","effect":"deny"},{"rule":"p","effect":"deny"}]}}"#,
+        "D4 at \"/policies/root/rules/1/rule\"\n",
+        "landmap: D4\n",
+    ),
+    (
+        r#"{"root":{"policy":"p","combine":"deny-overrides","rules":[{"rule":"q","effect":"deny","when":[{"own":true},{"not":{"zone":"y"}}]}]}}"#,
+        "D5 at \"/policies/root/rules/0/when/1/not/zone\"\n",
+        "landmap: D5\n",
+    ),
+    (
+        r#"{"root":{"policy":"p","combine":"deny-overrides","target":[[[{"role":"r"}],[{"role":"r"},{"zone":"y"}]]],"rules":[]}}"#,
+        "D5 at \"/policies/root/target/0/1/1/zone\"\n",
+        "landmap: D5\n",
+    ),
+    (
+        r#"{"zones":[{"zone":"y","shape":"POINT (1 2)"},{"zone":"z","shape":"POINT (1 x)"}],"root":1}"#,
+        "D6 at \"/policies/zones/1/shape\", byte 9\n",
+        "landmap: D6\n",
+    ),
+];
+
+#[test]
+fn wrong_policies(rt: HostRuntime) -> Result<(), Fail> {
+    for (policies, output, errors) in POLICIES {
+        let text = format!(in rt.alloc();
+            "{{\"subjects\":[{{\"name\":\"a\",\"office\":\"o\",\"role\":\"r\"}}],\"policies\":{policies}}}"
+        )?;
+        found(&rt, &rt, text.as_str(), 1, (output, errors))?;
+    }
+    Ok(())
+}
+
+/// Nine sets and policies within one another.
+#[test]
+fn too_deep(rt: HostRuntime) -> Result<(), Fail> {
+    let alloc = rt.alloc();
+    let mut text = String::from_str(
+        alloc,
+        r#"{"subjects":[{"name":"a","office":"o","role":"r"}],"policies":{"root":"#,
+    )?;
+    for level in 0..8 {
+        text.push_str(format!(in alloc;
+            "{{\"set\":\"s{level}\",\"combine\":\"deny-overrides\",\"of\":["
+        )?.as_str())?;
+    }
+    text.push_str(r#"{"policy":"p","combine":"deny-overrides","rules":[]}"#)?;
+    for _ in 0..8 {
+        text.push_str("]}")?;
+    }
+    text.push_str("}}")?;
+    let place = "D7 at \"/policies/root/of/0/of/0/of/0/of/0/of/0/of/0/of/0/of/0\"\n";
+    found(&rt, &rt, text.as_str(), 1, (place, "landmap: D7\n"))?;
+    Ok(())
+}
+
+/// Files that cannot be read, and wrong words.
+#[test]
+fn nothing_found(rt: HostRuntime) -> Result<(), Fail> {
+    let folder = Two {
+        host: &rt,
+        config: b"",
+        script: FIRST_POINT.as_bytes(),
+        fails_at: 3,
+    };
+    for (name, line) in [
+        ("b.json", "landmap: cannot read b.json\n"),
+        ("a.map", "landmap: cannot read a.map\n"),
+    ] {
+        let texts = ["check", "--config", name];
+        check(&rt, rt.alloc(), &texts, &folder, 1, ("", line))?;
+    }
+    shows(
+        &rt,
+        &rt,
+        &["check"],
+        2,
+        "error: ",
+        &["\nUsage: landmap check --config <FILE>\n"],
+    )?;
+    Ok(())
+}
+
+#[test]
+fn help_of_the_further_commands(rt: HostRuntime) -> Result<(), Fail> {
+    let check_parts = [
+        "\n    B2 at \"/subjects/0/name\"\n",
+        "\nExit status:\n  0  ",
+        "\n  2  the command line is wrong\n",
+    ];
+    shows(
+        &rt,
+        &rt,
+        &["check", "--help"],
+        0,
+        "Tells whether",
+        &check_parts,
+    )?;
+    shows(
+        &rt,
+        &rt,
+        &["man", "--help"],
+        0,
+        "Prints the manual page",
+        &["\nExit status:\n"],
+    )?;
+    shows(
+        &rt,
+        &rt,
+        &["completions", "--help"],
+        0,
+        "Prints what a shell",
+        &["bash", "zsh", "fish"],
+    )?;
+    Ok(())
+}
+
+/// What is printed with these words has each of these parts.
+fn prints(
+    rt: &impl Abort,
+    host: &HostRuntime,
+    texts: &[&str],
+    parts: &[&str],
+) -> Result<(), AllocError> {
+    let alloc = host.alloc();
+    let folder = Two {
+        host,
+        config: b"",
+        script: b"",
+        fails_at: 0,
+    };
+    let words = words(alloc, texts)?;
+    let mut output = Vec::new(alloc);
+    let mut errors = Vec::new(alloc);
+    let next = run_program(alloc, words.as_slice(), &folder, &mut output, &mut errors);
+    assert_eq!(rt; status_of(rt, &next), 0);
+    assert_eq!(rt; errors.len(), 0);
+    let text = str::from_utf8(output.as_slice()).unwrap_or("");
+    for part in parts {
+        assert!(rt; text.contains(*part), "{part}");
+    }
+    Ok(())
+}
+
+#[test]
+fn pages(rt: HostRuntime) -> Result<(), Fail> {
+    let man = [
+        ".TH LANDMAP 1\n.SH NAME\nlandmap \\- A map feature server",
+        "\n.SS landmap serve\n.nf\n",
+        "\n.TP\n.BI \"\\-\\-idle \" \"SECONDS\"\n",
+        "\n.BI \"FILE \" \"\"\n",
+        "\n.SH EXAMPLES\n",
+    ];
+    prints(&rt, &rt, &["man"], &man)?;
+    let bash = [
+        "compgen -W 'script serve connect check draw man completions help --help'",
+        "\n        check) options='--config --help' ;;\n",
+        "\ncomplete -o filenames -F _landmap landmap\n",
+    ];
+    prints(&rt, &rt, &["completions", "bash"], &bash)?;
+    let zsh = [
+        "#compdef landmap\n",
+        "\n        'man:Prints the manual page'\n",
+        "'--workers:How many of them at a time, 1 to 64 [default\\: 4]'",
+    ];
+    prints(&rt, &rt, &["completions", "zsh"], &zsh)?;
+    let fish = [
+        "complete -c landmap -n __fish_use_subcommand -f -a script -d 'Runs",
+        "complete -c landmap -n '__fish_seen_subcommand_from connect' -l socket -d 'Where the server\\'s Unix socket is bound'\n",
+    ];
+    prints(&rt, &rt, &["completions", "fish"], &fish)?;
+    let mistake =
+        "error: invalid value 'csh' for '<SHELL>'\n  [possible values: bash, zsh, fish]\n";
+    shows(&rt, &rt, &["completions", "csh"], 2, mistake, &[])?;
+    Ok(())
+}
+
+/// A drawing of a script and its replies, which the folder has under `-`.
+#[test]
+fn a_drawing(rt: HostRuntime) -> Result<(), Fail> {
+    let alloc = rt.alloc();
+    let folder = Two {
+        host: &rt,
+        config: b"",
+        script: FIRST_POINT.as_bytes(),
+        fails_at: 0,
+    };
+    let words = words(alloc, &["draw", "a.map"])?;
+    let mut output = Vec::new(alloc);
+    let mut errors = Vec::new(alloc);
+    let next = run_program(alloc, words.as_slice(), &folder, &mut output, &mut errors);
+    assert_eq!(rt; status_of(&rt, &next), 0);
+    assert_eq!(rt; errors.len(), 0);
+    let text = str::from_utf8(output.as_slice()).unwrap_or("");
+    assert!(rt; text.contains("<svg"), "the drawing begins");
+    assert!(rt; text.ends_with("</svg>\n"), "the drawing ends");
+    check(
+        &rt,
+        alloc,
+        &["draw", "b.map"],
+        &folder,
+        1,
+        ("", "landmap: cannot read b.map\n"),
+    )?;
+    let parts = ["\n  landmap script day.map | landmap draw day.map > day.svg\n"];
+    shows(
+        &rt,
+        &rt,
+        &["draw", "--help"],
+        0,
+        "Draws what a script",
+        &parts,
+    )?;
+    Ok(())
+}
+
+/// `-` is handed to the folder, as each other name.
+#[test]
+fn a_script_from_standard_input(rt: HostRuntime) -> Result<(), Fail> {
+    let folder = Two {
+        host: &rt,
+        config: b"",
+        script: b"n: HELLO north\n",
+        fails_at: 0,
+    };
+    check(
+        &rt,
+        rt.alloc(),
+        &["script", "-"],
+        &folder,
+        0,
+        ("n: hello north\n", ""),
+    )?;
+    Ok(())
+}
