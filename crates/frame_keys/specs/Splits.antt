@@ -25,7 +25,8 @@ is_behind middle place other at = int_lt other middle || (int_eq middle other &&
 
 -- the extent encloses all of these keys
 abbrev pub EnclosesAll : Extent → List Extent → ℕ → Type 0
-EnclosesAll e keys mask = (i : ℕ) (key : Extent) → slice_get keys i ≡ Some key → IsBitSet mask i → Encloses e key
+EnclosesAll e keys mask = (i : ℕ) (key : Extent) → slice_get keys i ≡ Some key → IsBitSet mask i
+    → Encloses e key
 
 -- the least extent that encloses the keys whose bit is set
 pub record IsLeastOf (result : Extent) (keys : List Extent) (mask : ℕ) : Type 0 where
@@ -46,14 +47,16 @@ pub record IsCut (keys : List Extent) (mask right shared margins : ℕ) : Type 0
 
 -- less overlap, or as much and smaller margins
 abbrev pub is_better : ℕ → ℕ → ℕ → ℕ → Bool
-is_better shared margins other_shared other_margins = nat_lt shared other_shared || (nat_eq shared other_shared && nat_lt margins other_margins)
+is_better shared margins other_shared other_margins =
+    nat_lt shared other_shared || (nat_eq shared other_shared && nat_lt margins other_margins)
 
 -- these keys come after the one at this index in the order of their middles along an axis; keys
 -- with the same middle are in the order of their indices
 pub record AreBehind (keys : List Extent) (axis : Axis) (place part : ℕ) : Type 0 where
   pub at : Extent
   pub here : slice_get keys place ≡ Some at
-  pub each : (i : ℕ) (key : Extent) → slice_get keys i ≡ Some key → (IsBitSet part i ↔ IsTrue (is_behind (middle axis key) i (middle axis at) place))
+  pub each : (i : ℕ) (key : Extent) → slice_get keys i ≡ Some key
+      → (IsBitSet part i ↔ IsTrue (is_behind (middle axis key) i (middle axis at) place))
   pub no_other : (i : ℕ) → IsBitSet part i → i < NODE_SIZE
 
 -- The keys are cut after one of them along an axis. Those after it go right where their part's

@@ -1,9 +1,8 @@
 //! Frames as the keys of a search tree of shapes.
 
 ghost use Rattle.std.specs.Prelude.{◌≡◌, ◌↔◌, ◌-◌, ◌≤◌, ◌<◌, ℕ, Some, IsTrue, IsBitSet, length, count_ones, slice_get};
-ghost use Rattle.plane.specs.Extents.{Extent, IsFrame, joined, extent_of, whole_extent};
-ghost use Rattle.plane.specs.Rows.{Meet};
-ghost use Rattle.frame_keys.specs.Keys.{Encloses, MayMeet};
+ghost use Rattle.plane.specs.Extents.{Extent, IsFrame, joined, whole_extent};
+ghost use Rattle.frame_keys.specs.Keys.{frames};
 ghost use Rattle.frame_keys.specs.Measures.{area, margin};
 ghost use Rattle.frame_keys.specs.Splits.{PicksRight};
 ghost use Rattle.tree_theory.specs.declared.TheConstants.{NODE_SIZE};
@@ -25,19 +24,11 @@ impl KeyClass for Frames {
 
     type Item = Shape;
 
-    ghost use Rattle.frame_keys.specs.Laws.{frames_whole_covers, frames_reflexive, frames_transitive, frames_covers_first, frames_covers_second, frames_least, frames_monotone, frames_sound};
+    ghost use Rattle.frame_keys.specs.Laws.{frames_whole_covers, frames_laws};
 
     ghost is_key = { IsFrame };
 
-    ghost covered = { Encloses };
-
-    ghost may_match = { MayMeet };
-
-    ghost is_match = { Meet };
-
-    ghost key_with = { extent_of };
-
-    ghost united = { joined };
+    ghost class = { frames };
 
     ghost whole_key = { whole_extent };
 
@@ -47,7 +38,7 @@ impl KeyClass for Frames {
 
     ghost picks = { PicksRight };
 
-    fn known_key(key: Frame) {
+    fn fact_known_key(key: Frame) {
         let _left = key.x0();
     }
 
@@ -56,7 +47,7 @@ impl KeyClass for Frames {
     }
 
     fn covers(outer: Frame, inner: Frame) -> bool {
-        Self::known_key(inner);
+        Self::fact_known_key(inner);
         covers(outer, inner)
     }
 
@@ -87,14 +78,14 @@ impl KeyClass for Frames {
 
     /// The growth of the area.
     fn penalty(key: Frame, other: Frame) -> u64 {
-        Self::known_key(key);
+        Self::fact_known_key(key);
         area(hull(key, other)) - area(key)
     }
 
     /// The growth of the margin. It breaks ties for flat frames: one that grows along its own line
     /// gains no area, and would tie with one that covers the item.
     fn second_penalty(key: Frame, other: Frame) -> u64 {
-        Self::known_key(key);
+        Self::fact_known_key(key);
         margin(hull(key, other)) - margin(key)
     }
 
@@ -104,17 +95,5 @@ impl KeyClass for Frames {
 
     ghost whole_covers = { frames_whole_covers };
 
-    ghost reflexive = { frames_reflexive };
-
-    ghost transitive = { frames_transitive };
-
-    ghost covers_first = { frames_covers_first };
-
-    ghost covers_second = { frames_covers_second };
-
-    ghost least = { frames_least };
-
-    ghost monotone = { frames_monotone };
-
-    ghost sound = { frames_sound };
+    ghost laws = { frames_laws };
 }

@@ -7,8 +7,8 @@ use Rattle.tree_theory.specs.KeyClasses.{Class}
 use Rattle.tree_theory.specs.Nodes.{Body, Node, size_of}
 use Rattle.tree_theory.specs.Nodes.PlainBody.{Leaf}
 use Rattle.tree_theory.specs.declared.TheConstants.{NODE_SIZE, TOP_LEVEL}
-use Rattle.tree_theory.specs.declared.place.Place.{Place}
-use Rattle.tree_theory.specs.declared.place.Place.TheVariants.{Root, Linked, Unlinked, Retired}
+use Rattle.tree_theory.specs.declared.position.Position.{Position}
+use Rattle.tree_theory.specs.declared.position.Position.TheVariants.{Root, Linked, Unlinked, Retired}
 use Rattle.search_tree.specs.Cases.{Change, BeginsWith, IsUnderFull, MakesRoom}
 use Rattle.search_tree.specs.Cases.BeginsWith.{has_room, under_linked, under_root, under_marked, under_unlinked}
 use Rattle.search_tree.specs.Cases.Change.{Linking}
@@ -21,8 +21,8 @@ use Rattle.search_tree.specs.declared.rooms.Room.{Room}
 use Rattle.search_tree.specs.declared.rooms.Room.TheVariants.{Install, Split, Grow, Behind, Nothing}
 use Rattle.tree_nodes.proofs.ListEnds.{some_one}
 
-module _ (C : Class) (t : PlainTree C.Key C.Query C.Item) where
-  pub looks_lower : (low high : ℕ) (room : Room C.Key) → low ≤ high → LooksFrom C t high room → LooksFrom C t low room
+module _ {Key Query Item : Type 0} (C : Class Key Query Item) (t : PlainTree Key Query Item) where
+  pub looks_lower : (low high : ℕ) (room : Room Key) → low ≤ high → LooksFrom C t high room → LooksFrom C t low room
   looks_lower low high (Install entry) less looks = tt
   looks_lower low high (Split at) less looks = tt
   looks_lower low high Grow less looks = tt
@@ -32,13 +32,13 @@ module _ (C : Class) (t : PlainTree C.Key C.Query C.Item) where
   looks_lower low high Nothing less looks = looks
 
   -- the first change where the parent of a marked node is full
-  pub begins_above : (change : Change) (at parent : Handle) (above : Node C) (place : Place) → IsMarkedUnder t.nodes at parent → value_at t.nodes parent ≡ Some above → size_of above.body ≡ NODE_SIZE → above.place ≡ place → MakesRoom C t parent place change → BeginsWith C t change at
+  pub begins_above : (change : Change) (at parent : Handle) (above : Node C) (place : Position) → IsMarkedUnder t.nodes at parent → value_at t.nodes parent ≡ Some above → size_of above.body ≡ NODE_SIZE → above.place ≡ place → MakesRoom C t parent place change → BeginsWith C t change at
   begins_above change at parent above place marked is full stands makes = by place stands makes
     where
-      under : (p : Place) → above.place ≡ p → IsUnderFull C t at parent p
+      under : (p : Position) → above.place ≡ p → IsUnderFull C t at parent p
       under p e = record { node = marked.node; is = marked.is; linked = marked.linked; above = above; above_is = is; full = full; stands = e }
 
-      by : (p : Place) → above.place ≡ p → MakesRoom C t parent p change → BeginsWith C t change at
+      by : (p : Position) → above.place ≡ p → MakesRoom C t parent p change → BeginsWith C t change at
       by Root e makes = under_root (under Root e) makes
       by (Linked other false) e makes = under_linked (under (Linked other false) e) makes
       by (Linked other true) e makes = under_marked (under (Linked other true) e) makes
@@ -49,28 +49,28 @@ module _ (C : Class) (t : PlainTree C.Key C.Query C.Item) where
   pub begins_there : (change : Change) (at parent : Handle) → IsMarkedUnder t.nodes at parent → (n : Node C) × (value_at t.nodes parent ≡ Some n) × (size_of n.body ≡ NODE_SIZE) × MakesRoom C t parent n.place change → BeginsWith C t change at
   begins_there change at parent marked found = begins_above change at parent found.0 found.0.place marked found.1 found.2 refl found.3
 
-  pub begins_here : (change : Change) (at : Handle) (entry : NewEntry C.Key) → LacksEntry C t at → entry.left ≡ at → change ≡ Linking entry.left → BeginsWith C t change at
+  pub begins_here : (change : Change) (at : Handle) (entry : NewEntry Key) → LacksEntry C t at → entry.left ≡ at → change ≡ Linking entry.left → BeginsWith C t change at
   begins_here change at entry lacks is_left is = has_room lacks (is ∙ ap Linking is_left)
 
   -- a node that is not marked
   pub unmarked : (at : Handle) (node : Node C) → value_at t.nodes at ≡ Some node → ((parent : Handle) → node.place ≡ Linked parent true → ⊥) → (level : ℕ) → IsMarkedFrom C t level at → ⊥
   unmarked at node is apart level from = apart from.parent (subst (λ (n : Node C). n.place ≡ Linked from.parent true) (some_one from.is is) from.linked)
 
-  pub is_change : (level : ℕ) (room : Room C.Key) → TOP_LEVEL < level → LooksFrom C t level room → IsChange room
+  pub is_change : (level : ℕ) (room : Room Key) → TOP_LEVEL < level → LooksFrom C t level room → IsChange room
   is_change level (Install entry) high looks = tt
   is_change level (Split at) high looks = tt
   is_change level Grow high looks = tt
   is_change level (Behind left) high looks = (let below = looks.low in let up = looks.level_is in absurd (omega (arith, below, up, high)))
   is_change level Nothing high looks = looks
 
-  pub is_change_now : (level : ℕ) (room : Room C.Key) → ((left : Handle) → room ≡ Behind left → ⊥) → LooksFrom C t level room → IsChange room
+  pub is_change_now : (level : ℕ) (room : Room Key) → ((left : Handle) → room ≡ Behind left → ⊥) → LooksFrom C t level room → IsChange room
   is_change_now level (Install entry) not_behind looks = tt
   is_change_now level (Split at) not_behind looks = tt
   is_change_now level Grow not_behind looks = tt
   is_change_now level (Behind left) not_behind looks = not_behind left refl
   is_change_now level Nothing not_behind looks = looks
 
-module _ (C : Class) (t : PlainTree C.Key C.Query C.Item) (sound : IsSound C t) where
+module _ {Key Query Item : Type 0} (C : Class Key Query Item) (t : PlainTree Key Query Item) (sound : IsSound C t) where
   -- a marked node is below the highest level
   below_top : (at parent : Handle) (node : Node C) → value_at t.nodes at ≡ Some node → node.place ≡ Linked parent true → node.level < TOP_LEVEL
   below_top at parent node is linked =
@@ -101,7 +101,7 @@ module _ (C : Class) (t : PlainTree C.Key C.Query C.Item) (sound : IsSound C t) 
       absurd (omega (arith, size))
 
   -- where the parent has no room for an install, what makes room there is higher
-  pub looks_above : (level : ℕ) (at parent : Handle) (room : Room C.Key) → IsMarkedFrom C t level at → IsMarkedUnder t.nodes at parent → (LacksEntry C t at → ⊥) → ((node : Node C) → value_at t.nodes parent ≡ Some node → size_of node.body ≡ NODE_SIZE → LooksFrom C t node.level room) → LooksFrom C t (level + 1) room
+  pub looks_above : (level : ℕ) (at parent : Handle) (room : Room Key) → IsMarkedFrom C t level at → IsMarkedUnder t.nodes at parent → (LacksEntry C t at → ⊥) → ((node : Node C) → value_at t.nodes parent ≡ Some node → size_of node.body ≡ NODE_SIZE → LooksFrom C t node.level room) → LooksFrom C t (level + 1) room
   looks_above level at parent room from marked lacks looks =
       let up = sound.invariant.shape.entry_up at marked.node marked.is parent true marked.linked in
       let same : from.node ≡ marked.node = some_one from.is marked.is in
@@ -124,7 +124,7 @@ module _ (C : Class) (t : PlainTree C.Key C.Query C.Item) (sound : IsSound C t) 
       pub makes_here : (change : Change) → ComesTo C t (room_by_place at node.place) change → (n : Node C) × (value_at t.nodes at ≡ Some n) × (size_of n.body ≡ NODE_SIZE) × MakesRoom C t at n.place change
       makes_here change comes = (node, is, full, by node.place comes)
         where
-          by : (place : Place) → ComesTo C t (room_by_place at place) change → MakesRoom C t at place change
+          by : (place : Position) → ComesTo C t (room_by_place at place) change → MakesRoom C t at place change
           by Root comes = comes
           by (Linked parent true) comes = comes
           by (Linked parent false) comes = comes
@@ -134,7 +134,7 @@ module _ (C : Class) (t : PlainTree C.Key C.Query C.Item) (sound : IsSound C t) 
       pub may_here : MayMake C t (room_by_place at node.place)
       may_here = by node.place refl
         where
-          by : (place : Place) → node.place ≡ place → MayMake C t (room_by_place at place)
+          by : (place : Position) → node.place ≡ place → MayMake C t (room_by_place at place)
           by Root e = record { node = node; is = subst (λ h. value_at t.nodes h ≡ Some node) (sound.invariant.shape.root_only at node is e) is; full = full }
           by (Linked parent true) e = tt
           by (Linked parent false) e = record { node = node; is = is; parent = parent; linked = e; full = full }
@@ -144,7 +144,7 @@ module _ (C : Class) (t : PlainTree C.Key C.Query C.Item) (sound : IsSound C t) 
       pub looks_from : (n : Node C) → value_at t.nodes at ≡ Some n → LooksFrom C t n.level (room_by_place at node.place)
       looks_from n found = subst (λ (m : Node C). LooksFrom C t m.level (room_by_place at node.place)) (some_one is found) (by node.place refl)
         where
-          by : (place : Place) → node.place ≡ place → LooksFrom C t node.level (room_by_place at place)
+          by : (place : Position) → node.place ≡ place → LooksFrom C t node.level (room_by_place at place)
           by Root e = tt
           by (Linked parent true) e = looks_here at parent node is e
           by (Linked parent false) e = tt

@@ -54,12 +54,12 @@ module _ {T : Type 0} (f : T → Bool) where
       by true e rest = picked_more x xs (filter f xs) rest e
       by false e rest = picked_less x xs (filter f xs) rest e
 
-module _ (C : Class) (t : PlainTree C.Key C.Query C.Item) (at : Handle) (may : MayClean C t at) where
+module _ {Key Query Item : Type 0} (C : Class Key Query Item) (t : PlainTree Key Query Item) (at : Handle) (may : MayClean C t at) where
   pub clean_leaf : Holds t.nodes at (λ n. IsLeaf n.body)
   clean_leaf node is = (may.pairs, subst (λ (n : Node C). n.body ≡ Leaf may.pairs) (some_one may.is is) may.body)
 
-  module _ (kept : ℕ × C.Item → Bool) (nodes : Slots (Node C)) (changed : IsChanged t.nodes nodes at (λ n. record n { body = Leaf (filter kept (pairs_of n.body)) })) where
-    abbrev sifted : PlainTree C.Key C.Query C.Item
+  module _ (kept : ℕ × Item → Bool) (nodes : Slots (Node C)) (changed : IsChanged t.nodes nodes at (λ n. record n { body = Leaf (filter kept (pairs_of n.body)) })) where
+    abbrev sifted : PlainTree Key Query Item
     sifted = record t { nodes = nodes }
 
     pub cleaned_step : IsCleaned (tree_of C t) (tree_of C sifted) (λ pair. IsTrue (kept pair)) at

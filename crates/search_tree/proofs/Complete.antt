@@ -15,7 +15,7 @@ pub nothing_left : {T : Type 0} (xs : List T) → is_empty xs ≡ true → xs �
 nothing_left [] e = refl
 nothing_left (x ∷ xs) e = absurd (cc (e))
 
-module _ (C : Class) (t : PlainTree C.Key C.Query C.Item) (search : ℕ) where
+module _ {Key Query Item : Type 0} (C : Class Key Query Item) (t : PlainTree Key Query Item) (search : ℕ) where
   pub complete_there : Laws C → IsSound C t → IsComplete C t search (found_in t search)
   complete_there laws sound s is ready xs contents pair has matches = by (search_of (search_at t.running search) (progress_at search t.progress)) refl is
     where
@@ -23,6 +23,6 @@ module _ (C : Class) (t : PlainTree C.Key C.Query C.Item) (search : ℕ) where
       by None e none = absurd (cc (none))
       by (Some plain) e some =
           let same : seen plain ≡ s = cc (some) in
-          let empty : plain.stack ≡ [] = nothing_left plain.stack (ap (λ (x : SeenSearch C.Query C.Item). x.ready) same ∙ ready) in
+          let empty : plain.stack ≡ [] = nothing_left plain.stack (ap (λ (x : SeenSearch Query Item). x.ready) same ∙ ready) in
           let found = misses_nothing laws (tree_of C t) sound.invariant in
-          found search plain (record { running = e; stack = empty }) pair ((contents_have (tree_of C t) xs contents pair).0 has) (subst (λ q. C.Matches pair.1 q) (sym (ap (λ (x : SeenSearch C.Query C.Item). x.query) same)) matches)
+          found search plain (record { running = e; stack = empty }) pair ((contents_have (tree_of C t) xs contents pair).0 has) (subst (λ q. C.Matches pair.1 q) (sym (ap (λ (x : SeenSearch Query Item). x.query) same)) matches)

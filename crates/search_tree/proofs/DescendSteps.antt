@@ -12,7 +12,7 @@ use Rattle.search_tree.specs.Walks.{HasJoinedBelow, HasMore, MayDescend, MayEnla
 use Rattle.search_tree.specs.declared.descents.WayDown.{WayDown}
 use Rattle.search_tree.proofs.DescentLemmas.{held_or_not}
 
-module _ (C : Class) (t : PlainTree C.Key C.Query C.Item) (way : WayDown C.Key) (key : C.Key) (may : MayDescend C t way key) (led : List ℕ) (are_led : AreLed C t.running way.key (C.united way.key key) may.node.attached led) where
+module _ {Key Query Item : Type 0} (C : Class Key Query Item) (t : PlainTree Key Query Item) (way : WayDown Key) (key : Key) (may : MayDescend C t way key) (led : List ℕ) (are_led : AreLed C t.running way.key (C.united way.key key) may.node.attached led) where
   pub may_join : MayJoinBelow C t way.child led
   may_join =
       record {
@@ -26,7 +26,7 @@ module _ (C : Class) (t : PlainTree C.Key C.Query C.Item) (way : WayDown C.Key) 
 
   -- the nodes after searches were attached
   module _ (nodes : Slots (Node C)) (more : MoreAttached C t led nodes) where
-    abbrev joined : PlainTree C.Key C.Query C.Item
+    abbrev joined : PlainTree Key Query Item
     joined = record t { nodes = nodes }
 
     still_takes : (now : Node C) → HasMore C t led may.node now → MayTake (tree_of C joined) way.parent now key
@@ -66,7 +66,7 @@ module _ (C : Class) (t : PlainTree C.Key C.Query C.Item) (way : WayDown C.Key) 
           ];
         }
 
-  pub may_enlarge : (u : PlainTree C.Key C.Query C.Item) → HasJoinedBelow C t u way.child led → MayEnlarge C u way.parent way.place way.key key way.child
+  pub may_enlarge : (u : PlainTree Key Query Item) → HasJoinedBelow C t u way.child led → MayEnlarge C u way.parent way.place way.key key way.child
   may_enlarge u below =
       subst (λ v. MayEnlarge C v way.parent way.place way.key key way.child) (sym below.only_nodes)
       (enlarge_joined u.nodes below.more (λ s has. subst (λ v. Done (tree_of C v) s way.child) below.only_nodes (below.done s has)))

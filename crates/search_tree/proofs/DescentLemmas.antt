@@ -12,8 +12,8 @@ use Rattle.tree_theory.proofs.ListLemmas.{first_in, later_in, in_cases, nothing_
 use Rattle.tree_theory.specs.KeyClasses.{Class, Laws}
 use Rattle.tree_theory.specs.Nodes.{PlainNode, Node, Search, entries_of, is_marked}
 use Rattle.tree_theory.specs.Walks.{Done}
-use Rattle.tree_theory.specs.declared.place.Place.{Place}
-use Rattle.tree_theory.specs.declared.place.Place.TheVariants.{Unlinked}
+use Rattle.tree_theory.specs.declared.position.Position.{Position}
+use Rattle.tree_theory.specs.declared.position.Position.TheVariants.{Unlinked}
 use Rattle.tree_nodes.specs.Arenas.{Holds, IsChanged}
 use Rattle.search_tree.specs.Calls.{IsAlike, IsUntouched}
 use Rattle.tree_nodes.specs.Progresses.{PlainProgress}
@@ -25,19 +25,19 @@ use Rattle.tree_nodes.proofs.ListEnds.{some_one}
 use Rattle.search_tree.proofs.WalkSteps.{joined_sound, joined_call}
 
 -- a node that is not linked has no mark
-no_mark : (place : Place) (left : Handle) → place ≡ Unlinked left → IsTrue (is_marked place) → ⊥
+no_mark : (place : Position) (left : Handle) → place ≡ Unlinked left → IsTrue (is_marked place) → ⊥
 no_mark place left is marked = let no : false ≡ true = (rw is at marked) in absurd (cc (no))
 
-module _ (C : Class) where
+module _ {Key Query Item : Type 0} (C : Class Key Query Item) where
   -- `IsAlike` is reflexive
-  pub alike_self : (t : PlainTree C.Key C.Query C.Item) → IsAlike C t t
+  pub alike_self : (t : PlainTree Key Query Item) → IsAlike C t t
   alike_self t = record { searches = λ s. refl; steps = λ s. refl; running = refl; contents = λ xs is. is; counts = record { counter = refl; limit = refl; level = refl; taken = refl; slots = refl } }
 
-  pub untouched_self : (t : PlainTree C.Key C.Query C.Item) → IsUntouched C t t
+  pub untouched_self : (t : PlainTree Key Query Item) → IsUntouched C t t
   untouched_self t = record { alike = alike_self t; root = refl; nodes = record { look = λ h. refl }; searches = record { search = λ s. refl } }
 
   -- `IsAlike` is transitive
-  pub alike_both : (t u v : PlainTree C.Key C.Query C.Item) → IsAlike C t u → IsAlike C u v → IsAlike C t v
+  pub alike_both : (t u v : PlainTree Key Query Item) → IsAlike C t u → IsAlike C u v → IsAlike C t v
   alike_both t u v one two =
       record {
         searches = λ s. two.searches s ∙ one.searches s;
@@ -53,17 +53,17 @@ module _ (C : Class) where
         };
       }
 
-module _ (C : Class) (t : PlainTree C.Key C.Query C.Item) (sound : IsSound C t) where
+module _ {Key Query Item : Type 0} (C : Class Key Query Item) (t : PlainTree Key Query Item) (sound : IsSound C t) where
   -- a search that runs, as the theory has it
-  pub record Known (s : ℕ) (run : RunningSearch C.Query) : Type 0 where
+  pub record Known (s : ℕ) (run : RunningSearch Query) : Type 0 where
     pub search : Search C
     pub is : (tree_of C t).searches s ≡ Some search
     pub query : search.query ≡ run.query
 
-  pub known : (s : ℕ) (run : RunningSearch C.Query) → search_at t.running s ≡ Some run → Known s run
+  pub known : (s : ℕ) (run : RunningSearch Query) → search_at t.running s ≡ Some run → Known s run
   known s run is = by (progress_at s t.progress) refl
     where
-      by : (o : Option (PlainProgress C.Item)) → progress_at s t.progress ≡ o → Known s run
+      by : (o : Option (PlainProgress Item)) → progress_at s t.progress ≡ o → Known s run
       by (Some p) e = record { search = record { query = run.query; begun = run.begun; stack = p.stack; found = p.found }; is = rw (is, e) refl; query = refl }
       by None e = let no : false ≡ true = sym (ap is_some e) ∙ (sound.progress_of_each s ∙ ap is_some is) in absurd (cc (no))
 
@@ -157,7 +157,7 @@ list_set {Key = Key} {Item = Item} runs searches old new at list made changed = 
     by None e = changed.here ∙ rw e refl
     by (Some n) e = changed.here ∙ rw e (ap (λ xs. Some (record n { attached = xs })) (made n e))
 
-module _ (C : Class) (t : PlainTree C.Key C.Query C.Item) (searches : List ℕ) where
+module _ {Key Query Item : Type 0} (C : Class Key Query Item) (t : PlainTree Key Query Item) (searches : List ℕ) where
   -- a node that has not changed
   no_more : (n : Node C) → HasMore C t searches n n
   no_more n = record { same = refl; numbers = record { keeps = λ s search is has. has; only = λ s has. inl has } }
@@ -197,8 +197,8 @@ module _ (C : Class) (t : PlainTree C.Key C.Query C.Item) (searches : List ℕ) 
           ];
         }
 
-module _ (C : Class) (t : PlainTree C.Key C.Query C.Item) where
-  abbrev with_nodes : Slots (Node C) → PlainTree C.Key C.Query C.Item
+module _ {Key Query Item : Type 0} (C : Class Key Query Item) (t : PlainTree Key Query Item) where
+  abbrev with_nodes : Slots (Node C) → PlainTree Key Query Item
   with_nodes nodes = record t { nodes = nodes }
 
   -- searches that are attached to a node are done with it
@@ -298,7 +298,7 @@ module _ (C : Class) (t : PlainTree C.Key C.Query C.Item) where
         may_child C t sound child searches may down.node down.is
         (λ s has marked r to. absurd (marked_none down.node (sym (ap marked_right down.is) ∙ alone) marked r to))
 
-    pub alone_joined : (u : PlainTree C.Key C.Query C.Item) → HasJoined C t u child searches → HasJoinedBelow C t u child searches
+    pub alone_joined : (u : PlainTree Key Query Item) → HasJoined C t u child searches → HasJoinedBelow C t u child searches
     alone_joined u join =
         record {
           only_nodes = join.only_nodes;

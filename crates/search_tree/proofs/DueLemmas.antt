@@ -17,8 +17,8 @@ use Rattle.tree_theory.specs.KeyClasses.{Class}
 use Rattle.tree_theory.specs.Nodes.{Body, Node, PlainBody, is_marked, children_of, entries_of, pairs_of, size_of}
 use Rattle.tree_theory.specs.Nodes.PlainBody.{Leaf, Inner}
 use Rattle.tree_theory.specs.declared.TheConstants.{NODE_SIZE}
-use Rattle.tree_theory.specs.declared.place.Place.{Place}
-use Rattle.tree_theory.specs.declared.place.Place.TheVariants.{Linked, Retired}
+use Rattle.tree_theory.specs.declared.position.Position.{Position}
+use Rattle.tree_theory.specs.declared.position.Position.TheVariants.{Linked, Retired}
 
 pub on_none : {T P : Type 0} (o : Option T) → P → IfNone o P
 on_none None p = p
@@ -52,10 +52,10 @@ with_entry (Inner entries) entry has = (entries, refl)
 same_parent : {p q : Handle} {a b : Bool} → Linked p a ≡ Linked q b → p ≡ q
 same_parent e = cc (e)
 
-not_retired : {p : Handle} {a : Bool} {s : ℕ} {place : Place} → place ≡ Retired s → place ≡ Linked p a → ⊥
+not_retired : {p : Handle} {a : Bool} {s : ℕ} {place : Position} → place ≡ Retired s → place ≡ Linked p a → ⊥
 not_retired {p = p} {a = a} {s = s} rest linked = let both : Retired s ≡ Linked p a = sym rest ∙ linked in absurd (cc (both))
 
-module _ (C : Class) (t : PlainTree C.Key C.Query C.Item) (sound : IsSound C t) where
+module _ {Key Query Item : Type 0} (C : Class Key Query Item) (t : PlainTree Key Query Item) (sound : IsSound C t) where
   -- the parent of a linked node is an inner node, and one of its children is the node
   pub record IsBelow (at : Handle) (node : Node C) : Type 0 where
     pub inner : IsInner node.body
@@ -67,7 +67,7 @@ module _ (C : Class) (t : PlainTree C.Key C.Query C.Item) (sound : IsSound C t) 
       let up = sound.invariant.shape.entry_up at child here parent marked linked in
       let same : up.node ≡ node = some_one up.is above in
       let entry : Contains (entries_of node.body) (up.key, at) = subst (λ (n : Node C). Contains (entries_of n.body) (up.key, at)) same up.entry in
-      let found = place_in (children_of node.body) at (map_in (λ (e : C.Key × Handle). e.1) (entries_of node.body) (up.key, at) entry) in
+      let found = place_in (children_of node.body) at (map_in (λ (e : Key × Handle). e.1) (entries_of node.body) (up.key, at) entry) in
       record { inner = with_entry node.body (up.key, at) entry; place = found.0; child = found.1 }
 
   module _ (at parent : Handle) (left node : Node C) (here : value_at t.nodes at ≡ Some left) where
@@ -121,9 +121,9 @@ module _ (C : Class) (t : PlainTree C.Key C.Query C.Item) (sound : IsSound C t) 
       pub nowhere_needed : ((place : ℕ) → slice_get (children_of node.body) place ≡ Some at → ⊥) → IsUnneeded C t at → ⊥
       nowhere_needed nowhere due = let b = below at parent false left node here linked above in nowhere b.place b.child
 
-  pub unkept_there : (keep : ℕ → C.Item → Bool) (at : Handle) (node : Node C) (pairs : List (ℕ × C.Item)) (told : Bool) → value_at t.nodes at ≡ Some node → pairs ≡ pairs_of node.body
-      → (IsTrue told → (place : ℕ) × (pair : ℕ × C.Item) × (slice_get pairs place ≡ Some pair) × (keep pair.0 pair.1 ≡ false))
-      → (told ≡ false → (place : ℕ) (pair : ℕ × C.Item) → slice_get pairs place ≡ Some pair → IsTrue (keep pair.0 pair.1))
+  pub unkept_there : (keep : ℕ → Item → Bool) (at : Handle) (node : Node C) (pairs : List (ℕ × Item)) (told : Bool) → value_at t.nodes at ≡ Some node → pairs ≡ pairs_of node.body
+      → (IsTrue told → (place : ℕ) × (pair : ℕ × Item) × (slice_get pairs place ≡ Some pair) × (keep pair.0 pair.1 ≡ false))
+      → (told ≡ false → (place : ℕ) (pair : ℕ × Item) → slice_get pairs place ≡ Some pair → IsTrue (keep pair.0 pair.1))
       → (IsTrue told ↔ HasUnkept C t (λ pair. IsTrue (keep pair.0 pair.1)) at)
   unkept_there keep at node pairs told here are some none = (forth, back)
     where
@@ -134,19 +134,19 @@ module _ (C : Class) (t : PlainTree C.Key C.Query C.Item) (sound : IsSound C t) 
             node = node;
             is = here;
             pair = found.1;
-            holds = subst (λ (ps : List (ℕ × C.Item)). Contains ps found.1) are (got_in pairs found.0 found.1 found.2);
+            holds = subst (λ (ps : List (ℕ × Item)). Contains ps found.1) are (got_in pairs found.0 found.1 found.2);
             unkept = λ kept. let both : false ≡ true = sym found.3 ∙ kept in absurd (cc (both));
           }
 
       back : HasUnkept C t (λ pair. IsTrue (keep pair.0 pair.1)) at → IsTrue told
       back due =
           let same : due.node ≡ node = some_one due.is here in
-          let has : Contains pairs due.pair = subst (λ (ps : List (ℕ × C.Item)). Contains ps due.pair) (sym are) (subst (λ (n : Node C). Contains (pairs_of n.body) due.pair) same due.holds) in
+          let has : Contains pairs due.pair = subst (λ (ps : List (ℕ × Item)). Contains ps due.pair) (sym are) (subst (λ (n : Node C). Contains (pairs_of n.body) due.pair) same due.holds) in
           let found = place_in pairs due.pair has in
           told_true told (λ no. due.unkept (none no found.0 due.pair found.1))
 
   -- nothing is due at a retired node that a running search may still visit
-  awaited_here : (Kept : ℕ × C.Item → Type 0) (at : Handle) (node : Node C) (stamp : ℕ) → value_at t.nodes at ≡ Some node → node.place ≡ Retired stamp → (AllBegunSince t.running stamp → ⊥) → NothingDue C t Kept at
+  awaited_here : (Kept : ℕ × Item → Type 0) (at : Handle) (node : Node C) (stamp : ℕ) → value_at t.nodes at ≡ Some node → node.place ≡ Retired stamp → (AllBegunSince t.running stamp → ⊥) → NothingDue C t Kept at
   awaited_here Kept at node stamp here rest some_earlier =
       record {
         stays = λ due. some_earlier (subst (AllBegunSince t.running) (same_stamp due.node due.stamp due.place (some_one due.is here)) due.all_later);
@@ -158,5 +158,5 @@ module _ (C : Class) (t : PlainTree C.Key C.Query C.Item) (sound : IsSound C t) 
       same_stamp : (other : Node C) (s : ℕ) → other.place ≡ Retired s → other ≡ node → s ≡ stamp
       same_stamp other s e same = let both : Retired s ≡ Retired stamp = sym e ∙ ap (λ (n : Node C). n.place) same ∙ rest in cc (both)
 
-  pub awaited : (Kept : ℕ × C.Item → Type 0) (at : Handle) (stamp : ℕ) → stamp_at (value_at t.nodes at) ≡ Some stamp → (AllBegunSince t.running stamp → ⊥) → NothingDue C t Kept at
+  pub awaited : (Kept : ℕ × Item → Type 0) (at : Handle) (stamp : ℕ) → stamp_at (value_at t.nodes at) ≡ Some stamp → (AllBegunSince t.running stamp → ⊥) → NothingDue C t Kept at
   awaited Kept at stamp is some_earlier = let found = at_rest (value_at t.nodes at) stamp is in awaited_here Kept at found.0 stamp found.1 found.2 some_earlier

@@ -14,7 +14,7 @@ use Rattle.tree_theory.specs.Changes.{IsHalved, IsGrown}
 use Rattle.tree_theory.specs.KeyClasses.{Class}
 use Rattle.tree_theory.specs.Nodes.{PlainBody, PlainNode, Body, Node, children_of, size_of, place_under, under}
 use Rattle.tree_theory.specs.declared.TheConstants.{NODE_SIZE, TOP_LEVEL}
-use Rattle.tree_theory.specs.declared.place.Place.TheVariants.{Root}
+use Rattle.tree_theory.specs.declared.position.Position.TheVariants.{Root}
 use Rattle.tree_nodes.specs.Arenas.{AreSame, Holds}
 use Rattle.search_tree.specs.Calls.{IsUntouched}
 use Rattle.tree_nodes.specs.Halvings.{IsPickedOut}
@@ -106,7 +106,7 @@ module _ {Key Item : Type 0} where
   child_of_two : {whole one two : PlainBody Key Item} → IsHalved whole one two → (h : Handle) → Contains (children_of two) h → Contains (children_of whole) h
   child_of_two {whole = whole} {two = two} halves h has = let entry = entry_of_child two h has in child_in whole entry.0 h (other_in (entry.0, h) halves.entries entry.1)
 
-module _ (C : Class) (picks : List C.Key → ℕ → Type 0) (old new : Slots (Node C)) (root : Handle) (seq : ℕ) (full : IsFullRoot old root) (low : full.node.level < TOP_LEVEL) (one two : Body C) (halves : IsHalved full.node.body one two) (picked : IsPickedOut C.key_of picks full.node.body one two) (one_node two_node : Node C) (ones twos : List Handle) (one_key two_key : C.Key) (low_one : IsLower C (below full.node root seq one) one_node ones one_key) (low_two : IsLower C (below full.node root seq two) two_node twos two_key) (put : HasPutBelow old new root one_node ones one_key two_node twos two_key) where
+module _ {Key Query Item : Type 0} (C : Class Key Query Item) (picks : List Key → ℕ → Type 0) (old new : Slots (Node C)) (root : Handle) (seq : ℕ) (full : IsFullRoot old root) (low : full.node.level < TOP_LEVEL) (one two : Body C) (halves : IsHalved full.node.body one two) (picked : IsPickedOut C.key_of picks full.node.body one two) (one_node two_node : Node C) (ones twos : List Handle) (one_key two_key : Key) (low_one : IsLower C (below full.node root seq one) one_node ones one_key) (low_two : IsLower C (below full.node root seq two) two_node twos two_key) (put : HasPutBelow old new root one_node ones one_key two_node twos two_key) where
   not_a : root ≢ put.a
   not_a = not_new put.put_one full.is
 
@@ -168,7 +168,7 @@ module _ (C : Class) (picks : List C.Key → ℕ → Type 0) (old new : Slots (N
       }
 
 -- growth after a reservation, which changes spare room alone
-pub grown_after : (C : Class) (picks : List C.Key → ℕ → Type 0) (old mid new : Slots (Node C)) (root : Handle) (seq : ℕ) → AreSame old mid → HasGrown C picks mid new root seq → HasGrown C picks old new root seq
+pub grown_after : {Key Query Item : Type 0} (C : Class Key Query Item) (picks : List Key → ℕ → Type 0) (old mid new : Slots (Node C)) (root : Handle) (seq : ℕ) → AreSame old mid → HasGrown C picks mid new root seq → HasGrown C picks old new root seq
 grown_after C picks old mid new root seq same grown =
     record {
       node = grown.node;
@@ -197,7 +197,7 @@ grown_after C picks old mid new root seq same grown =
       more = more_after 2 same grown.more;
     }
 
-module _ (C : Class) (t : PlainTree C.Key C.Query C.Item) where
+module _ {Key Query Item : Type 0} (C : Class Key Query Item) (t : PlainTree Key Query Item) where
   -- the full root of a tree
   pub full_root : MayGrow C t → IsSound C t → IsFullRoot t.nodes t.root
   full_root may sound =
@@ -216,10 +216,10 @@ module _ (C : Class) (t : PlainTree C.Key C.Query C.Item) where
       }
 
   module _ (nodes : Slots (Node C)) where
-    abbrev higher : PlainTree C.Key C.Query C.Item
+    abbrev higher : PlainTree Key Query Item
     higher = record t { nodes = nodes }
 
-    module _ {picks : List C.Key → ℕ → Type 0} (grown : HasGrown C picks t.nodes nodes t.root t.counter) (sound : IsSound C t) where
+    module _ {picks : List Key → ℕ → Type 0} (grown : HasGrown C picks t.nodes nodes t.root t.counter) (sound : IsSound C t) where
       apart_children : (h : Handle) → Contains (children_of grown.one) h → Contains (children_of grown.two) h → ⊥
       apart_children h in_one in_two =
           let one = entry_of_child grown.one h in_one in
@@ -282,11 +282,11 @@ module _ (C : Class) (t : PlainTree C.Key C.Query C.Item) where
               more = grown.more;
             }
 
-    pub grown_sound_either : (picks : List C.Key → ℕ → Type 0) {R : Type 0} (result : Result R TreeFault) → OnOk result (HasGrown C picks t.nodes nodes t.root t.counter) → OnErr result (AreSame t.nodes nodes) → IsSound C t → IsSound C higher
+    pub grown_sound_either : (picks : List Key → ℕ → Type 0) {R : Type 0} (result : Result R TreeFault) → OnOk result (HasGrown C picks t.nodes nodes t.root t.counter) → OnErr result (AreSame t.nodes nodes) → IsSound C t → IsSound C higher
     grown_sound_either picks (Ok done) grown same sound = grown_sound grown sound grown.low
     grown_sound_either picks (Err fault) grown same sound = same_sound C t nodes same sound
 
-    pub grown_call_ok : (picks : List C.Key → ℕ → Type 0) {R : Type 0} (result : Result R TreeFault) → OnOk result (HasGrown C picks t.nodes nodes t.root t.counter) → IsSound C t → OnOk result (HasMoreNodes C t higher 2 1)
+    pub grown_call_ok : (picks : List Key → ℕ → Type 0) {R : Type 0} (result : Result R TreeFault) → OnOk result (HasGrown C picks t.nodes nodes t.root t.counter) → IsSound C t → OnOk result (HasMoreNodes C t higher 2 1)
     grown_call_ok picks (Ok done) grown sound = grown_call grown sound grown.low
     grown_call_ok picks (Err fault) grown sound = tt
 

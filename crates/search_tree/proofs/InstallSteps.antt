@@ -14,8 +14,8 @@ use Rattle.tree_theory.specs.KeyClasses.{Class, Laws}
 use Rattle.tree_theory.specs.Nodes.{Node, entries_of, size_of, is_marked}
 use Rattle.tree_theory.specs.Nodes.PlainBody.{Inner}
 use Rattle.tree_theory.specs.declared.TheConstants.{NODE_SIZE}
-use Rattle.tree_theory.specs.declared.place.Place.{Place}
-use Rattle.tree_theory.specs.declared.place.Place.TheVariants.{Linked, Unlinked}
+use Rattle.tree_theory.specs.declared.position.Position.{Position}
+use Rattle.tree_theory.specs.declared.position.Position.TheVariants.{Linked, Unlinked}
 use Rattle.tree_nodes.specs.Arenas.{IsChanged, Holds}
 use Rattle.search_tree.specs.Calls.{SameContents}
 use Rattle.search_tree.specs.Tends.{HasTended, MayInstall}
@@ -27,10 +27,10 @@ use Rattle.tree_nodes.proofs.ListEnds.{some_one}
 use Rattle.search_tree.proofs.TendSteps.{level_stays}
 
 -- a linked node is not an unlinked one
-places_apart : (place : Place) (p l : Handle) → place ≡ Linked p true → place ≡ Unlinked l → ⊥
+places_apart : (place : Position) (p l : Handle) → place ≡ Linked p true → place ≡ Unlinked l → ⊥
 places_apart place p l linked unlinked = absurd (cc)
 
-module _ (C : Class) (t : PlainTree C.Key C.Query C.Item) (e : NewEntry C.Key) (may : MayInstall C t e) where
+module _ {Key Query Item : Type 0} (C : Class Key Query Item) (t : PlainTree Key Query Item) (e : NewEntry Key) (may : MayInstall C t e) where
   -- before anything is changed
   pub parent_inner : Holds t.nodes e.parent (λ n. IsInner n.body)
   parent_inner node is = (may.entries, ap (λ (n : Node C). n.body) (some_one is may.is) ∙ may.body)
@@ -98,7 +98,7 @@ module _ (C : Class) (t : PlainTree C.Key C.Query C.Item) (e : NewEntry C.Key) (
         places_apart may.left.place e.parent e.left may.linked (ap (λ (n : Node C). n.place) one ∙ right_place)
 
     module _ (n1 n2 n3 n4 n5 : Slots (Node C)) (seq : ℕ) (keyed : IsChanged t.nodes n1 e.parent (λ n. record n { body = Inner (slice_set (entries_of n.body) e.place (e.left_key, e.left)) })) (pushed : IsChanged n1 n2 e.parent (λ n. record n { body = Inner (entries_of n.body ++ (e.right_key, e.right) ∷ []) })) (linked : IsChanged n2 n3 e.left (λ n. record n { place = Linked e.parent false })) (numbered : IsChanged n3 n4 e.left (λ n. record n { seq = seq })) (joined : IsChanged n4 n5 e.right (λ n. record n { place = Linked e.parent false })) (ticked : seq ≡ t.counter + 1) where
-      abbrev put_in : PlainTree C.Key C.Query C.Item
+      abbrev put_in : PlainTree Key Query Item
       put_in = record t { nodes = n5; counter = seq }
 
       pub installed_step : IsInstalled (tree_of C t) (tree_of C put_in) e.parent e.left e.right

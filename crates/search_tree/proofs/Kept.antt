@@ -56,7 +56,7 @@ module _ {Query Item : Type 0} where
   parts_of (Some run) (Some way) search e =
       record { run = run; is_run = refl; way = way; is_way = refl; query = cc (e); begun = cc (e); stack = cc (e); found = cc (e) }
 
-module _ (C : Class) (t : PlainTree C.Key C.Query C.Item) where
+module _ {Key Query Item : Type 0} (C : Class Key Query Item) (t : PlainTree Key Query Item) where
   pub runs_of : (s : ℕ) (search : Search C) → search_of (search_at t.running s) (progress_at s t.progress) ≡ Some search → does_run t.running s ≡ true
   runs_of s search e = let parts = parts_of (search_at t.running s) (progress_at s t.progress) search e in rw parts.is_run refl
 

@@ -14,10 +14,10 @@ use Rattle.tree_theory.specs.KeyClasses.{Class}
 use Rattle.tree_theory.specs.Nodes.{Body, Node, PlainNode, children_of, entries_of, size_of}
 use Rattle.tree_theory.specs.Nodes.PlainBody.{Leaf}
 use Rattle.tree_theory.specs.declared.TheConstants.{NODE_SIZE}
-use Rattle.tree_theory.specs.declared.place.Place.{Place}
-use Rattle.tree_theory.specs.declared.place.Place.TheVariants.{Root, Linked, Unlinked, Retired}
+use Rattle.tree_theory.specs.declared.position.Position.{Position}
+use Rattle.tree_theory.specs.declared.position.Position.TheVariants.{Root, Linked, Unlinked, Retired}
 
-retired_place : (place : Place) (stamp : ℕ) → stamp_in place ≡ Some stamp → place ≡ Retired stamp
+retired_place : (place : Position) (stamp : ℕ) → stamp_in place ≡ Some stamp → place ≡ Retired stamp
 retired_place Root stamp e = absurd (cc (e))
 retired_place (Linked parent marked) stamp e = absurd (cc (e))
 retired_place (Unlinked left) stamp e = absurd (cc (e))
@@ -27,7 +27,7 @@ pub at_rest : {Key Item : Type 0} (o : Option (PlainNode Key Item)) (stamp : ℕ
 at_rest None stamp e = absurd (cc (e))
 at_rest (Some node) stamp e = (node, refl, retired_place node.place stamp e)
 
-module _ (C : Class) (t : PlainTree C.Key C.Query C.Item) (sound : IsSound C t) where
+module _ {Key Query Item : Type 0} (C : Class Key Query Item) (t : PlainTree Key Query Item) (sound : IsSound C t) where
   pub may_free : (at : Handle) (stamp : ℕ) → stamp_at (value_at t.nodes at) ≡ Some stamp → AllBegunSince t.running stamp → MayFree C t at
   may_free at stamp is all_later = let rest = at_rest (value_at t.nodes at) stamp is in record { node = rest.0; is = rest.1; stamp = stamp; place = rest.2; all_later = all_later }
 
@@ -37,7 +37,7 @@ module _ (C : Class) (t : PlainTree C.Key C.Query C.Item) (sound : IsSound C t) 
   pub no_pairs : (body : Body C) → IsLeaf body → size_of body ≡ 0 → body ≡ Leaf []
   no_pairs body leaf none = leaf.1 ∙ empty leaf.0 (subst (λ (b : Body C). size_of b ≡ 0) leaf.1 none)
     where
-      empty : (pairs : List (ℕ × C.Item)) → length pairs ≡ 0 → ◌≡◌ {A = Body C} (Leaf pairs) (Leaf [])
+      empty : (pairs : List (ℕ × Item)) → length pairs ≡ 0 → ◌≡◌ {A = Body C} (Leaf pairs) (Leaf [])
       empty [] e = refl
       empty (p ∷ ps) e = absurd (cc (e))
 
@@ -58,11 +58,11 @@ module _ (C : Class) (t : PlainTree C.Key C.Query C.Item) (sound : IsSound C t) 
         entry = both.is;
       }
 
-  pub may_install : (at parent beside : Handle) (place : ℕ) (left node right : Node C) → value_at t.nodes at ≡ Some left → left.place ≡ Linked parent true → value_at t.nodes parent ≡ Some node → IsInner node.body → size_of node.body < NODE_SIZE → slice_get (children_of node.body) place ≡ Some at → left.right ≡ Some beside → value_at t.nodes beside ≡ Some right → (keys : List C.Key) (old left_key right_key : C.Key) → keys ≡ map (λ (entry : C.Key × Handle). entry.0) (entries_of node.body) → old ≡ slice_index_or keys place old → IsKeyFor C left.body old left_key → IsKeyFor C right.body old right_key → MayInstall C t (record { parent = parent; place = place; left = at; left_key = left_key; right = beside; right_key = right_key })
+  pub may_install : (at parent beside : Handle) (place : ℕ) (left node right : Node C) → value_at t.nodes at ≡ Some left → left.place ≡ Linked parent true → value_at t.nodes parent ≡ Some node → IsInner node.body → size_of node.body < NODE_SIZE → slice_get (children_of node.body) place ≡ Some at → left.right ≡ Some beside → value_at t.nodes beside ≡ Some right → (keys : List Key) (old left_key right_key : Key) → keys ≡ map (λ (entry : Key × Handle). entry.0) (entries_of node.body) → old ≡ slice_index_or keys place old → IsKeyFor C left.body old left_key → IsKeyFor C right.body old right_key → MayInstall C t (record { parent = parent; place = place; left = at; left_key = left_key; right = beside; right_key = right_key })
   may_install at parent beside place left node right left_is linked is inner room child is_right right_is keys old left_key right_key keys_are read for_left for_right =
       let both = both_at inner.0 place at (subst (λ (b : Body C). slice_get (children_of b) place ≡ Some at) inner.1 child) in
-      let listed : keys ≡ map (λ (entry : C.Key × Handle). entry.0) inner.0 = keys_are ∙ subst (λ (b : Body C). map (λ (entry : C.Key × Handle). entry.0) (entries_of node.body) ≡ map (λ (entry : C.Key × Handle). entry.0) (entries_of b)) inner.1 refl in
-      let first : both.first ≡ old = sym (get_or_from_slice_get (map (λ (entry : C.Key × Handle). entry.0) inner.0) place both.first old both.first_is) ∙ sym (subst (λ (ks : List C.Key). old ≡ slice_index_or ks place old) listed read) in
+      let listed : keys ≡ map (λ (entry : Key × Handle). entry.0) inner.0 = keys_are ∙ subst (λ (b : Body C). map (λ (entry : Key × Handle). entry.0) (entries_of node.body) ≡ map (λ (entry : Key × Handle). entry.0) (entries_of b)) inner.1 refl in
+      let first : both.first ≡ old = sym (get_or_from_slice_get (map (λ (entry : Key × Handle). entry.0) inner.0) place both.first old both.first_is) ∙ sym (subst (λ (ks : List Key). old ≡ slice_index_or ks place old) listed read) in
       record {
         node = node;
         is = is;
@@ -70,7 +70,7 @@ module _ (C : Class) (t : PlainTree C.Key C.Query C.Item) (sound : IsSound C t) 
         body = inner.1;
         room = subst (λ (b : Body C). size_of b < NODE_SIZE) inner.1 room;
         old = old;
-        entry = subst (λ (k : C.Key). slice_get inner.0 place ≡ Some (k, at)) first both.is;
+        entry = subst (λ (k : Key). slice_get inner.0 place ≡ Some (k, at)) first both.is;
         left = left;
         left_is = left_is;
         linked = linked;

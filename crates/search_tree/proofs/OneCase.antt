@@ -7,8 +7,8 @@ use Rattle.tree_theory.specs.KeyClasses.{Class}
 use Rattle.tree_theory.specs.Nodes.{Node, size_of}
 use Rattle.tree_theory.specs.Nodes.PlainBody.{Leaf, Inner}
 use Rattle.tree_theory.specs.declared.TheConstants.{NODE_SIZE}
-use Rattle.tree_theory.specs.declared.place.Place.{Place}
-use Rattle.tree_theory.specs.declared.place.Place.TheVariants.{Root, Linked, Unlinked, Retired}
+use Rattle.tree_theory.specs.declared.position.Position.{Position}
+use Rattle.tree_theory.specs.declared.position.Position.TheVariants.{Root, Linked, Unlinked, Retired}
 use Rattle.search_tree.specs.Answering.{HasEnds, AnswersAlike}
 use Rattle.search_tree.specs.Cases.{Change, BeginsWith, IsUnderFull, MakesRoom, IsWayDown, IsAtLeaf, IsFree, Wants, Answers, TakesStep}
 use Rattle.search_tree.specs.Cases.Change.{Parting}
@@ -26,7 +26,7 @@ use Rattle.tree_nodes.proofs.ListEnds.{some_one}
 
 -- ---- the place of a node, as a number: gone or retired, unlinked, the root, or linked
 
-abbrev kind_of_place : Place → ℕ
+abbrev kind_of_place : Position → ℕ
 kind_of_place (Retired stamp) = 0
 kind_of_place (Unlinked left) = 1
 kind_of_place Root = 2
@@ -38,12 +38,12 @@ same_linked e = cc e
 same_unlinked : {p q : Handle} → Unlinked p ≡ Unlinked q → p ≡ q
 same_unlinked e = cc e
 
-module _ (C : Class) (t : PlainTree C.Key C.Query C.Item) where
+module _ {Key Query Item : Type 0} (C : Class Key Query Item) (t : PlainTree Key Query Item) where
   abbrev kind_of : Option (Node C) → ℕ
   kind_of None = 0
   kind_of (Some node) = kind_of_place node.place
 
-  kind_some : (at : Handle) (node : Node C) (place : Place) → value_at t.nodes at ≡ Some node → node.place ≡ place → kind_of (value_at t.nodes at) ≡ kind_of_place place
+  kind_some : (at : Handle) (node : Node C) (place : Position) → value_at t.nodes at ≡ Some node → node.place ≡ place → kind_of (value_at t.nodes at) ≡ kind_of_place place
   kind_some at node place is stands = ap kind_of is ∙ ap kind_of_place stands
 
   kind_nowhere : (at : Handle) → IsNowhere t.nodes at → kind_of (value_at t.nodes at) ≡ 0
@@ -56,17 +56,17 @@ module _ (C : Class) (t : PlainTree C.Key C.Query C.Item) where
   kind_unlinked : (at left : Handle) → IsUnlinked t.nodes at left → kind_of (value_at t.nodes at) ≡ 1
   kind_unlinked at left u = kind_some at u.node (Unlinked left) u.is u.place
 
-  kind_aside : (at parent : Handle) (key : C.Key) → IsAside C t.nodes at parent key → kind_of (value_at t.nodes at) ≡ 3
+  kind_aside : (at parent : Handle) (key : Key) → IsAside C t.nodes at parent key → kind_of (value_at t.nodes at) ≡ 3
   kind_aside at parent key a = kind_some at a.node (Linked parent a.marked) a.is a.place
 
-  kind_here : (at : Handle) (key : C.Key) → IsHere C t.nodes at key → 2 ≤ kind_of (value_at t.nodes at)
+  kind_here : (at : Handle) (key : Key) → IsHere C t.nodes at key → 2 ≤ kind_of (value_at t.nodes at)
   kind_here at key h = elim h.stands [
     | inl root ↦ let k = kind_some at h.node Root h.is root in omega (arith, k)
     | inr linked ↦ let k = kind_some at h.node (Linked linked.0 linked.1) h.is linked.2 in omega (arith, k)
   ]
 
   -- a node whose entry covers a key is not one whose entry does not
-  here_not_aside : (at parent : Handle) (key : C.Key) → IsHere C t.nodes at key → IsAside C t.nodes at parent key → ⊥
+  here_not_aside : (at parent : Handle) (key : Key) → IsHere C t.nodes at key → IsAside C t.nodes at parent key → ⊥
   here_not_aside at parent key h a = elim h.stands [
     | inl root ↦
         let one = kind_some at h.node Root h.is root in
@@ -79,14 +79,14 @@ module _ (C : Class) (t : PlainTree C.Key C.Query C.Item) where
 
   -- ---- the first change to make
 
-  under_one : (at p q : Handle) (place other : Place) → IsUnderFull C t at p place → IsUnderFull C t at q other → (p ≡ q) × (place ≡ other)
+  under_one : (at p q : Handle) (place other : Position) → IsUnderFull C t at p place → IsUnderFull C t at q other → (p ≡ q) × (place ≡ other)
   under_one at p q place other one two =
       let linked : Linked p true ≡ Linked q true = sym one.linked ∙ ap (λ (n : Node C). n.place) (some_one one.is two.is) ∙ two.linked in
       let parent : p ≡ q = same_linked linked in
       let above : one.above ≡ two.above = some_one one.above_is (subst (λ h. value_at t.nodes h ≡ Some two.above) (sym parent) two.above_is) in
       (parent, sym one.stands ∙ ap (λ (n : Node C). n.place) above ∙ two.stands)
 
-  room_not_full : (at p : Handle) (place : Place) → LacksEntry C t at → IsUnderFull C t at p place → ⊥
+  room_not_full : (at p : Handle) (place : Position) → LacksEntry C t at → IsUnderFull C t at p place → ⊥
   room_not_full at p place lacks full =
       let linked : Linked lacks.parent true ≡ Linked p true = sym lacks.place ∙ ap (λ (n : Node C). n.place) (some_one lacks.is full.is) ∙ full.linked in
       let parent : lacks.parent ≡ p = same_linked linked in
@@ -122,14 +122,14 @@ module _ (C : Class) (t : PlainTree C.Key C.Query C.Item) where
   begins_with_one {at = at} (under_unlinked u b) (under_marked v w) = let same = (under_one at _ _ _ _ u v).1 in absurd cc
   begins_with_one {d = d} {at = at} (under_unlinked u b) (under_unlinked v w) = begins_with_one b (subst (λ h. BeginsWith C t d h) (sym (same_unlinked (under_one at _ _ _ _ u v).1)) w)
 
-  makes_room_one : (at : Handle) (place : Place) (c d : Change) → MakesRoom C t at place c → MakesRoom C t at place d → c ≡ d
+  makes_room_one : (at : Handle) (place : Position) (c d : Change) → MakesRoom C t at place c → MakesRoom C t at place d → c ≡ d
   makes_room_one at Root c d e f = e ∙ sym f
   makes_room_one at (Linked parent false) c d e f = e ∙ sym f
   makes_room_one at (Linked parent true) c d b w = begins_with_one b w
   makes_room_one at (Unlinked left) c d b w = begins_with_one b w
   makes_room_one at (Retired stamp) c d b w = absurd b
 
-  module _ (at : Handle) (item : C.Item) where
+  module _ (at : Handle) (item : Item) where
     -- the leaf is one
     leaf_one : (one other : Node C) → IsAtLeaf C t at item one → IsAtLeaf C t at item other → one ≡ other
     leaf_one one other a b = some_one a.is b.is
@@ -154,12 +154,12 @@ module _ (C : Class) (t : PlainTree C.Key C.Query C.Item) where
     wants_not_aside c parent (inl one) aside = let k = kind_unlinked at one.0 one.1 in let l = kind_aside at parent _ aside in omega (arith, k, l)
     wants_not_aside c parent (inr one) aside = here_not_aside at parent _ one.1.at_leaf.here aside
 
-    inner_not_leaf : (leaf : Node C) (growth second_growth : C.Key → C.Key → ℕ) (child : Handle) (old : C.Key) → IsAtLeaf C t at item leaf → IsWayDown C t growth second_growth at (C.key_of item) child old → ⊥
+    inner_not_leaf : (leaf : Node C) (growth second_growth : Key → Key → ℕ) (child : Handle) (old : Key) → IsAtLeaf C t at item leaf → IsWayDown C t growth second_growth at (C.key_of item) child old → ⊥
     inner_not_leaf leaf growth second_growth child old a w =
         let body : Leaf a.body.0 ≡ Inner w.entries = sym a.body.1 ∙ ap (λ (n : Node C). n.body) (some_one a.is w.is) ∙ w.body in
         absurd cc
 
-    wants_not_down : (c : Change) (growth second_growth : C.Key → C.Key → ℕ) (child : Handle) (old : C.Key) → Wants C t at item c → IsWayDown C t growth second_growth at (C.key_of item) child old → ⊥
+    wants_not_down : (c : Change) (growth second_growth : Key → Key → ℕ) (child : Handle) (old : Key) → Wants C t at item c → IsWayDown C t growth second_growth at (C.key_of item) child old → ⊥
     wants_not_down c growth second_growth child old (inl one) w = let k = kind_unlinked at one.0 one.1 in let l = kind_here at _ w.here in omega (arith, k, l)
     wants_not_down c growth second_growth child old (inr one) w = inner_not_leaf one.0 growth second_growth child old one.1.at_leaf w
 
@@ -192,7 +192,7 @@ module _ (C : Class) (t : PlainTree C.Key C.Query C.Item) where
 
   -- ---- results
 
-  module _ (u v : PlainTree C.Key C.Query C.Item) (at one other : Handle) (picks : List C.Key → ℕ → Type 0) (ends : HasEnds u) (ends_too : HasEnds v) where
+  module _ (u v : PlainTree Key Query Item) (at one other : Handle) (picks : List Key → ℕ → Type 0) (ends : HasEnds u) (ends_too : HasEnds v) where
     answers_alike : {change : Change} {a b : Result Step TreeFault} → Answers C t u at one picks change a → Answers C t v at other picks change b → AnswersAlike a b
     answers_alike (links i e) (links j f) = inr (inr refl)
     answers_alike (links i e) (counter_ends last f) = let more = i.clock.counter in let most = ends.counter in absurd (omega (arith, more, most, last))
@@ -219,7 +219,7 @@ module _ (C : Class) (t : PlainTree C.Key C.Query C.Item) where
     answers_alike (no_slots few e) (no_memory_to_grow some low f) = inr (inl tt)
     answers_alike (top_level some top e) (no_memory_to_grow more low f) = inr (inl tt)
 
-    module _ (growth second_growth : C.Key → C.Key → ℕ) (pair : ℕ × C.Item) where
+    module _ (growth second_growth : Key → Key → ℕ) (pair : ℕ × Item) where
       pub steps_alike : {a b : Result Step TreeFault} → TakesStep C t u at one growth second_growth picks pair a → TakesStep C t v at other growth second_growth picks pair b → AnswersAlike a b
       steps_alike (wants_memory w s) b = inl tt
       steps_alike (begins_anew n s e) (wants_memory w r) = inr (inl tt)

@@ -20,22 +20,22 @@ none_of : {T : Type 0} (o : Option T) → is_some o ≡ false → o ≡ None
 none_of None e = refl
 none_of (Some x) e = absurd (cc (e))
 
-module _ (C : Class) (t : PlainTree C.Key C.Query C.Item) where
+module _ {Key Query Item : Type 0} (C : Class Key Query Item) (t : PlainTree Key Query Item) where
   -- one more search, with the root on its stack
-  pub record HasEntered (running : RunningSearches C.Query) (p : PlainProgress C.Item) (query : C.Query) : Type 0 where
+  pub record HasEntered (running : RunningSearches Query) (p : PlainProgress Item) (query : Query) : Type 0 where
     pub entered : IsEntered t.running running (record { number = p.number; query = query; begun = t.counter })
     pub listed : running.running ≡ t.running.running ++ record { number = p.number; query = query; begun = t.counter } ∷ []
     pub stack : p.stack ≡ (t.root, t.counter) ∷ []
     pub found : p.found ≡ []
     pub steps : p.steps ≡ 0
 
-  abbrev with_entered : RunningSearches C.Query → PlainProgress C.Item → PlainTree C.Key C.Query C.Item
+  abbrev with_entered : RunningSearches Query → PlainProgress Item → PlainTree Key Query Item
   with_entered running p = record t { running = running; progress = t.progress ++ p ∷ [] }
 
-  absent : {running : RunningSearches C.Query} {p : PlainProgress C.Item} {query : C.Query} → IsSound C t → HasEntered running p query → progress_at p.number t.progress ≡ None
+  absent : {running : RunningSearches Query} {p : PlainProgress Item} {query : Query} → IsSound C t → HasEntered running p query → progress_at p.number t.progress ≡ None
   absent {p = p} sound has = none_of (progress_at p.number t.progress) (sound.progress_of_each p.number ∙ ap is_some has.entered.did_not_run)
 
-  opened_step : {running : RunningSearches C.Query} {p : PlainProgress C.Item} {query : C.Query} → IsSound C t → HasEntered running p query → IsOpened (tree_of C t) (tree_of C (with_entered running p)) query
+  opened_step : {running : RunningSearches Query} {p : PlainProgress Item} {query : Query} → IsSound C t → HasEntered running p query → IsOpened (tree_of C t) (tree_of C (with_entered running p)) query
   opened_step {running = running} {p = p} {query = query} sound has =
       let number : p.number ≡ t.running.next = has.entered.next_number in
       record {
@@ -51,7 +51,7 @@ module _ (C : Class) (t : PlainTree C.Key C.Query C.Item) where
             rw (has.entered.others x (λ e. other (sym e)), pushed_other x t.progress p other) refl;
       }
 
-  pub opened_sound : {running : RunningSearches C.Query} {p : PlainProgress C.Item} {query : C.Query} → IsSound C t → HasEntered running p query → IsSound C (with_entered running p)
+  pub opened_sound : {running : RunningSearches Query} {p : PlainProgress Item} {query : Query} → IsSound C t → HasEntered running p query → IsSound C (with_entered running p)
   opened_sound {running = running} {p = p} sound has =
       let step = opened_step sound has in
       record {
@@ -64,7 +64,7 @@ module _ (C : Class) (t : PlainTree C.Key C.Query C.Item) where
         limited = sound.limited;
       }
 
-  pub opened_call : {running : RunningSearches C.Query} {p : PlainProgress C.Item} {query : C.Query} → IsSound C t → HasEntered running p query → IsOpen C t (with_entered running p) query p.number
+  pub opened_call : {running : RunningSearches Query} {p : PlainProgress Item} {query : Query} → IsSound C t → HasEntered running p query → IsOpen C t (with_entered running p) query p.number
   opened_call {running = running} {p = p} {query = query} sound has =
       record {
         number = has.entered.next_number;
@@ -77,16 +77,16 @@ module _ (C : Class) (t : PlainTree C.Key C.Query C.Item) where
         counts = record { counter = refl; limit = refl; level = refl; taken = refl; slots = refl };
         begun = rw has.entered.runs refl;
         steps = rw (pushed_here t.progress p (absent sound has)) has.steps;
-        others_begun = λ x apart. ap (option_map (λ (run : RunningSearch C.Query). run.begun)) (has.entered.others x apart);
+        others_begun = λ x apart. ap (option_map (λ (run : RunningSearch Query). run.begun)) (has.entered.others x apart);
         others_steps = λ x apart. ap steps_of (pushed_other x t.progress p (λ e. apart (sym e)));
         step = opened_step sound has;
       }
 
   -- one search less
-  abbrev without : RunningSearches C.Query → ℕ → PlainTree C.Key C.Query C.Item
+  abbrev without : RunningSearches Query → ℕ → PlainTree Key Query Item
   without running number = record t { running = running; progress = filter (λ p. not (p.number == number)) t.progress }
 
-  closed_step : {running : RunningSearches C.Query} {number : ℕ} → IsLeft t.running running number → IsClosed (tree_of C t) (tree_of C (without running number)) number
+  closed_step : {running : RunningSearches Query} {number : ℕ} → IsLeft t.running running number → IsClosed (tree_of C t) (tree_of C (without running number)) number
   closed_step {running = running} {number = number} left =
       record {
         nodes = record { look = λ h. refl };
@@ -95,7 +95,7 @@ module _ (C : Class) (t : PlainTree C.Key C.Query C.Item) where
         others = λ x apart. rw (left.others x apart, filtered_other number x t.progress apart) refl;
       }
 
-  pub closed_sound : {running : RunningSearches C.Query} {number : ℕ} → IsSound C t → IsLeft t.running running number → IsSound C (without running number)
+  pub closed_sound : {running : RunningSearches Query} {number : ℕ} → IsSound C t → IsLeft t.running running number → IsSound C (without running number)
   closed_sound {running = running} {number = number} sound left =
       let step = closed_step left in
       record {
@@ -104,7 +104,7 @@ module _ (C : Class) (t : PlainTree C.Key C.Query C.Item) where
           | inl same ↦ subst (λ n. is_some (progress_at n (filter (λ p. not (p.number == number)) t.progress)) ≡ is_some (search_at running n)) (sym same) (rw (left.gone, filtered_here number t.progress) refl)
           | inr other ↦ rw (left.others s other, filtered_other number s t.progress other) (sound.progress_of_each s)
         ];
-        progress_once = AllPairs-filter (λ (p q : PlainProgress C.Item). p.number ≢ q.number) (λ p. not (p.number == number)) t.progress sound.progress_once;
+        progress_once = AllPairs-filter (λ (p q : PlainProgress Item). p.number ≢ q.number) (λ p. not (p.number == number)) t.progress sound.progress_once;
         limited = sound.limited;
       }
 
@@ -112,7 +112,7 @@ module _ (C : Class) (t : PlainTree C.Key C.Query C.Item) where
   seen_runs : (number : ℕ) → is_some (search_in t number) ≡ true → does_run t.running number ≡ true
   seen_runs number has = go (search_at t.running number) refl
     where
-      go : (o : Option (RunningSearch C.Query)) → search_at t.running number ≡ o → does_run t.running number ≡ true
+      go : (o : Option (RunningSearch Query)) → search_at t.running number ≡ o → does_run t.running number ≡ true
       go None e = let no : false ≡ true = sym (ap (λ o. is_some (option_map seen (search_of o (progress_at number t.progress)))) e) ∙ has in absurd (cc)
       go (Some run) e = ap is_some e
 
@@ -120,18 +120,18 @@ module _ (C : Class) (t : PlainTree C.Key C.Query C.Item) where
   unseen_rests : (number : ℕ) → IsSound C t → search_in t number ≡ None → does_run t.running number ≡ false
   unseen_rests number sound none = by (search_at t.running number) (progress_at number t.progress) (sound.progress_of_each number) none
     where
-      by : (o : Option (RunningSearch C.Query)) (way : Option (PlainProgress C.Item)) → is_some way ≡ is_some o → option_map seen (search_of o way) ≡ None → is_some o ≡ false
+      by : (o : Option (RunningSearch Query)) (way : Option (PlainProgress Item)) → is_some way ≡ is_some o → option_map seen (search_of o way) ≡ None → is_some o ≡ false
       by None way each none = refl
       by (Some run) None each none = sym each
       by (Some run) (Some p) each none = absurd (cc (none))
 
-  nothing_closed : (running : RunningSearches C.Query) (number : ℕ) → IsSound C t → (does_run t.running number ≡ false → running ≡ t.running) → search_in t number ≡ None → without running number ≡ t
+  nothing_closed : (running : RunningSearches Query) (number : ℕ) → IsSound C t → (does_run t.running number ≡ false → running ≡ t.running) → search_in t number ≡ None → without running number ≡ t
   nothing_closed running number sound same none =
       let rests = unseen_rests number sound none in
       let progress = filtered_none number t.progress (none_of (progress_at number t.progress) (sound.progress_of_each number ∙ rests)) in
       rw (same rests, progress) refl
 
-  pub closed_call : {running : RunningSearches C.Query} {number : ℕ} → IsSound C t → IsLeft t.running running number
+  pub closed_call : {running : RunningSearches Query} {number : ℕ} → IsSound C t → IsLeft t.running running number
       → (does_run t.running number ≡ true → length running.running + 1 ≡ length t.running.running) → (does_run t.running number ≡ false → running ≡ t.running) → IsShut C t (without running number) number
   closed_call {running = running} {number = number} sound left fewer same =
       record {
@@ -141,19 +141,19 @@ module _ (C : Class) (t : PlainTree C.Key C.Query C.Item) where
         fewer = λ has. fewer (seen_runs number has);
         contents = λ xs. contents_closed (closed_step left);
         counts = record { counter = refl; limit = refl; level = refl; taken = refl; slots = refl };
-        others_begun = λ x apart. ap (option_map (λ (run : RunningSearch C.Query). run.begun)) (left.others x apart);
+        others_begun = λ x apart. ap (option_map (λ (run : RunningSearch Query). run.begun)) (left.others x apart);
         others_steps = λ x apart. ap steps_of (filtered_other number x t.progress apart);
         step = closed_step left;
         nothing = λ none. nothing_closed running number sound same none;
       }
 
   -- what a search has found is in its progress
-  pub found_there : (search at : ℕ) (p : PlainProgress C.Item) → IsSound C t → IsFirstOf search t.progress at → slice_index_or t.progress at p ≡ p → found_in t search ≡ p.found
+  pub found_there : (search at : ℕ) (p : PlainProgress Item) → IsSound C t → IsFirstOf search t.progress at → slice_index_or t.progress at p ≡ p → found_in t search ≡ p.found
   found_there search at p sound first reads = by (search_at t.running search) refl
     where
       is_there : progress_at search t.progress ≡ Some p
       is_there = first_read search t.progress at p first (λ d. read_any t.progress at p d first.within reads)
 
-      by : (o : Option (RunningSearch C.Query)) → search_at t.running search ≡ o → found_of (option_map seen (search_of o (progress_at search t.progress))) ≡ p.found
+      by : (o : Option (RunningSearch Query)) → search_at t.running search ≡ o → found_of (option_map seen (search_of o (progress_at search t.progress))) ≡ p.found
       by None e = let no : true ≡ false = sym (ap is_some is_there) ∙ (sound.progress_of_each search ∙ ap is_some e) in absurd (cc)
       by (Some run) e = rw is_there refl

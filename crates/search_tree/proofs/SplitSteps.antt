@@ -10,7 +10,7 @@ use Rattle.tree_theory.proofs.ShapeSplit.{shape_split}
 use Rattle.tree_theory.specs.Changes.{IsHalved, IsSplit}
 use Rattle.tree_theory.specs.KeyClasses.{Class}
 use Rattle.tree_theory.specs.Nodes.{PlainBody, PlainNode, Node, children_of, under}
-use Rattle.tree_theory.specs.declared.place.Place.TheVariants.{Linked}
+use Rattle.tree_theory.specs.declared.position.Position.TheVariants.{Linked}
 use Rattle.tree_nodes.specs.Arenas.{IsChanged, AreSame}
 use Rattle.search_tree.specs.Calls.{IsUntouched}
 use Rattle.tree_nodes.specs.Halvings.{IsPickedOut}
@@ -103,11 +103,11 @@ module _ {Key Item : Type 0} where
         more = more_after 1 same split.more;
       }
 
-module _ (C : Class) (t : PlainTree C.Key C.Query C.Item) (nodes : Slots (Node C)) (at : Handle) where
-  abbrev parted : PlainTree C.Key C.Query C.Item
+module _ {Key Query Item : Type 0} (C : Class Key Query Item) (t : PlainTree Key Query Item) (nodes : Slots (Node C)) (at : Handle) where
+  abbrev parted : PlainTree Key Query Item
   parted = record t { nodes = nodes }
 
-  module _ {picks : List C.Key → ℕ → Type 0} (right : Handle) (split : HasSplit C.key_of picks t.nodes nodes at right) where
+  module _ {picks : List Key → ℕ → Type 0} (right : Handle) (split : HasSplit C.key_of picks t.nodes nodes at right) where
     split_step : IsSplit (tree_of C t) (tree_of C parted) at right
     split_step =
         record {
@@ -166,11 +166,11 @@ module _ (C : Class) (t : PlainTree C.Key C.Query C.Item) (nodes : Slots (Node C
           more = split.more;
         }
 
-  pub split_sound_either : (picks : List C.Key → ℕ → Type 0) (result : Result Handle TreeFault) → IfOk result (HasSplit C.key_of picks t.nodes nodes at) → OnErr result (AreSame t.nodes nodes) → IsSound C t → IsSound C parted
+  pub split_sound_either : (picks : List Key → ℕ → Type 0) (result : Result Handle TreeFault) → IfOk result (HasSplit C.key_of picks t.nodes nodes at) → OnErr result (AreSame t.nodes nodes) → IsSound C t → IsSound C parted
   split_sound_either picks (Ok right) split same sound = split_sound right split sound
   split_sound_either picks (Err fault) split same sound = same_sound C t nodes same sound
 
-  pub split_call_ok : (picks : List C.Key → ℕ → Type 0) (result : Result Handle TreeFault) → IfOk result (HasSplit C.key_of picks t.nodes nodes at) → IsSound C t → OnOk result (HasMoreNodes C t parted 1 0)
+  pub split_call_ok : (picks : List Key → ℕ → Type 0) (result : Result Handle TreeFault) → IfOk result (HasSplit C.key_of picks t.nodes nodes at) → IsSound C t → OnOk result (HasMoreNodes C t parted 1 0)
   split_call_ok picks (Ok right) split sound = split_call right split sound
   split_call_ok picks (Err fault) split sound = tt
 

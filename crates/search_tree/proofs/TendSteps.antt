@@ -14,7 +14,7 @@ use Rattle.tree_theory.specs.Changes.{IsRetired, IsFreed}
 use Rattle.tree_theory.specs.KeyClasses.{Class}
 use Rattle.tree_theory.specs.Nodes.{PlainNode, Node, entries_of, size_of}
 use Rattle.tree_theory.specs.Nodes.PlainBody.{Leaf, Inner}
-use Rattle.tree_theory.specs.declared.place.Place.TheVariants.{Retired as AtRest}
+use Rattle.tree_theory.specs.declared.position.Position.TheVariants.{Retired as AtRest}
 use Rattle.tree_nodes.specs.Arenas.{IsChanged, Holds}
 use Rattle.search_tree.specs.Calls.{SameContents}
 use Rattle.search_tree.specs.Tends.{HasTended, MayFree, MayRetire, slots_freed}
@@ -49,10 +49,10 @@ level_stays {old = old} {new = new} {at = at} {change = change} h changed same =
   | inr apart ↦ ap level_of (changed.others h apart)
 ]
 
-module _ (C : Class) (t : PlainTree C.Key C.Query C.Item) where
+module _ {Key Query Item : Type 0} (C : Class Key Query Item) (t : PlainTree Key Query Item) where
   -- a retired node is removed
   module _ (nodes : Slots (Node C)) (at : Handle) (may : MayFree C t at) (changed : IsChangedAt t.nodes nodes at None) (sound : IsSound C t) where
-    abbrev let_go : PlainTree C.Key C.Query C.Item
+    abbrev let_go : PlainTree Key Query Item
     let_go = record t { nodes = nodes }
 
     pub freed_step : IsFreed (tree_of C t) (tree_of C let_go) at
@@ -109,7 +109,7 @@ module _ (C : Class) (t : PlainTree C.Key C.Query C.Item) where
 
   -- an empty leaf is retired
   module _ (mid nodes : Slots (Node C)) (at parent : Handle) (place counter : ℕ) (may : MayRetire C t at parent place) (stamped : IsChanged t.nodes mid at (λ n. record n { place = AtRest counter })) (removed : IsChanged mid nodes parent (λ n. record n { body = Inner (remove (entries_of n.body) place) })) (ticked : counter ≡ t.counter + 1) where
-    abbrev let_out : PlainTree C.Key C.Query C.Item
+    abbrev let_out : PlainTree Key Query Item
     let_out = record t { nodes = nodes; counter = counter }
 
     leaf_apart : parent ≢ at

@@ -23,7 +23,7 @@ handle_is h slot generation one other = ap (λ s. made s h.generation) one ∙ a
     made : ℕ → ℕ → Handle
     made s g = record { slot = s; generation = g }
 
-module _ (C : Class) where
+module _ {Key Query Item : Type 0} (C : Class Key Query Item) where
   -- a tree with the same nodes and searches is as after the end of a search that does not run
   pub same_tree : (t u : Tree C) → Invariant t → ((h : Handle) → u.look h ≡ t.look h) → u.root ≡ t.root → u.counter ≡ t.counter → u.next ≡ t.next → ((s : ℕ) → u.searches s ≡ t.searches s) → IsClosed t u t.next
   same_tree t u inv look root counter next searches =
@@ -39,7 +39,7 @@ module _ (C : Class) where
       none (Some search) e = let below = inv.searches.running_given t.next search e in absurd (omega (arith, below))
 
   -- a search has made a step
-  pub visited_seen : (t : PlainTree C.Key C.Query C.Item) (at search : ℕ) (run : RunningSearch C.Query) (p q : PlainProgress C.Item) (nodes : Slots (Node C)) → search_at t.running search ≡ Some run → IsFirstOf search t.progress at → ((d : PlainProgress C.Item) → slice_index_or t.progress at d ≡ p) → (x : Handle) (memo : ℕ) (rest : List (Handle × ℕ)) → p.stack ≡ rest ++ (x, memo) ∷ [] → q.number ≡ search → p.number ≡ search → HasSeenAt C run.query t.counter t.running t.nodes nodes x memo rest p q → IsVisited (tree_of C t) (tree_of C (record t { nodes = nodes; progress = slice_set t.progress at q })) search x memo
+  pub visited_seen : (t : PlainTree Key Query Item) (at search : ℕ) (run : RunningSearch Query) (p q : PlainProgress Item) (nodes : Slots (Node C)) → search_at t.running search ≡ Some run → IsFirstOf search t.progress at → ((d : PlainProgress Item) → slice_index_or t.progress at d ≡ p) → (x : Handle) (memo : ℕ) (rest : List (Handle × ℕ)) → p.stack ≡ rest ++ (x, memo) ∷ [] → q.number ≡ search → p.number ≡ search → HasSeenAt C run.query t.counter t.running t.nodes nodes x memo rest p q → IsVisited (tree_of C t) (tree_of C (record t { nodes = nodes; progress = slice_set t.progress at q })) search x memo
   visited_seen t at search run p q nodes runs first reads x memo rest popped number named seen =
       record {
         search = record { query = run.query; begun = run.begun; stack = p.stack; found = p.found };
@@ -62,7 +62,7 @@ module _ (C : Class) where
         clock = record { root = refl; counter = refl; next = refl };
       }
 
-  pub visited_gone : (t : PlainTree C.Key C.Query C.Item) (at search : ℕ) (run : RunningSearch C.Query) (p q : PlainProgress C.Item) (nodes : Slots (Node C)) → search_at t.running search ≡ Some run → IsFirstOf search t.progress at → ((d : PlainProgress C.Item) → slice_index_or t.progress at d ≡ p) → (x : Handle) (memo : ℕ) (rest : List (Handle × ℕ)) → p.stack ≡ rest ++ (x, memo) ∷ [] → q.number ≡ search → IsGoneAt C run.query t.nodes nodes x rest p q → IsVisitedGone (tree_of C t) (tree_of C (record t { nodes = nodes; progress = slice_set t.progress at q })) search x memo
+  pub visited_gone : (t : PlainTree Key Query Item) (at search : ℕ) (run : RunningSearch Query) (p q : PlainProgress Item) (nodes : Slots (Node C)) → search_at t.running search ≡ Some run → IsFirstOf search t.progress at → ((d : PlainProgress Item) → slice_index_or t.progress at d ≡ p) → (x : Handle) (memo : ℕ) (rest : List (Handle × ℕ)) → p.stack ≡ rest ++ (x, memo) ∷ [] → q.number ≡ search → IsGoneAt C run.query t.nodes nodes x rest p q → IsVisitedGone (tree_of C t) (tree_of C (record t { nodes = nodes; progress = slice_set t.progress at q })) search x memo
   visited_gone t at search run p q nodes runs first reads x memo rest popped number gone =
       record {
         search = record { query = run.query; begun = run.begun; stack = p.stack; found = p.found };
@@ -78,9 +78,9 @@ module _ (C : Class) where
         clock = record { root = refl; counter = refl; next = refl };
       }
 
-  pub visit_step : (t : PlainTree C.Key C.Query C.Item) (at search : ℕ) (run : RunningSearch C.Query) (p q : PlainProgress C.Item) (nodes : Slots (Node C)) → search_at t.running search ≡ Some run → IsFirstOf search t.progress at → ((d : PlainProgress C.Item) → slice_index_or t.progress at d ≡ p) → HasVisited C run.query t.counter t.running t.nodes nodes p q → IsStep (tree_of C t) (tree_of C (record t { nodes = nodes; progress = slice_set t.progress at q }))
+  pub visit_step : (t : PlainTree Key Query Item) (at search : ℕ) (run : RunningSearch Query) (p q : PlainProgress Item) (nodes : Slots (Node C)) → search_at t.running search ≡ Some run → IsFirstOf search t.progress at → ((d : PlainProgress Item) → slice_index_or t.progress at d ≡ p) → HasVisited C run.query t.counter t.running t.nodes nodes p q → IsStep (tree_of C t) (tree_of C (record t { nodes = nodes; progress = slice_set t.progress at q }))
   visit_step t at search run p q nodes runs first reads visited =
-      let named : p.number ≡ search = ap (λ (d : PlainProgress C.Item). d.number) (sym (reads p)) ∙ first.named p in
+      let named : p.number ≡ search = ap (λ (d : PlainProgress Item). d.number) (sym (reads p)) ∙ first.named p in
       elim visited.outcome [
         | inl seen ↦ visits search visited.x visited.memo (visited_seen t at search run p q nodes runs first reads visited.x visited.memo visited.rest visited.popped (visited.number ∙ named) named seen)
         | inr gone ↦ visits_gone search visited.x visited.memo (visited_gone t at search run p q nodes runs first reads visited.x visited.memo visited.rest visited.popped (visited.number ∙ named) gone)

@@ -21,12 +21,12 @@ use Rattle.tree_nodes.specs.Visits.{HasVisited}
 use Rattle.search_tree.proofs.ProgressLemmas.{differ_set, first_read, set_here, set_other}
 use Rattle.search_tree.proofs.TreeSteps.{same_tree, visit_step, visited_seen, visited_gone}
 
-module _ (C : Class) (t : PlainTree C.Key C.Query C.Item) (at search : ℕ) where
-  abbrev changed : Slots (Node C) → PlainProgress C.Item → PlainTree C.Key C.Query C.Item
+module _ {Key Query Item : Type 0} (C : Class Key Query Item) (t : PlainTree Key Query Item) (at search : ℕ) where
+  abbrev changed : Slots (Node C) → PlainProgress Item → PlainTree Key Query Item
   changed nodes q = record t { nodes = nodes; progress = slice_set t.progress at q }
 
   -- exactly the running searches still have progress
-  each_still : (p q : PlainProgress C.Item) → IsFirstOf search t.progress at → ((d : PlainProgress C.Item) → slice_index_or t.progress at d ≡ p) → q.number ≡ search → IsSound C t → (s : ℕ) → is_some (progress_at s (slice_set t.progress at q)) ≡ is_some (search_at t.running s)
+  each_still : (p q : PlainProgress Item) → IsFirstOf search t.progress at → ((d : PlainProgress Item) → slice_index_or t.progress at d ≡ p) → q.number ≡ search → IsSound C t → (s : ℕ) → is_some (progress_at s (slice_set t.progress at q)) ≡ is_some (search_at t.running s)
   each_still p q first reads number sound s = elim (cases_eq s search) [
     | inl same ↦
         subst (λ n. is_some (progress_at n (slice_set t.progress at q)) ≡ is_some (search_at t.running n)) (sym same)
@@ -34,9 +34,9 @@ module _ (C : Class) (t : PlainTree C.Key C.Query C.Item) (at search : ℕ) wher
     | inr other ↦ rw (set_other search s t.progress at q first number other) (sound.progress_of_each s)
   ]
 
-  pub visited_sound : Laws C → (run : RunningSearch C.Query) (p q : PlainProgress C.Item) (nodes : Slots (Node C)) → search_at t.running search ≡ Some run → IsFirstOf search t.progress at → ((d : PlainProgress C.Item) → slice_index_or t.progress at d ≡ p) → HasVisited C run.query t.counter t.running t.nodes nodes p q → IsSound C t → IsSound C (changed nodes q)
+  pub visited_sound : Laws C → (run : RunningSearch Query) (p q : PlainProgress Item) (nodes : Slots (Node C)) → search_at t.running search ≡ Some run → IsFirstOf search t.progress at → ((d : PlainProgress Item) → slice_index_or t.progress at d ≡ p) → HasVisited C run.query t.counter t.running t.nodes nodes p q → IsSound C t → IsSound C (changed nodes q)
   visited_sound laws run p q nodes runs first reads visited sound =
-      let named : p.number ≡ search = ap (λ (d : PlainProgress C.Item). d.number) (sym (reads p)) ∙ first.named p in
+      let named : p.number ≡ search = ap (λ (d : PlainProgress Item). d.number) (sym (reads p)) ∙ first.named p in
       record {
         invariant = step_keeps laws sound.invariant (visit_step C t at search run p q nodes runs first reads visited);
         progress_of_each = each_still p q first reads (visited.number ∙ named) sound;
@@ -45,7 +45,7 @@ module _ (C : Class) (t : PlainTree C.Key C.Query C.Item) (at search : ℕ) wher
       }
 
   -- searches are unchanged where only the room has changed
-  same_searches : (p q : PlainProgress C.Item) (nodes : Slots (Node C)) → IsFirstOf search t.progress at → ((d : PlainProgress C.Item) → slice_index_or t.progress at d ≡ p) → SameButRoom p q → (s : ℕ) → search_of (search_at t.running s) (progress_at s (slice_set t.progress at q)) ≡ search_of (search_at t.running s) (progress_at s t.progress)
+  same_searches : (p q : PlainProgress Item) (nodes : Slots (Node C)) → IsFirstOf search t.progress at → ((d : PlainProgress Item) → slice_index_or t.progress at d ≡ p) → SameButRoom p q → (s : ℕ) → search_of (search_at t.running s) (progress_at s (slice_set t.progress at q)) ≡ search_of (search_at t.running s) (progress_at s t.progress)
   same_searches p q nodes first reads same s = elim (cases_eq s search) [
     | inl e ↦
         subst (λ n. search_of (search_at t.running n) (progress_at n (slice_set t.progress at q)) ≡ search_of (search_at t.running n) (progress_at n t.progress)) (sym e)
@@ -54,15 +54,15 @@ module _ (C : Class) (t : PlainTree C.Key C.Query C.Item) (at search : ℕ) wher
   ]
     where
       number : q.number ≡ search
-      number = ap (λ (d : PlainProgress C.Item). d.number) same ∙ (ap (λ (d : PlainProgress C.Item). d.number) (sym (reads p)) ∙ first.named p)
+      number = ap (λ (d : PlainProgress Item). d.number) same ∙ (ap (λ (d : PlainProgress Item). d.number) (sym (reads p)) ∙ first.named p)
 
-      by : (o : Option (RunningSearch C.Query)) → search_of o (Some q) ≡ search_of o (Some p)
+      by : (o : Option (RunningSearch Query)) → search_of o (Some q) ≡ search_of o (Some p)
       by None = refl
       by (Some r) = rw same refl
 
-  pub roomier_sound : (p q : PlainProgress C.Item) (nodes : Slots (Node C)) → IsFirstOf search t.progress at → ((d : PlainProgress C.Item) → slice_index_or t.progress at d ≡ p) → AreSame t.nodes nodes → SameButRoom p q → IsSound C t → IsSound C (changed nodes q)
+  pub roomier_sound : (p q : PlainProgress Item) (nodes : Slots (Node C)) → IsFirstOf search t.progress at → ((d : PlainProgress Item) → slice_index_or t.progress at d ≡ p) → AreSame t.nodes nodes → SameButRoom p q → IsSound C t → IsSound C (changed nodes q)
   roomier_sound p q nodes first reads same_nodes same sound =
-      let number : q.number ≡ search = ap (λ (d : PlainProgress C.Item). d.number) same ∙ (ap (λ (d : PlainProgress C.Item). d.number) (sym (reads p)) ∙ first.named p) in
+      let number : q.number ≡ search = ap (λ (d : PlainProgress Item). d.number) same ∙ (ap (λ (d : PlainProgress Item). d.number) (sym (reads p)) ∙ first.named p) in
       let step = same_tree C (tree_of C t) (tree_of C (changed nodes q)) sound.invariant same_nodes.each refl refl refl (same_searches p q nodes first reads same) in
       record {
         invariant = record { shape = shape_closed sound.invariant.shape step; searches = searches_closed sound.invariant.shape sound.invariant.searches step };
@@ -71,7 +71,7 @@ module _ (C : Class) (t : PlainTree C.Key C.Query C.Item) (at search : ℕ) wher
         limited = sound.limited;
       }
 
-  roomier_alike : (p q : PlainProgress C.Item) (nodes : Slots (Node C)) → IsFirstOf search t.progress at → ((d : PlainProgress C.Item) → slice_index_or t.progress at d ≡ p) → AreSame t.nodes nodes → SameButRoom p q → IsSound C t → IsAlike C t (changed nodes q)
+  roomier_alike : (p q : PlainProgress Item) (nodes : Slots (Node C)) → IsFirstOf search t.progress at → ((d : PlainProgress Item) → slice_index_or t.progress at d ≡ p) → AreSame t.nodes nodes → SameButRoom p q → IsSound C t → IsAlike C t (changed nodes q)
   roomier_alike p q nodes first reads same_nodes same sound =
       let step = same_tree C (tree_of C t) (tree_of C (changed nodes q)) sound.invariant same_nodes.each refl refl refl (same_searches p q nodes first reads same) in
       record {
@@ -79,15 +79,15 @@ module _ (C : Class) (t : PlainTree C.Key C.Query C.Item) (at search : ℕ) wher
         steps = λ s. elim (cases_eq s search) [
           | inl e ↦
               subst (λ n. steps_in (changed nodes q) n ≡ steps_in t n) (sym e)
-              (rw (set_here search t.progress at q first (ap (λ (d : PlainProgress C.Item). d.number) same ∙ (ap (λ (d : PlainProgress C.Item). d.number) (sym (reads p)) ∙ first.named p)), first_read search t.progress at p first reads, same) refl)
-          | inr other ↦ ap steps_of (set_other search s t.progress at q first (ap (λ (d : PlainProgress C.Item). d.number) same ∙ (ap (λ (d : PlainProgress C.Item). d.number) (sym (reads p)) ∙ first.named p)) other)
+              (rw (set_here search t.progress at q first (ap (λ (d : PlainProgress Item). d.number) same ∙ (ap (λ (d : PlainProgress Item). d.number) (sym (reads p)) ∙ first.named p)), first_read search t.progress at p first reads, same) refl)
+          | inr other ↦ ap steps_of (set_other search s t.progress at q first (ap (λ (d : PlainProgress Item). d.number) same ∙ (ap (λ (d : PlainProgress Item). d.number) (sym (reads p)) ∙ first.named p)) other)
         ];
         running = refl;
         contents = λ xs. contents_closed step;
         counts = record { counter = refl; limit = refl; level = ap level_of (same_nodes.each t.root); taken = same_nodes.counts.taken; slots = same_nodes.counts.slots };
       }
 
-  pub roomier_call : (p q : PlainProgress C.Item) (nodes : Slots (Node C)) → IsFirstOf search t.progress at → ((d : PlainProgress C.Item) → slice_index_or t.progress at d ≡ p) → AreSame t.nodes nodes → SameButRoom p q → IsSound C t → IsUntouched C t (changed nodes q)
+  pub roomier_call : (p q : PlainProgress Item) (nodes : Slots (Node C)) → IsFirstOf search t.progress at → ((d : PlainProgress Item) → slice_index_or t.progress at d ≡ p) → AreSame t.nodes nodes → SameButRoom p q → IsSound C t → IsUntouched C t (changed nodes q)
   roomier_call p q nodes first reads same_nodes same sound =
       record {
         alike = roomier_alike p q nodes first reads same_nodes same sound;
@@ -111,9 +111,9 @@ module _ (C : Class) (t : PlainTree C.Key C.Query C.Item) (at search : ℕ) wher
       by None = refl
       by (Some n) = same n
 
-  pub visited_call : (run : RunningSearch C.Query) (p q : PlainProgress C.Item) (nodes : Slots (Node C)) → search_at t.running search ≡ Some run → IsFirstOf search t.progress at → ((d : PlainProgress C.Item) → slice_index_or t.progress at d ≡ p) → HasVisited C run.query t.counter t.running t.nodes nodes p q → IsFurther C t (changed nodes q) search (is_empty q.stack)
+  pub visited_call : (run : RunningSearch Query) (p q : PlainProgress Item) (nodes : Slots (Node C)) → search_at t.running search ≡ Some run → IsFirstOf search t.progress at → ((d : PlainProgress Item) → slice_index_or t.progress at d ≡ p) → HasVisited C run.query t.counter t.running t.nodes nodes p q → IsFurther C t (changed nodes q) search (is_empty q.stack)
   visited_call run p q nodes runs first reads visited =
-      let named : p.number ≡ search = ap (λ (d : PlainProgress C.Item). d.number) (sym (reads p)) ∙ first.named p in
+      let named : p.number ≡ search = ap (λ (d : PlainProgress Item). d.number) (sym (reads p)) ∙ first.named p in
       let number : q.number ≡ search = visited.number ∙ named in
       let old = first_read search t.progress at p first reads in
       let new = set_here search t.progress at q first number in

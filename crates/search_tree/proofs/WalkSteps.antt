@@ -29,15 +29,15 @@ use Rattle.tree_nodes.proofs.ListEnds.{some_one}
 use Rattle.search_tree.proofs.TreeSteps.{same_tree}
 use Rattle.search_tree.proofs.VisitSteps.{level_kept}
 
-module _ (C : Class) (t : PlainTree C.Key C.Query C.Item) (nodes : Slots (Node C)) where
-  abbrev now : PlainTree C.Key C.Query C.Item
+module _ {Key Query Item : Type 0} (C : Class Key Query Item) (t : PlainTree Key Query Item) (nodes : Slots (Node C)) where
+  abbrev now : PlainTree Key Query Item
   now = record t { nodes = nodes }
 
   -- a search that runs in the theory runs
   running : (s : ℕ) (search : Search C) → search_of (search_at t.running s) (progress_at s t.progress) ≡ Some search → Parts (search_at t.running s) (progress_at s t.progress) search
   running s search is = parts_of (search_at t.running s) (progress_at s t.progress) search is
 
-  pub placed_step : (at : Handle) (pair : ℕ × C.Item) → MayPlace C t at pair → IsChanged t.nodes nodes at (λ n. record n { body = Leaf (pairs_of n.body ++ pair ∷ []) }) → IsPlaced (tree_of C t) (tree_of C now) at pair
+  pub placed_step : (at : Handle) (pair : ℕ × Item) → MayPlace C t at pair → IsChanged t.nodes nodes at (λ n. record n { body = Leaf (pairs_of n.body ++ pair ∷ []) }) → IsPlaced (tree_of C t) (tree_of C now) at pair
   placed_step at pair may changed =
       record {
         node = may.node;
@@ -53,7 +53,7 @@ module _ (C : Class) (t : PlainTree C.Key C.Query C.Item) (nodes : Slots (Node C
         clock = record { root = refl; counter = refl; next = refl };
       }
 
-  pub placed_sound : Laws C → (at : Handle) (pair : ℕ × C.Item) → MayPlace C t at pair → IsChanged t.nodes nodes at (λ n. record n { body = Leaf (pairs_of n.body ++ pair ∷ []) }) → IsSound C t → IsSound C now
+  pub placed_sound : Laws C → (at : Handle) (pair : ℕ × Item) → MayPlace C t at pair → IsChanged t.nodes nodes at (λ n. record n { body = Leaf (pairs_of n.body ++ pair ∷ []) }) → IsSound C t → IsSound C now
   placed_sound laws at pair may changed sound =
       let step = placed_step at pair may changed in
       record {
@@ -63,7 +63,7 @@ module _ (C : Class) (t : PlainTree C.Key C.Query C.Item) (nodes : Slots (Node C
         limited = sound.limited;
       }
 
-  placed_call : (at : Handle) (pair : ℕ × C.Item) → MayPlace C t at pair → IsChanged t.nodes nodes at (λ n. record n { body = Leaf (pairs_of n.body ++ pair ∷ []) }) → HasPlaced C t now pair
+  placed_call : (at : Handle) (pair : ℕ × Item) → MayPlace C t at pair → IsChanged t.nodes nodes at (λ n. record n { body = Leaf (pairs_of n.body ++ pair ∷ []) }) → HasPlaced C t now pair
   placed_call at pair may changed =
       record {
         contents = λ xs. contents_placed (placed_step at pair may changed);
@@ -74,17 +74,17 @@ module _ (C : Class) (t : PlainTree C.Key C.Query C.Item) (nodes : Slots (Node C
       }
 
   -- no ready search looks for what is placed
-  behind_none : Laws C → (at : Handle) (pair : ℕ × C.Item) → MayPlace C t at pair → IsChanged t.nodes nodes at (λ n. record n { body = Leaf (pairs_of n.body ++ pair ∷ []) }) → IsSound C t → (s : ℕ) (found : SeenSearch C.Query C.Item) → search_in t s ≡ Some found → found.ready ≡ true → C.Matches pair.1 found.query → ⊥
+  behind_none : Laws C → (at : Handle) (pair : ℕ × Item) → MayPlace C t at pair → IsChanged t.nodes nodes at (λ n. record n { body = Leaf (pairs_of n.body ++ pair ∷ []) }) → IsSound C t → (s : ℕ) (found : SeenSearch Query Item) → search_in t s ≡ Some found → found.ready ≡ true → C.Matches pair.1 found.query → ⊥
   behind_none laws at pair may changed sound s found is ready matches = by (search_of (search_at t.running s) (progress_at s t.progress)) refl is
     where
       by : (o : Option (Search C)) → search_of (search_at t.running s) (progress_at s t.progress) ≡ o → option_map seen o ≡ Some found → ⊥
       by None e none = absurd (cc (none))
       by (Some plain) e some =
           let same : seen plain ≡ found = cc (some) in
-          let empty : plain.stack ≡ [] = nothing_left plain.stack (ap (λ (x : SeenSearch C.Query C.Item). x.ready) same ∙ ready) in
-          places_behind_none laws (tree_of C t) sound.invariant (tree_of C now) at pair (placed_step at pair may changed) s plain (record { running = e; stack = empty }) (subst (λ q. C.Matches pair.1 q) (sym (ap (λ (x : SeenSearch C.Query C.Item). x.query) same)) matches)
+          let empty : plain.stack ≡ [] = nothing_left plain.stack (ap (λ (x : SeenSearch Query Item). x.ready) same ∙ ready) in
+          places_behind_none laws (tree_of C t) sound.invariant (tree_of C now) at pair (placed_step at pair may changed) s plain (record { running = e; stack = empty }) (subst (λ q. C.Matches pair.1 q) (sym (ap (λ (x : SeenSearch Query Item). x.query) same)) matches)
 
-  pub placed_behind_none : Laws C → (at : Handle) (pair : ℕ × C.Item) → MayPlace C t at pair → IsChanged t.nodes nodes at (λ n. record n { body = Leaf (pairs_of n.body ++ pair ∷ []) }) → IsSound C t → HasPlacedBehindNone C t now pair
+  pub placed_behind_none : Laws C → (at : Handle) (pair : ℕ × Item) → MayPlace C t at pair → IsChanged t.nodes nodes at (λ n. record n { body = Leaf (pairs_of n.body ++ pair ∷ []) }) → IsSound C t → HasPlacedBehindNone C t now pair
   placed_behind_none laws at pair may changed sound = record { placed = placed_call at pair may changed; behind = behind_none laws at pair may changed sound }
 
   joined_step : (at : Handle) (more : List ℕ) → MayJoinAll C t at more → IsChanged t.nodes nodes at (λ n. record n { attached = filter (does_run t.running) (with_numbers more n.attached) }) → IsJoined (tree_of C t) (tree_of C now) at
@@ -155,7 +155,7 @@ module _ (C : Class) (t : PlainTree C.Key C.Query C.Item) (nodes : Slots (Node C
         searches = record { search = λ s. refl };
       }
 
-  enlarged_step : (p : Handle) (place : ℕ) (old key : C.Key) (child : Handle) → MayEnlarge C t p place old key child → IsChanged t.nodes nodes p (λ n. record n { body = Inner (slice_set (entries_of n.body) place (C.united old key, child)) }) → IsEnlarged (tree_of C t) (tree_of C now) p key
+  enlarged_step : (p : Handle) (place : ℕ) (old key : Key) (child : Handle) → MayEnlarge C t p place old key child → IsChanged t.nodes nodes p (λ n. record n { body = Inner (slice_set (entries_of n.body) place (C.united old key, child)) }) → IsEnlarged (tree_of C t) (tree_of C now) p key
   enlarged_step p place old key child may changed =
       record {
         node = may.node;
@@ -177,11 +177,11 @@ module _ (C : Class) (t : PlainTree C.Key C.Query C.Item) (nodes : Slots (Node C
         clock = record { root = refl; counter = refl; next = refl };
       }
 
-  pub has_enlarged : (p : Handle) (place : ℕ) (old key : C.Key) (child : Handle) → MayEnlarge C t p place old key child → IsChanged t.nodes nodes p (λ n. record n { body = Inner (slice_set (entries_of n.body) place (C.united old key, child)) }) → HasEnlarged C t now p old key child
+  pub has_enlarged : (p : Handle) (place : ℕ) (old key : Key) (child : Handle) → MayEnlarge C t p place old key child → IsChanged t.nodes nodes p (λ n. record n { body = Inner (slice_set (entries_of n.body) place (C.united old key, child)) }) → HasEnlarged C t now p old key child
   unfolding enlarged_step
   has_enlarged p place old key child may changed = record { step = enlarged_step p place old key child may changed; old_is = refl; child_is = refl }
 
-  pub enlarged_sound : Laws C → (p : Handle) (place : ℕ) (old key : C.Key) (child : Handle) → MayEnlarge C t p place old key child → IsChanged t.nodes nodes p (λ n. record n { body = Inner (slice_set (entries_of n.body) place (C.united old key, child)) }) → IsSound C t → IsSound C now
+  pub enlarged_sound : Laws C → (p : Handle) (place : ℕ) (old key : Key) (child : Handle) → MayEnlarge C t p place old key child → IsChanged t.nodes nodes p (λ n. record n { body = Inner (slice_set (entries_of n.body) place (C.united old key, child)) }) → IsSound C t → IsSound C now
   enlarged_sound laws p place old key child may changed sound =
       let step = enlarged_step p place old key child may changed in
       record {
@@ -191,7 +191,7 @@ module _ (C : Class) (t : PlainTree C.Key C.Query C.Item) (nodes : Slots (Node C
         limited = sound.limited;
       }
 
-  pub enlarged_call : (p : Handle) (place : ℕ) (old key : C.Key) (child : Handle) → MayEnlarge C t p place old key child → IsChanged t.nodes nodes p (λ n. record n { body = Inner (slice_set (entries_of n.body) place (C.united old key, child)) }) → IsAlike C t now
+  pub enlarged_call : (p : Handle) (place : ℕ) (old key : Key) (child : Handle) → MayEnlarge C t p place old key child → IsChanged t.nodes nodes p (λ n. record n { body = Inner (slice_set (entries_of n.body) place (C.united old key, child)) }) → IsAlike C t now
   enlarged_call p place old key child may changed =
       record {
         searches = λ s. refl;
@@ -201,7 +201,7 @@ module _ (C : Class) (t : PlainTree C.Key C.Query C.Item) (nodes : Slots (Node C
         counts = record { counter = refl; limit = refl; level = level_kept C t 0 0 nodes p _ changed (λ n. refl); taken = changed.counts.taken; slots = changed.counts.slots };
       }
 
-module _ (C : Class) (t : PlainTree C.Key C.Query C.Item) (p : Handle) (place : ℕ) (old key : C.Key) (child : Handle) (may : MayEnlarge C t p place old key child) where
+module _ {Key Query Item : Type 0} (C : Class Key Query Item) (t : PlainTree Key Query Item) (p : Handle) (place : ℕ) (old key : Key) (child : Handle) (may : MayEnlarge C t p place old key child) where
   pub entry_inner : Holds t.nodes p (λ n. IsInner n.body)
   entry_inner node is = (may.entries, ap (λ (n : Node C). n.body) (some_one is may.is) ∙ may.body)
 

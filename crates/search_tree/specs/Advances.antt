@@ -36,12 +36,13 @@ pub record HasStepped {Item : Type 0} (old new : PlainWalk Item) (step : Step) :
   pub placed : new.placed ≡ is_placed step
 
 -- the search of this number runs and looks for the item
-pub record IsHeldBy (C : Class) (t : PlainTree C.Key C.Query C.Item) (item : C.Item) (search : ℕ) : Type 0 where
-  pub seen : SeenSearch C.Query C.Item
+pub record IsHeldBy {Key Query Item : Type 0} (C : Class Key Query Item)
+    (t : PlainTree Key Query Item) (item : Item) (search : ℕ) : Type 0 where
+  pub seen : SeenSearch Query Item
   pub runs : search_in t search ≡ Some seen
   pub matches : C.Matches item seen.query
 
-module _ (C : Class) (t u : PlainTree C.Key C.Query C.Item) where
+module _ {Key Query Item : Type 0} (C : Class Key Query Item) (t u : PlainTree Key Query Item) where
   -- a right node has got its entry, and the counter has risen by one; nothing else changes
   pub record HasInstalled : Type 0 where
     pub tended : HasTended C t u GotEntry
@@ -53,12 +54,13 @@ module _ (C : Class) (t u : PlainTree C.Key C.Query C.Item) where
   HasParted = HasMoreNodes C t u 1 0 ⊎ HasMoreNodes C t u 2 1
 
   -- the contents have the pair once more, and no ready search looks for it; nothing else changes
-  pub record HasPlacedBehindNone (pair : ℕ × C.Item) : Type 0 where
+  pub record HasPlacedBehindNone (pair : ℕ × Item) : Type 0 where
     pub placed : HasPlaced C t u pair
-    pub behind : (search : ℕ) (seen : SeenSearch C.Query C.Item) → search_in t search ≡ Some seen → seen.ready ≡ true → C.Matches pair.1 seen.query → ⊥
+    pub behind : (search : ℕ) (seen : SeenSearch Query Item) → search_in t search ≡ Some seen
+        → seen.ready ≡ true → C.Matches pair.1 seen.query → ⊥
 
   -- what a step of a walk of this pair leaves, by what it returns
-  abbrev pub HasAdvanced : ℕ × C.Item → Step → Type 0
+  abbrev pub HasAdvanced : ℕ × Item → Step → Type 0
   HasAdvanced pair Moved = IsAlike C t u
   HasAdvanced pair Split = HasParted
   HasAdvanced pair Installed = HasInstalled
@@ -66,11 +68,14 @@ module _ (C : Class) (t u : PlainTree C.Key C.Query C.Item) where
   HasAdvanced pair Placed = HasPlacedBehindNone pair
 
 -- no slot is left for one more node; or the root is full, and two are not left
-abbrev pub LacksSlots : (C : Class) → PlainTree C.Key C.Query C.Item → Type 0
-LacksSlots C t = (MAX_SLOTS < taken_count t.nodes + 1) ⊎ (MayGrow C t × (MAX_SLOTS < taken_count t.nodes + 2))
+abbrev pub LacksSlots : {Key Query Item : Type 0} (C : Class Key Query Item)
+    → PlainTree Key Query Item → Type 0
+LacksSlots C t = (MAX_SLOTS < taken_count t.nodes + 1)
+    ⊎ (MayGrow C t × (MAX_SLOTS < taken_count t.nodes + 2))
 
 -- why a step of a walk of this item may be refused
-abbrev pub MayRefuse : (C : Class) → PlainTree C.Key C.Query C.Item → C.Item → TreeFault → Type 0
+abbrev pub MayRefuse : {Key Query Item : Type 0} (C : Class Key Query Item)
+    → PlainTree Key Query Item → Item → TreeFault → Type 0
 MayRefuse C t item NoSearch = ⊥
 MayRefuse C t item TooMany = ⊥
 MayRefuse C t item (Held search) = IsHeldBy C t item search
@@ -81,8 +86,13 @@ MayRefuse C t item Overrun = ⊥
 MayRefuse C t item (Memory refusal) = ⊤
 
 -- what a step of a walk returns, when, and what it leaves of tree and walk
-pub data IsAdvance (C : Class) (t u : PlainTree C.Key C.Query C.Item) (old new : PlainWalk C.Item) : Result Step TreeFault → Type 0 where
+pub data IsAdvance {Key Query Item : Type 0} (C : Class Key Query Item)
+    (t u : PlainTree Key Query Item) (old new : PlainWalk Item) : Result Step TreeFault
+    → Type 0 where
   was_placed : old.placed ≡ true → u ≡ t → new ≡ old → IsAdvance C t u old new (Ok Placed)
-  overruns : old.placed ≡ false → t.limit ≤ old.steps → u ≡ t → new ≡ old → IsAdvance C t u old new (Err Overrun)
-  goes_on : (step : Step) → MayWalk t.limit old → HasStepped old new step → HasAdvanced C t u (old.key, old.item) step → IsAdvance C t u old new (Ok step)
-  is_refused : (fault : TreeFault) → MayWalk t.limit old → MayRefuse C t old.item fault → IsUntouched C t u → new ≡ old → IsAdvance C t u old new (Err fault)
+  overruns : old.placed ≡ false → t.limit ≤ old.steps → u ≡ t → new ≡ old
+      → IsAdvance C t u old new (Err Overrun)
+  goes_on : (step : Step) → MayWalk t.limit old → HasStepped old new step
+      → HasAdvanced C t u (old.key, old.item) step → IsAdvance C t u old new (Ok step)
+  is_refused : (fault : TreeFault) → MayWalk t.limit old → MayRefuse C t old.item fault
+      → IsUntouched C t u → new ≡ old → IsAdvance C t u old new (Err fault)

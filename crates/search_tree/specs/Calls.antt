@@ -1,7 +1,7 @@
 -- What the calls do, as callers see it: the contents, the searches, and the counts.
 use Rattle.std.specs.Prelude.{◌≡◌, ◌≢◌, ◌+◌, ◌++◌, ◌<◌, ◌≤◌, ◌⊎◌, ℕ, Bool, true, false, [], List, Contains, length, slice_index_or, Option, None, Some, is_some, Result, Ok, Err}
 use Rattle.std.specs.Option.{option_map}
-use Rattle.memory.specs.declared.refused.Refused.{Refused}
+use Rattle.memory.specs.declared.no_memory.NoMemory.{NoMemory}
 use Rattle.predicate_locks.specs.Searches.{last_number, search_at}
 use Rattle.predicate_locks.specs.declared.running.RunningSearch.{RunningSearch}
 use Rattle.tree_answers.specs.declared.answers.Visit.{Visit}
@@ -27,15 +27,17 @@ found_in t s = found_of (search_in t s)
 
 -- the counter when the search with this number began, if it runs
 abbrev pub begun_in : {Key Query Item : Type 0} → PlainTree Key Query Item → ℕ → Option ℕ
-begun_in {Query = Query} t s = option_map (λ (run : RunningSearch Query). run.begun) (search_at t.running s)
+begun_in {Query = Query} t s = option_map (λ (run : RunningSearch Query). run.begun)
+    (search_at t.running s)
 
-module _ (C : Class) where
+module _ {Key Query Item : Type 0} (C : Class Key Query Item) where
   -- the same contents, in any order
-  abbrev pub SameContents : PlainTree C.Key C.Query C.Item → PlainTree C.Key C.Query C.Item → Type 0
-  SameContents t u = (xs : List (ℕ × C.Item)) → IsContents (tree_of C t) xs → IsContents (tree_of C u) xs
+  abbrev pub SameContents : PlainTree Key Query Item → PlainTree Key Query Item → Type 0
+  SameContents t u = (xs : List (ℕ × Item)) → IsContents (tree_of C t) xs
+      → IsContents (tree_of C u) xs
 
   -- the counts that neither the opening nor a step nor the end of a search changes
-  pub record SameCounts (t u : PlainTree C.Key C.Query C.Item) : Type 0 where
+  pub record SameCounts (t u : PlainTree Key Query Item) : Type 0 where
     pub counter : u.counter ≡ t.counter
     pub limit : u.limit ≡ t.limit
     pub level : root_level u ≡ root_level t
@@ -44,7 +46,7 @@ module _ (C : Class) where
 
   -- A search opens under the next number and at the tree's counter, with the root on its stack. It
   -- has found nothing and made no step. Nothing else changes, the nodes included.
-  pub record IsOpen (t u : PlainTree C.Key C.Query C.Item) (query : C.Query) (search : ℕ) : Type 0 where
+  pub record IsOpen (t u : PlainTree Key Query Item) (query : Query) (search : ℕ) : Type 0 where
     pub number : search ≡ t.running.next
     pub did_not_run : search_in t search ≡ None
     pub runs : search_in u search ≡ Some (record { query = query; found = []; ready = false })
@@ -61,11 +63,12 @@ module _ (C : Class) where
 
   -- No search runs under the number. Nothing else changes, the nodes included; where none ran,
   -- nothing at all.
-  pub record IsShut (t u : PlainTree C.Key C.Query C.Item) (search : ℕ) : Type 0 where
+  pub record IsShut (t u : PlainTree Key Query Item) (search : ℕ) : Type 0 where
     pub gone : search_in u search ≡ None
     pub others : (other : ℕ) → other ≢ search → search_in u other ≡ search_in t other
     pub next : u.running.next ≡ t.running.next
-    pub fewer : is_some (search_in t search) ≡ true → length u.running.running + 1 ≡ length t.running.running
+    pub fewer : is_some (search_in t search) ≡ true
+        → length u.running.running + 1 ≡ length t.running.running
     pub contents : SameContents t u
     pub counts : SameCounts t u
     pub others_begun : (other : ℕ) → other ≢ search → begun_in u other ≡ begun_in t other
@@ -74,13 +77,14 @@ module _ (C : Class) where
     pub nothing : search_in t search ≡ None → u ≡ t
 
   -- where the search is ready, it has found every pair of the tree that it looks for
-  abbrev pub IsComplete : PlainTree C.Key C.Query C.Item → ℕ → List (ℕ × C.Item) → Type 0
+  abbrev pub IsComplete : PlainTree Key Query Item → ℕ → List (ℕ × Item) → Type 0
   IsComplete t search found =
-      (s : SeenSearch C.Query C.Item) → search_in t search ≡ Some s → s.ready ≡ true → (xs : List (ℕ × C.Item)) → IsContents (tree_of C t) xs
-      → (pair : ℕ × C.Item) → Contains xs pair → C.Matches pair.1 s.query → Contains found pair
+      (s : SeenSearch Query Item) → search_in t search ≡ Some s → s.ready ≡ true
+      → (xs : List (ℕ × Item)) → IsContents (tree_of C t) xs
+      → (pair : ℕ × Item) → Contains xs pair → C.Matches pair.1 s.query → Contains found pair
 
   -- no difference that callers see: in contents, searches and counts
-  pub record IsAlike (t u : PlainTree C.Key C.Query C.Item) : Type 0 where
+  pub record IsAlike (t u : PlainTree Key Query Item) : Type 0 where
     pub searches : (search : ℕ) → search_in u search ≡ search_in t search
     pub steps : (search : ℕ) → steps_in u search ≡ steps_in t search
     pub running : u.running ≡ t.running
@@ -89,7 +93,7 @@ module _ (C : Class) where
 
   -- Only spare capacity differs: callers see no difference, and no node and no search's stack has
   -- changed.
-  pub record IsUntouched (t u : PlainTree C.Key C.Query C.Item) : Type 0 where
+  pub record IsUntouched (t u : PlainTree Key Query Item) : Type 0 where
     pub alike : IsAlike t u
     pub root : u.root ≡ t.root
     pub nodes : SameNodes (tree_of C t) (tree_of C u)
@@ -97,25 +101,28 @@ module _ (C : Class) where
 
   -- the search takes the last node and its memo from its stack, and sees the node or finds it gone,
   -- as in the theory
-  pub record SeesNode (t u : PlainTree C.Key C.Query C.Item) (search : ℕ) : Type 0 where
+  pub record SeesNode (t u : PlainTree Key Query Item) (search : ℕ) : Type 0 where
     pub node : Handle
     pub memo : ℕ
-    pub sees : IsVisited (tree_of C t) (tree_of C u) search node memo ⊎ IsVisitedGone (tree_of C t) (tree_of C u) search node memo
+    pub sees : IsVisited (tree_of C t) (tree_of C u) search node memo
+        ⊎ IsVisitedGone (tree_of C t) (tree_of C u) search node memo
 
   -- The search makes a step. It finds these pairs, at most as many as a node has; each is in the
   -- tree and matches its query. The step is one of the theory's. Nothing else that callers see
   -- changes.
-  pub record IsFurther (t u : PlainTree C.Key C.Query C.Item) (search : ℕ) (ready : Bool) : Type 0 where
-    pub before : SeenSearch C.Query C.Item
+  pub record IsFurther (t u : PlainTree Key Query Item) (search : ℕ) (ready : Bool) : Type 0 where
+    pub before : SeenSearch Query Item
     pub ran : search_in t search ≡ Some before
     pub was_not_ready : before.ready ≡ false
-    pub pairs : List (ℕ × C.Item)
+    pub pairs : List (ℕ × Item)
     pub few : length pairs ≤ NODE_SIZE
-    pub match : (pair : ℕ × C.Item) → Contains pairs pair → C.Matches pair.1 before.query
-    pub in_tree : (pair : ℕ × C.Item) → Contains pairs pair → InContents (tree_of C t) pair
-    pub now : search_in u search ≡ Some (record { query = before.query; found = before.found ++ pairs; ready = ready })
+    pub match : (pair : ℕ × Item) → Contains pairs pair → C.Matches pair.1 before.query
+    pub in_tree : (pair : ℕ × Item) → Contains pairs pair → InContents (tree_of C t) pair
+    pub now : search_in u search
+        ≡ Some (record { query = before.query; found = before.found ++ pairs; ready = ready })
     pub steps : steps_in u search ≡ steps_in t search + 1
-    pub others : (other : ℕ) → other ≢ search → (search_in u other ≡ search_in t other) × (steps_in u other ≡ steps_in t other)
+    pub others : (other : ℕ) → other ≢ search → (search_in u other ≡ search_in t other)
+        × (steps_in u other ≡ steps_in t other)
     pub running : u.running ≡ t.running
     pub contents : SameContents t u
     pub counts : SameCounts t u
@@ -126,14 +133,17 @@ abbrev pub IsReadyIn : {Key Query Item : Type 0} → PlainTree Key Query Item �
 IsReadyIn t search = option_map (λ s. s.ready) (search_in t search) ≡ Some true
 
 -- the search runs, has more to see, and has made all its steps
-pub record IsOverrun {Key Query Item : Type 0} (t : PlainTree Key Query Item) (search : ℕ) : Type 0 where
-  pub waits : option_map (λ s. s.ready) (search_in t search) ≡ Some false
-  pub spent : t.limit ≤ steps_in t search
+pub record IsOverrun {Key Query Item : Type 0} (t : PlainTree Key Query Item) (search : ℕ) : Type 0
+  where
+    pub waits : option_map (λ s. s.ready) (search_in t search) ≡ Some false
+    pub spent : t.limit ≤ steps_in t search
 
 -- the search whose progress is at this index has more to see, and may make one more step
-pub record MayStep {Key Query Item : Type 0} (t : PlainTree Key Query Item) (search at : ℕ) : Type 0 where
+pub record MayVisit {Key Query Item : Type 0} (t : PlainTree Key Query Item) (search at : ℕ) : Type
+    0 where
   pub first : IsFirstOf search t.progress at
-  pub waits : (p : PlainProgress Item) → slice_index_or t.progress at p ≡ p → is_empty p.stack ≡ false
+  pub waits : (p : PlainProgress Item) → slice_index_or t.progress at p ≡ p
+      → is_empty p.stack ≡ false
   pub steps : (p : PlainProgress Item) → slice_index_or t.progress at p ≡ p → p.steps < last_number
 
 abbrev pub is_ready : Visit → Bool
@@ -141,15 +151,19 @@ is_ready More = false
 is_ready Ready = true
 
 -- the search runs, has more to see, and has steps left
-pub record IsUnderWay {Key Query Item : Type 0} (t : PlainTree Key Query Item) (search : ℕ) : Type 0 where
-  pub waits : option_map (λ s. s.ready) (search_in t search) ≡ Some false
-  pub left : steps_in t search < t.limit
+pub record IsUnderWay {Key Query Item : Type 0} (t : PlainTree Key Query Item) (search : ℕ) : Type 0
+  where
+    pub waits : option_map (λ s. s.ready) (search_in t search) ≡ Some false
+    pub left : steps_in t search < t.limit
 
 -- What a visit returns, when, and what it leaves. At most one of the first four cases holds for a
 -- search.
-pub data IsVisit (C : Class) (t u : PlainTree C.Key C.Query C.Item) (search : ℕ) : Result Visit TreeFault → Type 0 where
+pub data IsVisit {Key Query Item : Type 0} (C : Class Key Query Item)
+    (t u : PlainTree Key Query Item) (search : ℕ) : Result Visit TreeFault → Type 0 where
   none_runs : search_in t search ≡ None → u ≡ t → IsVisit C t u search (Err NoSearch)
   was_ready : IsReadyIn t search → u ≡ t → IsVisit C t u search (Ok Ready)
   overruns : IsOverrun t search → IsShut C t u search → IsVisit C t u search (Err Overrun)
-  goes_on : (visit : Visit) → IsUnderWay t search → IsFurther C t u search (is_ready visit) → IsVisit C t u search (Ok visit)
-  wants_memory : (refusal : Refused) → IsUnderWay t search → IsUntouched C t u → IsVisit C t u search (Err (Memory refusal))
+  goes_on : (visit : Visit) → IsUnderWay t search → IsFurther C t u search (is_ready visit)
+      → IsVisit C t u search (Ok visit)
+  wants_memory : (refusal : NoMemory) → IsUnderWay t search → IsUntouched C t u
+      → IsVisit C t u search (Err (Memory refusal))

@@ -13,9 +13,9 @@ use Rattle.tree_theory.specs.KeyClasses.{Class}
 use Rattle.tree_theory.specs.Nodes.{Node, pairs_of, size_of}
 use Rattle.tree_theory.specs.Nodes.PlainBody.{Leaf}
 use Rattle.tree_theory.specs.declared.TheConstants.{NODE_SIZE}
-use Rattle.tree_theory.specs.declared.place.Place.TheVariants.{Linked}
+use Rattle.tree_theory.specs.declared.position.Position.TheVariants.{Linked}
 
-module _ (C : Class) (t : PlainTree C.Key C.Query C.Item) where
+module _ {Key Query Item : Type 0} (C : Class Key Query Item) (t : PlainTree Key Query Item) where
   -- a marked node whose parent has room: its right node can have an entry
   pub record LacksEntry (at : Handle) : Type 0 where
     pub node : Node C
@@ -37,12 +37,12 @@ module _ (C : Class) (t : PlainTree C.Key C.Query C.Item) where
     pub above_is : value_at t.nodes parent ≡ Some above
     pub others : 1 < size_of above.body
 
-  module _ (Kept : ℕ × C.Item → Type 0) where
+  module _ (Kept : ℕ × Item → Type 0) where
     -- a leaf with a pair that is not in Kept
     pub record HasUnkept (at : Handle) : Type 0 where
       pub node : Node C
       pub is : value_at t.nodes at ≡ Some node
-      pub pair : ℕ × C.Item
+      pub pair : ℕ × Item
       pub holds : Contains (pairs_of node.body) pair
       pub unkept : Kept pair → ⊥
 
@@ -54,7 +54,7 @@ module _ (C : Class) (t : PlainTree C.Key C.Query C.Item) where
       pub needed : IsUnneeded at → ⊥
 
     -- this is due at a node, and what comes before it is not
-    abbrev pub IsFirstDue : Handle → Due C.Key → Type 0
+    abbrev pub IsFirstDue : Handle → Due Key → Type 0
     IsFirstDue at Nothing = NothingDue at
     IsFirstDue at Free = MayFree C t at
     IsFirstDue at (Install entry) = LacksEntry at

@@ -20,8 +20,8 @@ use Rattle.search_tree.specs.declared.rooms.Room.TheVariants.{Install, Split, Gr
 use Rattle.tree_theory.specs.KeyClasses.{Class}
 use Rattle.tree_theory.specs.Nodes.{Node, size_of}
 use Rattle.tree_theory.specs.declared.TheConstants.{NODE_SIZE, TOP_LEVEL}
-use Rattle.tree_theory.specs.declared.place.Place.{Place as NodePlace}
-use Rattle.tree_theory.specs.declared.place.Place.TheVariants.{Root, Linked, Unlinked, Retired}
+use Rattle.tree_theory.specs.declared.position.Position.{Position as NodePlace}
+use Rattle.tree_theory.specs.declared.position.Position.TheVariants.{Root, Linked, Unlinked, Retired}
 
 -- what makes room in a full node, by its place
 abbrev pub room_by_place : {Key : Type 0} → Handle → NodePlace → Room Key
@@ -38,9 +38,9 @@ IsChange Grow = ⊤
 IsChange (Behind left) = ⊥
 IsChange Nothing = ⊥
 
-module _ (C : Class) (t : PlainTree C.Key C.Query C.Item) where
+module _ {Key Query Item : Type 0} (C : Class Key Query Item) (t : PlainTree Key Query Item) where
   -- the change may be made
-  abbrev pub MayMake : Room C.Key → Type 0
+  abbrev pub MayMake : Room Key → Type 0
   MayMake (Install entry) = MayInstall C t entry
   MayMake (Split at) = MaySplit C t at
   MayMake Grow = MayGrow C t
@@ -48,7 +48,7 @@ module _ (C : Class) (t : PlainTree C.Key C.Query C.Item) where
   MayMake Nothing = ⊤
 
   -- what is next for a walk of this item at this node may be done
-  abbrev pub MayGo : Handle → C.Item → Next C.Key → Type 0
+  abbrev pub MayGo : Handle → Item → Next Key → Type 0
   MayGo at item Restart = ⊤
   MayGo at item (Climb parent) = ⊤
   MayGo at item (Descend way) = MayDescend C t way (C.key_of item)
@@ -57,7 +57,7 @@ module _ (C : Class) (t : PlainTree C.Key C.Query C.Item) where
   MayGo at item (Make room) = MayMake room
 
   -- the change that is made for this room
-  abbrev pub ComesTo : Room C.Key → Change → Type 0
+  abbrev pub ComesTo : Room Key → Change → Type 0
   ComesTo (Install entry) change = change ≡ Linking entry.left
   ComesTo (Split at) change = change ≡ Parting at
   ComesTo Grow change = change ≡ Growing
@@ -75,7 +75,7 @@ module _ (C : Class) (t : PlainTree C.Key C.Query C.Item) where
 
   -- a change, or a marked node of this level or a higher one whose right node has to get its entry
   -- first
-  abbrev pub LooksFrom : ℕ → Room C.Key → Type 0
+  abbrev pub LooksFrom : ℕ → Room Key → Type 0
   LooksFrom level (Install entry) = ⊤
   LooksFrom level (Split at) = ⊤
   LooksFrom level Grow = ⊤
@@ -83,17 +83,22 @@ module _ (C : Class) (t : PlainTree C.Key C.Query C.Item) where
   LooksFrom level Nothing = ⊥
 
   -- what is next for a walk of this item at this node: the first case that holds
-  abbrev pub IsNext : (growth second_growth : C.Key → C.Key → ℕ) → Handle → C.Item → Next C.Key → Type 0
+  abbrev pub IsNext : (growth second_growth : Key → Key → ℕ) → Handle → Item → Next Key → Type 0
   IsNext growth second_growth at item Restart = IsNowhere t.nodes at
   IsNext growth second_growth at item (Climb parent) = IsAside C t.nodes at parent (C.key_of item)
-  IsNext growth second_growth at item (Descend way) = (way.parent ≡ at) × IsWayDown C t growth second_growth at (C.key_of item) way.child way.key
-  IsNext growth second_growth at item (Hold number) = (leaf : Node C) × IsAtLeaf C t at item leaf × IsHolder C t.running leaf.attached item number
-  IsNext growth second_growth at item Place = (leaf : Node C) × IsFree C t at item leaf × (size_of leaf.body < NODE_SIZE)
-  IsNext growth second_growth at item (Make room) = IsChange room × ((change : Change) → ComesTo room change → Wants C t at item change)
+  IsNext growth second_growth at item (Descend way) =
+      (way.parent ≡ at) × IsWayDown C t growth second_growth at (C.key_of item) way.child way.key
+  IsNext growth second_growth at item (Hold number) =
+      (leaf : Node C) × IsAtLeaf C t at item leaf × IsHolder C t.running leaf.attached item number
+  IsNext growth second_growth at item Place =
+      (leaf : Node C) × IsFree C t at item leaf × (size_of leaf.body < NODE_SIZE)
+  IsNext growth second_growth at item (Make room) =
+      IsChange room × ((change : Change) → ComesTo room change → Wants C t at item change)
 
-module _ (C : Class) (t u : PlainTree C.Key C.Query C.Item) (at now : Handle) where
+module _ {Key Query Item : Type 0} (C : Class Key Query Item) (t u : PlainTree Key Query Item)
+    (at now : Handle) where
   -- what is returned where this room is made
-  abbrev pub Makes : (picks : List C.Key → ℕ → Type 0) → Room C.Key → Result Step TreeFault → Type 0
+  abbrev pub Makes : (picks : List Key → ℕ → Type 0) → Room Key → Result Step TreeFault → Type 0
   Makes picks (Install entry) answer = Answers C t u at now picks (Linking entry.left) answer
   Makes picks (Split full) answer = Answers C t u at now picks (Parting full) answer
   Makes picks Grow answer = Answers C t u at now picks Growing answer

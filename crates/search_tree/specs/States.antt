@@ -1,6 +1,6 @@
 -- The state of a search before a step.
 use Rattle.std.specs.Prelude.{◌≡◌, ℕ, None}
-use Rattle.search_tree.specs.Calls.{IsOverrun, IsReadyIn, IsUnderWay, MayStep}
+use Rattle.search_tree.specs.Calls.{IsOverrun, IsReadyIn, IsUnderWay, MayVisit}
 use Rattle.search_tree.specs.Trees.{PlainTree, search_in}
 use Rattle.search_tree.specs.declared.visiting.State.{State}
 use Rattle.search_tree.specs.declared.visiting.State.TheVariants.{Gone, Ready, Spent, Waits}
@@ -9,4 +9,4 @@ abbrev pub IsState : {Key Query Item : Type 0} → PlainTree Key Query Item → 
 IsState t search Gone = search_in t search ≡ None
 IsState t search Ready = IsReadyIn t search
 IsState t search Spent = IsOverrun t search
-IsState t search (Waits at) = IsUnderWay t search × MayStep t search at
+IsState t search (Waits at) = IsUnderWay t search × MayVisit t search at

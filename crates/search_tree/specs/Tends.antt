@@ -14,7 +14,7 @@ use Rattle.tree_theory.specs.KeyClasses.{Class}
 use Rattle.tree_theory.specs.Nodes.{Node}
 use Rattle.tree_theory.specs.Nodes.PlainBody.{Leaf, Inner}
 use Rattle.tree_theory.specs.declared.TheConstants.{NODE_SIZE}
-use Rattle.tree_theory.specs.declared.place.Place.TheVariants.{Linked, Retired as AtRest}
+use Rattle.tree_theory.specs.declared.position.Position.TheVariants.{Linked, Retired as AtRest}
 
 -- by how much the counter rises
 abbrev pub ticks : Tending → ℕ
@@ -37,9 +37,9 @@ TakenAfter Retired before after = after ≡ before
 abbrev pub slots_freed : Handle → ℕ
 slots_freed at = if at.generation == last_generation then 0 else 1
 
-module _ (C : Class) (t : PlainTree C.Key C.Query C.Item) where
+module _ {Key Query Item : Type 0} (C : Class Key Query Item) (t : PlainTree Key Query Item) where
   -- tending changes no search, and of the counts only the counter and the taken slots
-  pub record HasTended (u : PlainTree C.Key C.Query C.Item) (tending : Tending) : Type 0 where
+  pub record HasTended (u : PlainTree Key Query Item) (tending : Tending) : Type 0 where
     pub searches : (search : ℕ) → search_in u search ≡ search_in t search
     pub steps : (search : ℕ) → steps_in u search ≡ steps_in t search
     pub running : u.running ≡ t.running
@@ -50,11 +50,12 @@ module _ (C : Class) (t : PlainTree C.Key C.Query C.Item) where
     pub taken : TakenAfter tending (taken_count t.nodes) (taken_count u.nodes)
 
   -- the contents without some pairs, all outside of Kept
-  abbrev pub ContentsLess : PlainTree C.Key C.Query C.Item → (ℕ × C.Item → Type 0) → Type 0
-  ContentsLess u Kept = (xs : List (ℕ × C.Item)) → IsContents (tree_of C t) xs → (ys : List (ℕ × C.Item)) × IsContents (tree_of C u) ys × LosesPairs Kept xs ys
+  abbrev pub ContentsLess : PlainTree Key Query Item → (ℕ × Item → Type 0) → Type 0
+  ContentsLess u Kept = (xs : List (ℕ × Item)) → IsContents (tree_of C t) xs
+      → (ys : List (ℕ × Item)) × IsContents (tree_of C u) ys × LosesPairs Kept xs ys
 
   -- the contents lose pairs only where a leaf is cleaned
-  abbrev pub ContentsTended : (ℕ × C.Item → Type 0) → PlainTree C.Key C.Query C.Item → Tending → Type 0
+  abbrev pub ContentsTended : (ℕ × Item → Type 0) → PlainTree Key Query Item → Tending → Type 0
   ContentsTended Kept u Idle = SameContents C t u
   ContentsTended Kept u Freed = SameContents C t u
   ContentsTended Kept u Installed = SameContents C t u
@@ -63,10 +64,12 @@ module _ (C : Class) (t : PlainTree C.Key C.Query C.Item) where
 
   -- What tending does at a node: nothing, or the one step that it returns. Where a node is removed,
   -- its slot is free again or worn out. A cleaned leaf keeps exactly its pairs in Kept.
-  abbrev pub StepsAt : (ℕ × C.Item → Type 0) → Handle → PlainTree C.Key C.Query C.Item → Tending → Type 0
+  abbrev pub StepsAt : (ℕ × Item → Type 0) → Handle → PlainTree Key Query Item → Tending → Type 0
   StepsAt Kept at u Idle = u ≡ t
-  StepsAt Kept at u Freed = IsFreed (tree_of C t) (tree_of C u) at × (taken_count u.nodes + slots_freed at ≡ taken_count t.nodes)
-  StepsAt Kept at u Installed = (parent : Handle) × (right : Handle) × IsInstalled (tree_of C t) (tree_of C u) parent at right
+  StepsAt Kept at u Freed = IsFreed (tree_of C t) (tree_of C u) at
+      × (taken_count u.nodes + slots_freed at ≡ taken_count t.nodes)
+  StepsAt Kept at u Installed =
+      (parent : Handle) × (right : Handle) × IsInstalled (tree_of C t) (tree_of C u) parent at right
   StepsAt Kept at u Cleaned = IsCleaned (tree_of C t) (tree_of C u) Kept at
   StepsAt Kept at u Retired = (parent : Handle) × IsRetired (tree_of C t) (tree_of C u) at parent
 
@@ -74,7 +77,7 @@ module _ (C : Class) (t : PlainTree C.Key C.Query C.Item) where
   pub record MayClean (at : Handle) : Type 0 where
     pub node : Node C
     pub is : value_at t.nodes at ≡ Some node
-    pub pairs : List (ℕ × C.Item)
+    pub pairs : List (ℕ × Item)
     pub body : node.body ≡ Leaf pairs
 
   -- a retired node, and every running search began at its stamp or later
@@ -93,21 +96,21 @@ module _ (C : Class) (t : PlainTree C.Key C.Query C.Item) where
     pub linked : leaf.place ≡ Linked parent false
     pub node : Node C
     pub is : value_at t.nodes parent ≡ Some node
-    pub entries : List (C.Key × Handle)
+    pub entries : List (Key × Handle)
     pub body : node.body ≡ Inner entries
     pub more : 1 < length entries
-    pub key : C.Key
+    pub key : Key
     pub entry : slice_get entries place ≡ Some (key, at)
 
   -- a marked node and its right node under a parent with room, where the left one's entry is at
   -- index `place`, and the new keys of both entries
-  pub record MayInstall (e : NewEntry C.Key) : Type 0 where
+  pub record MayInstall (e : NewEntry Key) : Type 0 where
     pub node : Node C
     pub is : value_at t.nodes e.parent ≡ Some node
-    pub entries : List (C.Key × Handle)
+    pub entries : List (Key × Handle)
     pub body : node.body ≡ Inner entries
     pub room : length entries < NODE_SIZE
-    pub old : C.Key
+    pub old : Key
     pub entry : slice_get entries e.place ≡ Some (old, e.left)
     pub left : Node C
     pub left_is : value_at t.nodes e.left ≡ Some left

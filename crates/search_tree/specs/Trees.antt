@@ -21,7 +21,8 @@ module _ {Item : Type 0} where
   -- the progress of the search with this number
   abbrev pub progress_at : ℕ → List (PlainProgress Item) → Option (PlainProgress Item)
   progress_at number [] = None
-  progress_at number (progress ∷ rest) = if progress.number == number then Some progress else progress_at number rest
+  progress_at number (progress ∷ rest) =
+      if progress.number == number then Some progress else progress_at number rest
 
   abbrev pub steps_of : Option (PlainProgress Item) → ℕ
   steps_of None = 0
@@ -47,7 +48,8 @@ pub record PlainTree (Key Query Item : Type 0) : Type 0 where
   pub limit : ℕ
 
 -- a search from its two parts
-abbrev pub search_of : {Query Item : Type 0} → Option (RunningSearch Query) → Option (PlainProgress Item) → Option (PlainSearch Query Item)
+abbrev pub search_of : {Query Item : Type 0} → Option (RunningSearch Query)
+    → Option (PlainProgress Item) → Option (PlainSearch Query Item)
 search_of None progress = None
 search_of (Some running) None = None
 search_of (Some running) (Some progress) =
@@ -89,9 +91,9 @@ module _ {Key Query Item : Type 0} where
   abbrev pub root_level : PlainTree Key Query Item → ℕ
   root_level t = level_of (value_at t.nodes t.root)
 
-module _ (C : Class) where
+module _ {Key Query Item : Type 0} (C : Class Key Query Item) where
   -- the tree of the theory
-  abbrev pub tree_of : PlainTree C.Key C.Query C.Item → Tree C
+  abbrev pub tree_of : PlainTree Key Query Item → Tree C
   tree_of t =
       record {
         look = value_at t.nodes;
@@ -102,25 +104,27 @@ module _ (C : Class) where
       }
 
   -- what every tree keeps
-  pub record IsSound (t : PlainTree C.Key C.Query C.Item) : Type 0 where
+  pub record IsSound (t : PlainTree Key Query Item) : Type 0 where
     pub invariant : Invariant (tree_of t)
     -- each running search has its progress, exactly once, and nothing else has one
-    pub progress_of_each : (s : ℕ) → is_some (progress_at s t.progress) ≡ is_some (search_at t.running s)
+    pub progress_of_each : (s : ℕ)
+        → is_some (progress_at s t.progress) ≡ is_some (search_at t.running s)
     pub progress_once : NumbersDiffer t.progress
     pub limited : t.limit ≤ MAX_STEPS
 
   -- A new tree. It has no pairs and no searches. Its root is its one node, in the first slot: an
   -- empty leaf with the counter as its number. Each slot starts at this generation.
-  pub record IsFirst (generation counter next limit : ℕ) (t : PlainTree C.Key C.Query C.Item) : Type 0 where
-    pub contents : IsContents (tree_of t) []
-    pub searches : (s : ℕ) → search_in t s ≡ None
-    pub none_run : t.running.running ≡ []
-    pub counter_is : t.counter ≡ counter
-    pub next_is : t.running.next ≡ next
-    pub limit_is : t.limit ≡ limit
-    pub level : root_level t ≡ 0
-    pub root_is : value_at t.nodes t.root ≡ Some (first_leaf counter)
-    pub taken : taken_count t.nodes ≡ 1
-    pub slots : slot_count t.nodes ≡ 1
-    pub generation_is : t.nodes.first ≡ generation
-    pub root_at : t.root ≡ record { slot = 0; generation = generation }
+  pub record IsFirst (generation counter next limit : ℕ) (t : PlainTree Key Query Item) : Type 0
+    where
+      pub contents : IsContents (tree_of t) []
+      pub searches : (s : ℕ) → search_in t s ≡ None
+      pub none_run : t.running.running ≡ []
+      pub counter_is : t.counter ≡ counter
+      pub next_is : t.running.next ≡ next
+      pub limit_is : t.limit ≡ limit
+      pub level : root_level t ≡ 0
+      pub root_is : value_at t.nodes t.root ≡ Some (first_leaf counter)
+      pub taken : taken_count t.nodes ≡ 1
+      pub slots : slot_count t.nodes ≡ 1
+      pub generation_is : t.nodes.first ≡ generation
+      pub root_at : t.root ≡ record { slot = 0; generation = generation }

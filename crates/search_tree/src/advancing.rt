@@ -5,7 +5,6 @@ ghost use Rattle.search_tree.specs.Advances.{HasAdvanced, IsAdvance, MayRefuse, 
 ghost use Rattle.search_tree.specs.Calls.{IsUntouched};
 ghost use Rattle.search_tree.specs.Cases.{TakesStep};
 ghost use Rattle.search_tree.specs.Nexts.{IsChange, Makes, MayMake, answer_in, place_in};
-ghost use Rattle.tree_theory.specs.KeyClasses.{class_of};
 
 use crate::nexts::Next;
 use crate::rooms::Room;
@@ -36,12 +35,10 @@ impl<C: KeyClass, A: Allocator + Copy> Tree<C, A> {
     /// to be installed and the counter is `u64::MAX`. S8 where an allocation is refused. A refused
     /// step is not counted and changes nothing; after S8 only spare capacity may have grown.
     pub fn advance(&mut self, walk: &mut Walk<C::Item>) -> Result<Step, TreeFault>
-        ensures step { IsAdvance (class_of C.covered C.may_match C.is_match C.key_with C.united)
-            self.old self.new walk.old walk.new result }
+        ensures step { IsAdvance C.class self.old self.new walk.old walk.new result }
         ensures first { MayWalk self.old.limit walk.old
-            → TakesStep (class_of C.covered C.may_match C.is_match C.key_with C.united) self.old
-            self.new walk.old.at walk.new.at C.growth C.second_growth C.picks
-            (walk.old.key, walk.old.item) result }
+            → TakesStep C.class self.old self.new walk.old.at walk.new.at C.growth C.second_growth
+            C.picks (walk.old.key, walk.old.item) result }
     {
         if walk.placed() {
             return Ok(Step::Placed);
@@ -56,18 +53,12 @@ impl<C: KeyClass, A: Allocator + Copy> Tree<C, A> {
 
     /// Does what is next for a walk of this pair at this node.
     fn make_step(&mut self, at: Handle, key: u64, item: C::Item) -> Result<Arrival, TreeFault>
-        ensures ok { IfOk result
-            (λ made. HasAdvanced (class_of C.covered C.may_match C.is_match C.key_with C.united)
-            self.old self.new (key, item) made.step) }
-        ensures err { IfErr result
-            (MayRefuse (class_of C.covered C.may_match C.is_match C.key_with C.united) self.old
-            item) }
-        ensures untouched { OnErr result
-            (IsUntouched (class_of C.covered C.may_match C.is_match C.key_with C.united) self.old
-            self.new) }
-        ensures first { TakesStep (class_of C.covered C.may_match C.is_match C.key_with C.united)
-            self.old self.new at (place_in at result) C.growth C.second_growth C.picks (key, item)
-            (answer_in result) }
+        ensures ok { IfOk result (λ made. HasAdvanced C.class self.old self.new
+            (key, item) made.step) }
+        ensures err { IfErr result (MayRefuse C.class self.old item) }
+        ensures untouched { OnErr result (IsUntouched C.class self.old self.new) }
+        ensures first { TakesStep C.class self.old self.new at
+            (place_in at result) C.growth C.second_growth C.picks (key, item) (answer_in result) }
     {
         match self.next_for(at, item) {
             Next::Restart => Ok(self.restart()),
@@ -108,22 +99,15 @@ impl<C: KeyClass, A: Allocator + Copy> Tree<C, A> {
     /// Makes the change that makes room where the walk is, or that has to come first. After a split
     /// the walk is at the new right node; else whatever comes would go to the left one.
     fn make_room(&mut self, room: &Room<C::Key>, at: Handle) -> Result<Arrival, TreeFault>
-        requires may { MayMake (class_of C.covered C.may_match C.is_match C.key_with C.united)
-            self.old room.now }
+        requires may { MayMake C.class self.old room.now }
         requires change { IsChange room.now }
-        ensures ok { IfOk result
-            (λ made. (pair : ℕ × C.Item)
-            → HasAdvanced (class_of C.covered C.may_match C.is_match C.key_with C.united) self.old
-            self.new pair made.step) }
-        ensures err { IfErr result
-            (λ fault. (item : C.Item)
-            → MayRefuse (class_of C.covered C.may_match C.is_match C.key_with C.united) self.old
-            item fault) }
-        ensures untouched { OnErr result
-            (IsUntouched (class_of C.covered C.may_match C.is_match C.key_with C.united) self.old
-            self.new) }
-        ensures made { Makes (class_of C.covered C.may_match C.is_match C.key_with C.united)
-            self.old self.new at (place_in at result) C.picks room.now (answer_in result) }
+        ensures ok { IfOk result (λ made. (pair : ℕ × C.Item)
+            → HasAdvanced C.class self.old self.new pair made.step) }
+        ensures err { IfErr result (λ fault. (item : C.Item)
+            → MayRefuse C.class self.old item fault) }
+        ensures untouched { OnErr result (IsUntouched C.class self.old self.new) }
+        ensures made { Makes C.class self.old self.new at (place_in at result) C.picks room.now
+            (answer_in result) }
     {
         match room {
             Room::Install(entry) => {

@@ -7,12 +7,11 @@ ghost use Rattle.predicate_locks.specs.declared.TheConstants.{MAX_RUNNING};
 ghost use Rattle.search_tree.specs.Calls.{IsAlike, IsUntouched};
 ghost use Rattle.tree_nodes.specs.Descents.{AreLed};
 ghost use Rattle.search_tree.specs.Walks.{HasDescended, MayDescend};
-ghost use Rattle.tree_theory.specs.KeyClasses.{class_of};
 ghost use Rattle.tree_theory.specs.Nodes.{PlainNode};
 
 use crate::tree::Tree;
 use arrayvec::ArrayVec;
-use memory::Refused;
+use memory::NoMemory;
 use node_arena::Handle;
 use predicate_locks::MAX_RUNNING;
 use std::alloc::Allocator;
@@ -32,18 +31,12 @@ impl<C: KeyClass, A: Allocator + Copy> Tree<C, A> {
     /// Enlarges the key of an entry to its union with an item's key. First attaches to the child
     /// the searches that are done with the parent and that only the union leads on. Nothing changes
     /// where an allocation is refused, except that spare capacity may grow.
-    pub(crate) fn descend(&mut self, way: &WayDown<C::Key>, key: C::Key) -> Result<(), Refused>
-        requires { MayDescend (class_of C.covered C.may_match C.is_match C.key_with C.united)
-            self.old way.now key }
-        ensures ok { OnOk result
-            (IsAlike (class_of C.covered C.may_match C.is_match C.key_with C.united) self.old
-            self.new) }
-        ensures step { OnOk result
-            (HasDescended (class_of C.covered C.may_match C.is_match C.key_with C.united) self.old
-            self.new way.now.parent way.now.child way.now.key key) }
-        ensures err { OnErr result
-            (IsUntouched (class_of C.covered C.may_match C.is_match C.key_with C.united) self.old
-            self.new) }
+    pub(crate) fn descend(&mut self, way: &WayDown<C::Key>, key: C::Key) -> Result<(), NoMemory>
+        requires { MayDescend C.class self.old way.now key }
+        ensures ok { OnOk result (IsAlike C.class self.old self.new) }
+        ensures step { OnOk result (HasDescended C.class self.old self.new way.now.parent
+            way.now.child way.now.key key) }
+        ensures err { OnErr result (IsUntouched C.class self.old self.new) }
     {
         let led = self.led_by(way, C::union(way.key, key));
         self.join_below(way.child, led.as_slice())?;
@@ -56,8 +49,7 @@ impl<C: KeyClass, A: Allocator + Copy> Tree<C, A> {
     fn led_by(&self, way: &WayDown<C::Key>, wider: C::Key) -> ArrayVec<u64, MAX_RUNNING>
         ensures led { (node : PlainNode C.Key C.Item)
             → value_at self.now.nodes way.now.parent ≡ Some node
-            → AreLed (class_of C.covered C.may_match C.is_match C.key_with C.united)
-            self.now.running way.now.key wider node.attached result.items }
+            → AreLed C.class self.now.running way.now.key wider node.attached result.items }
         ensures few { length result.items ≤ MAX_RUNNING }
     {
         match self.nodes.get(way.parent) {

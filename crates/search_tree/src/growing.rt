@@ -1,7 +1,7 @@
 //! The full root grows.
 
 ghost use Rattle.std.specs.Prelude.{◌≡◌, ◌≢◌, ◌↔◌, ◌⊎◌, ◌+◌, ◌<◌, ◌≤◌, [], Err, IfOk, IfErr, OnOk, OnErr};
-ghost use Rattle.memory.specs.Refused.{refused};
+ghost use Rattle.memory.specs.NoMemory.{out_of_memory};
 ghost use Rattle.node_arena.specs.Slots.{value_at, taken_count, HasRoomFor};
 ghost use Rattle.node_arena.specs.declared.TheConstants.{MAX_SLOTS};
 ghost use Rattle.tree_nodes.specs.Arenas.{AreSame};
@@ -10,13 +10,12 @@ ghost use Rattle.search_tree.specs.Calls.{IsUntouched};
 ghost use Rattle.search_tree.specs.Splitting.{HasGrown, HasMoreNodes, HasPutBelow, IsFullRoot, IsLower, MayGrow, MayRise};
 ghost use Rattle.tree_nodes.specs.NewNodes.{below};
 ghost use Rattle.search_tree.specs.Trees.{level_of, root_level};
-ghost use Rattle.tree_theory.specs.KeyClasses.{class_of};
 ghost use Rattle.tree_theory.specs.Nodes.{size_of};
 ghost use Rattle.tree_theory.specs.declared.TheConstants.{TOP_LEVEL};
 
 use crate::splitting::make_slots;
 use crate::tree::Tree;
-use memory::{Refused, copied};
+use memory::{NoMemory, copied};
 use node_arena::Handle;
 use std::alloc::Allocator;
 use tree_answers::TreeFault;
@@ -38,14 +37,10 @@ impl<C: KeyClass, A: Allocator + Copy> Tree<C, A> {
     /// S4 where fewer than two slots are left, else S5 where the root is at `TOP_LEVEL`: nothing
     /// changes. Else S8 where an allocation is refused: only spare capacity may grow.
     pub(crate) fn grow(&mut self) -> Result<(), TreeFault>
-        requires { MayGrow (class_of C.covered C.may_match C.is_match C.key_with C.united)
-            self.old }
-        ensures ok { OnOk result
-            (HasMoreNodes (class_of C.covered C.may_match C.is_match C.key_with C.united) self.old
-            self.new 2 1) }
-        ensures grown { OnOk result
-            (HasGrown (class_of C.covered C.may_match C.is_match C.key_with C.united) C.picks
-            self.old.nodes self.new.nodes self.old.root self.old.counter) }
+        requires { MayGrow C.class self.old }
+        ensures ok { OnOk result (HasMoreNodes C.class self.old self.new 2 1) }
+        ensures grown { OnOk result (HasGrown C.class C.picks self.old.nodes self.new.nodes
+            self.old.root self.old.counter) }
         ensures full { (result ≡ Err TreeFault.Full)
             ↔ (MAX_SLOTS < taken_count self.old.nodes + 2) }
         ensures too_high { (result ≡ Err TreeFault.TooHigh)
@@ -54,10 +49,8 @@ impl<C: KeyClass, A: Allocator + Copy> Tree<C, A> {
             → self.new ≡ self.old }
         ensures faults { IfErr result
             (λ fault. (fault ≡ TreeFault.TooHigh) ⊎ (fault ≡ TreeFault.Full)
-            ⊎ (fault ≡ TreeFault.Memory refused)) }
-        ensures err { OnErr result
-            (IsUntouched (class_of C.covered C.may_match C.is_match C.key_with C.united) self.old
-            self.new) }
+            ⊎ (fault ≡ TreeFault.Memory out_of_memory)) }
+        ensures err { OnErr result (IsUntouched C.class self.old self.new) }
     {
         grow_in::<C, A>(&mut self.nodes, self.alloc, self.root, self.counter)
     }
@@ -71,9 +64,7 @@ fn grow_in<C: KeyClass, A: Allocator + Copy>(
     seq: u64,
 ) -> Result<(), TreeFault>
     requires { IsFullRoot nodes.old root }
-    ensures ok { OnOk result
-        (HasGrown (class_of C.covered C.may_match C.is_match C.key_with C.united) C.picks nodes.old
-        nodes.new root seq) }
+    ensures ok { OnOk result (HasGrown C.class C.picks nodes.old nodes.new root seq) }
     ensures full { (result ≡ Err TreeFault.Full) ↔ (MAX_SLOTS < taken_count nodes.old + 2) }
     ensures too_high { (result ≡ Err TreeFault.TooHigh)
         ↔ ((taken_count nodes.old + 2 ≤ MAX_SLOTS)
@@ -82,7 +73,7 @@ fn grow_in<C: KeyClass, A: Allocator + Copy>(
         → nodes.new ≡ nodes.old }
     ensures faults { IfErr result
         (λ fault. (fault ≡ TreeFault.TooHigh) ⊎ (fault ≡ TreeFault.Full)
-        ⊎ (fault ≡ TreeFault.Memory refused)) }
+        ⊎ (fault ≡ TreeFault.Memory out_of_memory)) }
     ensures err { OnErr result (AreSame nodes.old nodes.new) }
 {
     if !nodes.has_room(2) {
@@ -113,13 +104,11 @@ fn grow_root<C: KeyClass, A: Allocator + Copy>(
     alloc: A,
     root: Handle,
     seq: u64,
-) -> Result<(), Refused>
+) -> Result<(), NoMemory>
     requires full { IsFullRoot nodes.old root }
     requires level { level_of (value_at nodes.old root) ≢ TOP_LEVEL }
     requires room { HasRoomFor nodes.old 2 }
-    ensures ok { OnOk result
-        (HasGrown (class_of C.covered C.may_match C.is_match C.key_with C.united) C.picks nodes.old
-        nodes.new root seq) }
+    ensures ok { OnOk result (HasGrown C.class C.picks nodes.old nodes.new root seq) }
     ensures err { OnErr result (AreSame nodes.old nodes.new) }
 {
     let Some(node) = nodes.get(root) else {
@@ -171,10 +160,9 @@ fn lower_half<C: KeyClass, A: Allocator + Copy>(
     seq: u64,
     body: Body<C::Key, C::Item, A>,
     alloc: A,
-) -> Result<Lower<C::Key, C::Item, A>, Refused>
+) -> Result<Lower<C::Key, C::Item, A>, NoMemory>
     requires { 0 < size_of (plain_body body) }
-    ensures { IfOk result
-        (λ made. IsLower (class_of C.covered C.may_match C.is_match C.key_with C.united)
+    ensures { IfOk result (λ made. IsLower C.class
         (below node.now root seq (plain_body body)) made.node made.children.items made.key) }
 {
     let node = node.lower_half(root, seq, body)?;

@@ -5,14 +5,13 @@ ghost use Rattle.search_tree.specs.Calls.{SameContents};
 ghost use Rattle.search_tree.specs.Tends.{HasTended, MayInstall};
 ghost use Rattle.search_tree.specs.Trees.{tree_of};
 ghost use Rattle.tree_theory.specs.Changes.{IsInstalled};
-ghost use Rattle.tree_theory.specs.KeyClasses.{class_of};
 
 use crate::tree::Tree;
 use node_arena::Handle;
 use std::alloc::Allocator;
 use tree_answers::Tending;
 use tree_nodes::{push_entry, set_key, set_place, set_seq};
-use tree_theory::{KeyClass, Place};
+use tree_theory::{KeyClass, Position};
 
 /// A new entry for a right node, and the new key of its left node's entry, which is at index
 /// `place` of the parent.
@@ -30,19 +29,14 @@ impl<C: KeyClass, A: Allocator> Tree<C, A> {
     /// Gives a right node its entry. The left node loses its mark, and gets the counter's next
     /// value as its number: so a search with a lesser memo still goes on to the right node.
     pub(crate) fn install(&mut self, entry: &NewEntry<C::Key>, seq: u64)
-        requires may { MayInstall (class_of C.covered C.may_match C.is_match C.key_with C.united)
-            self.old entry.now }
+        requires may { MayInstall C.class self.old entry.now }
         requires seq { seq ≡ self.old.counter + 1 }
-        ensures tended { HasTended (class_of C.covered C.may_match C.is_match C.key_with C.united)
-            self.old self.new Tending.Installed }
-        ensures contents { SameContents
-            (class_of C.covered C.may_match C.is_match C.key_with C.united) self.old self.new }
-        ensures step { IsInstalled
-            (tree_of (class_of C.covered C.may_match C.is_match C.key_with C.united) self.old)
-            (tree_of (class_of C.covered C.may_match C.is_match C.key_with C.united) self.new)
-            entry.now.parent entry.now.left entry.now.right }
+        ensures tended { HasTended C.class self.old self.new Tending.Installed }
+        ensures contents { SameContents C.class self.old self.new }
+        ensures step { IsInstalled (tree_of C.class self.old)
+            (tree_of C.class self.new) entry.now.parent entry.now.left entry.now.right }
     {
-        let place = Place::Linked {
+        let place = Position::Linked {
             parent: entry.parent,
             marked: false,
         };

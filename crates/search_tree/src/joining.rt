@@ -7,10 +7,9 @@ ghost use Rattle.predicate_locks.specs.declared.TheConstants.{MAX_ROOM};
 ghost use Rattle.search_tree.specs.Calls.{IsAlike};
 ghost use Rattle.search_tree.specs.Walks.{MayJoinAll, HasEnlarged, HasJoined, MayJoinBelow, HasJoinedBelow, MayEnlarge};
 ghost use Rattle.tree_nodes.specs.Descents.{marked_right as right_of_marked};
-ghost use Rattle.tree_theory.specs.KeyClasses.{class_of};
 
 use crate::tree::Tree;
-use memory::Refused;
+use memory::NoMemory;
 use node_arena::Handle;
 use std::alloc::Allocator;
 use tree_nodes::{joined, marked_right, set_attached, set_key};
@@ -19,13 +18,10 @@ use tree_theory::KeyClass;
 impl<C: KeyClass, A: Allocator + Copy> Tree<C, A> {
     /// Attaches searches to a node in which they have nothing to look for. Nothing changes where an
     /// allocation is refused.
-    fn join(&mut self, at: Handle, searches: &[u64]) -> Result<(), Refused>
-        requires may { MayJoinAll (class_of C.covered C.may_match C.is_match C.key_with C.united)
-            self.old at searches.now }
+    fn join(&mut self, at: Handle, searches: &[u64]) -> Result<(), NoMemory>
+        requires may { MayJoinAll C.class self.old at searches.now }
         requires few { length searches.now ≤ MAX_ROOM }
-        ensures ok { OnOk result
-            (HasJoined (class_of C.covered C.may_match C.is_match C.key_with C.united) self.old
-            self.new at searches.now) }
+        ensures ok { OnOk result (HasJoined C.class self.old self.new at searches.now) }
         ensures err { OnErr result (self.new ≡ self.old) }
     {
         let list = joined(self.alloc, &self.nodes, &self.running, at, searches)?;
@@ -35,13 +31,10 @@ impl<C: KeyClass, A: Allocator + Copy> Tree<C, A> {
 
     /// Attaches searches to a child whose entry does not lead them on, and to its right node where
     /// the child is marked. Nothing changes where an allocation is refused.
-    pub(crate) fn join_below(&mut self, child: Handle, searches: &[u64]) -> Result<(), Refused>
-        requires may { MayJoinBelow (class_of C.covered C.may_match C.is_match C.key_with C.united)
-            self.old child searches.now }
+    pub(crate) fn join_below(&mut self, child: Handle, searches: &[u64]) -> Result<(), NoMemory>
+        requires may { MayJoinBelow C.class self.old child searches.now }
         requires few { length searches.now ≤ MAX_ROOM }
-        ensures ok { OnOk result
-            (HasJoinedBelow (class_of C.covered C.may_match C.is_match C.key_with C.united) self.old
-            self.new child searches.now) }
+        ensures ok { OnOk result (HasJoinedBelow C.class self.old self.new child searches.now) }
         ensures err { OnErr result (self.new ≡ self.old) }
     {
         // Most descents lead nobody on, and copy no list.
@@ -56,14 +49,11 @@ impl<C: KeyClass, A: Allocator + Copy> Tree<C, A> {
 
     /// As `join_below`, for a marked child and its right node. Both lists are made before the first
     /// change.
-    fn join_both(&mut self, child: Handle, right: Handle, searches: &[u64]) -> Result<(), Refused>
-        requires may { MayJoinBelow (class_of C.covered C.may_match C.is_match C.key_with C.united)
-            self.old child searches.now }
+    fn join_both(&mut self, child: Handle, right: Handle, searches: &[u64]) -> Result<(), NoMemory>
+        requires may { MayJoinBelow C.class self.old child searches.now }
         requires leads { right_of_marked (value_at self.old.nodes child) ≡ Some right }
         requires few { length searches.now ≤ MAX_ROOM }
-        ensures ok { OnOk result
-            (HasJoinedBelow (class_of C.covered C.may_match C.is_match C.key_with C.united) self.old
-            self.new child searches.now) }
+        ensures ok { OnOk result (HasJoinedBelow C.class self.old self.new child searches.now) }
         ensures err { OnErr result (self.new ≡ self.old) }
     {
         let of_right = joined(self.alloc, &self.nodes, &self.running, right, searches)?;
@@ -84,12 +74,9 @@ impl<C: KeyClass, A: Allocator> Tree<C, A> {
         key: C::Key,
         child: Handle,
     )
-        requires { MayEnlarge (class_of C.covered C.may_match C.is_match C.key_with C.united)
-            self.old parent place old key child }
-        ensures alike { IsAlike (class_of C.covered C.may_match C.is_match C.key_with C.united)
-            self.old self.new }
-        ensures step { HasEnlarged (class_of C.covered C.may_match C.is_match C.key_with C.united)
-            self.old self.new parent old key child }
+        requires { MayEnlarge C.class self.old parent place old key child }
+        ensures alike { IsAlike C.class self.old self.new }
+        ensures step { HasEnlarged C.class self.old self.new parent old key child }
     {
         let union = C::union(old, key);
         set_key(&mut self.nodes, parent, place, union);

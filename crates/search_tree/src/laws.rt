@@ -8,7 +8,6 @@ ghost use Rattle.search_tree.specs.Trees.{PlainTree};
 ghost use Rattle.tree_answers.specs.declared.answers.Step.{Step};
 ghost use Rattle.tree_answers.specs.declared.fault.TreeFault.{TreeFault};
 ghost use Rattle.std.specs.Prelude.{ℕ, Result};
-ghost use Rattle.tree_theory.specs.KeyClasses.{class_of};
 
 use tree_theory::KeyClass;
 
@@ -18,8 +17,7 @@ use tree_theory::KeyClass;
 pub fn steps_answer_alike<C: KeyClass>()
     ensures { (t u v : PlainTree C.Key C.Query C.Item) (at one other : Handle) (pair : ℕ × C.Item)
         (a b : Result Step TreeFault) → HasEnds u → HasEnds v
-        → TakesStep (class_of C.covered C.may_match C.is_match C.key_with C.united) t u at one
-        C.growth C.second_growth C.picks pair a
-        → TakesStep (class_of C.covered C.may_match C.is_match C.key_with C.united) t v at other
-        C.growth C.second_growth C.picks pair b → AnswersAlike a b }
+        → TakesStep C.class t u at one C.growth C.second_growth C.picks pair a
+        → TakesStep C.class t v at other C.growth C.second_growth C.picks pair b
+        → AnswersAlike a b }
 {}

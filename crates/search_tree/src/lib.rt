@@ -11,6 +11,7 @@ mod laws;
 mod needs;
 mod nexts;
 mod opening;
+mod placing;
 mod rooms;
 mod splitting;
 mod starting;
@@ -18,7 +19,6 @@ mod tending;
 mod tree;
 mod visiting;
 mod walk;
-mod walking;
 
 pub use laws::steps_answer_alike;
 pub use tree::Tree;

@@ -7,7 +7,6 @@ ghost use Rattle.search_tree.specs.Dues.{HasUnkept, IsFirstDue, IsUnneeded, Lack
 ghost use Rattle.search_tree.specs.Needs.{MayDo, stamp_at, stamp_in};
 ghost use Rattle.search_tree.specs.Tends.{MayClean, MayInstall, MayRetire};
 ghost use Rattle.tree_nodes.specs.Bodies.{IsLeaf, IsInner};
-ghost use Rattle.tree_theory.specs.KeyClasses.{class_of};
 ghost use Rattle.tree_theory.specs.Nodes.{size_of};
 ghost use Rattle.tree_theory.specs.declared.TheConstants.{NODE_SIZE};
 
@@ -17,7 +16,7 @@ use node_arena::Handle;
 use std::alloc::Allocator;
 use tree_answers::Keeper;
 use tree_nodes::{Nodes, TreeNode, key_for, parent_of, place_among};
-use tree_theory::{KeyClass, NODE_SIZE, Place};
+use tree_theory::{KeyClass, NODE_SIZE, Position};
 
 /// What is due at a node.
 pub(crate) enum Due<K> {
@@ -35,10 +34,8 @@ pub(crate) enum Due<K> {
 impl<C: KeyClass, A: Allocator> Tree<C, A> {
     /// What is due at a node: the first case that holds.
     pub(crate) fn first_due<K: Keeper<C::Item>>(&self, at: Handle, keeper: &K) -> Due<C::Key>
-        ensures may { MayDo (class_of C.covered C.may_match C.is_match C.key_with C.united) self.now
-            at result }
-        ensures first { IsSome (value_at self.now.nodes at)
-            → IsFirstDue (class_of C.covered C.may_match C.is_match C.key_with C.united) self.now
+        ensures may { MayDo C.class self.now at result }
+        ensures first { IsSome (value_at self.now.nodes at) → IsFirstDue C.class self.now
             (λ pair. IsTrue (K.kept keeper.now pair.0 pair.1)) at result }
     {
         match stamp_of(&self.nodes, at) {
@@ -55,10 +52,8 @@ impl<C: KeyClass, A: Allocator> Tree<C, A> {
 
     /// What is to be done at a node that is not retired.
     fn due_in_place<K: Keeper<C::Item>>(&self, at: Handle, keeper: &K) -> Due<C::Key>
-        ensures may { MayDo (class_of C.covered C.may_match C.is_match C.key_with C.united) self.now
-            at result }
-        ensures first { stamp_at (value_at self.now.nodes at) ≡ None
-            → IsFirstDue (class_of C.covered C.may_match C.is_match C.key_with C.united) self.now
+        ensures may { MayDo C.class self.now at result }
+        ensures first { stamp_at (value_at self.now.nodes at) ≡ None → IsFirstDue C.class self.now
             (λ pair. IsTrue (K.kept keeper.now pair.0 pair.1)) at result }
     {
         if let Some(entry) = self.lacking(at) {
@@ -75,15 +70,10 @@ impl<C: KeyClass, A: Allocator> Tree<C, A> {
 
     /// The entry that the right node of a marked node lacks, where their parent has room for it.
     pub(crate) fn lacking(&self, at: Handle) -> Option<NewEntry<C::Key>>
-        ensures may { IfSome result
-            (MayInstall (class_of C.covered C.may_match C.is_match C.key_with C.united) self.now) }
-        ensures due { IfSome result
-            (λ entry. LacksEntry (class_of C.covered C.may_match C.is_match C.key_with C.united)
-            self.now at) }
+        ensures may { IfSome result (MayInstall C.class self.now) }
+        ensures due { IfSome result (λ entry. LacksEntry C.class self.now at) }
         ensures left { IfSome result (λ entry. entry.left ≡ at) }
-        ensures none { IfNone result
-            (LacksEntry (class_of C.covered C.may_match C.is_match C.key_with C.united) self.now at
-            → ⊥) }
+        ensures none { IfNone result (LacksEntry C.class self.now at → ⊥) }
     {
         let left = self.nodes.get(at)?;
         let parent = parent_of(left.place(), true)?;
@@ -107,10 +97,8 @@ impl<C: KeyClass, A: Allocator> Tree<C, A> {
 
     /// Whether a leaf has a pair that is not kept.
     fn has_unkept<K: Keeper<C::Item>>(&self, at: Handle, keeper: &K) -> bool
-        ensures may { IsTrue result
-            → MayClean (class_of C.covered C.may_match C.is_match C.key_with C.united) self.now at }
-        ensures due { IsTrue result
-            ↔ HasUnkept (class_of C.covered C.may_match C.is_match C.key_with C.united) self.now
+        ensures may { IsTrue result → MayClean C.class self.now at }
+        ensures due { IsTrue result ↔ HasUnkept C.class self.now
             (λ pair. IsTrue (K.kept keeper.now pair.0 pair.1)) at }
     {
         let Some(node) = self.nodes.get(at) else {
@@ -125,15 +113,9 @@ impl<C: KeyClass, A: Allocator> Tree<C, A> {
     /// The parent of an empty unmarked leaf that is not its only child, and the index of the leaf's
     /// entry.
     fn empty_below(&self, at: Handle) -> Option<(Handle, usize)>
-        ensures may { IfSome result
-            (λ found. MayRetire (class_of C.covered C.may_match C.is_match C.key_with C.united)
-            self.now at found.0 found.1) }
-        ensures due { IfSome result
-            (λ found. IsUnneeded (class_of C.covered C.may_match C.is_match C.key_with C.united)
-            self.now at) }
-        ensures none { IfNone result
-            (IsUnneeded (class_of C.covered C.may_match C.is_match C.key_with C.united) self.now at
-            → ⊥) }
+        ensures may { IfSome result (λ found. MayRetire C.class self.now at found.0 found.1) }
+        ensures due { IfSome result (λ found. IsUnneeded C.class self.now at) }
+        ensures none { IfNone result (IsUnneeded C.class self.now at → ⊥) }
     {
         let leaf = self.nodes.get(at)?;
         if !is_empty_leaf(leaf) {
@@ -160,12 +142,12 @@ fn stamp_of<K: Copy, I: Copy, A: Allocator>(nodes: &Nodes<K, I, A>, at: Handle) 
 }
 
 /// The stamp in a retired place; `None` in any other.
-fn stamp_in_place(place: Place) -> Option<u64>
+fn stamp_in_place(place: Position) -> Option<u64>
     ensures { result ≡ stamp_in place }
 {
     match place {
-        Place::Root | Place::Linked { .. } | Place::Unlinked { .. } => None,
-        Place::Retired { stamp } => Some(stamp),
+        Position::Root | Position::Linked { .. } | Position::Unlinked { .. } => None,
+        Position::Retired { stamp } => Some(stamp),
     }
 }
 

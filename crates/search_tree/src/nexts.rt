@@ -7,13 +7,12 @@ ghost use Rattle.search_tree.specs.Nexts.{IsNext, MayGo};
 ghost use Rattle.tree_nodes.specs.Standings.{IsHere};
 ghost use Rattle.tree_nodes.specs.Bodies.{IsInner};
 ghost use Rattle.search_tree.specs.Walks.{MayDescend};
-ghost use Rattle.tree_theory.specs.KeyClasses.{class_of};
 ghost use Rattle.tree_theory.specs.Nodes.{PlainNode};
 
 use crate::descents::WayDown;
+use crate::placing::holder_of;
 use crate::rooms::Room;
 use crate::tree::Tree;
-use crate::walking::holder_of;
 use node_arena::Handle;
 use std::alloc::Allocator;
 use tree_nodes::{Standing, best_entry, standing_at};
@@ -38,10 +37,8 @@ pub(crate) enum Next<K> {
 impl<C: KeyClass, A: Allocator> Tree<C, A> {
     /// What is next for a walk of this item at this node: the first case that holds.
     pub(crate) fn next_for(&self, at: Handle, item: C::Item) -> Next<C::Key>
-        ensures may { MayGo (class_of C.covered C.may_match C.is_match C.key_with C.united) self.now
-            at item result }
-        ensures first { IsNext (class_of C.covered C.may_match C.is_match C.key_with C.united)
-            self.now C.growth C.second_growth at item result }
+        ensures may { MayGo C.class self.now at item result }
+        ensures first { IsNext C.class self.now C.growth C.second_growth at item result }
     {
         match standing_at::<C, A>(&self.nodes, at, C::key_of(item)) {
             Standing::Nowhere => Next::Restart,
@@ -53,12 +50,9 @@ impl<C: KeyClass, A: Allocator> Tree<C, A> {
 
     /// What is next at a node that may take the item.
     fn next_here(&self, at: Handle, item: C::Item) -> Next<C::Key>
-        requires { IsHere (class_of C.covered C.may_match C.is_match C.key_with C.united)
-            self.now.nodes at (C.key_with item) }
-        ensures may { MayGo (class_of C.covered C.may_match C.is_match C.key_with C.united) self.now
-            at item result }
-        ensures first { IsNext (class_of C.covered C.may_match C.is_match C.key_with C.united)
-            self.now C.growth C.second_growth at item result }
+        requires { IsHere C.class self.now.nodes at (C.class.key_of item) }
+        ensures may { MayGo C.class self.now at item result }
+        ensures first { IsNext C.class self.now C.growth C.second_growth at item result }
     {
         let Some(node) = self.nodes.get(at) else {
             unreachable!();
@@ -71,13 +65,9 @@ impl<C: KeyClass, A: Allocator> Tree<C, A> {
 
     /// What is next at a leaf that may take the item.
     fn next_at_leaf(&self, at: Handle, item: C::Item) -> Next<C::Key>
-        requires { (leaf : PlainNode C.Key C.Item)
-            × IsAtLeaf (class_of C.covered C.may_match C.is_match C.key_with C.united) self.now at
-            item leaf }
-        ensures may { MayGo (class_of C.covered C.may_match C.is_match C.key_with C.united) self.now
-            at item result }
-        ensures first { IsNext (class_of C.covered C.may_match C.is_match C.key_with C.united)
-            self.now C.growth C.second_growth at item result }
+        requires { (leaf : PlainNode C.Key C.Item) × IsAtLeaf C.class self.now at item leaf }
+        ensures may { MayGo C.class self.now at item result }
+        ensures first { IsNext C.class self.now C.growth C.second_growth at item result }
     {
         let Some(node) = self.nodes.get(at) else {
             unreachable!();
@@ -90,13 +80,9 @@ impl<C: KeyClass, A: Allocator> Tree<C, A> {
 
     /// What is next at a leaf where no search holds the item back.
     fn next_when_free(&self, at: Handle, item: C::Item) -> Next<C::Key>
-        requires { (leaf : PlainNode C.Key C.Item)
-            × IsFree (class_of C.covered C.may_match C.is_match C.key_with C.united) self.now at
-            item leaf }
-        ensures may { MayGo (class_of C.covered C.may_match C.is_match C.key_with C.united) self.now
-            at item result }
-        ensures first { IsNext (class_of C.covered C.may_match C.is_match C.key_with C.united)
-            self.now C.growth C.second_growth at item result }
+        requires { (leaf : PlainNode C.Key C.Item) × IsFree C.class self.now at item leaf }
+        ensures may { MayGo C.class self.now at item result }
+        ensures first { IsNext C.class self.now C.growth C.second_growth at item result }
     {
         let Some(node) = self.nodes.get(at) else {
             unreachable!();
@@ -109,15 +95,13 @@ impl<C: KeyClass, A: Allocator> Tree<C, A> {
 
     /// The entry of an inner node to go down by: one that grows least by the key.
     fn best_way(&self, at: Handle, key: C::Key) -> WayDown<C::Key>
-        requires here { IsHere (class_of C.covered C.may_match C.is_match C.key_with C.united)
-            self.now.nodes at key }
+        requires here { IsHere C.class self.now.nodes at key }
         requires inner { (node : PlainNode C.Key C.Item) × (value_at self.now.nodes at ≡ Some node)
             × IsInner node.body }
-        ensures may { MayDescend (class_of C.covered C.may_match C.is_match C.key_with C.united)
-            self.now result key }
+        ensures may { MayDescend C.class self.now result key }
         ensures from { result.parent ≡ at }
-        ensures best { IsWayDown (class_of C.covered C.may_match C.is_match C.key_with C.united)
-            self.now C.growth C.second_growth at key result.child result.key }
+        ensures best { IsWayDown C.class self.now C.growth C.second_growth at key result.child
+            result.key }
     {
         let Some(node) = self.nodes.get(at) else {
             unreachable!();

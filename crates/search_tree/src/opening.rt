@@ -1,12 +1,11 @@
 //! How searches begin and end, and what they have found.
 
 ghost use Rattle.std.specs.Prelude.{◌≡◌, ◌≢◌, ◌↔◌, ◌⊎◌, ◌<◌, ◌+◌, ◌==◌, [], not, filter, length, None, Some, Err, IfOk, IfErr, IfSome, IfNone, OnErr};
-ghost use Rattle.memory.specs.Refused.{refused};
+ghost use Rattle.memory.specs.NoMemory.{out_of_memory};
 ghost use Rattle.predicate_locks.specs.Searches.{last_number};
 ghost use Rattle.predicate_locks.specs.declared.TheConstants.{MAX_RUNNING};
 ghost use Rattle.search_tree.specs.Calls.{IsOpen, IsShut, IsComplete, found_in};
 ghost use Rattle.search_tree.specs.Trees.{IsFirstOf, progress_at};
-ghost use Rattle.tree_theory.specs.KeyClasses.{class_of};
 
 use crate::tree::Tree;
 use memory::GrowVec;
@@ -22,9 +21,7 @@ impl<C: KeyClass, A: Allocator + Copy> Tree<C, A> {
     /// S2 where `MAX_RUNNING` searches run, else S6 where the next number is `u64::MAX`, else S8
     /// where an allocation is refused.
     pub fn open_search(&mut self, query: C::Query) -> Result<u64, TreeFault>
-        ensures ok { IfOk result
-            (IsOpen (class_of C.covered C.may_match C.is_match C.key_with C.united) self.old
-            self.new query) }
+        ensures ok { IfOk result (IsOpen C.class self.old self.new query) }
         ensures too_many { (result ≡ Err TreeFault.TooMany)
             ↔ (length self.old.running.running ≡ MAX_RUNNING) }
         ensures spent { (result ≡ Err TreeFault.Spent)
@@ -33,7 +30,7 @@ impl<C: KeyClass, A: Allocator + Copy> Tree<C, A> {
         ensures err { OnErr result (self.new ≡ self.old) }
         ensures why { IfErr result
             (λ fault. (fault ≡ TreeFault.TooMany)
-            ⊎ ((fault ≡ TreeFault.Spent) ⊎ (fault ≡ TreeFault.Memory refused))) }
+            ⊎ ((fault ≡ TreeFault.Spent) ⊎ (fault ≡ TreeFault.Memory out_of_memory))) }
     {
         if self.running.searches().len() == MAX_RUNNING {
             return Err(TreeFault::TooMany);
@@ -43,7 +40,7 @@ impl<C: KeyClass, A: Allocator + Copy> Tree<C, A> {
             return Err(TreeFault::Spent);
         }
         let progress = Progress::at_root(self.alloc, number, self.root, self.counter)?;
-        self.progress.make_place()?;
+        self.progress.make_slot()?;
         let Ok(number) = self.running.enter(query, self.counter) else {
             unreachable!();
         };
@@ -55,8 +52,7 @@ impl<C: KeyClass, A: Allocator + Copy> Tree<C, A> {
 impl<C: KeyClass, A: Allocator> Tree<C, A> {
     /// Ends a search. Nothing changes where none runs under the number.
     pub fn close_search(&mut self, search: u64)
-        ensures { IsShut (class_of C.covered C.may_match C.is_match C.key_with C.united) self.old
-            self.new search }
+        ensures { IsShut C.class self.old self.new search }
     {
         self.running.leave(search);
         drop_progress(&mut self.progress, search);
@@ -66,9 +62,7 @@ impl<C: KeyClass, A: Allocator> Tree<C, A> {
     /// is ready, they include every pair of the tree whose item matches its query.
     pub fn found(&self, search: u64) -> &[(u64, C::Item)]
         ensures value { result.now ≡ found_in self.now search }
-        ensures complete { IsComplete
-            (class_of C.covered C.may_match C.is_match C.key_with C.united) self.now search
-            result.now }
+        ensures complete { IsComplete C.class self.now search result.now }
     {
         match place_of(&self.progress, search) {
             Some(at) => self.progress[at].found(),

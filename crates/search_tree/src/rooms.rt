@@ -7,7 +7,6 @@ ghost use Rattle.node_arena.specs.declared.handle.Handle.{Handle};
 ghost use Rattle.search_tree.specs.Cases.{Change, BeginsWith, MakesRoom};
 ghost use Rattle.search_tree.specs.Dues.{LacksEntry};
 ghost use Rattle.search_tree.specs.Nexts.{ComesTo, IsChange, IsMarkedFrom, LooksFrom, MayMake, room_by_place};
-ghost use Rattle.tree_theory.specs.KeyClasses.{class_of};
 ghost use Rattle.tree_theory.specs.Nodes.{PlainNode, size_of};
 ghost use Rattle.tree_theory.specs.declared.TheConstants.{NODE_SIZE};
 
@@ -16,7 +15,7 @@ use crate::tree::Tree;
 use node_arena::Handle;
 use std::alloc::Allocator;
 use tree_nodes::parent_of;
-use tree_theory::{KeyClass, Place, TOP_LEVEL};
+use tree_theory::{KeyClass, Position, TOP_LEVEL};
 
 /// What makes room in a full node, or has to come first.
 #[derive(Clone, Copy)]
@@ -36,16 +35,11 @@ pub(crate) enum Room<K> {
 impl<C: KeyClass, A: Allocator> Tree<C, A> {
     /// The first change to make where others have to come before `wanted`.
     pub(crate) fn nearest(&self, wanted: Room<C::Key>) -> Room<C::Key>
-        requires { MayMake (class_of C.covered C.may_match C.is_match C.key_with C.united) self.now
-            wanted }
-        ensures may { MayMake (class_of C.covered C.may_match C.is_match C.key_with C.united)
-            self.now result }
-        ensures first { (change : Change)
-            → ComesTo (class_of C.covered C.may_match C.is_match C.key_with C.united) self.now
-            result change → ComesTo (class_of C.covered C.may_match C.is_match C.key_with C.united)
-            self.now wanted change }
-        ensures last { LooksFrom (class_of C.covered C.may_match C.is_match C.key_with C.united)
-            self.now 0 wanted → IsChange result }
+        requires { MayMake C.class self.now wanted }
+        ensures may { MayMake C.class self.now result }
+        ensures first { (change : Change) → ComesTo C.class self.now result change
+            → ComesTo C.class self.now wanted change }
+        ensures last { LooksFrom C.class self.now 0 wanted → IsChange result }
     {
         let mut room = wanted;
         for _turn in 0..=TOP_LEVEL {
@@ -60,16 +54,11 @@ impl<C: KeyClass, A: Allocator> Tree<C, A> {
     /// What gives the right node of a marked node its entry: its install, or what makes room in
     /// their parent first.
     fn room_behind(&self, left: Handle) -> Room<C::Key>
-        ensures may { MayMake (class_of C.covered C.may_match C.is_match C.key_with C.united)
-            self.now result }
-        ensures first { (change : Change)
-            → ComesTo (class_of C.covered C.may_match C.is_match C.key_with C.united) self.now
-            result change → BeginsWith
-            (class_of C.covered C.may_match C.is_match C.key_with C.united) self.now change left }
-        ensures higher { (level : ℕ)
-            → IsMarkedFrom (class_of C.covered C.may_match C.is_match C.key_with C.united) self.now
-            level left → LooksFrom (class_of C.covered C.may_match C.is_match C.key_with C.united)
-            self.now (level + 1) result }
+        ensures may { MayMake C.class self.now result }
+        ensures first { (change : Change) → ComesTo C.class self.now result change
+            → BeginsWith C.class self.now change left }
+        ensures higher { (level : ℕ) → IsMarkedFrom C.class self.now level left
+            → LooksFrom C.class self.now (level + 1) result }
     {
         match self.lacking(left) {
             Some(entry) => Room::Install(entry),
@@ -79,18 +68,12 @@ impl<C: KeyClass, A: Allocator> Tree<C, A> {
 
     /// What makes room in the full parent of a marked node.
     fn room_above(&self, left: Handle) -> Room<C::Key>
-        requires { LacksEntry (class_of C.covered C.may_match C.is_match C.key_with C.united)
-            self.now left → ⊥ }
-        ensures may { MayMake (class_of C.covered C.may_match C.is_match C.key_with C.united)
-            self.now result }
-        ensures first { (change : Change)
-            → ComesTo (class_of C.covered C.may_match C.is_match C.key_with C.united) self.now
-            result change → BeginsWith
-            (class_of C.covered C.may_match C.is_match C.key_with C.united) self.now change left }
-        ensures higher { (level : ℕ)
-            → IsMarkedFrom (class_of C.covered C.may_match C.is_match C.key_with C.united) self.now
-            level left → LooksFrom (class_of C.covered C.may_match C.is_match C.key_with C.united)
-            self.now (level + 1) result }
+        requires { LacksEntry C.class self.now left → ⊥ }
+        ensures may { MayMake C.class self.now result }
+        ensures first { (change : Change) → ComesTo C.class self.now result change
+            → BeginsWith C.class self.now change left }
+        ensures higher { (level : ℕ) → IsMarkedFrom C.class self.now level left
+            → LooksFrom C.class self.now (level + 1) result }
     {
         let Some(node) = self.nodes.get(left) else {
             return Room::Nothing;
@@ -103,18 +86,12 @@ impl<C: KeyClass, A: Allocator> Tree<C, A> {
 
     /// What makes room in a full node.
     pub(crate) fn room_at(&self, at: Handle) -> Room<C::Key>
-        ensures may { MayMake (class_of C.covered C.may_match C.is_match C.key_with C.united)
-            self.now result }
-        ensures first { (change : Change)
-            → ComesTo (class_of C.covered C.may_match C.is_match C.key_with C.united) self.now
-            result change → (node : PlainNode C.Key C.Item)
-            × (value_at self.now.nodes at ≡ Some node) × (size_of node.body ≡ NODE_SIZE)
-            × MakesRoom (class_of C.covered C.may_match C.is_match C.key_with C.united) self.now at
-            node.place change }
+        ensures may { MayMake C.class self.now result }
+        ensures first { (change : Change) → ComesTo C.class self.now result change
+            → (node : PlainNode C.Key C.Item) × (value_at self.now.nodes at ≡ Some node)
+            × (size_of node.body ≡ NODE_SIZE) × MakesRoom C.class self.now at node.place change }
         ensures looks { (node : PlainNode C.Key C.Item) → value_at self.now.nodes at ≡ Some node
-            → size_of node.body ≡ NODE_SIZE
-            → LooksFrom (class_of C.covered C.may_match C.is_match C.key_with C.united) self.now
-            node.level result }
+            → size_of node.body ≡ NODE_SIZE → LooksFrom C.class self.now node.level result }
     {
         let Some(node) = self.nodes.get(at) else {
             return Room::Nothing;
@@ -127,19 +104,19 @@ impl<C: KeyClass, A: Allocator> Tree<C, A> {
 }
 
 /// What makes room in a full node at this place.
-fn room_in<K>(at: Handle, place: Place) -> Room<K>
+fn room_in<K>(at: Handle, place: Position) -> Room<K>
     ensures { result ≡ room_by_place at place }
 {
     match place {
-        Place::Root => Room::Grow,
-        Place::Linked { marked, .. } => {
+        Position::Root => Room::Grow,
+        Position::Linked { marked, .. } => {
             if marked {
                 Room::Behind(at)
             } else {
                 Room::Split(at)
             }
         }
-        Place::Unlinked { left } => Room::Behind(left),
-        Place::Retired { .. } => Room::Nothing,
+        Position::Unlinked { left } => Room::Behind(left),
+        Position::Retired { .. } => Room::Nothing,
     }
 }

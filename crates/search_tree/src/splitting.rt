@@ -1,17 +1,16 @@
 //! A full node splits.
 
 ghost use Rattle.std.specs.Prelude.{◌≡◌, ◌↔◌, ◌⊎◌, ◌+◌, ◌<◌, ◌≤◌, Some, Err, IfOk, IfErr, OnOk, OnErr};
-ghost use Rattle.memory.specs.Refused.{refused};
+ghost use Rattle.memory.specs.NoMemory.{out_of_memory};
 ghost use Rattle.node_arena.specs.Slots.{value_at, taken_count, HasRoomFor};
 ghost use Rattle.node_arena.specs.declared.TheConstants.{MAX_SLOTS, MOST_RESERVED};
 ghost use Rattle.tree_nodes.specs.Arenas.{AreSame};
 ghost use Rattle.search_tree.specs.Calls.{IsUntouched};
 ghost use Rattle.search_tree.specs.Splitting.{HasMoreNodes, HasSplit, IsFullLinked, MaySplit};
 ghost use Rattle.tree_nodes.specs.Descents.{marked_right as right_of_marked};
-ghost use Rattle.tree_theory.specs.KeyClasses.{class_of};
 
 use crate::tree::Tree;
-use memory::{Refused, copied};
+use memory::{NoMemory, copied};
 use node_arena::{ArenaFault, Handle};
 use std::alloc::Allocator;
 use tree_answers::TreeFault;
@@ -26,23 +25,18 @@ impl<C: KeyClass, A: Allocator + Copy> Tree<C, A> {
     /// S4 where no slot is left: nothing changes. S8 where an allocation is refused: only spare
     /// capacity may grow.
     pub(crate) fn split(&mut self, at: Handle) -> Result<Handle, TreeFault>
-        requires { MaySplit (class_of C.covered C.may_match C.is_match C.key_with C.united) self.old
-            at }
-        ensures ok { OnOk result
-            (HasMoreNodes (class_of C.covered C.may_match C.is_match C.key_with C.united) self.old
-            self.new 1 0) }
+        requires { MaySplit C.class self.old at }
+        ensures ok { OnOk result (HasMoreNodes C.class self.old self.new 1 0) }
         ensures right { IfOk result
             (λ right. right_of_marked (value_at self.new.nodes at) ≡ Some right) }
-        ensures parted { IfOk result
-            (HasSplit C.key_with C.picks self.old.nodes self.new.nodes at) }
+        ensures parted { IfOk result (HasSplit C.class.key_of C.picks self.old.nodes self.new.nodes
+            at) }
         ensures full { (result ≡ Err TreeFault.Full)
             ↔ (MAX_SLOTS < taken_count self.old.nodes + 1) }
         ensures faults { IfErr result
-            (λ fault. (fault ≡ TreeFault.Full) ⊎ (fault ≡ TreeFault.Memory refused)) }
+            (λ fault. (fault ≡ TreeFault.Full) ⊎ (fault ≡ TreeFault.Memory out_of_memory)) }
         ensures untouched { result ≡ Err TreeFault.Full → self.new ≡ self.old }
-        ensures err { OnErr result
-            (IsUntouched (class_of C.covered C.may_match C.is_match C.key_with C.united) self.old
-            self.new) }
+        ensures err { OnErr result (IsUntouched C.class self.old self.new) }
     {
         split_in::<C, A>(&mut self.nodes, self.alloc, at)
     }
@@ -55,10 +49,10 @@ fn split_in<C: KeyClass, A: Allocator + Copy>(
     at: Handle,
 ) -> Result<Handle, TreeFault>
     requires { IsFullLinked nodes.old at }
-    ensures ok { IfOk result (HasSplit C.key_with C.picks nodes.old nodes.new at) }
+    ensures ok { IfOk result (HasSplit C.class.key_of C.picks nodes.old nodes.new at) }
     ensures full { (result ≡ Err TreeFault.Full) ↔ (MAX_SLOTS < taken_count nodes.old + 1) }
     ensures faults { IfErr result
-        (λ fault. (fault ≡ TreeFault.Full) ⊎ (fault ≡ TreeFault.Memory refused)) }
+        (λ fault. (fault ≡ TreeFault.Full) ⊎ (fault ≡ TreeFault.Memory out_of_memory)) }
     ensures untouched { result ≡ Err TreeFault.Full → nodes.new ≡ nodes.old }
     ensures err { OnErr result (AreSame nodes.old nodes.new) }
 {
@@ -77,14 +71,14 @@ pub(crate) fn make_slots<K, I, A: Allocator>(
     ensures fits { OnOk result (taken_count nodes.old + more ≤ MAX_SLOTS) }
     ensures full { (result ≡ Err TreeFault.Full) ↔ (MAX_SLOTS < taken_count nodes.old + more) }
     ensures faults { IfErr result
-        (λ fault. (fault ≡ TreeFault.Full) ⊎ (fault ≡ TreeFault.Memory refused)) }
+        (λ fault. (fault ≡ TreeFault.Full) ⊎ (fault ≡ TreeFault.Memory out_of_memory)) }
     ensures untouched { OnErr result (nodes.new ≡ nodes.old) }
     ensures same { AreSame nodes.old nodes.new }
 {
     match nodes.reserve(more) {
         Ok(()) => Ok(()),
         Err(ArenaFault::Full) => Err(TreeFault::Full),
-        Err(ArenaFault::Memory(refused)) => Err(TreeFault::Memory(refused)),
+        Err(ArenaFault::Memory(no_memory)) => Err(TreeFault::Memory(no_memory)),
     }
 }
 
@@ -94,10 +88,10 @@ fn split_node<C: KeyClass, A: Allocator + Copy>(
     nodes: &mut Nodes<C::Key, C::Item, A>,
     alloc: A,
     at: Handle,
-) -> Result<Handle, Refused>
+) -> Result<Handle, NoMemory>
     requires full { IsFullLinked nodes.old at }
     requires room { HasRoomFor nodes.old 1 }
-    ensures ok { IfOk result (HasSplit C.key_with C.picks nodes.old nodes.new at) }
+    ensures ok { IfOk result (HasSplit C.class.key_of C.picks nodes.old nodes.new at) }
     ensures err { OnErr result (AreSame nodes.old nodes.new) }
 {
     let Some(node) = nodes.get(at) else {

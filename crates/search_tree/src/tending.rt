@@ -9,7 +9,6 @@ ghost use Rattle.search_tree.specs.Dues.{AnswersFirst};
 ghost use Rattle.search_tree.specs.Tends.{HasTended, ContentsLess, ContentsTended, MayClean, MayFree, MayRetire, StepsAt, slots_freed};
 ghost use Rattle.search_tree.specs.Trees.{tree_of};
 ghost use Rattle.tree_theory.specs.Changes.{IsFreed, IsCleaned, IsRetired};
-ghost use Rattle.tree_theory.specs.KeyClasses.{class_of};
 
 use crate::needs::Due;
 use crate::tree::Tree;
@@ -17,7 +16,7 @@ use node_arena::Handle;
 use std::alloc::Allocator;
 use tree_answers::{Keeper, Tending, TreeFault};
 use tree_nodes::{keep, remove_entry, set_place};
-use tree_theory::{KeyClass, Place};
+use tree_theory::{KeyClass, Position};
 
 impl<C: KeyClass, A: Allocator> Tree<C, A> {
     /// Tends one slot: does the first of the following that is due at its node, and returns which.
@@ -31,18 +30,15 @@ impl<C: KeyClass, A: Allocator> Tree<C, A> {
     /// It takes no memory, and changes no search. S6 where a node is to be installed or retired and
     /// the counter is `u64::MAX`: nothing changes.
     pub fn tend<K: Keeper<C::Item>>(&mut self, slot: u32, keeper: &K) -> Result<Tending, TreeFault>
-        ensures tended { IfOk result
-            (HasTended (class_of C.covered C.may_match C.is_match C.key_with C.united) self.old
-            self.new) }
-        ensures contents { IfOk result
-            (ContentsTended (class_of C.covered C.may_match C.is_match C.key_with C.united) self.old
+        ensures tended { IfOk result (HasTended C.class self.old self.new) }
+        ensures contents { IfOk result (ContentsTended C.class self.old
             (λ pair. IsTrue (K.kept keeper.now pair.0 pair.1)) self.new) }
         ensures first { (at : Handle) → at.slot ≡ slot → IsSome (value_at self.old.nodes at)
-            → AnswersFirst (class_of C.covered C.may_match C.is_match C.key_with C.united) self.old
+            → AnswersFirst C.class self.old
             (λ pair. IsTrue (K.kept keeper.now pair.0 pair.1)) at result }
         ensures step { (at : Handle) → at.slot ≡ slot → IsSome (value_at self.old.nodes at)
-            → IfOk result (StepsAt (class_of C.covered C.may_match C.is_match C.key_with C.united)
-            self.old (λ pair. IsTrue (K.kept keeper.now pair.0 pair.1)) at self.new) }
+            → IfOk result (StepsAt C.class self.old
+            (λ pair. IsTrue (K.kept keeper.now pair.0 pair.1)) at self.new) }
         ensures nobody { ((at : Handle) → at.slot ≡ slot → IsSome (value_at self.old.nodes at) → ⊥)
             → result ≡ Ok Tending.Idle }
         ensures untouched { ((at : Handle) → at.slot ≡ slot → IsSome (value_at self.old.nodes at)
@@ -59,17 +55,12 @@ impl<C: KeyClass, A: Allocator> Tree<C, A> {
 
     /// Does the first thing that is due at a node.
     fn tend_at<K: Keeper<C::Item>>(&mut self, at: Handle, keeper: &K) -> Result<Tending, TreeFault>
-        ensures tended { IfOk result
-            (HasTended (class_of C.covered C.may_match C.is_match C.key_with C.united) self.old
-            self.new) }
-        ensures contents { IfOk result
-            (ContentsTended (class_of C.covered C.may_match C.is_match C.key_with C.united) self.old
+        ensures tended { IfOk result (HasTended C.class self.old self.new) }
+        ensures contents { IfOk result (ContentsTended C.class self.old
             (λ pair. IsTrue (K.kept keeper.now pair.0 pair.1)) self.new) }
-        ensures first { IsSome (value_at self.old.nodes at)
-            → AnswersFirst (class_of C.covered C.may_match C.is_match C.key_with C.united) self.old
+        ensures first { IsSome (value_at self.old.nodes at) → AnswersFirst C.class self.old
             (λ pair. IsTrue (K.kept keeper.now pair.0 pair.1)) at result }
-        ensures step { IfOk result
-            (StepsAt (class_of C.covered C.may_match C.is_match C.key_with C.united) self.old
+        ensures step { IfOk result (StepsAt C.class self.old
             (λ pair. IsTrue (K.kept keeper.now pair.0 pair.1)) at self.new) }
         ensures spent { IfErr result
             (λ fault. (fault ≡ TreeFault.Spent) × (self.old.counter ≡ last_number)) }
@@ -112,15 +103,10 @@ impl<C: KeyClass, A: Allocator> Tree<C, A> {
 
     /// Removes a retired node.
     fn free(&mut self, at: Handle)
-        requires { MayFree (class_of C.covered C.may_match C.is_match C.key_with C.united) self.old
-            at }
-        ensures tended { HasTended (class_of C.covered C.may_match C.is_match C.key_with C.united)
-            self.old self.new Tending.Freed }
-        ensures contents { SameContents
-            (class_of C.covered C.may_match C.is_match C.key_with C.united) self.old self.new }
-        ensures step { IsFreed
-            (tree_of (class_of C.covered C.may_match C.is_match C.key_with C.united) self.old)
-            (tree_of (class_of C.covered C.may_match C.is_match C.key_with C.united) self.new) at }
+        requires { MayFree C.class self.old at }
+        ensures tended { HasTended C.class self.old self.new Tending.Freed }
+        ensures contents { SameContents C.class self.old self.new }
+        ensures step { IsFreed (tree_of C.class self.old) (tree_of C.class self.new) at }
         ensures freed { taken_count self.new.nodes + slots_freed at ≡ taken_count self.old.nodes }
     {
         self.nodes.remove(at);
@@ -129,35 +115,24 @@ impl<C: KeyClass, A: Allocator> Tree<C, A> {
     /// Retires an empty leaf: removes its entry, at index `place` of its parent. Searches whose
     /// stacks name it may still visit it.
     fn retire(&mut self, at: Handle, parent: Handle, place: usize, stamp: u64)
-        requires may { MayRetire (class_of C.covered C.may_match C.is_match C.key_with C.united)
-            self.old at parent place }
+        requires may { MayRetire C.class self.old at parent place }
         requires stamp { stamp ≡ self.old.counter + 1 }
-        ensures tended { HasTended (class_of C.covered C.may_match C.is_match C.key_with C.united)
-            self.old self.new Tending.Retired }
-        ensures contents { SameContents
-            (class_of C.covered C.may_match C.is_match C.key_with C.united) self.old self.new }
-        ensures step { IsRetired
-            (tree_of (class_of C.covered C.may_match C.is_match C.key_with C.united) self.old)
-            (tree_of (class_of C.covered C.may_match C.is_match C.key_with C.united) self.new) at
-            parent }
+        ensures tended { HasTended C.class self.old self.new Tending.Retired }
+        ensures contents { SameContents C.class self.old self.new }
+        ensures step { IsRetired (tree_of C.class self.old) (tree_of C.class self.new) at parent }
     {
-        set_place(&mut self.nodes, at, Place::Retired { stamp });
+        set_place(&mut self.nodes, at, Position::Retired { stamp });
         remove_entry(&mut self.nodes, parent, place);
         self.counter = stamp;
     }
 
     /// Removes the pairs of a leaf that are not kept.
     fn clean<K: Keeper<C::Item>>(&mut self, at: Handle, keeper: &K)
-        requires { MayClean (class_of C.covered C.may_match C.is_match C.key_with C.united) self.old
-            at }
-        ensures tended { HasTended (class_of C.covered C.may_match C.is_match C.key_with C.united)
-            self.old self.new Tending.Cleaned }
-        ensures contents { ContentsLess
-            (class_of C.covered C.may_match C.is_match C.key_with C.united) self.old self.new
+        requires { MayClean C.class self.old at }
+        ensures tended { HasTended C.class self.old self.new Tending.Cleaned }
+        ensures contents { ContentsLess C.class self.old self.new
             (λ pair. IsTrue (K.kept keeper.now pair.0 pair.1)) }
-        ensures step { IsCleaned
-            (tree_of (class_of C.covered C.may_match C.is_match C.key_with C.united) self.old)
-            (tree_of (class_of C.covered C.may_match C.is_match C.key_with C.united) self.new)
+        ensures step { IsCleaned (tree_of C.class self.old) (tree_of C.class self.new)
             (λ pair. IsTrue (K.kept keeper.now pair.0 pair.1)) at }
     {
         keep(&mut self.nodes, at, keeper);

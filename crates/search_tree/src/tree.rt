@@ -1,12 +1,11 @@
 //! The tree: its parts, and how an empty one is made.
 
 ghost use Rattle.std.specs.Prelude.{◌≡◌, ◌≤◌, [], IfOk, IfErr};
-ghost use Rattle.memory.specs.Refused.{refused};
+ghost use Rattle.memory.specs.NoMemory.{out_of_memory};
 ghost use Rattle.node_arena.specs.Slots.{slot_count, taken_count, IsGiven, CountsGiven};
 ghost use Rattle.search_tree.specs.Trees.{IsFirst};
-ghost use Rattle.tree_theory.specs.KeyClasses.{class_of};
 
-use memory::Refused;
+use memory::NoMemory;
 use node_arena::{Arena, ArenaFault, Handle};
 use predicate_locks::Running;
 use std::alloc::Allocator;
@@ -33,7 +32,6 @@ pub struct Tree<C: KeyClass, A: Allocator> {
 
 impl<C: KeyClass, A: Allocator> Model for Tree<C, A> {
     ghost use Rattle.search_tree.specs.Trees.{PlainTree, IsSound};
-    ghost use Rattle.tree_theory.specs.KeyClasses.{class_of};
 
     ghost Value = { PlainTree C.Key C.Query C.Item };
 
@@ -46,7 +44,7 @@ impl<C: KeyClass, A: Allocator> Model for Tree<C, A> {
       limit = t.limit;
     } };
 
-    ghost invariant = { λ t. IsSound (class_of C.covered C.may_match C.is_match C.key_with C.united) (record {
+    ghost invariant = { λ t. IsSound C.class (record {
       nodes = t.nodes;
       root = t.root;
       counter = t.counter;
@@ -59,10 +57,8 @@ impl<C: KeyClass, A: Allocator> Model for Tree<C, A> {
 impl<C: KeyClass, A: Allocator + Copy> Tree<C, A> {
     /// A tree with no pairs and no searches. S8 where an allocation is refused.
     pub fn new(alloc: A) -> Result<Self, TreeFault>
-        ensures ok { IfOk result
-            (IsFirst (class_of C.covered C.may_match C.is_match C.key_with C.united) 0 0 1
-            MAX_STEPS) }
-        ensures memory { IfErr result (λ fault. fault ≡ TreeFault.Memory refused) }
+        ensures ok { IfOk result (IsFirst C.class 0 0 1 MAX_STEPS) }
+        ensures memory { IfErr result (λ fault. fault ≡ TreeFault.Memory out_of_memory) }
     {
         Self::starting_at(alloc, 0, 0, 1, MAX_STEPS)
     }
@@ -77,10 +73,8 @@ impl<C: KeyClass, A: Allocator + Copy> Tree<C, A> {
         steps: u64,
     ) -> Result<Self, TreeFault>
         requires { steps ≤ MAX_STEPS }
-        ensures ok { IfOk result
-            (IsFirst (class_of C.covered C.may_match C.is_match C.key_with C.united) generation
-            counter search steps) }
-        ensures memory { IfErr result (λ fault. fault ≡ TreeFault.Memory refused) }
+        ensures ok { IfOk result (IsFirst C.class generation counter search steps) }
+        ensures memory { IfErr result (λ fault. fault ≡ TreeFault.Memory out_of_memory) }
     {
         let first = TreeNode::first(alloc, counter)?;
         let running = no_searches(alloc, search)?;
@@ -109,7 +103,7 @@ impl<C: KeyClass, A: Allocator> Tree<C, A> {
 }
 
 /// No running searches, with room for `MAX_RUNNING`; the first gets the number `first`.
-fn no_searches<Q: Copy, A: Allocator>(alloc: A, first: u64) -> Result<Running<Q, A>, Refused>
+fn no_searches<Q: Copy, A: Allocator>(alloc: A, first: u64) -> Result<Running<Q, A>, NoMemory>
     ensures { IfOk result (λ made. made ≡ record { running = []; next = first }) }
 {
     match Running::new(alloc, first) {
@@ -119,14 +113,14 @@ fn no_searches<Q: Copy, A: Allocator>(alloc: A, first: u64) -> Result<Running<Q,
 }
 
 /// Puts the first node into an empty arena.
-fn plant<T: Drop, A: Allocator>(nodes: &mut Arena<T, A>, first: T) -> Result<Handle, Refused>
+fn plant<T: Drop, A: Allocator>(nodes: &mut Arena<T, A>, first: T) -> Result<Handle, NoMemory>
     requires { taken_count nodes.old ≡ 0 }
     ensures ok { IfOk result (λ handle. IsGiven nodes.old nodes.new handle first) }
     ensures counts { IfOk result (CountsGiven nodes.old nodes.new) }
 {
     match nodes.insert(first) {
         Ok(handle) => Ok(handle),
-        Err((_, ArenaFault::Memory(refused))) => Err(refused),
+        Err((_, ArenaFault::Memory(no_memory))) => Err(no_memory),
         Err(_) => unreachable!(),
     }
 }

@@ -1,14 +1,13 @@
 //! One step of a search.
 
 ghost use Rattle.std.specs.Prelude.{◌≡◌, IfOk, OnErr};
-ghost use Rattle.search_tree.specs.Calls.{IsFurther, IsUntouched, IsVisit, MayStep, is_ready};
+ghost use Rattle.search_tree.specs.Calls.{IsFurther, IsUntouched, IsVisit, MayVisit, is_ready};
 ghost use Rattle.search_tree.specs.States.{IsState};
 ghost use Rattle.tree_nodes.specs.Progresses.{is_empty};
-ghost use Rattle.tree_theory.specs.KeyClasses.{class_of};
 
 use crate::opening::place_of;
 use crate::tree::Tree;
-use memory::Refused;
+use memory::NoMemory;
 use std::alloc::Allocator;
 use tree_answers::{TreeFault, Visit};
 use tree_nodes::{Progress, visit_last};
@@ -37,8 +36,7 @@ impl<C: KeyClass, A: Allocator + Copy> Tree<C, A> {
     /// refused: nothing changes, the nodes and the search's stack included, except that spare
     /// capacity may grow.
     pub fn visit(&mut self, search: u64) -> Result<Visit, TreeFault>
-        ensures { IsVisit (class_of C.covered C.may_match C.is_match C.key_with C.united) self.old
-            self.new search result }
+        ensures { IsVisit C.class self.old self.new search result }
     {
         match self.state_of(search) {
             State::Gone => Err(TreeFault::NoSearch),
@@ -80,14 +78,11 @@ impl<C: KeyClass, A: Allocator + Copy> Tree<C, A> {
     }
 
     /// Makes one step of the search whose progress is at this index.
-    fn visit_at(&mut self, at: usize, search: u64) -> Result<Visit, Refused>
-        requires { MayStep self.old search at }
-        ensures ok { IfOk result
-            (λ visit. IsFurther (class_of C.covered C.may_match C.is_match C.key_with C.united)
-            self.old self.new search (is_ready visit)) }
-        ensures err { OnErr result
-            (IsUntouched (class_of C.covered C.may_match C.is_match C.key_with C.united) self.old
-            self.new) }
+    fn visit_at(&mut self, at: usize, search: u64) -> Result<Visit, NoMemory>
+        requires { MayVisit self.old search at }
+        ensures ok { IfOk result (λ visit. IsFurther C.class self.old self.new search
+            (is_ready visit)) }
+        ensures err { OnErr result (IsUntouched C.class self.old self.new) }
     {
         let Some(query) = self.running.query_in_place(search) else {
             unreachable!();

@@ -24,7 +24,13 @@ impl<I> Model for Walk<I> {
 
     ghost Value = { PlainWalk I };
 
-    ghost view = { λ w. record { key = w.key; item = w.item; at = w.at; steps = w.steps; placed = w.placed } };
+    ghost view = { λ w. record {
+      key = w.key;
+      item = w.item;
+      at = w.at;
+      steps = w.steps;
+      placed = w.placed;
+    } };
 }
 
 impl<I: Copy> Walk<I> {

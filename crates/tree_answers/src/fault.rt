@@ -3,7 +3,7 @@
 ghost use Rattle.std.specs.Prelude.{◌≡◌, Some};
 ghost use Rattle.tree_answers.specs.Faults.{code_of};
 
-use memory::Refused;
+use memory::NoMemory;
 use std::error::Error;
 use std::fmt;
 
@@ -29,16 +29,16 @@ pub enum TreeFault {
     /// S7: the search or the walk has made all its steps.
     Overrun,
     /// S8: an allocation was refused.
-    Memory(Refused),
+    Memory(NoMemory),
 }
 
-impl From<Refused> for TreeFault {
+impl From<NoMemory> for TreeFault {
     ghost use Rattle.tree_answers.specs.declared.fault.TreeFault.TheVariants.{Memory};
 
-    ghost from_gives = { λ refused fault. fault ≡ Memory refused };
+    ghost from_gives = { λ no_memory fault. fault ≡ Memory no_memory };
 
-    fn from(refused: Refused) -> TreeFault {
-        TreeFault::Memory(refused)
+    fn from(no_memory: NoMemory) -> TreeFault {
+        TreeFault::Memory(no_memory)
     }
 }
 

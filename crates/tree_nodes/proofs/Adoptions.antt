@@ -6,14 +6,14 @@ use Rattle.node_arena.specs.Slots.{Slots, IsGiven, CountsGiven, value_at}
 use Rattle.node_arena.specs.declared.handle.Handle.{Handle}
 use Rattle.tree_theory.proofs.ListLemmas.{handle_cases, child_cases}
 use Rattle.tree_theory.specs.Nodes.{PlainNode, place_under, under}
-use Rattle.tree_theory.specs.declared.place.Place.{Place}
-use Rattle.tree_theory.specs.declared.place.Place.TheVariants.{Root, Linked, Unlinked, Retired}
+use Rattle.tree_theory.specs.declared.position.Position.{Position}
+use Rattle.tree_theory.specs.declared.position.Position.TheVariants.{Root, Linked, Unlinked, Retired}
 use Rattle.tree_nodes.specs.Arenas.{IsChanged}
 use Rattle.tree_nodes.specs.NewNodes.{HasAdopted, IsPutOver, MoreTaken}
 use Rattle.tree_nodes.proofs.ListEnds.{take_one, get_some}
 
 -- of two parents, the last one stays
-place_twice : (parent other : Handle) (place : Place) → place_under parent (place_under other place) ≡ place_under parent place
+place_twice : (parent other : Handle) (place : Position) → place_under parent (place_under other place) ≡ place_under parent place
 place_twice parent other Root = refl
 place_twice parent other (Linked before marked) = refl
 place_twice parent other (Unlinked left) = refl

@@ -21,17 +21,17 @@ module _ {Key : Type 0} where
       let same : key ≡ both.first = read ∙ (ap (λ l. slice_index_or l place key) are_keys ∙ get_or_from_slice_get (map (λ (entry : Key × Handle). entry.0) entries) place both.first key both.first_is) in
       subst (λ k. Contains entries (k, child)) (sym same) (got_in entries place (both.first, child) both.is)
 
-module _ (C : Class) (nodes : Slots (Node C)) (parent child : Handle) (key : C.Key) (node : Node C) (is : value_at nodes parent ≡ Some node) where
+module _ {Key Query Item : Type 0} (C : Class Key Query Item) (nodes : Slots (Node C)) (parent child : Handle) (key : Key) (node : Node C) (is : value_at nodes parent ≡ Some node) where
   -- a parent that does not name a node has no entry for it
   pub unnamed : ((place : ℕ) → slice_get (children_of node.body) place ≡ Some child → ⊥) → IsCoveredBy C nodes parent child key → ⊥
   unnamed nowhere covered =
       let same : covered.node ≡ node = some_one covered.is is in
       let entry : Contains (entries_of node.body) (covered.entry_key, child) = subst (λ (n : Node C). Contains (entries_of n.body) (covered.entry_key, child)) same covered.entry in
-      let found = place_in (children_of node.body) child (map_in (λ (e : C.Key × Handle). e.1) (entries_of node.body) (covered.entry_key, child) entry) in
+      let found = place_in (children_of node.body) child (map_in (λ (e : Key × Handle). e.1) (entries_of node.body) (covered.entry_key, child) entry) in
       nowhere found.0 found.1
 
   -- where an entry names the node, that entry's key covers
-  pub one_covers : ChildrenDiffer nodes → (old : C.Key) → Contains (entries_of node.body) (old, child) → IsCoveredBy C nodes parent child key → C.Covers old key
+  pub one_covers : ChildrenDiffer nodes → (old : Key) → Contains (entries_of node.body) (old, child) → IsCoveredBy C nodes parent child key → C.Covers old key
   one_covers differ old named covered =
       let same : covered.node ≡ node = some_one covered.is is in
       let entry : Contains (entries_of node.body) (covered.entry_key, child) = subst (λ (n : Node C). Contains (entries_of n.body) (covered.entry_key, child)) same covered.entry in

@@ -9,11 +9,11 @@ use Rattle.tree_theory.specs.declared.TheConstants.{NODE_SIZE}
 use Rattle.tree_nodes.specs.Progresses.{PlainProgress}
 use Rattle.tree_nodes.specs.Visits.{HasChildren, HasMatching, HasSeen}
 
-module _ (C : Class) (query : C.Query) where
-  pub matching_none : (old : PlainProgress C.Item) → HasMatching C query [] old old
-  matching_none old = record { taken = []; matching = picked_none; few = omega arith; is = ap (λ (l : List (ℕ × C.Item)). let p : PlainProgress C.Item = record old { found = l } in p) (sym (append-nil old.found)) }
+module _ {Key Query Item : Type 0} (C : Class Key Query Item) (query : Query) where
+  pub matching_none : (old : PlainProgress Item) → HasMatching C query [] old old
+  matching_none old = record { taken = []; matching = picked_none; few = omega arith; is = ap (λ (l : List (ℕ × Item)). let p : PlainProgress Item = record old { found = l } in p) (sym (append-nil old.found)) }
 
-  pub matching_more : (pairs : List (ℕ × C.Item)) (old new next : PlainProgress C.Item) (pair : ℕ × C.Item) → HasMatching C query pairs old new → C.Matches pair.1 query → next ≡ record new { found = new.found ++ pair ∷ [] } → HasMatching C query (pairs ++ pair ∷ []) old next
+  pub matching_more : (pairs : List (ℕ × Item)) (old new next : PlainProgress Item) (pair : ℕ × Item) → HasMatching C query pairs old new → C.Matches pair.1 query → next ≡ record new { found = new.found ++ pair ∷ [] } → HasMatching C query (pairs ++ pair ∷ []) old next
   matching_more pairs old new next pair before matches e =
       let long = length-append pairs (pair ∷ []) in
       let longer = length-append before.taken (pair ∷ []) in
@@ -23,11 +23,11 @@ module _ (C : Class) (query : C.Query) where
         few = let few = before.few in omega (arith, long, longer, few);
         is =
             e
-            ∙ ap (λ (n : PlainProgress C.Item). let p : PlainProgress C.Item = record n { found = n.found ++ pair ∷ [] } in p) before.is
-            ∙ ap (λ (l : List (ℕ × C.Item)). let p : PlainProgress C.Item = record old { found = l } in p) (append_assoc old.found before.taken (pair ∷ []));
+            ∙ ap (λ (n : PlainProgress Item). let p : PlainProgress Item = record n { found = n.found ++ pair ∷ [] } in p) before.is
+            ∙ ap (λ (l : List (ℕ × Item)). let p : PlainProgress Item = record old { found = l } in p) (append_assoc old.found before.taken (pair ∷ []));
       }
 
-  pub matching_past : (pairs : List (ℕ × C.Item)) (old new : PlainProgress C.Item) (pair : ℕ × C.Item) → HasMatching C query pairs old new → (C.Matches pair.1 query → ⊥) → HasMatching C query (pairs ++ pair ∷ []) old new
+  pub matching_past : (pairs : List (ℕ × Item)) (old new : PlainProgress Item) (pair : ℕ × Item) → HasMatching C query pairs old new → (C.Matches pair.1 query → ⊥) → HasMatching C query (pairs ++ pair ∷ []) old new
   matching_past pairs old new pair before lacks =
       let long = length-append pairs (pair ∷ []) in
       record {
@@ -37,11 +37,11 @@ module _ (C : Class) (query : C.Query) where
         is = before.is;
       }
 
-module _ (C : Class) (query : C.Query) (counter : ℕ) where
-  pub children_none : (old : PlainProgress C.Item) → HasChildren C query counter [] old old
-  children_none old = record { taken = []; consistent = picked_none; few = omega arith; is = ap (λ (l : List (Handle × ℕ)). let p : PlainProgress C.Item = record old { stack = l } in p) (sym (append-nil old.stack)) }
+module _ {Key Query Item : Type 0} (C : Class Key Query Item) (query : Query) (counter : ℕ) where
+  pub children_none : (old : PlainProgress Item) → HasChildren C query counter [] old old
+  children_none old = record { taken = []; consistent = picked_none; few = omega arith; is = ap (λ (l : List (Handle × ℕ)). let p : PlainProgress Item = record old { stack = l } in p) (sym (append-nil old.stack)) }
 
-  pub children_more : (entries : List (C.Key × Handle)) (old new next : PlainProgress C.Item) (entry : C.Key × Handle) → HasChildren C query counter entries old new → C.Consistent entry.0 query → next ≡ record new { stack = new.stack ++ (entry.1, counter) ∷ [] } → HasChildren C query counter (entries ++ entry ∷ []) old next
+  pub children_more : (entries : List (Key × Handle)) (old new next : PlainProgress Item) (entry : Key × Handle) → HasChildren C query counter entries old new → C.Consistent entry.0 query → next ≡ record new { stack = new.stack ++ (entry.1, counter) ∷ [] } → HasChildren C query counter (entries ++ entry ∷ []) old next
   children_more entries old new next entry before consistent e =
       let long = length-append entries (entry ∷ []) in
       let longer = length-append before.taken (entry ∷ []) in
@@ -51,14 +51,14 @@ module _ (C : Class) (query : C.Query) (counter : ℕ) where
         few = let few = before.few in omega (arith, long, longer, few);
         is =
             e
-            ∙ ap (λ (n : PlainProgress C.Item). let p : PlainProgress C.Item = record n { stack = n.stack ++ (entry.1, counter) ∷ [] } in p) before.is
-            ∙ ap (λ (l : List (Handle × ℕ)). let p : PlainProgress C.Item = record old { stack = l } in p) (
+            ∙ ap (λ (n : PlainProgress Item). let p : PlainProgress Item = record n { stack = n.stack ++ (entry.1, counter) ∷ [] } in p) before.is
+            ∙ ap (λ (l : List (Handle × ℕ)). let p : PlainProgress Item = record old { stack = l } in p) (
             append_assoc old.stack (pushed counter before.taken) ((entry.1, counter) ∷ [])
-            ∙ ap (λ (l : List (Handle × ℕ)). old.stack ++ l) (sym (map-append (λ (e : C.Key × Handle). (e.1, counter)) before.taken (entry ∷ [])))
+            ∙ ap (λ (l : List (Handle × ℕ)). old.stack ++ l) (sym (map-append (λ (e : Key × Handle). (e.1, counter)) before.taken (entry ∷ [])))
             );
       }
 
-  pub children_past : (entries : List (C.Key × Handle)) (old new : PlainProgress C.Item) (entry : C.Key × Handle) → HasChildren C query counter entries old new → (C.Consistent entry.0 query → ⊥) → HasChildren C query counter (entries ++ entry ∷ []) old new
+  pub children_past : (entries : List (Key × Handle)) (old new : PlainProgress Item) (entry : Key × Handle) → HasChildren C query counter entries old new → (C.Consistent entry.0 query → ⊥) → HasChildren C query counter (entries ++ entry ∷ []) old new
   children_past entries old new entry before lacks =
       let long = length-append entries (entry ∷ []) in
       record {
@@ -69,7 +69,7 @@ module _ (C : Class) (query : C.Query) (counter : ℕ) where
       }
 
   -- the whole node has been seen
-  pub seen_all : (memo : ℕ) (node : Node C) (old a b new : PlainProgress C.Item) → a ≡ record old { stack = old.stack ++ followed node memo } → HasChildren C query counter (entries_of node.body) a b → HasMatching C query (pairs_of node.body) b new → length (pairs_of node.body) ≤ NODE_SIZE → HasSeen C query counter memo node old new
+  pub seen_all : (memo : ℕ) (node : Node C) (old a b new : PlainProgress Item) → a ≡ record old { stack = old.stack ++ followed node memo } → HasChildren C query counter (entries_of node.body) a b → HasMatching C query (pairs_of node.body) b new → length (pairs_of node.body) ≤ NODE_SIZE → HasSeen C query counter memo node old new
   seen_all memo node old a b new right children matching most =
       record {
         entries = children.taken;
@@ -79,9 +79,9 @@ module _ (C : Class) (query : C.Query) (counter : ℕ) where
         few = let few = matching.few in omega (arith, few, most);
         is =
             matching.is
-            ∙ ap (λ (n : PlainProgress C.Item). let p : PlainProgress C.Item = record n { found = n.found ++ matching.taken } in p) (
+            ∙ ap (λ (n : PlainProgress Item). let p : PlainProgress Item = record n { found = n.found ++ matching.taken } in p) (
             children.is
-            ∙ ap (λ (n : PlainProgress C.Item). let p : PlainProgress C.Item = record n { stack = n.stack ++ pushed counter children.taken } in p) right
+            ∙ ap (λ (n : PlainProgress Item). let p : PlainProgress Item = record n { stack = n.stack ++ pushed counter children.taken } in p) right
             );
       }
 

@@ -7,25 +7,27 @@ use Rattle.predicate_locks.specs.declared.running.RunningSearch.{RunningSearch}
 use Rattle.tree_theory.specs.KeyClasses.{Class}
 use Rattle.tree_theory.specs.Nodes.{PlainNode, is_marked}
 
-module _ (C : Class) (s : Searches C.Query) (old : C.Key) where
+module _ {Key Query Item : Type 0} (C : Class Key Query Item) (s : Searches Query) (old : Key) where
   -- a running search that the old key does not lead on
   pub record IsNotLed (number : ℕ) : Type 0 where
-    pub search : RunningSearch C.Query
+    pub search : RunningSearch Query
     pub runs : search_at s number ≡ Some search
     pub inconsistent : C.Consistent old search.query → ⊥
 
   -- an attached running search that the wider key leads on
-  pub record IsLedOn (wider : C.Key) (attached : List ℕ) (number : ℕ) : Type 0 where
-    pub search : RunningSearch C.Query
+  pub record IsLedOn (wider : Key) (attached : List ℕ) (number : ℕ) : Type 0 where
+    pub search : RunningSearch Query
     pub runs : search_at s number ≡ Some search
     pub is_attached : Contains attached number
     pub consistent : C.Consistent wider search.query
 
   -- all attached running searches that the wider key leads on, but not the old one, and no others
-  pub record AreLed (wider : C.Key) (attached led : List ℕ) : Type 0 where
+  pub record AreLed (wider : Key) (attached led : List ℕ) : Type 0 where
     pub listed : (number : ℕ) → Contains led number → IsNotLed number
     pub led_on : (number : ℕ) → Contains led number → IsLedOn wider attached number
-    pub missed : (number : ℕ) (search : RunningSearch C.Query) → search_at s number ≡ Some search → Contains attached number → (Contains led number → ⊥) → C.Consistent wider search.query → C.Consistent old search.query
+    pub missed : (number : ℕ) (search : RunningSearch Query) → search_at s number ≡ Some search
+        → Contains attached number → (Contains led number → ⊥) → C.Consistent wider search.query
+        → C.Consistent old search.query
 
 -- the right node of a marked node
 abbrev pub marked_right : {Key Item : Type 0} → Option (PlainNode Key Item) → Option Handle

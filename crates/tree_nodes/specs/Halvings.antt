@@ -9,8 +9,12 @@ use Rattle.tree_theory.specs.Nodes.PlainBody.{Leaf, Inner}
 -- the bit of the index is set, else left.
 pub data GoBySides {T : Type 0} (mask : ℕ) : ℕ → List T → List T → List T → Type 0 where
   none : {place : ℕ} → GoBySides mask place [] [] []
-  goes : {place : ℕ} {x : T} {whole left right : List T} → IsBitSet mask place → GoBySides mask (place + 1) whole left right → GoBySides mask place (x ∷ whole) left (x ∷ right)
-  stays : {place : ℕ} {x : T} {whole left right : List T} → (IsBitSet mask place → ⊥) → GoBySides mask (place + 1) whole left right → GoBySides mask place (x ∷ whole) (x ∷ left) right
+  goes : {place : ℕ} {x : T} {whole left right : List T} → IsBitSet mask place
+      → GoBySides mask (place + 1) whole left right
+      → GoBySides mask place (x ∷ whole) left (x ∷ right)
+  stays : {place : ℕ} {x : T} {whole left right : List T} → (IsBitSet mask place → ⊥)
+      → GoBySides mask (place + 1) whole left right
+      → GoBySides mask place (x ∷ whole) (x ∷ left) right
 
 -- a list is shared out to two by a mask, and the right one has as many as bits are set
 pub record IsShared {T : Type 0} (mask : ℕ) (whole left right : List T) : Type 0 where
@@ -19,6 +23,11 @@ pub record IsShared {T : Type 0} (mask : ℕ) (whole left right : List T) : Type
 
 -- a node's contents are shared out as the class picks by its keys (of a leaf's items, or of an
 -- inner node's entries); the last part is the right one
-pub data IsPickedOut {Key Item : Type 0} (key_of : Item → Key) (picks : List Key → ℕ → Type 0) : PlainBody Key Item → PlainBody Key Item → PlainBody Key Item → Type 0 where
-  of_pairs : {mask : ℕ} {whole left right : List (ℕ × Item)} → picks (map (λ (pair : ℕ × Item). key_of pair.1) whole) mask → IsShared mask whole left right → IsPickedOut key_of picks (Leaf whole) (Leaf left) (Leaf right)
-  of_entries : {mask : ℕ} {whole left right : List (Key × Handle)} → picks (map (λ (entry : Key × Handle). entry.0) whole) mask → IsShared mask whole left right → IsPickedOut key_of picks (Inner whole) (Inner left) (Inner right)
+pub data IsPickedOut {Key Item : Type 0} (key_of : Item → Key) (picks : List Key → ℕ
+    → Type 0) : PlainBody Key Item → PlainBody Key Item → PlainBody Key Item → Type 0 where
+  of_pairs : {mask : ℕ} {whole left right : List (ℕ × Item)}
+      → picks (map (λ (pair : ℕ × Item). key_of pair.1) whole) mask → IsShared mask whole left right
+      → IsPickedOut key_of picks (Leaf whole) (Leaf left) (Leaf right)
+  of_entries : {mask : ℕ} {whole left right : List (Key × Handle)}
+      → picks (map (λ (entry : Key × Handle). entry.0) whole) mask → IsShared mask whole left right
+      → IsPickedOut key_of picks (Inner whole) (Inner left) (Inner right)

@@ -24,7 +24,10 @@ is_empty (x ∷ xs) = false
 module _ {Item : Type 0} where
   -- the same progress, whatever the room
   abbrev pub SameButRoom : PlainProgress Item → PlainProgress Item → Type 0
-  SameButRoom old new = new ≡ record old { stack_places = new.stack_places; found_places = new.found_places }
+  SameButRoom old new = new ≡ record old {
+    stack_places = new.stack_places;
+    found_places = new.found_places;
+  }
 
   -- both lists have room for all that one visit may add
   pub record HasVisitRoom (p : PlainProgress Item) : Type 0 where

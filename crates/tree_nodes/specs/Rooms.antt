@@ -8,7 +8,8 @@ pub record FitsNode {T : Type 0} (items : List T) (places : ℕ) : Type 0 where
   pub room : NODE_SIZE ≤ places
 
 -- keys and children are equally many, and both lists fit a node
-pub record AreAligned {K T : Type 0} (keys : List K) (children : List T) (key_places child_places : ℕ) : Type 0 where
+pub record AreAligned {K T : Type 0} (keys : List K) (children : List T)
+    (key_places child_places : ℕ) : Type 0 where
   pub same : length children ≡ length keys
   pub keys_fit : FitsNode keys key_places
   pub children_fit : FitsNode children child_places

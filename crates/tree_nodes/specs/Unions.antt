@@ -3,10 +3,13 @@ use Rattle.std.specs.Prelude.{◌≡◌, ◌≢◌, ◌⊎◌, List, [], Contain
 use Rattle.tree_theory.specs.KeyClasses.{Class}
 
 -- it covers each key, and whatever covers each of them covers it
-pub record IsUnionOf (C : Class) (keys : List C.Key) (union : C.Key) : Type 0 where
-  pub covers : (key : C.Key) → Contains keys key → C.Covers union key
-  pub least : (cover : C.Key) → ((key : C.Key) → Contains keys key → C.Covers cover key) → C.Covers cover union
+pub record IsUnionOf {Key Query Item : Type 0} (C : Class Key Query Item) (keys : List Key)
+    (union : Key) : Type 0 where
+  pub covers : (key : Key) → Contains keys key → C.Covers union key
+  pub least : (cover : Key) → ((key : Key) → Contains keys key → C.Covers cover key)
+      → C.Covers cover union
 
 -- the union of these keys, or the old key where there are none
-abbrev pub IsUnionFor : (C : Class) → List C.Key → C.Key → C.Key → Type 0
+abbrev pub IsUnionFor : {Key Query Item : Type 0} (C : Class Key Query Item) → List Key → Key → Key
+    → Type 0
 IsUnionFor C keys old union = ((keys ≢ []) × IsUnionOf C keys union) ⊎ ((keys ≡ []) × (union ≡ old))

@@ -5,7 +5,6 @@ ghost use Rattle.std.specs.Prelude.{◌≡◌, ◌≤◌, false, IsTrue, length}
 ghost use Rattle.node_arena.specs.Slots.{value_at};
 ghost use Rattle.predicate_locks.specs.declared.TheConstants.{MAX_RUNNING};
 ghost use Rattle.tree_nodes.specs.Descents.{AreLed, marked_right as right_of_marked};
-ghost use Rattle.tree_theory.specs.KeyClasses.{class_of};
 ghost use Rattle.tree_theory.specs.Nodes.{is_marked as has_mark};
 
 use crate::setters::Nodes;
@@ -13,7 +12,7 @@ use arrayvec::ArrayVec;
 use node_arena::Handle;
 use predicate_locks::{Attached, MAX_RUNNING, Running};
 use std::alloc::Allocator;
-use tree_theory::{KeyClass, Place};
+use tree_theory::{KeyClass, Position};
 
 /// The searches that are attached, run, and are led on by a wider key, but not by the old one.
 pub fn led_searches<C: KeyClass, A: Allocator>(
@@ -22,8 +21,7 @@ pub fn led_searches<C: KeyClass, A: Allocator>(
     old: C::Key,
     wider: C::Key,
 ) -> ArrayVec<u64, MAX_RUNNING>
-    ensures led { AreLed (class_of C.covered C.may_match C.is_match C.key_with C.united) running.now
-        old wider attached.now.numbers result.items }
+    ensures led { AreLed C.class running.now old wider attached.now.numbers result.items }
     ensures few { length result.items ≤ MAX_RUNNING }
 {
     running.meeting(
@@ -34,9 +32,10 @@ pub fn led_searches<C: KeyClass, A: Allocator>(
 
 /// Whether the wider key leads a search with this query on, and the old one does not.
 fn is_led<C: KeyClass>(old: C::Key, wider: C::Key, query: C::Query) -> bool
-    ensures led { IsTrue result → C.may_match old query → ⊥ }
-    ensures wider { IsTrue result → C.may_match wider query }
-    ensures not_led { result ≡ false → C.may_match wider query → C.may_match old query }
+    ensures led { IsTrue result → C.class.Consistent old query → ⊥ }
+    ensures wider { IsTrue result → C.class.Consistent wider query }
+    ensures not_led { result ≡ false → C.class.Consistent wider query
+        → C.class.Consistent old query }
 {
     C::consistent(wider, query) && !C::consistent(old, query)
 }
@@ -62,8 +61,8 @@ pub fn marked_right<K: Copy, I: Copy, A: Allocator>(
 }
 
 /// Whether a node at this place is marked.
-fn is_marked(place: Place) -> bool
+fn is_marked(place: Position) -> bool
     ensures { result ≡ has_mark place }
 {
-    matches!(place, Place::Linked { marked: true, .. })
+    matches!(place, Position::Linked { marked: true, .. })
 }

@@ -5,7 +5,7 @@ ghost use Rattle.std.specs.Prelude.{◌≡◌, ◌∷◌, ◌++◌, ◌<◌, ◌
 ghost use Rattle.node_arena.specs.declared.handle.Handle.{Handle};
 ghost use Rattle.tree_theory.specs.declared.TheConstants.{NODE_SIZE};
 
-use memory::{GrowVec, Refused, vec_with_places};
+use memory::{GrowVec, NoMemory, vec_with_slots};
 use node_arena::Handle;
 use std::alloc::Allocator;
 use std::marker::Model;
@@ -29,18 +29,19 @@ impl<K, A: Allocator> Model for Entries<K, A> {
 
     ghost view = { λ e. zip e.keys.items e.children.items };
 
-    ghost invariant = { λ e. AreAligned e.keys.items e.children.items (vec_capacity e.keys) (vec_capacity e.children) };
+    ghost invariant = { λ e. AreAligned e.keys.items e.children.items (vec_capacity e.keys)
+        (vec_capacity e.children) };
 }
 
 impl<K: Copy, A: Allocator> Entries<K, A> {
     /// No entries, with room for a full node.
-    pub fn with_places(alloc: A) -> Result<Self, Refused>
+    pub fn with_places(alloc: A) -> Result<Self, NoMemory>
     where
         A: Copy,
         ensures { IfOk result (λ made. made ≡ []) }
     {
-        let keys = vec_with_places(alloc, NODE_SIZE)?;
-        let children = vec_with_places(alloc, NODE_SIZE)?;
+        let keys = vec_with_slots(alloc, NODE_SIZE)?;
+        let children = vec_with_slots(alloc, NODE_SIZE)?;
         Ok(Entries { keys, children })
     }
 
@@ -115,10 +116,10 @@ impl<I, A: Allocator> Model for Pairs<I, A> {
 
 impl<I: Copy, A: Allocator> Pairs<I, A> {
     /// No pairs, with room for a full leaf.
-    pub(crate) fn with_places(alloc: A) -> Result<Self, Refused>
+    pub(crate) fn with_places(alloc: A) -> Result<Self, NoMemory>
         ensures { IfOk result (λ made. made ≡ []) }
     {
-        let pairs = vec_with_places(alloc, NODE_SIZE)?;
+        let pairs = vec_with_slots(alloc, NODE_SIZE)?;
         Ok(Pairs { pairs })
     }
 

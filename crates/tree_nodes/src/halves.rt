@@ -10,7 +10,7 @@ ghost use Rattle.tree_theory.specs.declared.TheConstants.{NODE_SIZE};
 
 use crate::entries::{Entries, Pairs};
 use crate::node::{Body, TreeNode};
-use memory::{GrowVec, Refused, vec_with_places};
+use memory::{GrowVec, NoMemory, vec_with_slots};
 use node_arena::Handle;
 use std::alloc::Allocator;
 use tree_theory::{KeyClass, NODE_SIZE, has_bit};
@@ -29,13 +29,12 @@ pub struct Halves<K, I, A: Allocator> {
 pub fn shared_out<C: KeyClass, A: Allocator + Copy>(
     node: &TreeNode<C::Key, C::Item, A>,
     alloc: A,
-) -> Result<Halves<C::Key, C::Item, A>, Refused>
+) -> Result<Halves<C::Key, C::Item, A>, NoMemory>
     requires { size_of node.now.body ≡ NODE_SIZE }
     ensures halved { IfOk result
         (λ made. IsHalved node.now.body (plain_body made.left) (plain_body made.right)) }
-    ensures picked { IfOk result
-        (λ made. IsPickedOut C.key_with C.picks node.now.body (plain_body made.left)
-        (plain_body made.right)) }
+    ensures picked { IfOk result (λ made. IsPickedOut C.class.key_of C.picks node.now.body
+        (plain_body made.left) (plain_body made.right)) }
 {
     if node.is_leaf() {
         halves_of_pairs::<C, A>(node.pairs(), alloc)
@@ -48,13 +47,12 @@ pub fn shared_out<C: KeyClass, A: Allocator + Copy>(
 fn halves_of_pairs<C: KeyClass, A: Allocator + Copy>(
     pairs: &[(u64, C::Item)],
     alloc: A,
-) -> Result<Halves<C::Key, C::Item, A>, Refused>
+) -> Result<Halves<C::Key, C::Item, A>, NoMemory>
     requires { length pairs.now ≡ NODE_SIZE }
     ensures halved { IfOk result
         (λ made. IsHalved (Leaf pairs.now) (plain_body made.left) (plain_body made.right)) }
-    ensures picked { IfOk result
-        (λ made. IsPickedOut C.key_with C.picks (Leaf pairs.now) (plain_body made.left)
-        (plain_body made.right)) }
+    ensures picked { IfOk result (λ made. IsPickedOut C.class.key_of C.picks (Leaf pairs.now)
+        (plain_body made.left) (plain_body made.right)) }
 {
     let keys = keys_of::<C, A>(pairs, alloc)?;
     let mut left = Pairs::with_places(alloc)?;
@@ -71,15 +69,14 @@ fn halves_of_entries<C: KeyClass, A: Allocator + Copy>(
     keys: &[C::Key],
     children: &[Handle],
     alloc: A,
-) -> Result<Halves<C::Key, C::Item, A>, Refused>
+) -> Result<Halves<C::Key, C::Item, A>, NoMemory>
     requires keys { length keys.now ≡ NODE_SIZE }
     requires children { length children.now ≡ NODE_SIZE }
     ensures halved { IfOk result
         (λ made. IsHalved (Inner (zip keys.now children.now)) (plain_body made.left)
         (plain_body made.right)) }
-    ensures picked { IfOk result
-        (λ made. IsPickedOut C.key_with C.picks (Inner (zip keys.now children.now))
-        (plain_body made.left) (plain_body made.right)) }
+    ensures picked { IfOk result (λ made. IsPickedOut C.class.key_of C.picks
+        (Inner (zip keys.now children.now)) (plain_body made.left) (plain_body made.right)) }
 {
     let mut left = Entries::with_places(alloc)?;
     let mut right = Entries::with_places(alloc)?;
@@ -94,11 +91,11 @@ fn halves_of_entries<C: KeyClass, A: Allocator + Copy>(
 fn keys_of<C: KeyClass, A: Allocator>(
     pairs: &[(u64, C::Item)],
     alloc: A,
-) -> Result<Vec<C::Key, A>, Refused>
+) -> Result<Vec<C::Key, A>, NoMemory>
     requires { length pairs.now ≤ NODE_SIZE }
-    ensures { IfOk result (λ made. made.items ≡ map (λ pair. C.key_with pair.1) pairs.now) }
+    ensures { IfOk result (λ made. made.items ≡ map (λ pair. C.class.key_of pair.1) pairs.now) }
 {
-    let mut keys = vec_with_places(alloc, NODE_SIZE)?;
+    let mut keys = vec_with_slots(alloc, NODE_SIZE)?;
     for pair in pairs {
         keys.push_reserved(C::key_of(pair.1));
     }

@@ -3,7 +3,6 @@
 ghost use Rattle.std.specs.Prelude.{map};
 ghost use Rattle.tree_nodes.specs.Unions.{IsUnionFor};
 ghost use Rattle.tree_theory.specs.Changes.{IsKeyFor};
-ghost use Rattle.tree_theory.specs.KeyClasses.{class_of};
 
 use crate::node::TreeNode;
 use std::alloc::Allocator;
@@ -15,8 +14,7 @@ pub fn key_for<C: KeyClass, A: Allocator>(
     node: &TreeNode<C::Key, C::Item, A>,
     old: C::Key,
 ) -> C::Key
-    ensures { IsKeyFor (class_of C.covered C.may_match C.is_match C.key_with C.united) node.now.body
-        old result }
+    ensures { IsKeyFor C.class node.now.body old result }
 {
     if node.is_leaf() {
         union_of_items::<C>(node.pairs(), old)
@@ -27,8 +25,7 @@ pub fn key_for<C: KeyClass, A: Allocator>(
 
 /// The union of these keys, or the old key where there are none.
 fn union_of<C: KeyClass>(keys: &[C::Key], old: C::Key) -> C::Key
-    ensures { IsUnionFor (class_of C.covered C.may_match C.is_match C.key_with C.united) keys.now
-        old result }
+    ensures { IsUnionFor C.class keys.now old result }
 {
     if keys.is_empty() {
         return old;
@@ -42,8 +39,7 @@ fn union_of<C: KeyClass>(keys: &[C::Key], old: C::Key) -> C::Key
 
 /// The union of the keys of these pairs' items, or the old key where there are none.
 fn union_of_items<C: KeyClass>(pairs: &[(u64, C::Item)], old: C::Key) -> C::Key
-    ensures { IsUnionFor (class_of C.covered C.may_match C.is_match C.key_with C.united)
-        (map (λ pair. C.key_with pair.1) pairs.now) old result }
+    ensures { IsUnionFor C.class (map (λ pair. C.class.key_of pair.1) pairs.now) old result }
 {
     if pairs.is_empty() {
         return old;

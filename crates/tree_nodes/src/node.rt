@@ -13,13 +13,13 @@ ghost use Rattle.tree_nodes.specs.NewNodes.{below, left_of, right_of, first_leaf
 
 use crate::entries::{Entries, Pairs};
 use crate::refusals::refusal_in;
-use memory::Refused;
+use memory::NoMemory;
 use node_arena::Handle;
 use predicate_locks::{Attached, Running};
 use std::alloc::Allocator;
 use std::marker::Model;
 use tree_answers::Keeper;
-use tree_theory::{NODE_SIZE, Place};
+use tree_theory::{NODE_SIZE, Position};
 
 /// The contents of a node.
 #[derive(Drop)]
@@ -36,7 +36,7 @@ pub struct TreeNode<K, I, A: Allocator> {
     /// The sequence number.
     seq: u64,
     right: Option<Handle>,
-    place: Place,
+    place: Position,
     /// The searches that are done with the node: they have seen it, or have passed it over.
     attached: Attached<A>,
 }
@@ -60,7 +60,7 @@ impl<K, I, A: Allocator> Model for TreeNode<K, I, A> {
 
 impl<K: Copy, I: Copy, A: Allocator> TreeNode<K, I, A> {
     /// The root of a new tree: an empty leaf.
-    pub fn first(alloc: A, seq: u64) -> Result<Self, Refused>
+    pub fn first(alloc: A, seq: u64) -> Result<Self, NoMemory>
     where
         A: Copy,
         ensures { IfOk result (λ made. made ≡ first_leaf seq) }
@@ -71,7 +71,7 @@ impl<K: Copy, I: Copy, A: Allocator> TreeNode<K, I, A> {
             body: Body::Pairs(pairs),
             seq,
             right: None,
-            place: Place::Root,
+            place: Position::Root,
             attached: Attached::new(alloc),
         })
     }
@@ -98,7 +98,7 @@ impl<K: Copy, I: Copy, A: Allocator> TreeNode<K, I, A> {
     }
 
     /// Its place in the tree.
-    pub fn place(&self) -> Place
+    pub fn place(&self) -> Position
         ensures { result ≡ self.now.place }
     {
         self.place
@@ -182,7 +182,7 @@ impl<K: Copy, I: Copy, A: Allocator> TreeNode<K, I, A> {
     }
 
     /// Gives it another place.
-    pub(crate) fn set_place(&mut self, place: Place)
+    pub(crate) fn set_place(&mut self, place: Position)
         ensures { self.new ≡ record self.old { place = place } }
     {
         self.place = place;
@@ -194,7 +194,7 @@ impl<K: Copy, I: Copy, A: Allocator> TreeNode<K, I, A> {
     {
         self.body = body;
         self.right = Some(right);
-        self.place = Place::Linked {
+        self.place = Position::Linked {
             parent,
             marked: true,
         };
@@ -218,7 +218,7 @@ impl<K: Copy, I: Copy, A: Allocator> TreeNode<K, I, A> {
 
     /// A new right node with this part of its contents, and its level, number, rightlink and
     /// attached searches. No entry names the new node yet.
-    pub fn right_half(&self, at: Handle, body: Body<K, I, A>) -> Result<Self, Refused>
+    pub fn right_half(&self, at: Handle, body: Body<K, I, A>) -> Result<Self, NoMemory>
     where
         A: Copy,
         ensures { IfOk result (λ made. made ≡ right_of self.now at (plain_body body)) }
@@ -229,14 +229,14 @@ impl<K: Copy, I: Copy, A: Allocator> TreeNode<K, I, A> {
             body,
             seq: self.seq,
             right: self.right,
-            place: Place::Unlinked { left: at },
+            place: Position::Unlinked { left: at },
             attached,
         })
     }
 
     /// A new node to be linked below this one, with this part of its contents and its level and
     /// attached searches, the number `seq` and no rightlink.
-    pub fn lower_half(&self, at: Handle, seq: u64, body: Body<K, I, A>) -> Result<Self, Refused>
+    pub fn lower_half(&self, at: Handle, seq: u64, body: Body<K, I, A>) -> Result<Self, NoMemory>
     where
         A: Copy,
         ensures { IfOk result (λ made. made ≡ below self.now at seq (plain_body body)) }
@@ -247,7 +247,7 @@ impl<K: Copy, I: Copy, A: Allocator> TreeNode<K, I, A> {
             body,
             seq,
             right: None,
-            place: Place::Linked {
+            place: Position::Linked {
                 parent: at,
                 marked: false,
             },
@@ -330,7 +330,7 @@ impl<K: Copy, I: Copy, A: Allocator> TreeNode<K, I, A> {
         &mut self,
         running: &Running<Q, B>,
         search: u64,
-    ) -> Result<(), Refused>
+    ) -> Result<(), NoMemory>
     where
         A: Copy,
         ensures ok { OnOk result
@@ -353,7 +353,7 @@ impl<K: Copy, I: Copy, A: Allocator> TreeNode<K, I, A> {
         &self,
         running: &Running<Q, B>,
         searches: &[u64],
-    ) -> Result<Attached<A>, Refused>
+    ) -> Result<Attached<A>, NoMemory>
     where
         A: Copy,
         requires { length searches.now ≤ MAX_ROOM }
@@ -380,19 +380,19 @@ impl<K: Copy, I: Copy, A: Allocator> TreeNode<K, I, A> {
 }
 
 /// The place with another parent if it is linked; any other place is the same.
-fn place_below(place: Place, parent: Handle) -> Place
+fn place_below(place: Position, parent: Handle) -> Position
     ensures { result ≡ place_under parent place }
 {
     match place {
-        Place::Linked { marked, .. } => Place::Linked { parent, marked },
-        Place::Root => Place::Root,
-        Place::Unlinked { left } => Place::Unlinked { left },
-        Place::Retired { stamp } => Place::Retired { stamp },
+        Position::Linked { marked, .. } => Position::Linked { parent, marked },
+        Position::Root => Position::Root,
+        Position::Unlinked { left } => Position::Unlinked { left },
+        Position::Retired { stamp } => Position::Retired { stamp },
     }
 }
 
 /// A copy of the attached numbers.
-fn same_numbers<A: Allocator + Copy>(attached: &Attached<A>) -> Result<Attached<A>, Refused>
+fn same_numbers<A: Allocator + Copy>(attached: &Attached<A>) -> Result<Attached<A>, NoMemory>
     ensures { IfOk result (λ made. made.numbers ≡ attached.now.numbers) }
 {
     match attached.copy() {

@@ -4,16 +4,16 @@ ghost use Rattle.std.specs.Prelude.{◌≡◌, ℕ, Some, IfSome, IfNone, slice_
 ghost use Rattle.node_arena.specs.declared.handle.Handle.{Handle};
 
 use node_arena::Handle;
-use tree_theory::Place;
+use tree_theory::Position;
 
 /// The parent of a linked node that is marked if `wanted`, and else not; `None` for any other
 /// place.
-pub fn parent_of(place: Place, wanted: bool) -> Option<Handle>
-    ensures some { IfSome result (λ parent. place ≡ Place.Linked parent wanted) }
-    ensures none { IfNone result ((parent : Handle) → place ≡ Place.Linked parent wanted → ⊥) }
+pub fn parent_of(place: Position, wanted: bool) -> Option<Handle>
+    ensures some { IfSome result (λ parent. place ≡ Position.Linked parent wanted) }
+    ensures none { IfNone result ((parent : Handle) → place ≡ Position.Linked parent wanted → ⊥) }
 {
     match place {
-        Place::Linked { parent, marked } if marked == wanted => Some(parent),
+        Position::Linked { parent, marked } if marked == wanted => Some(parent),
         _ => None,
     }
 }

@@ -5,7 +5,7 @@ ghost use Rattle.predicate_locks.specs.Searches.{last_number};
 ghost use Rattle.node_arena.specs.declared.handle.Handle.{Handle};
 ghost use Rattle.tree_nodes.specs.Progresses.{SameButRoom, HasVisitRoom, IsLast, is_empty};
 
-use memory::{GrowVec, Refused, vec_with_places};
+use memory::{GrowVec, NoMemory, vec_with_slots};
 use node_arena::Handle;
 use std::alloc::Allocator;
 use std::marker::Model;
@@ -39,14 +39,14 @@ impl<I, A: Allocator> Model for Progress<I, A> {
 
 impl<I: Copy, A: Allocator> Progress<I, A> {
     /// The progress of a new search: only the root is on its stack.
-    pub fn at_root(alloc: A, number: u64, root: Handle, counter: u64) -> Result<Self, Refused>
+    pub fn at_root(alloc: A, number: u64, root: Handle, counter: u64) -> Result<Self, NoMemory>
     where
         A: Copy,
         ensures { IfOk result
             (λ made. (made.number ≡ number) × (made.steps ≡ 0) × (made.stack ≡ (root, counter) ∷ [])
             × (made.found ≡ [])) }
     {
-        let mut stack = vec_with_places(alloc, NODE_SIZE)?;
+        let mut stack = vec_with_slots(alloc, NODE_SIZE)?;
         stack.push_reserved((root, counter));
         Ok(Progress {
             number,
@@ -86,12 +86,12 @@ impl<I: Copy, A: Allocator> Progress<I, A> {
 
     /// Makes room for all that one visit may add. Where an allocation is refused, only spare
     /// capacity may have grown.
-    pub fn make_room(&mut self) -> Result<(), Refused>
+    pub fn make_room(&mut self) -> Result<(), NoMemory>
         ensures ok { OnOk result (HasVisitRoom self.new) }
         ensures same { SameButRoom self.old self.new }
     {
-        self.stack.make_places(NODE_SIZE + 1)?;
-        self.found.make_places(NODE_SIZE)
+        self.stack.make_slots(NODE_SIZE + 1)?;
+        self.found.make_slots(NODE_SIZE)
     }
 
     /// The last node of the stack, and its memo.

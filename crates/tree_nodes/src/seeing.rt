@@ -5,17 +5,16 @@ ghost use Rattle.predicate_locks.specs.Searches.{last_number};
 ghost use Rattle.tree_nodes.specs.Arenas.{AreSame};
 ghost use Rattle.tree_nodes.specs.Progresses.{HasVisitRoom, SameButRoom};
 ghost use Rattle.tree_nodes.specs.Visits.{HasChildren, HasMatching, HasSeen, HasVisited};
-ghost use Rattle.tree_theory.specs.KeyClasses.{class_of};
 ghost use Rattle.tree_theory.specs.Nodes.{entries_of, pairs_of, followed, is_followed as follows};
 ghost use Rattle.tree_theory.specs.declared.TheConstants.{NODE_SIZE};
 
 use crate::node::TreeNode;
 use crate::progress::Progress;
 use crate::setters::Nodes;
-use memory::Refused;
+use memory::NoMemory;
 use predicate_locks::Running;
 use std::alloc::Allocator;
-use tree_theory::{KeyClass, Place, has_bit};
+use tree_theory::{KeyClass, Position, has_bit};
 
 /// Makes one step of a search: removes the last node from its stack, attaches the search to it, and
 /// sees its contents. A node that is gone is skipped. Where an allocation is refused, no node
@@ -26,12 +25,11 @@ pub fn visit_last<C: KeyClass, A: Allocator + Copy>(
     progress: &mut Progress<C::Item, A>,
     query: &C::Query,
     counter: u64,
-) -> Result<(), Refused>
+) -> Result<(), NoMemory>
     requires stack { progress.old.stack ≢ [] }
     requires steps { progress.old.steps < last_number }
-    ensures ok { OnOk result
-        (HasVisited (class_of C.covered C.may_match C.is_match C.key_with C.united) query.now
-        counter running.now nodes.old nodes.new progress.old progress.new) }
+    ensures ok { OnOk result (HasVisited C.class query.now counter running.now nodes.old nodes.new
+        progress.old progress.new) }
     ensures nodes_kept { OnErr result (AreSame nodes.old nodes.new) }
     ensures progress_kept { OnErr result (SameButRoom progress.old progress.new) }
 {
@@ -58,8 +56,7 @@ fn see<C: KeyClass, A: Allocator>(
     counter: u64,
 )
     requires { HasVisitRoom progress.old }
-    ensures { HasSeen (class_of C.covered C.may_match C.is_match C.key_with C.united) query.now
-        counter memo node.now progress.old progress.new }
+    ensures { HasSeen C.class query.now counter memo node.now progress.old progress.new }
 {
     go_right(progress, node, memo);
     push_children::<C, A>(progress, node, query, counter);
@@ -84,10 +81,10 @@ fn go_right<K: Copy, I: Copy, A: Allocator>(
 }
 
 /// Whether a search with this memo follows from a node to its right node.
-fn is_followed(place: Place, seq: u64, memo: u64) -> bool
+fn is_followed(place: Position, seq: u64, memo: u64) -> bool
     ensures { result ≡ follows place seq memo }
 {
-    matches!(place, Place::Linked { marked: true, .. }) || memo < seq
+    matches!(place, Position::Linked { marked: true, .. }) || memo < seq
 }
 
 /// Puts the children of consistent entries on the stack.
@@ -98,8 +95,8 @@ fn push_children<C: KeyClass, A: Allocator>(
     counter: u64,
 )
     requires { length progress.old.stack + NODE_SIZE ≤ progress.old.stack_places }
-    ensures { HasChildren (class_of C.covered C.may_match C.is_match C.key_with C.united) query.now
-        counter (entries_of node.now.body) progress.old progress.new }
+    ensures { HasChildren C.class query.now counter
+        (entries_of node.now.body) progress.old progress.new }
 {
     let mask = C::matching_mask(node.keys(), query);
     for (i, child) in node.children().iter().enumerate() {
@@ -117,8 +114,8 @@ fn add_matching<C: KeyClass, A: Allocator>(
 )
     requires { length progress.old.found + NODE_SIZE ≤ progress.old.found_places }
     ensures most { length (pairs_of node.now.body) ≤ NODE_SIZE }
-    ensures matching { HasMatching (class_of C.covered C.may_match C.is_match C.key_with C.united)
-        query.now (pairs_of node.now.body) progress.old progress.new }
+    ensures matching { HasMatching C.class query.now
+        (pairs_of node.now.body) progress.old progress.new }
 {
     for pair in node.pairs() {
         if C::matches_in_place(&pair.1, query) {

@@ -14,12 +14,12 @@ ghost use Rattle.tree_theory.specs.declared.TheConstants.{NODE_SIZE, TOP_LEVEL};
 
 use crate::entries::Entries;
 use crate::node::{Body, TreeNode};
-use memory::Refused;
+use memory::NoMemory;
 use node_arena::{Arena, Handle};
 use predicate_locks::{Attached, Running};
 use std::alloc::Allocator;
 use tree_answers::Keeper;
-use tree_theory::Place;
+use tree_theory::Position;
 
 /// The nodes of a tree.
 pub type Nodes<K, I, A> = Arena<TreeNode<K, I, A>, A>;
@@ -37,7 +37,7 @@ pub fn set_seq<K: Copy, I: Copy, A: Allocator>(nodes: &mut Nodes<K, I, A>, at: H
 pub fn set_place<K: Copy, I: Copy, A: Allocator>(
     nodes: &mut Nodes<K, I, A>,
     at: Handle,
-    place: Place,
+    place: Position,
 )
     ensures { IsChanged nodes.old nodes.new at (λ node. record node { place = place }) }
 {
@@ -140,7 +140,7 @@ pub fn joined<K: Copy, I: Copy, Q: Copy, A: Allocator + Copy>(
     running: &Running<Q, A>,
     at: Handle,
     searches: &[u64],
-) -> Result<Attached<A>, Refused>
+) -> Result<Attached<A>, NoMemory>
     requires { length searches.now ≤ MAX_ROOM }
     ensures { IfOk result
         (λ list. Holds nodes.now at

@@ -3,13 +3,12 @@
 ghost use Rattle.std.specs.Prelude.{◌≡◌, false, IsTrue};
 ghost use Rattle.node_arena.specs.declared.handle.Handle.{Handle};
 ghost use Rattle.tree_nodes.specs.Standings.{ChildrenDiffer, IsAside, IsCoveredBy, IsHere, IsNowhere, IsUnlinked};
-ghost use Rattle.tree_theory.specs.KeyClasses.{class_of};
 
 use crate::places::place_among;
 use crate::setters::Nodes;
 use node_arena::Handle;
 use std::alloc::Allocator;
-use tree_theory::{KeyClass, Place};
+use tree_theory::{KeyClass, Position};
 
 /// Where a walk is.
 #[derive(Clone, Copy)]
@@ -32,10 +31,8 @@ pub fn standing_at<C: KeyClass, A: Allocator>(
 ) -> Standing
     ensures nowhere { result ≡ Standing.Nowhere → IsNowhere nodes.now at }
     ensures aside { ChildrenDiffer nodes.now → (parent : Handle) → result ≡ Standing.Aside parent
-        → IsAside (class_of C.covered C.may_match C.is_match C.key_with C.united) nodes.now at
-        parent key }
-    ensures here { result ≡ Standing.Here
-        → IsHere (class_of C.covered C.may_match C.is_match C.key_with C.united) nodes.now at key }
+        → IsAside C.class nodes.now at parent key }
+    ensures here { result ≡ Standing.Here → IsHere C.class nodes.now at key }
     ensures unlinked { (left : Handle) → result ≡ Standing.Unlinked left
         → IsUnlinked nodes.now at left }
 {
@@ -43,10 +40,10 @@ pub fn standing_at<C: KeyClass, A: Allocator>(
         return Standing::Nowhere;
     };
     match node.place() {
-        Place::Root => Standing::Here,
-        Place::Retired { .. } => Standing::Nowhere,
-        Place::Unlinked { left } => Standing::Unlinked(left),
-        Place::Linked { parent, .. } => {
+        Position::Root => Standing::Here,
+        Position::Retired { .. } => Standing::Nowhere,
+        Position::Unlinked { left } => Standing::Unlinked(left),
+        Position::Linked { parent, .. } => {
             if is_covered::<C, A>(nodes, parent, at, key) {
                 Standing::Here
             } else {
@@ -63,12 +60,9 @@ fn is_covered<C: KeyClass, A: Allocator>(
     child: Handle,
     key: C::Key,
 ) -> bool
-    ensures covered { IsTrue result
-        → IsCoveredBy (class_of C.covered C.may_match C.is_match C.key_with C.united) nodes.now
-        parent child key }
+    ensures covered { IsTrue result → IsCoveredBy C.class nodes.now parent child key }
     ensures other { ChildrenDiffer nodes.now → result ≡ false
-        → IsCoveredBy (class_of C.covered C.may_match C.is_match C.key_with C.united) nodes.now
-        parent child key → ⊥ }
+        → IsCoveredBy C.class nodes.now parent child key → ⊥ }
 {
     let Some(node) = nodes.get(parent) else {
         return false;

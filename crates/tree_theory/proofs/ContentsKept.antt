@@ -32,7 +32,7 @@ moved_stands parent (Some node) = refl
 inner_pairs : {Key Item : Type 0} (body : PlainBody Key Item) (entries : List (Key × Handle)) → body ≡ Inner entries → [] ≡ pairs_of body
 inner_pairs body entries e = sym (ap pairs_of e)
 
-module _ {C : Class} where
+module _ {Key Query Item : Type 0} {C : Class Key Query Item} where
   -- at this handle both trees have a node with the same pairs, or neither has a node
   pub record SameAt (t u : Tree C) (h : Handle) : Type 0 where
     pub pairs : pairs_at (u.look h) ≡ pairs_at (t.look h)
@@ -59,11 +59,11 @@ module _ {C : Class} where
       }
 
   -- contents in another order
-  pub contents_turned : {t : Tree C} {xs ys : List (ℕ × C.Item)} → IsContents t xs → IsPermutation xs ys → IsContents t ys
+  pub contents_turned : {t : Tree C} {xs ys : List (ℕ × Item)} → IsContents t xs → IsPermutation xs ys → IsContents t ys
   contents_turned c p = record { handles = c.handles; listing = c.listing; same = then_to c.same p }
 
   -- a tree has one list of contents, up to order
-  pub contents_unique : (t : Tree C) (xs ys : List (ℕ × C.Item)) → IsContents t xs → IsContents t ys → IsPermutation xs ys
+  pub contents_unique : (t : Tree C) (xs ys : List (ℕ × Item)) → IsContents t xs → IsContents t ys → IsPermutation xs ys
   contents_unique t xs ys one other =
       let handles = same_handles (λ h. pairs_at (t.look h)) one.handles other.handles one.listing.distinct other.listing.distinct
       (λ h has. (other.listing.listed h).1 ((one.listing.listed h).0 has))
@@ -71,11 +71,11 @@ module _ {C : Class} where
       then_to (turned_round one.same) (then_to handles other.same)
 
   -- and the contents have exactly the pairs of the nodes
-  some_pair : (t : Tree C) (h : Handle) (o : Option (Node C)) (pair : ℕ × C.Item) → t.look h ≡ o → Contains (pairs_at o) pair → InContents t pair
+  some_pair : (t : Tree C) (h : Handle) (o : Option (Node C)) (pair : ℕ × Item) → t.look h ≡ o → Contains (pairs_at o) pair → InContents t pair
   some_pair t h None pair e has = absurd (nothing_in pair has)
   some_pair t h (Some node) pair e has = record { handle = h; node = node; is = e; pair_in = has }
 
-  pub contents_have : (t : Tree C) (xs : List (ℕ × C.Item)) → IsContents t xs → (pair : ℕ × C.Item) → Contains xs pair ↔ InContents t pair
+  pub contents_have : (t : Tree C) (xs : List (ℕ × Item)) → IsContents t xs → (pair : ℕ × Item) → Contains xs pair ↔ InContents t pair
   contents_have t xs c pair = (
     λ has.
         let found = taken_from (λ h. pairs_at (t.look h)) c.handles pair (Contains-permutation xs (contents_of t c.handles) pair (turned_round c.same) has) in
@@ -88,7 +88,7 @@ module _ {C : Class} where
 
   -- Steps that keep the pairs of each node.
 
-  contents_same : {t u : Tree C} {xs : List (ℕ × C.Item)} → ((h : Handle) → SameAt t u h) → IsContents t xs → IsContents u xs
+  contents_same : {t u : Tree C} {xs : List (ℕ × Item)} → ((h : Handle) → SameAt t u h) → IsContents t xs → IsContents u xs
   contents_same {t = t} {u = u} {xs = xs} each c =
       record {
         handles = c.handles;
@@ -105,25 +105,25 @@ module _ {C : Class} where
     | inr apart ↦ at_same (r.others x apart)
   ]
 
-  pub contents_opened : {t u : Tree C} {query : C.Query} {xs : List (ℕ × C.Item)} → IsOpened t u query → IsContents t xs → IsContents u xs
+  pub contents_opened : {t u : Tree C} {query : Query} {xs : List (ℕ × Item)} → IsOpened t u query → IsContents t xs → IsContents u xs
   contents_opened change = contents_same (λ h. at_same (change.nodes.look h))
 
-  pub contents_closed : {t u : Tree C} {s : ℕ} {xs : List (ℕ × C.Item)} → IsClosed t u s → IsContents t xs → IsContents u xs
+  pub contents_closed : {t u : Tree C} {s : ℕ} {xs : List (ℕ × Item)} → IsClosed t u s → IsContents t xs → IsContents u xs
   contents_closed change = contents_same (λ h. at_same (change.nodes.look h))
 
-  pub contents_visited : {t u : Tree C} {s : ℕ} {x : Handle} {memo : ℕ} {xs : List (ℕ × C.Item)} → IsVisited t u s x memo → IsContents t xs → IsContents u xs
+  pub contents_visited : {t u : Tree C} {s : ℕ} {x : Handle} {memo : ℕ} {xs : List (ℕ × Item)} → IsVisited t u s x memo → IsContents t xs → IsContents u xs
   contents_visited change = contents_same (one_same change.nodes refl)
 
-  pub contents_visited_gone : {t u : Tree C} {s : ℕ} {x : Handle} {memo : ℕ} {xs : List (ℕ × C.Item)} → IsVisitedGone t u s x memo → IsContents t xs → IsContents u xs
+  pub contents_visited_gone : {t u : Tree C} {s : ℕ} {x : Handle} {memo : ℕ} {xs : List (ℕ × Item)} → IsVisitedGone t u s x memo → IsContents t xs → IsContents u xs
   contents_visited_gone change = contents_same (λ h. at_same (change.nodes.look h))
 
-  pub contents_joined : {t u : Tree C} {h : Handle} {xs : List (ℕ × C.Item)} → IsJoined t u h → IsContents t xs → IsContents u xs
+  pub contents_joined : {t u : Tree C} {h : Handle} {xs : List (ℕ × Item)} → IsJoined t u h → IsContents t xs → IsContents u xs
   contents_joined change = contents_same (one_same change.nodes refl)
 
-  pub contents_enlarged : {t u : Tree C} {p : Handle} {key : C.Key} {xs : List (ℕ × C.Item)} → IsEnlarged t u p key → IsContents t xs → IsContents u xs
+  pub contents_enlarged : {t u : Tree C} {p : Handle} {key : Key} {xs : List (ℕ × Item)} → IsEnlarged t u p key → IsContents t xs → IsContents u xs
   contents_enlarged change = contents_same (one_same change.nodes (inner_pairs change.node.body change.entries change.body))
 
-  pub contents_installed : {t u : Tree C} {p l r : Handle} {xs : List (ℕ × C.Item)} → IsInstalled t u p l r → IsContents t xs → IsContents u xs
+  pub contents_installed : {t u : Tree C} {p l r : Handle} {xs : List (ℕ × Item)} → IsInstalled t u p l r → IsContents t xs → IsContents u xs
   contents_installed {t = t} {u = u} {p = p} {l = l} {r = r} change = contents_same each
     where
       each : (x : Handle) → SameAt t u x
@@ -138,7 +138,7 @@ module _ {C : Class} where
         ]
       ]
 
-  pub contents_retired : {t u : Tree C} {l p : Handle} {xs : List (ℕ × C.Item)} → IsRetired t u l p → IsContents t xs → IsContents u xs
+  pub contents_retired : {t u : Tree C} {l p : Handle} {xs : List (ℕ × Item)} → IsRetired t u l p → IsContents t xs → IsContents u xs
   contents_retired {t = t} {u = u} {l = l} {p = p} change = contents_same each
     where
       each : (x : Handle) → SameAt t u x
@@ -169,9 +169,9 @@ module _ {C : Class} where
         same = as_it_is (ap (λ node. pairs_at node ++ []) change.root_now);
       }
 
-  pub contents_freed : {t u : Tree C} {h : Handle} {xs : List (ℕ × C.Item)} → Shape t → IsFreed t u h → IsContents t xs → IsContents u xs
+  pub contents_freed : {t u : Tree C} {h : Handle} {xs : List (ℕ × Item)} → Shape t → IsFreed t u h → IsContents t xs → IsContents u xs
   contents_freed {t = t} {u = u} {h = h} {xs = xs} shape change c =
-      let less : Without (ℕ × C.Item) c.handles h = without (ℕ × C.Item) c.handles h c.listing.distinct ((c.listing.listed h).1 (stands_some (t.look h) change.node change.before)) in
+      let less : Without (ℕ × Item) c.handles h = without (ℕ × Item) c.handles h c.listing.distinct ((c.listing.listed h).1 (stands_some (t.look h) change.node change.before)) in
       let apart = λ (x : Handle) (has : Contains less.rest x) (e : x ≡ h). less.absent (subst (Contains less.rest) e has) in
       let empty : pairs_at (t.look h) ≡ [] = ap pairs_at change.before ∙ ap pairs_of (shape.retired_empty h change.node change.before change.stamp change.place) in
       record {
@@ -193,16 +193,16 @@ module _ {C : Class} where
 
   -- One node's pairs change.
 
-  record Around (t u : Tree C) (xs : List (ℕ × C.Item)) (old new : List (ℕ × C.Item)) : Type 0 where
-    others : List (ℕ × C.Item)
+  record Around (t u : Tree C) (xs : List (ℕ × Item)) (old new : List (ℕ × Item)) : Type 0 where
+    others : List (ℕ × Item)
     before : IsPermutation xs (old ++ others)
     after : IsContents u (new ++ others)
 
-  around : {t u : Tree C} {h : Handle} {old new : Node C} {xs : List (ℕ × C.Item)} → OneNode t u h old new → IsContents t xs → Around t u xs (pairs_of old.body) (pairs_of new.body)
+  around : {t u : Tree C} {h : Handle} {old new : Node C} {xs : List (ℕ × Item)} → OneNode t u h old new → IsContents t xs → Around t u xs (pairs_of old.body) (pairs_of new.body)
   around {t = t} {u = u} {h = h} {old = old} {new = new} {xs = xs} r c =
-      let less : Without (ℕ × C.Item) c.handles h = without (ℕ × C.Item) c.handles h c.listing.distinct ((c.listing.listed h).1 (stands_some (t.look h) old r.before)) in
+      let less : Without (ℕ × Item) c.handles h = without (ℕ × Item) c.handles h c.listing.distinct ((c.listing.listed h).1 (stands_some (t.look h) old r.before)) in
       let apart = λ (x : Handle) (has : Contains less.rest x) (e : x ≡ h). less.absent (subst (Contains less.rest) e has) in
-      let others : List (ℕ × C.Item) = flat_map (λ x. pairs_at (t.look x)) less.rest in
+      let others : List (ℕ × Item) = flat_map (λ x. pairs_at (t.look x)) less.rest in
       record {
         others = others;
         before = then_to (turned_round c.same) (then_to (less.front (λ x. pairs_at (t.look x))) (as_it_is (ap (λ node. pairs_at node ++ others) r.before)));
@@ -219,7 +219,7 @@ module _ {C : Class} where
         };
       }
 
-  pub contents_placed : {t u : Tree C} {h : Handle} {pair : ℕ × C.Item} {xs : List (ℕ × C.Item)} → IsPlaced t u h pair → IsContents t xs → IsContents u (xs ++ pair ∷ [])
+  pub contents_placed : {t u : Tree C} {h : Handle} {pair : ℕ × Item} {xs : List (ℕ × Item)} → IsPlaced t u h pair → IsContents t xs → IsContents u (xs ++ pair ∷ [])
   contents_placed {pair = pair} {xs = xs} change c =
       let a = around change.nodes c in
       let pairs : pairs_of change.node.body ≡ change.pairs = ap pairs_of change.body in
@@ -227,7 +227,7 @@ module _ {C : Class} where
       let whole : IsPermutation (change.pairs ++ a.others) xs = turned_round (then_to a.before (as_it_is (ap (λ pairs. pairs ++ a.others) pairs))) in
       contents_turned a.after (then_to last (before_all (pair ∷ []) whole))
 
-  pub contents_cleaned : {t u : Tree C} {Kept : ℕ × C.Item → Type 0} {h : Handle} {before after : List (ℕ × C.Item)} → Shape t → IsCleaned t u Kept h → IsContents t before → IsContents u after → LosesPairs Kept before after
+  pub contents_cleaned : {t u : Tree C} {Kept : ℕ × Item → Type 0} {h : Handle} {before after : List (ℕ × Item)} → Shape t → IsCleaned t u Kept h → IsContents t before → IsContents u after → LosesPairs Kept before after
   contents_cleaned {t = t} {u = u} {h = h} {before = before} {after = after} shape change c d =
       let a = around change.nodes c in
       let lost = change.kept.left in
@@ -246,7 +246,7 @@ module _ {C : Class} where
       }
 
   -- the contents after a leaf is cleaned
-  pub contents_sifted : {t u : Tree C} {Kept : ℕ × C.Item → Type 0} {h : Handle} {before : List (ℕ × C.Item)} → Shape t → IsCleaned t u Kept h → IsContents t before → (after : List (ℕ × C.Item)) × IsContents u after × LosesPairs Kept before after
+  pub contents_sifted : {t u : Tree C} {Kept : ℕ × Item → Type 0} {h : Handle} {before : List (ℕ × Item)} → Shape t → IsCleaned t u Kept h → IsContents t before → (after : List (ℕ × Item)) × IsContents u after × LosesPairs Kept before after
   contents_sifted shape change c =
       let a = around change.nodes c in
       (change.left ++ a.others, a.after, contents_cleaned shape change c a.after)

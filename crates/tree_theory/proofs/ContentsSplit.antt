@@ -16,12 +16,12 @@ fresh_before : (standing : Handle → Type 0) (new : Handle) (handles : List Han
 fresh_before standing new handles absent listed distinct =
     pairs_with (λ one other. one ≢ other) new handles (λ h has e. absent (subst standing (sym e) (listed h has))) distinct
 
-module _ {C : Class} where
-  module _ {t u : Tree C} {h r : Handle} {xs : List (ℕ × C.Item)} (change : IsSplit t u h r) (c : IsContents t xs) where
-    abbrev split_was : Handle → List (ℕ × C.Item)
+module _ {Key Query Item : Type 0} {C : Class Key Query Item} where
+  module _ {t u : Tree C} {h r : Handle} {xs : List (ℕ × Item)} (change : IsSplit t u h r) (c : IsContents t xs) where
+    abbrev split_was : Handle → List (ℕ × Item)
     split_was x = pairs_at (t.look x)
 
-    abbrev split_now : Handle → List (ℕ × C.Item)
+    abbrev split_now : Handle → List (ℕ × Item)
     split_now x = pairs_at (u.look x)
 
     split_other : (x : Handle) → x ≢ h → x ≢ r → SameAt t u x
@@ -51,8 +51,8 @@ module _ {C : Class} where
       ],
     )
 
-    split_without : Without (ℕ × C.Item) c.handles h
-    split_without = without (ℕ × C.Item) c.handles h c.listing.distinct ((c.listing.listed h).1 (stands_some (t.look h) change.node change.before))
+    split_without : Without (ℕ × Item) c.handles h
+    split_without = without (ℕ × Item) c.handles h c.listing.distinct ((c.listing.listed h).1 (stands_some (t.look h) change.node change.before))
 
     split_rest : flat_map split_now split_without.rest ≡ flat_map split_was split_without.rest
     split_rest =
@@ -84,11 +84,11 @@ module _ {C : Class} where
           same = split_same;
         }
 
-  module _ {t u : Tree C} {a b : Handle} {xs : List (ℕ × C.Item)} (change : IsGrown t u a b) (c : IsContents t xs) where
-    abbrev grown_was : Handle → List (ℕ × C.Item)
+  module _ {t u : Tree C} {a b : Handle} {xs : List (ℕ × Item)} (change : IsGrown t u a b) (c : IsContents t xs) where
+    abbrev grown_was : Handle → List (ℕ × Item)
     grown_was x = pairs_at (t.look x)
 
-    abbrev grown_now : Handle → List (ℕ × C.Item)
+    abbrev grown_now : Handle → List (ℕ × Item)
     grown_now x = pairs_at (u.look x)
 
     grown_other : (x : Handle) → x ≢ t.root → x ≢ a → x ≢ b → SameAt t u x
@@ -130,8 +130,8 @@ module _ {C : Class} where
       ],
     )
 
-    grown_without : Without (ℕ × C.Item) c.handles t.root
-    grown_without = without (ℕ × C.Item) c.handles t.root c.listing.distinct ((c.listing.listed t.root).1 (stands_some (t.look t.root) change.node change.before))
+    grown_without : Without (ℕ × Item) c.handles t.root
+    grown_without = without (ℕ × Item) c.handles t.root c.listing.distinct ((c.listing.listed t.root).1 (stands_some (t.look t.root) change.node change.before))
 
     grown_rest : flat_map grown_now grown_without.rest ≡ flat_map grown_was grown_without.rest
     grown_rest =

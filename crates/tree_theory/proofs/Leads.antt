@@ -6,28 +6,28 @@ use Rattle.tree_theory.specs.KeyClasses.{Class}
 use Rattle.tree_theory.specs.Nodes.{Search, Tree, is_marked, is_followed}
 use Rattle.tree_theory.specs.Walks.{Step, Leads, Done, Owed}
 use Rattle.tree_theory.specs.Walks.Leads.{here, along}
-use Rattle.tree_theory.specs.declared.place.Place.{Place}
+use Rattle.tree_theory.specs.declared.position.Position.{Position}
 use Rattle.tree_theory.proofs.ListLemmas.{nothing_in}
 
 -- a search follows to the right from a marked node, and from one whose number is above the memo
-pub followed_marked : (place : Place) (seq memo : ℕ) → IsTrue (is_marked place) → IsTrue (is_followed place seq memo)
+pub followed_marked : (place : Position) (seq memo : ℕ) → IsTrue (is_marked place) → IsTrue (is_followed place seq memo)
 followed_marked place seq memo marked = rw marked refl
 
-pub followed_later : (place : Place) (seq memo : ℕ) → memo < seq → IsTrue (is_followed place seq memo)
+pub followed_later : (place : Position) (seq memo : ℕ) → memo < seq → IsTrue (is_followed place seq memo)
 followed_later place seq memo later = go (is_marked place)
   where
     go : (marked : Bool) → IsTrue (marked || nat_lt memo seq)
     go true = refl
     go false = lt-ltb memo seq later
 
-pub followed_cases : (place : Place) (seq memo : ℕ) → IsTrue (is_followed place seq memo) → IsTrue (is_marked place) ⊎ (memo < seq)
+pub followed_cases : (place : Position) (seq memo : ℕ) → IsTrue (is_followed place seq memo) → IsTrue (is_marked place) ⊎ (memo < seq)
 followed_cases place seq memo follows = go (is_marked place) follows
   where
     go : (marked : Bool) → IsTrue (marked || nat_lt memo seq) → IsTrue marked ⊎ (memo < seq)
     go true h = inl refl
     go false h = inr (ltb-true memo seq h)
 
-module _ {C : Class} where
+module _ {Key Query Item : Type 0} {C : Class Key Query Item} where
   pub leads_trans : {t : Tree C} {memo : ℕ} {z y x : Handle} → Leads t memo y x → Leads t memo z y → Leads t memo z x
   leads_trans here after = after
   leads_trans (along step rest) after = along step (leads_trans rest after)

@@ -8,12 +8,12 @@ use Rattle.tree_theory.specs.Nodes.{PlainBody, Node, Search, Tree, is_marked, en
 use Rattle.tree_theory.specs.Nodes.PlainBody.{Leaf}
 use Rattle.tree_theory.specs.Promises.{MissesNothing, PlacesBehindNone}
 use Rattle.tree_theory.specs.Walks.{Done}
-use Rattle.tree_theory.specs.declared.place.Place.{Place}
-use Rattle.tree_theory.specs.declared.place.Place.TheVariants.{Root, Linked, Unlinked, Retired}
+use Rattle.tree_theory.specs.declared.position.Position.{Position}
+use Rattle.tree_theory.specs.declared.position.Position.TheVariants.{Root, Linked, Unlinked, Retired}
 use Rattle.tree_theory.proofs.ListLemmas.{handle_cases, nothing_in}
 use Rattle.tree_theory.proofs.Leads.{owed_is_done}
 
-pub marked_at : (place : Place) (parent : Handle) → place ≡ Linked parent true → IsTrue (is_marked place)
+pub marked_at : (place : Position) (parent : Handle) → place ≡ Linked parent true → IsTrue (is_marked place)
 marked_at place parent is = rw is refl
 
 -- a node with an empty body has no entry and no pair
@@ -23,7 +23,7 @@ no_entry body entry empty h = nothing_in entry (subst (λ b. Contains (entries_o
 pub no_pair : {Key Item : Type 0} (body : PlainBody Key Item) (pair : ℕ × Item) → body ≡ Leaf [] → Contains (pairs_of body) pair → ⊥
 no_pair body pair empty h = nothing_in pair (subst (λ b. Contains (pairs_of b) pair) empty h)
 
-module _ {C : Class} where
+module _ {Key Query Item : Type 0} {C : Class Key Query Item} where
   -- a node that a search is done with has the search attached
   pub attached_of : {t : Tree C} {s : ℕ} {h : Handle} → Done t s h → (node : Node C) → t.look h ≡ Some node → Contains node.attached s
   attached_of {t = t} {s = s} done node is = let same : done.node ≡ node = cc (done.is, is) in subst (λ n. Contains n.attached s) same done.attached
@@ -54,7 +54,7 @@ module _ {C : Class} where
     ]
     ready_done (suc d) h node p above top is is_top high consistent = owed_is_done s runs h empty (searches.search_child s runs running p above.node above.is (attached_of (parent_done (λ g m q up at high consistent. ready_done d g m q up top at is_top high consistent) above.node.place refl) above.node above.is) above.key h above.entry consistent)
       where
-        parent_done : ((g : Handle) (m : Node C) (q : Handle) (up : Parent t g m q) → t.look g ≡ Some m → top.level ≤ m.level + d → C.Consistent up.key runs.query → Done t s g) → (place : Place) → above.node.place ≡ place → Done t s p
+        parent_done : ((g : Handle) (m : Node C) (q : Handle) (up : Parent t g m q) → t.look g ≡ Some m → top.level ≤ m.level + d → C.Consistent up.key runs.query → Done t s g) → (place : Position) → above.node.place ≡ place → Done t s p
         parent_done higher Root place = root_done p above.node above.is place
         parent_done higher (Linked q marked) place =
             let next = shape.entry_up p above.node above.is q marked place in
@@ -75,10 +75,10 @@ module _ {C : Class} where
     entry_done h node p above is consistent = ready_done shape.root_place.node.level h node p above shape.root_place.node is shape.root_place.is (omega arith) consistent
 
     -- the search is done with a leaf that has a match
-    pub ready_leaf : (h : Handle) (node : Node C) → t.look h ≡ Some node → (pair : ℕ × C.Item) → Contains (pairs_of node.body) pair → C.Matches pair.1 runs.query → Done t s h
+    pub ready_leaf : (h : Handle) (node : Node C) → t.look h ≡ Some node → (pair : ℕ × Item) → Contains (pairs_of node.body) pair → C.Matches pair.1 runs.query → Done t s h
     ready_leaf h node is pair has matches = go node.place refl
       where
-        go : (place : Place) → node.place ≡ place → Done t s h
+        go : (place : Position) → node.place ≡ place → Done t s h
         go Root place = root_done h node is place
         go (Linked p marked) place =
             let next = shape.entry_up h node is p marked place in
@@ -92,11 +92,11 @@ module _ {C : Class} where
         go (Retired stamp) place = absurd (no_pair node.body pair (shape.retired_empty h node is stamp place) has)
 
     -- so it has found every match
-    pub ready_complete : (h : Handle) (node : Node C) → t.look h ≡ Some node → (pair : ℕ × C.Item) → Contains (pairs_of node.body) pair → C.Matches pair.1 runs.query → Contains runs.found pair
+    pub ready_complete : (h : Handle) (node : Node C) → t.look h ≡ Some node → (pair : ℕ × Item) → Contains (pairs_of node.body) pair → C.Matches pair.1 runs.query → Contains runs.found pair
     ready_complete h node is pair has matches = searches.search_found s runs running h node is (attached_of (ready_leaf h node is pair has matches) node is) pair has matches
 
     -- the search is done with a leaf that may take a matching item
-    pub taker_done : (h : Handle) (node : Node C) → t.look h ≡ Some node → (item : C.Item) → MayTake t h node (C.key_of item) → C.Matches item runs.query → Done t s h
+    pub taker_done : (h : Handle) (node : Node C) → t.look h ≡ Some node → (item : Item) → MayTake t h node (C.key_of item) → C.Matches item runs.query → Done t s h
     taker_done h node is item (inl place) matches = root_done h node is place
     taker_done h node is item (inr entry) matches =
         let child = shape.entry_down entry.parent entry.parent_node entry.is entry.entry_key h entry.entry in
@@ -106,7 +106,7 @@ module _ {C : Class} where
         entry_done h node entry.parent above is (laws.monotone entry.entry_key (C.key_of item) runs.query entry.covers (laws.sound item runs.query matches))
 
     -- so no step places a pair that it looks for
-    pub none_placed : {u : Tree C} (h : Handle) (pair : ℕ × C.Item) → IsPlaced t u h pair → C.Matches pair.1 runs.query → ⊥
+    pub none_placed : {u : Tree C} (h : Handle) (pair : ℕ × Item) → IsPlaced t u h pair → C.Matches pair.1 runs.query → ⊥
     none_placed h pair placed matches =
         placed.none_matches s runs running (attached_of (taker_done h placed.node placed.nodes.before pair.1 placed.may_take matches) placed.node placed.nodes.before) matches
 

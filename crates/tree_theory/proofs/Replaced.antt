@@ -9,7 +9,7 @@ use Rattle.tree_theory.specs.Walks.Leads.{here, along}
 use Rattle.tree_theory.proofs.ListLemmas.{handle_cases}
 use Rattle.tree_theory.proofs.Leads.{leads_map}
 
-module _ {C : Class} where
+module _ {Key Query Item : Type 0} {C : Class Key Query Item} where
   -- the old node of each new one, and the new node of each old one
   pub node_from : {t u : Tree C} {h : Handle} {old new : Node C} → OneNode t u h old new → (x : Handle) (n : Node C) → u.look x ≡ Some n → ((x ≡ h) × (new ≡ n)) ⊎ (t.look x ≡ Some n)
   node_from {t = t} {u = u} {h = h} {old = old} {new = new} r x n is = go (handle_cases x h)

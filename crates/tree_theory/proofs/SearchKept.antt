@@ -6,21 +6,21 @@ use Rattle.tree_theory.specs.Invariant.{Shape, Searches}
 use Rattle.tree_theory.specs.KeyClasses.{Class}
 use Rattle.tree_theory.specs.Nodes.{Body, Node, Search, Tree, is_marked, entries_of, pairs_of}
 use Rattle.tree_theory.specs.Walks.{Owed}
-use Rattle.tree_theory.specs.declared.place.Place.{Place}
-use Rattle.tree_theory.specs.declared.place.Place.TheVariants.{Root, Linked, Unlinked, Retired}
+use Rattle.tree_theory.specs.declared.position.Position.{Position}
+use Rattle.tree_theory.specs.declared.position.Position.TheVariants.{Root, Linked, Unlinked, Retired}
 use Rattle.tree_theory.proofs.Replaced.{Keeps, owed_kept, node_from, one_node_keeps}
 
 -- a place of another kind is not retired
-pub root_not_retired : (place : Place) (stamp : ℕ) → place ≡ Root → place ≡ Retired stamp → ⊥
+pub root_not_retired : (place : Position) (stamp : ℕ) → place ≡ Root → place ≡ Retired stamp → ⊥
 root_not_retired place stamp is retired = absurd (cc)
 
-pub linked_not_retired : (place : Place) (p : Handle) (marked : Bool) (stamp : ℕ) → place ≡ Linked p marked → place ≡ Retired stamp → ⊥
+pub linked_not_retired : (place : Position) (p : Handle) (marked : Bool) (stamp : ℕ) → place ≡ Linked p marked → place ≡ Retired stamp → ⊥
 linked_not_retired place p marked stamp is retired = absurd (cc)
 
-pub unlinked_not_retired : (place : Place) (l : Handle) (stamp : ℕ) → place ≡ Unlinked l → place ≡ Retired stamp → ⊥
+pub unlinked_not_retired : (place : Position) (l : Handle) (stamp : ℕ) → place ≡ Unlinked l → place ≡ Retired stamp → ⊥
 unlinked_not_retired place l stamp is retired = absurd (cc)
 
-module _ {C : Class} where
+module _ {Key Query Item : Type 0} {C : Class Key Query Item} where
   -- the handle names a node that is not retired
   pub record Lives (t : Tree C) (h : Handle) : Type 0 where
     pub node : Node C
@@ -30,7 +30,7 @@ module _ {C : Class} where
   pub root_lives : {t : Tree C} → Shape t → Lives t t.root
   root_lives shape = let top = shape.root_place in record { node = top.node; is = top.is; place = λ stamp. root_not_retired top.node.place stamp top.place }
 
-  pub child_lives : {t : Tree C} → Shape t → (p : Handle) (node : Node C) → t.look p ≡ Some node → (key : C.Key) (c : Handle) → Contains (entries_of node.body) (key, c) → Lives t c
+  pub child_lives : {t : Tree C} → Shape t → (p : Handle) (node : Node C) → t.look p ≡ Some node → (key : Key) (c : Handle) → Contains (entries_of node.body) (key, c) → Lives t c
   child_lives {t = t} shape p node is key c entry =
       let child = shape.entry_down p node is key c entry in
       record { node = child.node; is = child.is; place = λ stamp. linked_not_retired child.node.place p child.marked stamp child.place }
@@ -50,10 +50,10 @@ module _ {C : Class} where
 
   -- what a search has seen or will come to, if it is attached to a node with this body, place and
   -- rightlink
-  pub record SeenBy (u : Tree C) (body : Body C) (place : Place) (right : Option Handle) (s : ℕ) : Type 0 where
-    pub child : (now : Search C) → u.searches s ≡ Some now → (key : C.Key) (c : Handle) → Contains (entries_of body) (key, c) → C.Consistent key now.query → Owed u s now c
+  pub record SeenBy (u : Tree C) (body : Body C) (place : Position) (right : Option Handle) (s : ℕ) : Type 0 where
+    pub child : (now : Search C) → u.searches s ≡ Some now → (key : Key) (c : Handle) → Contains (entries_of body) (key, c) → C.Consistent key now.query → Owed u s now c
     pub mark : (now : Search C) → u.searches s ≡ Some now → IsTrue (is_marked place) → (r : Handle) → right ≡ Some r → Owed u s now r
-    pub found : (now : Search C) → u.searches s ≡ Some now → (pair : ℕ × C.Item) → Contains (pairs_of body) pair → C.Matches pair.1 now.query → Contains now.found pair
+    pub found : (now : Search C) → u.searches s ≡ Some now → (pair : ℕ × Item) → Contains (pairs_of body) pair → C.Matches pair.1 now.query → Contains now.found pair
     pub given : s < u.next
 
   -- the clauses on the searches of a node
@@ -106,7 +106,7 @@ module _ {C : Class} where
     pub old : Search C
     pub was : t.searches s ≡ Some old
     pub query : old.query ≡ now.query
-    pub found : (pair : ℕ × C.Item) → Contains old.found pair → Contains now.found pair
+    pub found : (pair : ℕ × Item) → Contains old.found pair → Contains now.found pair
     pub memo_counter : (h : Handle) (memo : ℕ) → Contains now.stack (h, memo) → memo ≤ u.counter
     pub memo_begun : (h : Handle) (memo : ℕ) → Contains now.stack (h, memo) → now.begun ≤ memo
     pub owed : (h : Handle) → Lives t h → Owed t s old h → Owed u s now h
@@ -169,7 +169,7 @@ module _ {C : Class} where
   kept_searches shape searches clock stay seen = searches_of (λ s now is. runs_kept shape searches clock s now (stay s now is)) seen
 
   -- for a body with no more entries and pairs, the same rightlink, and no new mark
-  pub seen_by_fewer : {u : Tree C} {s : ℕ} (one other : Body C) (place at : Place) (right : Option Handle) → SeenBy u one place right s → ((key : C.Key) (c : Handle) → Contains (entries_of other) (key, c) → Contains (entries_of one) (key, c)) → ((pair : ℕ × C.Item) → Contains (pairs_of other) pair → Contains (pairs_of one) pair) → (IsTrue (is_marked at) → IsTrue (is_marked place)) → SeenBy u other at right s
+  pub seen_by_fewer : {u : Tree C} {s : ℕ} (one other : Body C) (place at : Position) (right : Option Handle) → SeenBy u one place right s → ((key : Key) (c : Handle) → Contains (entries_of other) (key, c) → Contains (entries_of one) (key, c)) → ((pair : ℕ × Item) → Contains (pairs_of other) pair → Contains (pairs_of one) pair) → (IsTrue (is_marked at) → IsTrue (is_marked place)) → SeenBy u other at right s
   seen_by_fewer one other place at right seen entries pairs marked =
       record {
         child = λ now is key c entry. seen.child now is key c (entries key c entry);

@@ -8,19 +8,19 @@ use Rattle.tree_theory.specs.KeyClasses.{Class}
 use Rattle.tree_theory.specs.Nodes.{PlainNode, Node, Tree, is_marked, is_followed, place_under, under}
 use Rattle.tree_theory.specs.Walks.{Leads}
 use Rattle.tree_theory.specs.Walks.Leads.{here, along}
-use Rattle.tree_theory.specs.declared.place.Place.{Place}
-use Rattle.tree_theory.specs.declared.place.Place.TheVariants.{Root, Linked, Unlinked, Retired}
+use Rattle.tree_theory.specs.declared.position.Position.{Position}
+use Rattle.tree_theory.specs.declared.position.Position.TheVariants.{Root, Linked, Unlinked, Retired}
 use Rattle.tree_theory.proofs.Replaced.{Keeps}
 use Rattle.tree_theory.proofs.SearchKept.{Seen, SeenBy}
 
 -- another parent changes neither mark nor retirement
-pub under_marked : (p : Handle) (place : Place) → is_marked (place_under p place) ≡ is_marked place
+pub under_marked : (p : Handle) (place : Position) → is_marked (place_under p place) ≡ is_marked place
 under_marked p Root = refl
 under_marked p (Linked q marked) = refl
 under_marked p (Unlinked l) = refl
 under_marked p (Retired stamp) = refl
 
-pub under_retired : (p : Handle) (place : Place) (stamp : ℕ) → place_under p place ≡ Retired stamp → place ≡ Retired stamp
+pub under_retired : (p : Handle) (place : Position) (stamp : ℕ) → place_under p place ≡ Retired stamp → place ≡ Retired stamp
 under_retired p Root stamp e = e
 under_retired p (Linked q marked) stamp e = absurd (cc)
 under_retired p (Unlinked l) stamp e = e
@@ -52,7 +52,7 @@ module _ {Key Item : Type 0} where
   pub moved_under : (p : Handle) (node : PlainNode Key Item) → Moved node (under p node)
   moved_under p node = record { body = refl; seq = refl; right = refl; attached = refl; marked = under_marked p node.place; retired = under_retired p node.place }
 
-module _ {C : Class} where
+module _ {Key Query Item : Type 0} {C : Class Key Query Item} where
   pub seen_moved : {u : Tree C} {old new : Node C} → Moved old new → Seen u old → Seen u new
   seen_moved {u = u} {old = old} {new = new} moved seen =
       record { by = by; seq = rw moved.seq seen.seq; retired = λ stamp e. rw moved.seq (seen.retired stamp (moved.retired stamp e)) }

@@ -12,8 +12,8 @@ use Rattle.tree_theory.proofs.ListLemmas.{nothing_in, in_one, got_in, set_cases,
 use Rattle.tree_theory.proofs.Replaced.{Keeps}
 use Rattle.tree_theory.proofs.SearchKept.{Seen, SeenBy, one_node_searches, seen_by_fewer, same_numbers}
 
-module _ {C : Class} where
-  pub searches_placed : {t u : Tree C} {h : Handle} {pair : ℕ × C.Item} → Shape t → Searches t → IsPlaced t u h pair → Searches u
+module _ {Key Query Item : Type 0} {C : Class Key Query Item} where
+  pub searches_placed : {t u : Tree C} {h : Handle} {pair : ℕ × Item} → Shape t → Searches t → IsPlaced t u h pair → Searches u
   searches_placed {t = t} {u = u} {h = h} {pair = pair} shape searches change =
       one_node_searches shape searches change.clock change.searches change.nodes (λ _. change.node.place) (λ _. change.node.seq) (λ _. change.node.right) (same_numbers change.node.attached) by
     where
@@ -67,17 +67,17 @@ module _ {C : Class} where
         | inr joins ↦ joiner_seen laws shape searches keeps change.searches.search change.clock.next change.nodes.before s joins
       ]
 
-  pub searches_enlarged : {t u : Tree C} {p : Handle} {key : C.Key} → Shape t → Searches t → IsEnlarged t u p key → Searches u
+  pub searches_enlarged : {t u : Tree C} {p : Handle} {key : Key} → Shape t → Searches t → IsEnlarged t u p key → Searches u
   searches_enlarged {t = t} {u = u} {p = p} {key = key} shape searches change =
       one_node_searches shape searches change.clock change.searches change.nodes (λ _. change.node.place) (λ _. change.node.seq) (λ _. change.node.right) (same_numbers change.node.attached) by
     where
-      set : C.Key × Handle
+      set : Key × Handle
       set = (C.united change.old key, change.child)
 
       now_body : Body C
       now_body = Inner (slice_set change.entries change.index set)
 
-      in_node : (k : C.Key) (c : Handle) → Contains change.entries (k, c) → Contains (entries_of change.node.body) (k, c)
+      in_node : (k : Key) (c : Handle) → Contains change.entries (k, c) → Contains (entries_of change.node.body) (k, c)
       in_node k c has = rw change.body has
 
       by : Keeps t u → Seen u change.node → (s : ℕ) → Contains change.node.attached s → SeenBy u now_body change.node.place change.node.right s
@@ -99,7 +99,7 @@ module _ {C : Class} where
             given = seen.given;
           }
 
-  pub searches_cleaned : {t u : Tree C} {Kept : ℕ × C.Item → Type 0} {h : Handle} → Shape t → Searches t → IsCleaned t u Kept h → Searches u
+  pub searches_cleaned : {t u : Tree C} {Kept : ℕ × Item → Type 0} {h : Handle} → Shape t → Searches t → IsCleaned t u Kept h → Searches u
   searches_cleaned {t = t} {u = u} {h = h} shape searches change =
       one_node_searches shape searches change.clock change.searches change.nodes (λ _. change.node.place) (λ _. change.node.seq) (λ _. change.node.right) (same_numbers change.node.attached) by
     where

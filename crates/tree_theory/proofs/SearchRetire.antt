@@ -9,7 +9,7 @@ use Rattle.tree_theory.specs.Nodes.{Node, Search, Tree, is_followed}
 use Rattle.tree_theory.specs.Nodes.PlainBody.{Leaf, Inner}
 use Rattle.tree_theory.specs.Walks.{Step, Leads, Owed}
 use Rattle.tree_theory.specs.Walks.Leads.{here, along}
-use Rattle.tree_theory.specs.declared.place.Place.TheVariants.{Root, Linked, Retired}
+use Rattle.tree_theory.specs.declared.position.Position.TheVariants.{Root, Linked, Retired}
 use Rattle.tree_theory.proofs.ListLemmas.{nothing_in, remove_from, handle_cases}
 use Rattle.tree_theory.proofs.Leads.{leads_map}
 use Rattle.tree_theory.proofs.Replaced.{Keeps}
@@ -17,14 +17,14 @@ use Rattle.tree_theory.proofs.SearchKept.{Lives, Seen, After, Stays, searches_of
 use Rattle.tree_theory.proofs.SearchMoved.{moved_itself, Goes, goes_moved, goes_keeps}
 use Rattle.tree_theory.proofs.SearchSplit.{seen_by_part}
 
-module _ {C : Class} where
+module _ {Key Query Item : Type 0} {C : Class Key Query Item} where
   pub searches_retired : {t u : Tree C} {l p : Handle} → Shape t → Searches t → IsRetired t u l p → Searches u
   searches_retired {t = t} {u = u} {l = l} {p = p} shape searches change = kept_searches shape searches clock (all_stay keeps searches clock change.searches) (λ x n is. from x n is (handle_cases x l) (handle_cases x p))
     where
       clock : After t u
       clock = ticked_after change.clock
 
-      left : List (C.Key × Handle)
+      left : List (Key × Handle)
       left = remove change.entries change.index
 
       leaf : Node C

@@ -10,15 +10,15 @@ use Rattle.tree_theory.specs.Nodes.{Body, Node, Search, Tree, is_marked, is_foll
 use Rattle.tree_theory.specs.Nodes.PlainBody.{Inner}
 use Rattle.tree_theory.specs.Walks.{Step, Leads, Done, Owed}
 use Rattle.tree_theory.specs.Walks.Leads.{here, along}
-use Rattle.tree_theory.specs.declared.place.Place.{Place}
-use Rattle.tree_theory.specs.declared.place.Place.TheVariants.{Linked, Unlinked}
+use Rattle.tree_theory.specs.declared.position.Position.{Position}
+use Rattle.tree_theory.specs.declared.position.Position.TheVariants.{Linked, Unlinked}
 use Rattle.tree_theory.proofs.ListLemmas.{nothing_in, in_cases, in_one, got_in, set_cases, one_in, other_in, handle_cases, child_cases}
 use Rattle.tree_theory.proofs.Leads.{followed_marked, followed_later, leads_trans}
 use Rattle.tree_theory.proofs.Replaced.{Keeps, owed_kept}
 use Rattle.tree_theory.proofs.SearchKept.{Seen, SeenBy, After, same_after, ticked_after, all_stay, seen_kept, kept_searches, linked_not_retired, unlinked_not_retired}
 use Rattle.tree_theory.proofs.SearchMoved.{moved_itself, moved_under, seen_moved, Goes, goes_moved, goes_keeps, before_of}
 
-module _ {C : Class} where
+module _ {Key Query Item : Type 0} {C : Class Key Query Item} where
   -- a number of a copied list is an old one
   pub copied_from : {t : Tree C} {old new : List ℕ} → Copied t old new → (s : ℕ) → Contains new s → Contains old s
   copied_from numbers s has = elim (numbers.only s has) [
@@ -27,7 +27,7 @@ module _ {C : Class} where
   ]
 
   -- a search that has seen a node has seen an unmarked one with a part of its contents
-  pub seen_by_part : {u : Tree C} {s : ℕ} (whole part : Body C) (place at : Place) (right : Option Handle) → SeenBy u whole place right s → ((entry : C.Key × Handle) → Contains (entries_of part) entry → Contains (entries_of whole) entry) → ((pair : ℕ × C.Item) → Contains (pairs_of part) pair → Contains (pairs_of whole) pair) → is_marked at ≡ false → (beside : Option Handle) → SeenBy u part at beside s
+  pub seen_by_part : {u : Tree C} {s : ℕ} (whole part : Body C) (place at : Position) (right : Option Handle) → SeenBy u whole place right s → ((entry : Key × Handle) → Contains (entries_of part) entry → Contains (entries_of whole) entry) → ((pair : ℕ × Item) → Contains (pairs_of part) pair → Contains (pairs_of whole) pair) → is_marked at ≡ false → (beside : Option Handle) → SeenBy u part at beside s
   seen_by_part whole part place at right seen entries pairs unmarked beside =
       record {
         child = λ now is key c entry. seen.child now is key c (entries (key, c) entry);
@@ -112,7 +112,7 @@ module _ {C : Class} where
       clock : After t u
       clock = same_after change.clock
 
-      entries : List (C.Key × Handle)
+      entries : List (Key × Handle)
       entries = (change.one_key, a) ∷ (change.two_key, b) ∷ []
 
       top : Node C
@@ -197,7 +197,7 @@ module _ {C : Class} where
       from x n is (inr e) (inr f) (inr g) (inr h) (inr i) = kept x n (sym (change.others x e f g h i) ∙ is)
 
   -- the new key of an entry is covered by the old one
-  pub key_covered : (laws : Laws C) (body : Body C) (old key : C.Key) → CoversBody C old body → IsKeyFor C body old key → C.Covers old key
+  pub key_covered : (laws : Laws C) (body : Body C) (old key : Key) → CoversBody C old body → IsKeyFor C body old key → C.Covers old key
   key_covered laws body old key covers (inl filled) = filled.1.least old covers
   key_covered laws body old key covers (inr same) = rw (same.1) (laws.reflexive old)
 
@@ -207,13 +207,13 @@ module _ {C : Class} where
       clock : After t u
       clock = ticked_after change.clock
 
-      set : C.Key × Handle
+      set : Key × Handle
       set = (change.left_key, l)
 
-      new : C.Key × Handle
+      new : Key × Handle
       new = (change.right_key, r)
 
-      entries : List (C.Key × Handle)
+      entries : List (Key × Handle)
       entries = slice_set change.entries change.index set ++ new ∷ []
 
       above : Node C
@@ -281,7 +281,7 @@ module _ {C : Class} where
       before : Seen u change.node
       before = kept p change.node change.parent_before
 
-      in_node : (key : C.Key) (c : Handle) → Contains change.entries (key, c) → Contains (entries_of change.node.body) (key, c)
+      in_node : (key : Key) (c : Handle) → Contains change.entries (key, c) → Contains (entries_of change.node.body) (key, c)
       in_node key c has = rw change.body has
 
       old_entry : Contains (entries_of change.node.body) (change.old, l)

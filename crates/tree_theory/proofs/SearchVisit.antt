@@ -37,8 +37,8 @@ pushed_in {Key = Key} counter entries key c has =
 pub followed_in : {Key Item : Type 0} (node : PlainNode Key Item) (memo : ℕ) (r : Handle) → IsTrue (is_followed node.place node.seq memo) → node.right ≡ Some r → Contains (followed node memo) (r, memo)
 followed_in node memo r follows right = rw (follows, right) (first_in (r, memo) [])
 
-module _ {C : Class} where
-  pub searches_opened : {t u : Tree C} {query : C.Query} → Shape t → Searches t → IsOpened t u query → Searches u
+module _ {Key Query Item : Type 0} {C : Class Key Query Item} where
+  pub searches_opened : {t u : Tree C} {query : Query} → Shape t → Searches t → IsOpened t u query → Searches u
   searches_opened {t = t} {u = u} {query = query} shape searches change = searches_of (λ s now is. runs s now is (cases_eq s t.next)) (λ h n is. seen_kept shape searches clock (λ s now running below. stay s now running (λ e. absurd (omega arith))) h n (cc (change.nodes.look h, is)))
     where
       clock : After t u

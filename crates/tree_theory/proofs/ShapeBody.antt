@@ -8,25 +8,25 @@ use Rattle.tree_theory.specs.KeyClasses.{Class, Laws}
 use Rattle.tree_theory.specs.Nodes.{Body, Node, Tree, is_marked, entries_of, size_of}
 use Rattle.tree_theory.specs.Nodes.PlainBody.{Leaf, Inner}
 use Rattle.tree_theory.specs.declared.TheConstants.{NODE_SIZE, TOP_LEVEL}
-use Rattle.tree_theory.specs.declared.place.Place.TheVariants.{Linked, Unlinked, Retired}
+use Rattle.tree_theory.specs.declared.position.Position.TheVariants.{Linked, Unlinked, Retired}
 use Rattle.tree_theory.proofs.Replaced.{node_from, node_to}
 use Rattle.tree_theory.proofs.ShapeKept.{mark_at, entry_at, covers_at}
 use Rattle.tree_theory.proofs.ShapeLists.{Differ, one_key}
 
-module _ {C : Class} where
+module _ {Key Query Item : Type 0} {C : Class Key Query Item} where
   pub record Rebodied (t u : Tree C) (h : Handle) (old new : Node C) : Type 0 where
     pub one : OneNode t u h old new
     pub root : u.root ≡ t.root
     pub level : new.level ≡ old.level
     pub right : new.right ≡ old.right
     pub place : new.place ≡ old.place
-    pub from : (key : C.Key) (c : Handle) → Contains (entries_of new.body) (key, c) → (was : C.Key) × Contains (entries_of old.body) (was, c) × C.Covers key was
-    pub to : (key : C.Key) (c : Handle) → Contains (entries_of old.body) (key, c) → (now : C.Key) × Contains (entries_of new.body) (now, c)
+    pub from : (key : Key) (c : Handle) → Contains (entries_of new.body) (key, c) → (was : Key) × Contains (entries_of old.body) (was, c) × C.Covers key was
+    pub to : (key : Key) (c : Handle) → Contains (entries_of old.body) (key, c) → (now : Key) × Contains (entries_of new.body) (now, c)
     pub differ : Differ (entries_of new.body)
     pub filled : new.body ≡ Inner [] → ⊥
     pub size : size_of new.body ≤ NODE_SIZE
     pub retired : (stamp : ℕ) → old.place ≡ Retired stamp → new.body ≡ Leaf []
-    pub covered : (key : C.Key) → StandsBehind t h key → CoversBody C key old.body → CoversBody C key new.body
+    pub covered : (key : Key) → StandsBehind t h key → CoversBody C key old.body → CoversBody C key new.body
 
   -- the old node of a new one
   record Was (t : Tree C) (h : Handle) (old new : Node C) (x : Handle) (now : Node C) : Type 0 where
@@ -44,9 +44,9 @@ module _ {C : Class} where
     level : node.level ≡ was.level
     right : node.right ≡ was.right
     place : node.place ≡ was.place
-    entries : (key : C.Key) (c : Handle) → Contains (entries_of was.body) (key, c) → (now : C.Key) × Contains (entries_of node.body) (now, c)
+    entries : (key : Key) (c : Handle) → Contains (entries_of was.body) (key, c) → (now : Key) × Contains (entries_of node.body) (now, c)
 
-  pub covers_more : Laws C → (outer inner : C.Key) (body : Body C) → C.Covers outer inner → CoversBody C inner body → CoversBody C outer body
+  pub covers_more : Laws C → (outer inner : Key) (body : Body C) → C.Covers outer inner → CoversBody C inner body → CoversBody C outer body
   covers_more laws outer inner body wider covers =
       record {
         pairs = λ pair has. laws.transitive outer inner (C.key_of pair.1) wider (covers.pairs pair has);
@@ -74,7 +74,7 @@ module _ {C : Class} where
       | inr stays ↦ record { node = n; is = stays; level = refl; right = refl; place = refl; entries = λ key c has. (key, has) }
     ]
 
-    was_entry : (x : Handle) (n : Node C) (was : Was t h old new x n) (key : C.Key) (c : Handle) → Contains (entries_of n.body) (key, c) → (before : C.Key) × Contains (entries_of was.node.body) (before, c) × C.Covers key before
+    was_entry : (x : Handle) (n : Node C) (was : Was t h old new x n) (key : Key) (c : Handle) → Contains (entries_of n.body) (key, c) → (before : Key) × Contains (entries_of was.node.body) (before, c) × C.Covers key before
     was_entry x n was key c has = elim was.body [
       | inl same ↦ (key, entry_at n.body was.node.body (key, c) (sym same) has, laws.reflexive key)
       | inr changed ↦
@@ -82,7 +82,7 @@ module _ {C : Class} where
           (found.0, entry_at old.body was.node.body (found.0, c) (sym changed.1) found.1, found.2)
     ]
 
-    now_covered : (x : Handle) (n : Node C) (was : Was t h old new x n) (key : C.Key) → StandsBehind t x key → CoversBody C key was.node.body → CoversBody C key n.body
+    now_covered : (x : Handle) (n : Node C) (was : Was t h old new x n) (key : Key) → StandsBehind t x key → CoversBody C key was.node.body → CoversBody C key n.body
     now_covered x n was key behind covers = elim was.body [
       | inl same ↦ covers_at was.node.body n.body key same covers
       | inr changed ↦
@@ -95,7 +95,7 @@ module _ {C : Class} where
         let now = stays_at t.root was.node was.is in
         record { node = now.node; is = cc (r.root, now.is); place = cc (now.place, was.place) }
 
-    body_entry_down : (p : Handle) (node : Node C) → u.look p ≡ Some node → (key : C.Key) (c : Handle) → Contains (entries_of node.body) (key, c) → Child u p node c
+    body_entry_down : (p : Handle) (node : Node C) → u.look p ≡ Some node → (key : Key) (c : Handle) → Contains (entries_of node.body) (key, c) → Child u p node c
     body_entry_down p node is key c has =
         let was = was_at p node is in
         let entry = was_entry p node was key c has in
@@ -167,7 +167,7 @@ module _ {C : Class} where
         let high = shape.top_level above.node (cc (r.root, above.is)) in
         omega arith
 
-    body_cover : (p : Handle) (parent : Node C) → u.look p ≡ Some parent → (key : C.Key) (c : Handle) → Contains (entries_of parent.body) (key, c) → (node : Node C) → u.look c ≡ Some node → CoversBody C key node.body
+    body_cover : (p : Handle) (parent : Node C) → u.look p ≡ Some parent → (key : Key) (c : Handle) → Contains (entries_of parent.body) (key, c) → (node : Node C) → u.look c ≡ Some node → CoversBody C key node.body
     body_cover p parent is key c has node is_child =
         let was = was_at p parent is in
         let entry = was_entry p parent was key c has in
@@ -175,7 +175,7 @@ module _ {C : Class} where
         let behind : StandsBehind t c entry.0 = record { parent = p; node = was.node; is = was.is; child = c; entry = entry.1; behind = inl refl } in
         covers_more laws key entry.0 node.body entry.2 (now_covered c node child entry.0 behind (shape.cover p was.node was.is entry.0 c entry.1 child.node child.is))
 
-    body_cover_marked : (p : Handle) (parent : Node C) → u.look p ≡ Some parent → (key : C.Key) (c : Handle) → Contains (entries_of parent.body) (key, c) → (node : Node C) → u.look c ≡ Some node → IsTrue (is_marked node.place) → (x : Handle) (right : Node C) → node.right ≡ Some x → u.look x ≡ Some right → CoversBody C key right.body
+    body_cover_marked : (p : Handle) (parent : Node C) → u.look p ≡ Some parent → (key : Key) (c : Handle) → Contains (entries_of parent.body) (key, c) → (node : Node C) → u.look c ≡ Some node → IsTrue (is_marked node.place) → (x : Handle) (right : Node C) → node.right ≡ Some x → u.look x ≡ Some right → CoversBody C key right.body
     body_cover_marked p parent is key c has node is_child marked x right to_right is_right =
         let was = was_at p parent is in
         let entry = was_entry p parent was key c has in
@@ -206,7 +206,7 @@ module _ {C : Class} where
 
   -- The only entry over a node that may take a key is its own, and it covers the key.
 
-  pub stands_place : {t : Tree C} {h : Handle} {key : C.Key} → Shape t → (behind : StandsBehind t h key) → (node : Node C) → t.look h ≡ Some node → ((marked : Bool) × (node.place ≡ Linked behind.parent marked)) ⊎ (node.place ≡ Unlinked behind.child)
+  pub stands_place : {t : Tree C} {h : Handle} {key : Key} → Shape t → (behind : StandsBehind t h key) → (node : Node C) → t.look h ≡ Some node → ((marked : Bool) × (node.place ≡ Linked behind.parent marked)) ⊎ (node.place ≡ Unlinked behind.child)
   stands_place {t = t} {h = h} {key = key} shape behind node is = elim behind.behind [
     | inl same ↦
         let child = shape.entry_down behind.parent behind.node behind.is key behind.child behind.entry in
@@ -219,7 +219,7 @@ module _ {C : Class} where
         inr (cc (right.place, one))
   ]
 
-  pub may_take_covers : {t : Tree C} {h : Handle} {key taken : C.Key} (node : Node C) → Shape t → t.look h ≡ Some node → MayTake t h node taken → StandsBehind t h key → C.Covers key taken
+  pub may_take_covers : {t : Tree C} {h : Handle} {key taken : Key} (node : Node C) → Shape t → t.look h ≡ Some node → MayTake t h node taken → StandsBehind t h key → C.Covers key taken
   may_take_covers {t = t} {h = h} {key = key} {taken = taken} node shape is (inl root) behind = elim (stands_place shape behind node is) [
     | inl linked ↦ absurd (cc (linked.1, root))
     | inr unlinked ↦ absurd (cc (unlinked, root))

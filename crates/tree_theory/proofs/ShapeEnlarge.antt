@@ -14,12 +14,12 @@ use Rattle.tree_theory.proofs.ShapeKept.{entry_at}
 use Rattle.tree_theory.proofs.ShapeLists.{Differ, rekeyed_from, rekeyed_to, rekeyed_differ}
 use Rattle.tree_theory.proofs.ShapeBody.{Rebodied, rebodied_shape, may_take_covers}
 
-module _ {C : Class} where
-  enlarged_body : {t u : Tree C} {p : Handle} {key : C.Key} → Laws C → Shape t → (change : IsEnlarged t u p key) → Rebodied t u p change.node (record change.node { body = Inner (slice_set change.entries change.index (C.united change.old key, change.child)) })
+module _ {Key Query Item : Type 0} {C : Class Key Query Item} where
+  enlarged_body : {t u : Tree C} {p : Handle} {key : Key} → Laws C → Shape t → (change : IsEnlarged t u p key) → Rebodied t u p change.node (record change.node { body = Inner (slice_set change.entries change.index (C.united change.old key, change.child)) })
   enlarged_body {t = t} {u = u} {p = p} {key = key} laws shape change =
       let entries = change.entries in
       let index = change.index in
-      let new : C.Key = C.united change.old key in
+      let new : Key = C.united change.old key in
       let within = slice_get_within entries index (change.old, change.child) change.entry in
       let long = length-set entries index (new, change.child) in
       let differ : Differ entries = subst (λ body. Differ (entries_of body)) change.body (shape.children_differ p change.node change.nodes.before) in
@@ -61,5 +61,5 @@ module _ {C : Class} where
         };
       }
 
-  pub shape_enlarged : {t u : Tree C} {p : Handle} {key : C.Key} → Laws C → Shape t → IsEnlarged t u p key → Shape u
+  pub shape_enlarged : {t u : Tree C} {p : Handle} {key : Key} → Laws C → Shape t → IsEnlarged t u p key → Shape u
   shape_enlarged laws shape change = rebodied_shape laws (enlarged_body laws shape change) shape

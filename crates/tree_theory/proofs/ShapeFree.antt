@@ -5,11 +5,11 @@ use Rattle.tree_theory.specs.Changes.{IsFreed}
 use Rattle.tree_theory.specs.Invariant.{RootStands, Child, Parent, Right, Left, Shape}
 use Rattle.tree_theory.specs.KeyClasses.{Class}
 use Rattle.tree_theory.specs.Nodes.{Node, Tree, is_marked, entries_of}
-use Rattle.tree_theory.specs.declared.place.Place.TheVariants.{Linked, Unlinked, Retired}
+use Rattle.tree_theory.specs.declared.position.Position.TheVariants.{Linked, Unlinked, Retired}
 use Rattle.tree_theory.proofs.ListLemmas.{handle_cases}
 use Rattle.tree_theory.proofs.ShapePlace.{leaf_entry}
 
-module _ {C : Class} where
+module _ {Key Query Item : Type 0} {C : Class Key Query Item} where
   module _ {t u : Tree C} {h : Handle} (change : IsFreed t u h) (shape : Shape t) where
     freed_from : (x : Handle) (n : Node C) → u.look x ≡ Some n → t.look x ≡ Some n
     freed_from x n is = elim (handle_cases x h) [
@@ -31,7 +31,7 @@ module _ {C : Class} where
         let now = freed_to t.root was.node was.is (λ stamp place. let root = was.place in absurd (cc)) in
         record { node = was.node; is = cc (change.clock.root, now); place = was.place }
 
-    freed_entry_down : (p : Handle) (node : Node C) → u.look p ≡ Some node → (key : C.Key) (c : Handle) → Contains (entries_of node.body) (key, c) → Child u p node c
+    freed_entry_down : (p : Handle) (node : Node C) → u.look p ≡ Some node → (key : Key) (c : Handle) → Contains (entries_of node.body) (key, c) → Child u p node c
     freed_entry_down p node is key c has =
         let child = shape.entry_down p node (freed_from p node is) key c has in
         record { node = child.node; is = freed_to c child.node child.is (λ stamp place. let linked = child.place in absurd (cc)); marked = child.marked; place = child.place; level = child.level }

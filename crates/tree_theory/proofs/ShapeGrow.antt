@@ -8,15 +8,15 @@ use Rattle.tree_theory.specs.KeyClasses.{Class}
 use Rattle.tree_theory.specs.Nodes.{Node, Tree, is_marked, entries_of, children_of, size_of, under, place_under}
 use Rattle.tree_theory.specs.Nodes.PlainBody.{Leaf, Inner}
 use Rattle.tree_theory.specs.declared.TheConstants.{NODE_SIZE, TOP_LEVEL}
-use Rattle.tree_theory.specs.declared.place.Place.{Place}
-use Rattle.tree_theory.specs.declared.place.Place.TheVariants.{Root, Linked, Unlinked, Retired}
+use Rattle.tree_theory.specs.declared.position.Position.{Position}
+use Rattle.tree_theory.specs.declared.position.Position.TheVariants.{Root, Linked, Unlinked, Retired}
 use Rattle.tree_theory.proofs.ListLemmas.{handle_cases, child_cases, first_in, later_in, nothing_in, in_cases, in_one, one_in, other_in, parted_cases}
 use Rattle.tree_theory.proofs.ShapeKept.{mark_at, entry_at, covers_at}
 use Rattle.tree_theory.proofs.ShapeLists.{Differ, pairs_with, one_pairs, turned, parts_differ}
 use Rattle.tree_theory.proofs.ShapeSplit.{Hangs, hangs_mark, root_was, unlinked_stays, unlinked_was, retired_was, linked_stays, mark_stays, moved_goes, kept_stays, halved_sizes, not_empty, child_in, entry_of_child}
 use Rattle.tree_theory.proofs.ShapeSplit.Hangs.{hangs_same, hangs_moved}
 
-module _ {C : Class} where
+module _ {Key Query Item : Type 0} {C : Class Key Query Item} where
   module _ {t u : Tree C} {a b : Handle} (change : IsGrown t u a b) (shape : Shape t) where
     abbrev top : Node C
     top = record change.node { level = change.node.level + 1; body = Inner ((change.one_key, a) ∷ (change.two_key, b) ∷ []) }
@@ -41,7 +41,7 @@ module _ {C : Class} where
       level : old.level ≡ now.level
       right : old.right ≡ now.right
       body : old.body ≡ now.body
-      middle : Place
+      middle : Position
       to_a : Hangs t.root a (One x) old.place middle
       to_b : Hangs t.root b (Two x) middle now.place
 
@@ -51,10 +51,10 @@ module _ {C : Class} where
     not_second : (x : Handle) (n : Node C) → t.look x ≡ Some n → x ≢ b
     not_second x n is e = let fresh = change.fresh_two in absurd (cc)
 
-    had_one : (key : C.Key) (c : Handle) → Contains (entries_of change.one) (key, c) → Contains (entries_of change.node.body) (key, c)
+    had_one : (key : Key) (c : Handle) → Contains (entries_of change.one) (key, c) → Contains (entries_of change.node.body) (key, c)
     had_one key c has = one_in (key, c) change.halves.entries has
 
-    had_two : (key : C.Key) (c : Handle) → Contains (entries_of change.two) (key, c) → Contains (entries_of change.node.body) (key, c)
+    had_two : (key : Key) (c : Handle) → Contains (entries_of change.two) (key, c) → Contains (entries_of change.node.body) (key, c)
     had_two key c has = other_in (key, c) change.halves.entries has
 
     one_not_two : (x : Handle) → One x → Two x → ⊥
@@ -64,14 +64,14 @@ module _ {C : Class} where
         parts_differ change.halves.entries (shape.children_differ t.root change.node change.before) mine.0 other.0 x mine.1 other.1
 
     -- an entry's child is not the root
-    named_not_root : (p : Handle) (n : Node C) → t.look p ≡ Some n → (key : C.Key) (c : Handle) → Contains (entries_of n.body) (key, c) → c ≢ t.root
+    named_not_root : (p : Handle) (n : Node C) → t.look p ≡ Some n → (key : Key) (c : Handle) → Contains (entries_of n.body) (key, c) → c ≢ t.root
     named_not_root p n is key c has same =
         let child = shape.entry_down p n is key c has in
         let one : child.node ≡ change.node = cc (child.is, change.before, same) in
         let place : child.node.place ≡ change.node.place = ap (λ node. node.place) one in
         absurd (cc (place, child.place, change.place))
 
-    linked_under_root : (key : C.Key) (x : Handle) → Contains (entries_of change.node.body) (key, x) → (old : Node C) → t.look x ≡ Some old → (marked : Bool) × (old.place ≡ Linked t.root marked)
+    linked_under_root : (key : Key) (x : Handle) → Contains (entries_of change.node.body) (key, x) → (old : Node C) → t.look x ≡ Some old → (marked : Bool) × (old.place ≡ Linked t.root marked)
     linked_under_root key x has old was =
         let child = shape.entry_down t.root change.node change.before key x has in
         let one : child.node ≡ old = cc (child.is, was) in
@@ -167,7 +167,7 @@ module _ {C : Class} where
         each_node (λ x n. n.place ≡ Root → x ≡ u.root) (λ e. sym change.clock.root) (λ e. absurd (cc)) (λ e. absurd (cc)) (λ x old now apart twin place. shape.root_only x old twin.was (root_was twin.to_a (root_was twin.to_b place)) ∙ sym change.clock.root)
 
     -- the root has the entries of a and b
-    top_entries : (key : C.Key) (c : Handle) → Contains (entries_of top.body) (key, c) → ((key ≡ change.one_key) × (c ≡ a)) ⊎ ((key ≡ change.two_key) × (c ≡ b))
+    top_entries : (key : Key) (c : Handle) → Contains (entries_of top.body) (key, c) → ((key ≡ change.one_key) × (c ≡ a)) ⊎ ((key ≡ change.two_key) × (c ≡ b))
     top_entries key c has = elim (in_cases (change.one_key, a) ((change.two_key, b) ∷ []) (key, c) has) [
       | inl e ↦ inl (sym (ap (λ entry. entry.0) e), sym (ap (λ entry. entry.1) e))
       | inr later ↦
@@ -175,13 +175,13 @@ module _ {C : Class} where
           inr (sym (ap (λ entry. entry.0) e), sym (ap (λ entry. entry.1) e))
     ]
 
-    root_down : (key : C.Key) (c : Handle) → Contains (entries_of top.body) (key, c) → Child u t.root top c
+    root_down : (key : Key) (c : Handle) → Contains (entries_of top.body) (key, c) → Child u t.root top c
     root_down key c has = elim (top_entries key c has) [
       | inl e ↦ subst (Child u t.root top) (sym e.1) (record { node = first; is = change.one_now; marked = false; place = refl; level = refl })
       | inr e ↦ subst (Child u t.root top) (sym e.1) (record { node = second; is = change.two_now; marked = false; place = refl; level = refl })
     ]
 
-    first_down : (key : C.Key) (c : Handle) → Contains (entries_of change.one) (key, c) → Child u a first c
+    first_down : (key : Key) (c : Handle) → Contains (entries_of change.one) (key, c) → Child u a first c
     first_down key c has =
         let had = had_one key c has in
         let child = shape.entry_down t.root change.node change.before key c had in
@@ -190,7 +190,7 @@ module _ {C : Class} where
         let middle = moved_goes now.1.to_a one child.marked child.place in
         record { node = now.0; is = now.1.is; marked = child.marked; place = sym (kept_stays now.1.to_b (one_not_two c one)) ∙ middle; level = child.level ∙ ap (λ level. level + 1) now.1.level }
 
-    second_down : (key : C.Key) (c : Handle) → Contains (entries_of change.two) (key, c) → Child u b second c
+    second_down : (key : Key) (c : Handle) → Contains (entries_of change.two) (key, c) → Child u b second c
     second_down key c has =
         let had = had_two key c has in
         let child = shape.entry_down t.root change.node change.before key c had in
@@ -199,16 +199,16 @@ module _ {C : Class} where
         let middle = sym (kept_stays now.1.to_a (λ one. one_not_two c one two)) ∙ child.place in
         record { node = now.0; is = now.1.is; marked = child.marked; place = moved_goes now.1.to_b two child.marked middle; level = child.level ∙ ap (λ level. level + 1) now.1.level }
 
-    other_down : (x : Handle) (old now : Node C) → x ≢ t.root → Twin x old now → (key : C.Key) (c : Handle) → Contains (entries_of now.body) (key, c) → Child u x now c
+    other_down : (x : Handle) (old now : Node C) → x ≢ t.root → Twin x old now → (key : Key) (c : Handle) → Contains (entries_of now.body) (key, c) → Child u x now c
     other_down x old now apart twin key c has =
         let had = entry_at now.body old.body (key, c) (sym twin.body) has in
         let child = shape.entry_down x old twin.was key c had in
         let below = twin_to c child.node (named_not_root x old twin.was key c had) child.is in
         record { node = below.0; is = below.1.is; marked = child.marked; place = linked_stays below.1.to_b x child.marked apart (linked_stays below.1.to_a x child.marked apart child.place); level = sym twin.level ∙ (child.level ∙ ap (λ level. level + 1) below.1.level) }
 
-    grown_entry_down : (x : Handle) (node : Node C) → u.look x ≡ Some node → (key : C.Key) (c : Handle) → Contains (entries_of node.body) (key, c) → Child u x node c
+    grown_entry_down : (x : Handle) (node : Node C) → u.look x ≡ Some node → (key : Key) (c : Handle) → Contains (entries_of node.body) (key, c) → Child u x node c
     grown_entry_down =
-        each_node (λ x n. (key : C.Key) (c : Handle) → Contains (entries_of n.body) (key, c) → Child u x n c) root_down first_down second_down other_down
+        each_node (λ x n. (key : Key) (c : Handle) → Contains (entries_of n.body) (key, c) → Child u x n c) root_down first_down second_down other_down
 
     first_up : (q : Handle) (marked : Bool) → Linked t.root false ≡ Linked q marked → Parent u a first q
     first_up q marked place =
@@ -221,7 +221,7 @@ module _ {C : Class} where
         subst (Parent u b second) same (record { node = top; is = change.root_now; key = change.two_key; entry = later_in (change.one_key, a) ((change.two_key, b) ∷ []) (change.two_key, b) (first_in (change.two_key, b) []); level = refl })
 
     -- a child that moved is one level below a and b
-    child_level : (key : C.Key) (x : Handle) (old now : Node C) → Twin x old now → Contains (entries_of change.node.body) (key, x) → change.node.level ≡ now.level + 1
+    child_level : (key : Key) (x : Handle) (old now : Node C) → Twin x old now → Contains (entries_of change.node.body) (key, x) → change.node.level ≡ now.level + 1
     child_level key x old now twin has =
         let child = shape.entry_down t.root change.node change.before key x has in
         let one : child.node ≡ old = cc (child.is, twin.was) in
@@ -343,18 +343,18 @@ module _ {C : Class} where
         each_node (λ x n. (stamp : ℕ) → n.place ≡ Retired stamp → n.body ≡ Leaf []) (λ stamp e. let root = change.place in absurd (cc)) (λ stamp e. absurd (cc)) (λ stamp e. absurd (cc)) (λ x old now apart twin stamp place. sym twin.body ∙ shape.retired_empty x old twin.was stamp (retired_was twin.to_a stamp (retired_was twin.to_b stamp place)))
 
     -- an old entry's child was there before
-    named : (p : Handle) (parent : Node C) → t.look p ≡ Some parent → (key : C.Key) (c : Handle) (node : Node C) → u.look c ≡ Some node → Contains (entries_of parent.body) (key, c) → (old : Node C) × Twin c old node
+    named : (p : Handle) (parent : Node C) → t.look p ≡ Some parent → (key : Key) (c : Handle) (node : Node C) → u.look c ≡ Some node → Contains (entries_of parent.body) (key, c) → (old : Node C) × Twin c old node
     named p parent is key c node is_now has =
         let child = shape.entry_down p parent is key c has in
         twin_from c node (named_not_root p parent is key c has) (not_first c child.node child.is) (not_second c child.node child.is) is_now
 
     -- an old entry still covers its child
-    child_covered : (p : Handle) (parent : Node C) → t.look p ≡ Some parent → (key : C.Key) (c : Handle) (node : Node C) → u.look c ≡ Some node → Contains (entries_of parent.body) (key, c) → CoversBody C key node.body
+    child_covered : (p : Handle) (parent : Node C) → t.look p ≡ Some parent → (key : Key) (c : Handle) (node : Node C) → u.look c ≡ Some node → Contains (entries_of parent.body) (key, c) → CoversBody C key node.body
     child_covered p parent is key c node is_now has =
         let child = named p parent is key c node is_now has in
         covers_at child.0.body node.body key child.1.body (shape.cover p parent is key c has child.0 child.1.was)
 
-    top_covers : (key : C.Key) (c : Handle) → Contains (entries_of top.body) (key, c) → (node : Node C) → u.look c ≡ Some node → CoversBody C key node.body
+    top_covers : (key : Key) (c : Handle) → Contains (entries_of top.body) (key, c) → (node : Node C) → u.look c ≡ Some node → CoversBody C key node.body
     top_covers key c has node is = elim (top_entries key c has) [
       | inl e ↦
           let one : first ≡ node = cc (change.one_now, is, e.1) in
@@ -364,19 +364,19 @@ module _ {C : Class} where
           subst (λ key. CoversBody C key node.body) (sym e.0) (covers_at change.two node.body change.two_key (ap (λ node. node.body) one) change.two_union.covers)
     ]
 
-    grown_cover : (p : Handle) (parent : Node C) → u.look p ≡ Some parent → (key : C.Key) (c : Handle) → Contains (entries_of parent.body) (key, c) → (node : Node C) → u.look c ≡ Some node → CoversBody C key node.body
+    grown_cover : (p : Handle) (parent : Node C) → u.look p ≡ Some parent → (key : Key) (c : Handle) → Contains (entries_of parent.body) (key, c) → (node : Node C) → u.look c ≡ Some node → CoversBody C key node.body
     grown_cover =
-        each_node (λ p n. (key : C.Key) (c : Handle) → Contains (entries_of n.body) (key, c) → (node : Node C) → u.look c ≡ Some node → CoversBody C key node.body)
+        each_node (λ p n. (key : Key) (c : Handle) → Contains (entries_of n.body) (key, c) → (node : Node C) → u.look c ≡ Some node → CoversBody C key node.body)
         top_covers
         (λ key c has node is. child_covered t.root change.node change.before key c node is (had_one key c has))
         (λ key c has node is. child_covered t.root change.node change.before key c node is (had_two key c has))
         (λ p old now apart twin key c has node is. child_covered p old twin.was key c node is (entry_at now.body old.body (key, c) (sym twin.body) has))
 
     -- and the right node of a marked child
-    abbrev Beside : C.Key → Node C → Type 0
+    abbrev Beside : Key → Node C → Type 0
     Beside key n = IsTrue (is_marked n.place) → (x : Handle) (beside : Node C) → n.right ≡ Some x → u.look x ≡ Some beside → CoversBody C key beside.body
 
-    beside_covered : (p : Handle) (parent : Node C) → t.look p ≡ Some parent → (key : C.Key) (c : Handle) (node : Node C) → u.look c ≡ Some node → Contains (entries_of parent.body) (key, c) → Beside key node
+    beside_covered : (p : Handle) (parent : Node C) → t.look p ≡ Some parent → (key : Key) (c : Handle) (node : Node C) → u.look c ≡ Some node → Contains (entries_of parent.body) (key, c) → Beside key node
     beside_covered p parent is key c node is_now has marked x beside to_right is_right =
         let child = named p parent is key c node is_now has in
         let mark = old_mark c child.0 node child.1 marked in
@@ -386,7 +386,7 @@ module _ {C : Class} where
         let one : there.0 ≡ beside = cc (there.1.is, is_right, same) in
         covers_at next.node.body beside.body key (there.1.body ∙ ap (λ node. node.body) one) (shape.cover_marked p parent is key c has child.0 child.1.was mark next.right next.node next.is_right next.is)
 
-    top_beside : (key : C.Key) (c : Handle) → Contains (entries_of top.body) (key, c) → (node : Node C) → u.look c ≡ Some node → Beside key node
+    top_beside : (key : Key) (c : Handle) → Contains (entries_of top.body) (key, c) → (node : Node C) → u.look c ≡ Some node → Beside key node
     top_beside key c has node is marked x beside to_right is_right = elim (top_entries key c has) [
       | inl e ↦
           let one : first ≡ node = cc (change.one_now, is, e.1) in
@@ -398,9 +398,9 @@ module _ {C : Class} where
           absurd (cc)
     ]
 
-    grown_cover_marked : (p : Handle) (parent : Node C) → u.look p ≡ Some parent → (key : C.Key) (c : Handle) → Contains (entries_of parent.body) (key, c) → (node : Node C) → u.look c ≡ Some node → Beside key node
+    grown_cover_marked : (p : Handle) (parent : Node C) → u.look p ≡ Some parent → (key : Key) (c : Handle) → Contains (entries_of parent.body) (key, c) → (node : Node C) → u.look c ≡ Some node → Beside key node
     grown_cover_marked =
-        each_node (λ p n. (key : C.Key) (c : Handle) → Contains (entries_of n.body) (key, c) → (node : Node C) → u.look c ≡ Some node → Beside key node)
+        each_node (λ p n. (key : Key) (c : Handle) → Contains (entries_of n.body) (key, c) → (node : Node C) → u.look c ≡ Some node → Beside key node)
         top_beside
         (λ key c has node is. beside_covered t.root change.node change.before key c node is (had_one key c has))
         (λ key c has node is. beside_covered t.root change.node change.before key c node is (had_two key c has))
@@ -435,7 +435,7 @@ module _ {C : Class} where
       | inr apart ↦ absurd (cc (change.others x apart, is))
     ]
 
-    no_entry : (x : Handle) (n : Node C) → u.look x ≡ Some n → (key : C.Key) (c : Handle) → Contains (entries_of n.body) (key, c) → ⊥
+    no_entry : (x : Handle) (n : Node C) → u.look x ≡ Some n → (key : Key) (c : Handle) → Contains (entries_of n.body) (key, c) → ⊥
     no_entry x n is key c has = let root = only_root x n is in nothing_in (key, c) (entry_at n.body (Leaf []) (key, c) root.1 has)
 
     started_differ : (x : Handle) (n : Node C) → u.look x ≡ Some n → Differ (entries_of n.body)

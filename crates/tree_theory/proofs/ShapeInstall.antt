@@ -9,32 +9,32 @@ use Rattle.tree_theory.specs.KeyClasses.{Class, Laws}
 use Rattle.tree_theory.specs.Nodes.{Body, Node, Tree, is_marked, entries_of, size_of}
 use Rattle.tree_theory.specs.Nodes.PlainBody.{Leaf, Inner}
 use Rattle.tree_theory.specs.declared.TheConstants.{NODE_SIZE, TOP_LEVEL}
-use Rattle.tree_theory.specs.declared.place.Place.{Place}
-use Rattle.tree_theory.specs.declared.place.Place.TheVariants.{Root, Linked, Unlinked, Retired}
+use Rattle.tree_theory.specs.declared.position.Position.{Position}
+use Rattle.tree_theory.specs.declared.position.Position.TheVariants.{Root, Linked, Unlinked, Retired}
 use Rattle.tree_theory.proofs.ListLemmas.{handle_cases, nothing_in, first_in, in_one, got_in}
 use Rattle.tree_theory.proofs.ShapeKept.{mark_at, entry_at, covers_at}
 use Rattle.tree_theory.proofs.ShapeLists.{Differ, rekeyed_in, rekeyed_to, rekeyed_from, rekeyed_differ, added_differ}
 
 -- a node's place before and after: l loses its mark, r is linked, and other places stay
-data Settles (p l r x : Handle) (old now : Place) : Type 0 where
+data Settles (p l r x : Handle) (old now : Position) : Type 0 where
   settles_same : old ≡ now → x ≢ l → x ≢ r → Settles p l r x old now
   settles_left : x ≡ l → old ≡ Linked p true → now ≡ Linked p false → Settles p l r x old now
   settles_right : x ≡ r → old ≡ Unlinked l → now ≡ Linked p false → Settles p l r x old now
 
 -- whatever is marked now is neither l nor r
-settles_marked : {p l r x : Handle} {old now : Place} → Settles p l r x old now → IsTrue (is_marked now) → (old ≡ now) × (x ≢ l) × (x ≢ r)
+settles_marked : {p l r x : Handle} {old now : Position} → Settles p l r x old now → IsTrue (is_marked now) → (old ≡ now) × (x ≢ l) × (x ≢ r)
 settles_marked (settles_same e a b) marked = (e, a, b)
 settles_marked {p = p} {now = now} (settles_left e was is) marked = let no : false ≡ true = mark_at now (Linked p false) is marked in absurd (cc)
 settles_marked {p = p} {now = now} (settles_right e was is) marked = let no : false ≡ true = mark_at now (Linked p false) is marked in absurd (cc)
 
-module _ {C : Class} where
+module _ {Key Query Item : Type 0} {C : Class Key Query Item} where
   -- an entry's old key covers the new one that is made for it
-  pub key_for_below : Laws C → (body : Body C) (old key : C.Key) → IsKeyFor C body old key → CoversBody C old body → C.Covers old key
+  pub key_for_below : Laws C → (body : Body C) (old key : Key) → IsKeyFor C body old key → CoversBody C old body → C.Covers old key
   key_for_below laws body old key (inl filled) covers = filled.1.least old covers
   key_for_below laws body old key (inr empty) covers = subst (C.Covers old) (sym empty.1) (laws.reflexive old)
 
   -- and the new key covers the body
-  pub key_for_covers : (body : Body C) (old key : C.Key) → IsKeyFor C body old key → CoversBody C key body
+  pub key_for_covers : (body : Body C) (old key : Key) → IsKeyFor C body old key → CoversBody C key body
   key_for_covers body old key (inl filled) = filled.1.covers
   key_for_covers (Leaf pairs) old key (inr empty) =
       record { pairs = λ pair has. let lt = has.1 in let none = empty.0 in absurd (omega arith); entries = λ entry has. absurd (nothing_in entry has) }
@@ -42,7 +42,7 @@ module _ {C : Class} where
       record { pairs = λ pair has. absurd (nothing_in pair has); entries = λ entry has. let lt = has.1 in let none = empty.0 in absurd (omega arith) }
 
   module _ (laws : Laws C) {t u : Tree C} {p l r : Handle} (change : IsInstalled t u p l r) (shape : Shape t) where
-    had_entries : (entry : C.Key × Handle) → Contains change.entries entry → Contains (entries_of change.node.body) entry
+    had_entries : (entry : Key × Handle) → Contains change.entries entry → Contains (entries_of change.node.body) entry
     had_entries entry has = entry_at (Inner change.entries) change.node.body entry (sym change.body) has
 
     left_entry : Contains (entries_of change.node.body) (change.old, l)
@@ -96,7 +96,7 @@ module _ {C : Class} where
         absurd (cc)
 
     -- no entry names r
-    right_not_named : (x : Handle) (n : Node C) → t.look x ≡ Some n → (key : C.Key) → Contains (entries_of n.body) (key, r) → ⊥
+    right_not_named : (x : Handle) (n : Node C) → t.look x ≡ Some n → (key : Key) → Contains (entries_of n.body) (key, r) → ⊥
     right_not_named x n is key has =
         let child = shape.entry_down x n is key r has in
         let one : child.node ≡ change.right = cc (child.is, change.right_before) in
@@ -111,14 +111,14 @@ module _ {C : Class} where
     right_wide : C.Covers change.old change.right_key
     right_wide = key_for_below laws change.right.body change.old change.right_key change.for_right (shape.cover_marked p change.node change.parent_before change.old l left_entry change.left change.left_before is_marked_left r change.right change.is_right change.right_before)
 
-    abbrev rekeyed : List (C.Key × Handle)
+    abbrev rekeyed : List (Key × Handle)
     rekeyed = slice_set change.entries change.index (change.left_key, l)
 
-    abbrev filled_up : List (C.Key × Handle)
+    abbrev filled_up : List (Key × Handle)
     filled_up = rekeyed ++ (change.right_key, r) ∷ []
 
     -- the origin of an entry of the new tree
-    abbrev Entry : Handle → Node C → C.Key → Handle → Type 0
+    abbrev Entry : Handle → Node C → Key → Handle → Type 0
     Entry x was key c = Contains (entries_of was.body) (key, c) ⊎ ((x ≡ p) × (((key ≡ change.left_key) × (c ≡ l)) ⊎ ((key ≡ change.right_key) × (c ≡ r))))
 
     -- the old node of a new one
@@ -128,8 +128,8 @@ module _ {C : Class} where
       level : node.level ≡ now.level
       right : node.right ≡ now.right
       place : Settles p l r x node.place now.place
-      entries : (key : C.Key) (c : Handle) → Contains (entries_of now.body) (key, c) → Entry x node key c
-      covers : (key : C.Key) → CoversBody C key node.body → CoversBody C key now.body
+      entries : (key : Key) (c : Handle) → Contains (entries_of now.body) (key, c) → Entry x node key c
+      covers : (key : Key) → CoversBody C key node.body → CoversBody C key now.body
       differ : Differ (entries_of now.body)
       filled : now.body ≡ Inner [] → ⊥
       size : size_of now.body ≤ NODE_SIZE
@@ -142,7 +142,7 @@ module _ {C : Class} where
       level : node.level ≡ was.level
       right : node.right ≡ was.right
       place : Settles p l r x was.place node.place
-      entries : (key : C.Key) (c : Handle) → Contains (entries_of was.body) (key, c) → (now : C.Key) × Contains (entries_of node.body) (now, c)
+      entries : (key : Key) (c : Handle) → Contains (entries_of was.body) (key, c) → (now : Key) × Contains (entries_of node.body) (now, c)
 
     entries_differ : Differ change.entries
     entries_differ = subst (λ body. Differ (entries_of body)) change.body (shape.children_differ p change.node change.parent_before)
@@ -155,7 +155,7 @@ module _ {C : Class} where
           | inr stays ↦ right_not_named p change.node change.parent_before key (had_entries (key, r) stays)
         ])
 
-    filled_up_from : (key : C.Key) (c : Handle) → Contains filled_up (key, c) → Entry p change.node key c
+    filled_up_from : (key : Key) (c : Handle) → Contains filled_up (key, c) → Entry p change.node key c
     filled_up_from key c has = elim (Contains-append_cases rekeyed ((change.right_key, r) ∷ []) (key, c) has) [
       | inl front ↦ elim (rekeyed_from change.entries change.index change.old change.left_key l change.entry key c front) [
         | inl e ↦ inr (refl, inl e)
@@ -166,7 +166,7 @@ module _ {C : Class} where
           inr (refl, inr (sym (ap (λ entry. entry.0) same), sym (ap (λ entry. entry.1) same)))
     ]
 
-    filled_up_covers : (key : C.Key) → CoversBody C key change.node.body → CoversBody C key (Inner filled_up)
+    filled_up_covers : (key : Key) → CoversBody C key change.node.body → CoversBody C key (Inner filled_up)
     filled_up_covers key covers =
         let outer = covers.entries (change.old, l) left_entry in
         record {
@@ -311,27 +311,27 @@ module _ {C : Class} where
     ]
 
     -- the root keeps its place, and so do unlinked nodes other than r
-    root_stays : (x : Handle) (old now : Place) → Settles p l r x old now → old ≡ Root → now ≡ Root
+    root_stays : (x : Handle) (old now : Position) → Settles p l r x old now → old ≡ Root → now ≡ Root
     root_stays x old now (settles_same e a b) root = sym e ∙ root
     root_stays x old now (settles_left e was is) root = absurd (cc)
     root_stays x old now (settles_right e was is) root = absurd (cc)
 
-    root_was : (x : Handle) (old now : Place) → Settles p l r x old now → now ≡ Root → old ≡ Root
+    root_was : (x : Handle) (old now : Position) → Settles p l r x old now → now ≡ Root → old ≡ Root
     root_was x old now (settles_same e a b) root = e ∙ root
     root_was x old now (settles_left e was is) root = absurd (cc)
     root_was x old now (settles_right e was is) root = absurd (cc)
 
-    unlinked_stays : (x : Handle) (old now : Place) (left : Handle) → Settles p l r x old now → old ≡ Unlinked left → left ≢ l → now ≡ Unlinked left
+    unlinked_stays : (x : Handle) (old now : Position) (left : Handle) → Settles p l r x old now → old ≡ Unlinked left → left ≢ l → now ≡ Unlinked left
     unlinked_stays x old now left (settles_same e a b) unlinked apart = sym e ∙ unlinked
     unlinked_stays x old now left (settles_left e was is) unlinked apart = absurd (cc)
     unlinked_stays x old now left (settles_right e was is) unlinked apart = absurd (apart (cc))
 
-    linked_stays : (x : Handle) (old now : Place) (q : Handle) (marked : Bool) → Settles p l r x old now → old ≡ Linked q marked → (marked : Bool) × (now ≡ Linked q marked)
+    linked_stays : (x : Handle) (old now : Position) (q : Handle) (marked : Bool) → Settles p l r x old now → old ≡ Linked q marked → (marked : Bool) × (now ≡ Linked q marked)
     linked_stays x old now q marked (settles_same e a b) linked = (marked, sym e ∙ linked)
     linked_stays x old now q marked (settles_left e was is) linked = let same : p ≡ q = cc in (false, subst (λ q. now ≡ Linked q false) same is)
     linked_stays x old now q marked (settles_right e was is) linked = absurd (cc)
 
-    marked_stays : (x : Handle) (old now : Place) (q : Handle) → Settles p l r x old now → old ≡ Linked q true → x ≢ l → now ≡ Linked q true
+    marked_stays : (x : Handle) (old now : Position) (q : Handle) → Settles p l r x old now → old ≡ Linked q true → x ≢ l → now ≡ Linked q true
     marked_stays x old now q (settles_same e a b) linked apart = sym e ∙ linked
     marked_stays x old now q (settles_left e was is) linked apart = absurd (apart e)
     marked_stays x old now q (settles_right e was is) linked apart = absurd (cc)
@@ -343,7 +343,7 @@ module _ {C : Class} where
         record { node = now.node; is = cc (change.clock.root, now.is); place = root_stays t.root was.node.place now.node.place now.place was.place }
 
     -- an entry's child is linked under its node
-    old_down : (x : Handle) (node was : Node C) (key : C.Key) (c : Handle) → t.look x ≡ Some was → was.level ≡ node.level → Contains (entries_of was.body) (key, c) → Child u x node c
+    old_down : (x : Handle) (node was : Node C) (key : Key) (c : Handle) → t.look x ≡ Some was → was.level ≡ node.level → Contains (entries_of was.body) (key, c) → Child u x node c
     old_down x node was key c is level has =
         let child = shape.entry_down x was is key c has in
         let now = stays_at c child.node child.is in
@@ -358,7 +358,7 @@ module _ {C : Class} where
     right_down node level =
         record { node = record change.right { place = Linked p false }; is = change.right_now; marked = false; place = refl; level = sym level ∙ (parent_level ∙ ap (λ level. level + 1) right_level) }
 
-    installed_entry_down : (x : Handle) (node : Node C) → u.look x ≡ Some node → (key : C.Key) (c : Handle) → Contains (entries_of node.body) (key, c) → Child u x node c
+    installed_entry_down : (x : Handle) (node : Node C) → u.look x ≡ Some node → (key : Key) (c : Handle) → Contains (entries_of node.body) (key, c) → Child u x node c
     installed_entry_down x node is key c has =
         let was = was_at x node is in
         elim (was.entries key c has) [
@@ -474,7 +474,7 @@ module _ {C : Class} where
         let one : record change.right { place = Linked p false } ≡ node = cc (change.right_now, is) in
         covers_at change.right.body node.body change.right_key (ap (λ node. node.body) one) (key_for_covers change.right.body change.old change.right_key change.for_right)
 
-    installed_cover : (x : Handle) (parent : Node C) → u.look x ≡ Some parent → (key : C.Key) (c : Handle) → Contains (entries_of parent.body) (key, c) → (node : Node C) → u.look c ≡ Some node → CoversBody C key node.body
+    installed_cover : (x : Handle) (parent : Node C) → u.look x ≡ Some parent → (key : Key) (c : Handle) → Contains (entries_of parent.body) (key, c) → (node : Node C) → u.look c ≡ Some node → CoversBody C key node.body
     installed_cover x parent is key c has node is_child =
         let was = was_at x parent is in
         elim (was.entries key c has) [
@@ -487,7 +487,7 @@ module _ {C : Class} where
           ]
         ]
 
-    installed_cover_marked : (x : Handle) (parent : Node C) → u.look x ≡ Some parent → (key : C.Key) (c : Handle) → Contains (entries_of parent.body) (key, c) → (node : Node C) → u.look c ≡ Some node → IsTrue (is_marked node.place) → (beside : Handle) (right : Node C) → node.right ≡ Some beside → u.look beside ≡ Some right → CoversBody C key right.body
+    installed_cover_marked : (x : Handle) (parent : Node C) → u.look x ≡ Some parent → (key : Key) (c : Handle) → Contains (entries_of parent.body) (key, c) → (node : Node C) → u.look c ≡ Some node → IsTrue (is_marked node.place) → (beside : Handle) (right : Node C) → node.right ≡ Some beside → u.look beside ≡ Some right → CoversBody C key right.body
     installed_cover_marked x parent is key c has node is_child marked beside right to_right is_right =
         let was = was_at x parent is in
         let child = was_at c node is_child in

@@ -6,17 +6,17 @@ use Rattle.tree_theory.specs.Invariant.{CoversBody, RootStands, Child, Parent, R
 use Rattle.tree_theory.specs.KeyClasses.{Class}
 use Rattle.tree_theory.specs.Nodes.{PlainBody, Body, Node, Tree, is_marked, entries_of, size_of}
 use Rattle.tree_theory.specs.declared.TheConstants.{NODE_SIZE}
-use Rattle.tree_theory.specs.declared.place.Place.{Place}
-use Rattle.tree_theory.specs.declared.place.Place.TheVariants.{Root, Linked, Unlinked}
+use Rattle.tree_theory.specs.declared.position.Position.{Position}
+use Rattle.tree_theory.specs.declared.position.Position.TheVariants.{Root, Linked, Unlinked}
 use Rattle.tree_theory.proofs.Replaced.{node_from, node_to}
 
-pub mark_at : (a b : Place) → a ≡ b → IsTrue (is_marked a) → IsTrue (is_marked b)
+pub mark_at : (a b : Position) → a ≡ b → IsTrue (is_marked a) → IsTrue (is_marked b)
 mark_at a b e marked = subst (λ place. IsTrue (is_marked place)) e marked
 
 pub entry_at : {Key Item : Type 0} (a b : PlainBody Key Item) (entry : Key × Handle) → a ≡ b → Contains (entries_of a) entry → Contains (entries_of b) entry
 entry_at a b entry e has = subst (λ body. Contains (entries_of body) entry) e has
 
-module _ {C : Class} where
+module _ {Key Query Item : Type 0} {C : Class Key Query Item} where
   -- the tree has a node at this handle with the same level, body, rightlink and place
   pub record Alike (t : Tree C) (h : Handle) (like : Node C) : Type 0 where
     pub node : Node C
@@ -31,7 +31,7 @@ module _ {C : Class} where
     pub from : (h : Handle) (node : Node C) → u.look h ≡ Some node → Alike t h node
     pub to : (h : Handle) (node : Node C) → t.look h ≡ Some node → Alike u h node
 
-  pub covers_at : (a b : Body C) (key : C.Key) → a ≡ b → CoversBody C key a → CoversBody C key b
+  pub covers_at : (a b : Body C) (key : Key) → a ≡ b → CoversBody C key a → CoversBody C key b
   covers_at a b key e covers = subst (CoversBody C key) e covers
 
   module _ {t u : Tree C} (same : SameShape t u) (shape : Shape t) where
@@ -46,7 +46,7 @@ module _ {C : Class} where
         let was = same.from h node is in
         shape.root_only h was.node was.is (was.place ∙ place) ∙ sym same.root
 
-    kept_entry_down : (p : Handle) (node : Node C) → u.look p ≡ Some node → (key : C.Key) (c : Handle) → Contains (entries_of node.body) (key, c) → Child u p node c
+    kept_entry_down : (p : Handle) (node : Node C) → u.look p ≡ Some node → (key : Key) (c : Handle) → Contains (entries_of node.body) (key, c) → Child u p node c
     kept_entry_down p node is key c has =
         let was = same.from p node is in
         let child = shape.entry_down p was.node was.is key c (entry_at node.body was.node.body (key, c) (sym was.body) has) in
@@ -79,13 +79,13 @@ module _ {C : Class} where
         let now = same.to l left.node left.is in
         record { node = now.node; is = now.is; parent = left.parent; place = now.place ∙ left.place; right = now.right ∙ left.right; level = cc (was.level, left.level, now.level) }
 
-    kept_cover : (p : Handle) (parent : Node C) → u.look p ≡ Some parent → (key : C.Key) (c : Handle) → Contains (entries_of parent.body) (key, c) → (node : Node C) → u.look c ≡ Some node → CoversBody C key node.body
+    kept_cover : (p : Handle) (parent : Node C) → u.look p ≡ Some parent → (key : Key) (c : Handle) → Contains (entries_of parent.body) (key, c) → (node : Node C) → u.look c ≡ Some node → CoversBody C key node.body
     kept_cover p parent is key c has node is_child =
         let was = same.from p parent is in
         let child = same.from c node is_child in
         covers_at child.node.body node.body key child.body (shape.cover p was.node was.is key c (entry_at parent.body was.node.body (key, c) (sym was.body) has) child.node child.is)
 
-    kept_cover_marked : (p : Handle) (parent : Node C) → u.look p ≡ Some parent → (key : C.Key) (c : Handle) → Contains (entries_of parent.body) (key, c) → (node : Node C) → u.look c ≡ Some node → IsTrue (is_marked node.place) → (r : Handle) (right : Node C) → node.right ≡ Some r → u.look r ≡ Some right → CoversBody C key right.body
+    kept_cover_marked : (p : Handle) (parent : Node C) → u.look p ≡ Some parent → (key : Key) (c : Handle) → Contains (entries_of parent.body) (key, c) → (node : Node C) → u.look c ≡ Some node → IsTrue (is_marked node.place) → (r : Handle) (right : Node C) → node.right ≡ Some r → u.look r ≡ Some right → CoversBody C key right.body
     kept_cover_marked p parent is key c has node is_child marked r right to_right is_right =
         let was = same.from p parent is in
         let child = same.from c node is_child in
@@ -145,7 +145,7 @@ module _ {C : Class} where
         ];
       }
 
-  pub shape_opened : {t u : Tree C} {query : C.Query} → Shape t → IsOpened t u query → Shape u
+  pub shape_opened : {t u : Tree C} {query : Query} → Shape t → IsOpened t u query → Shape u
   shape_opened shape change = same_shape (alike_itself change.nodes change.root) shape
 
   pub shape_closed : {t u : Tree C} {s : ℕ} → Shape t → IsClosed t u s → Shape u

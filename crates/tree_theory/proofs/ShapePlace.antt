@@ -9,7 +9,7 @@ use Rattle.tree_theory.specs.KeyClasses.{Class, Laws}
 use Rattle.tree_theory.specs.Nodes.{PlainBody, Node, Tree, entries_of, pairs_of, size_of}
 use Rattle.tree_theory.specs.Nodes.PlainBody.{Leaf}
 use Rattle.tree_theory.specs.declared.TheConstants.{NODE_SIZE}
-use Rattle.tree_theory.specs.declared.place.Place.TheVariants.{Retired}
+use Rattle.tree_theory.specs.declared.position.Position.TheVariants.{Retired}
 use Rattle.tree_theory.proofs.ListLemmas.{nothing_in, in_one, one_in}
 use Rattle.tree_theory.proofs.ShapeKept.{entry_at}
 use Rattle.tree_theory.proofs.ShapeLists.{parted_sizes}
@@ -26,12 +26,12 @@ pair_at a b pair e has = subst (λ body. Contains (pairs_of body) pair) e has
 pub leaf_entry : {Key Item : Type 0} (body : PlainBody Key Item) (pairs : List (ℕ × Item)) (entry : Key × Handle) → body ≡ Leaf pairs → Contains (entries_of body) entry → ⊥
 leaf_entry body pairs entry e has = nothing_in entry (entry_at body (Leaf pairs) entry e has)
 
-module _ {C : Class} where
-  taker_not_retired : {t : Tree C} {h : Handle} {key : C.Key} (node : Node C) → MayTake t h node key → (stamp : ℕ) → node.place ≡ Retired stamp → ⊥
+module _ {Key Query Item : Type 0} {C : Class Key Query Item} where
+  taker_not_retired : {t : Tree C} {h : Handle} {key : Key} (node : Node C) → MayTake t h node key → (stamp : ℕ) → node.place ≡ Retired stamp → ⊥
   taker_not_retired node (inl root) stamp place = absurd (cc (root, place))
   taker_not_retired node (inr entry) stamp place = absurd (cc (entry.place, place))
 
-  placed_body : {t u : Tree C} {h : Handle} {pair : ℕ × C.Item} → Laws C → Shape t → (change : IsPlaced t u h pair) → Rebodied t u h change.node (record change.node { body = Leaf (change.pairs ++ pair ∷ []) })
+  placed_body : {t u : Tree C} {h : Handle} {pair : ℕ × Item} → Laws C → Shape t → (change : IsPlaced t u h pair) → Rebodied t u h change.node (record change.node { body = Leaf (change.pairs ++ pair ∷ []) })
   placed_body {t = t} {u = u} {h = h} {pair = pair} laws shape change =
       record {
         one = change.nodes;
@@ -56,10 +56,10 @@ module _ {C : Class} where
         };
       }
 
-  pub shape_placed : {t u : Tree C} {h : Handle} {pair : ℕ × C.Item} → Laws C → Shape t → IsPlaced t u h pair → Shape u
+  pub shape_placed : {t u : Tree C} {h : Handle} {pair : ℕ × Item} → Laws C → Shape t → IsPlaced t u h pair → Shape u
   shape_placed laws shape change = rebodied_shape laws (placed_body laws shape change) shape
 
-  cleaned_body : {t u : Tree C} {Kept : ℕ × C.Item → Type 0} {h : Handle} → Shape t → (change : IsCleaned t u Kept h) → Rebodied t u h change.node (record change.node { body = Leaf change.left })
+  cleaned_body : {t u : Tree C} {Kept : ℕ × Item → Type 0} {h : Handle} → Shape t → (change : IsCleaned t u Kept h) → Rebodied t u h change.node (record change.node { body = Leaf change.left })
   cleaned_body {t = t} {u = u} {h = h} shape change =
       record {
         one = change.nodes;
@@ -87,5 +87,5 @@ module _ {C : Class} where
         };
       }
 
-  pub shape_cleaned : {t u : Tree C} {Kept : ℕ × C.Item → Type 0} {h : Handle} → Laws C → Shape t → IsCleaned t u Kept h → Shape u
+  pub shape_cleaned : {t u : Tree C} {Kept : ℕ × Item → Type 0} {h : Handle} → Laws C → Shape t → IsCleaned t u Kept h → Shape u
   shape_cleaned laws shape change = rebodied_shape laws (cleaned_body shape change) shape

@@ -10,13 +10,13 @@ use Rattle.tree_theory.specs.KeyClasses.{Class}
 use Rattle.tree_theory.specs.Nodes.{Node, Tree, is_marked, entries_of, size_of}
 use Rattle.tree_theory.specs.Nodes.PlainBody.{Leaf, Inner}
 use Rattle.tree_theory.specs.declared.TheConstants.{NODE_SIZE, TOP_LEVEL}
-use Rattle.tree_theory.specs.declared.place.Place.TheVariants.{Root, Linked, Unlinked, Retired}
+use Rattle.tree_theory.specs.declared.position.Position.TheVariants.{Root, Linked, Unlinked, Retired}
 use Rattle.tree_theory.proofs.ListLemmas.{handle_cases, nothing_in, remove_from}
 use Rattle.tree_theory.proofs.ShapeKept.{mark_at, entry_at, covers_at}
 use Rattle.tree_theory.proofs.ShapeLists.{Differ, removed_not_in, removed_to}
 use Rattle.tree_theory.proofs.ShapePlace.{leaf_entry}
 
-module _ {C : Class} where
+module _ {Key Query Item : Type 0} {C : Class Key Query Item} where
   module _ {t u : Tree C} {l p : Handle} (change : IsRetired t u l p) (shape : Shape t) where
     retired_apart : l ≢ p
     retired_apart e =
@@ -36,8 +36,8 @@ module _ {C : Class} where
       level : node.level ≡ now.level
       right : node.right ≡ now.right
       place : ((node.place ≡ now.place) × (x ≢ l)) ⊎ ((now.place ≡ Retired (t.counter + 1)) × (now.body ≡ Leaf []))
-      entries : (key : C.Key) (c : Handle) → Contains (entries_of now.body) (key, c) → Contains (entries_of node.body) (key, c) × (c ≢ l)
-      covers : (key : C.Key) → CoversBody C key node.body → CoversBody C key now.body
+      entries : (key : Key) (c : Handle) → Contains (entries_of now.body) (key, c) → Contains (entries_of node.body) (key, c) × (c ≢ l)
+      covers : (key : Key) → CoversBody C key node.body → CoversBody C key now.body
       differ : Differ (entries_of now.body)
       filled : now.body ≡ Inner [] → ⊥
       size : size_of now.body ≤ NODE_SIZE
@@ -50,10 +50,10 @@ module _ {C : Class} where
       level : node.level ≡ was.level
       right : node.right ≡ was.right
       place : node.place ≡ was.place
-      entries : (key : C.Key) (c : Handle) → c ≢ l → Contains (entries_of was.body) (key, c) → Contains (entries_of node.body) (key, c)
+      entries : (key : Key) (c : Handle) → c ≢ l → Contains (entries_of was.body) (key, c) → Contains (entries_of node.body) (key, c)
 
     -- only p has an entry for l
-    only_parent : (x : Handle) (n : Node C) → t.look x ≡ Some n → (key : C.Key) → Contains (entries_of n.body) (key, l) → x ≡ p
+    only_parent : (x : Handle) (n : Node C) → t.look x ≡ Some n → (key : Key) → Contains (entries_of n.body) (key, l) → x ≡ p
     only_parent x n is key has =
         let child = shape.entry_down x n is key l has in
         let one : child.node ≡ change.leaf = cc (child.is, change.leaf_before) in
@@ -180,7 +180,7 @@ module _ {C : Class} where
           | inr retired ↦ absurd (cc (retired.0, place))
         ]
 
-    retired_entry_down : (x : Handle) (node : Node C) → u.look x ≡ Some node → (key : C.Key) (c : Handle) → Contains (entries_of node.body) (key, c) → Child u x node c
+    retired_entry_down : (x : Handle) (node : Node C) → u.look x ≡ Some node → (key : Key) (c : Handle) → Contains (entries_of node.body) (key, c) → Child u x node c
     retired_entry_down x node is key c has =
         let was = was_at x node is in
         let had = was.entries key c has in
@@ -248,14 +248,14 @@ module _ {C : Class} where
           | inr retired ↦ retired.1
         ]
 
-    retired_cover : (x : Handle) (parent : Node C) → u.look x ≡ Some parent → (key : C.Key) (c : Handle) → Contains (entries_of parent.body) (key, c) → (node : Node C) → u.look c ≡ Some node → CoversBody C key node.body
+    retired_cover : (x : Handle) (parent : Node C) → u.look x ≡ Some parent → (key : Key) (c : Handle) → Contains (entries_of parent.body) (key, c) → (node : Node C) → u.look c ≡ Some node → CoversBody C key node.body
     retired_cover x parent is key c has node is_child =
         let was = was_at x parent is in
         let child = was_at c node is_child in
         let had = was.entries key c has in
         child.covers key (shape.cover x was.node was.is key c had.0 child.node child.is)
 
-    retired_cover_marked : (x : Handle) (parent : Node C) → u.look x ≡ Some parent → (key : C.Key) (c : Handle) → Contains (entries_of parent.body) (key, c) → (node : Node C) → u.look c ≡ Some node → IsTrue (is_marked node.place) → (r : Handle) (right : Node C) → node.right ≡ Some r → u.look r ≡ Some right → CoversBody C key right.body
+    retired_cover_marked : (x : Handle) (parent : Node C) → u.look x ≡ Some parent → (key : Key) (c : Handle) → Contains (entries_of parent.body) (key, c) → (node : Node C) → u.look c ≡ Some node → IsTrue (is_marked node.place) → (r : Handle) (right : Node C) → node.right ≡ Some r → u.look r ≡ Some right → CoversBody C key right.body
     retired_cover_marked x parent is key c has node is_child marked r right to_right is_right =
         let was = was_at x parent is in
         let child = was_at c node is_child in

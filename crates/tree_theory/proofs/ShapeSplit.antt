@@ -8,18 +8,18 @@ use Rattle.tree_theory.specs.KeyClasses.{Class}
 use Rattle.tree_theory.specs.Nodes.{PlainBody, Body, Node, Tree, is_marked, entries_of, pairs_of, children_of, size_of, under, place_under}
 use Rattle.tree_theory.specs.Nodes.PlainBody.{Leaf, Inner}
 use Rattle.tree_theory.specs.declared.TheConstants.{NODE_SIZE, TOP_LEVEL}
-use Rattle.tree_theory.specs.declared.place.Place.{Place}
-use Rattle.tree_theory.specs.declared.place.Place.TheVariants.{Root, Linked, Unlinked, Retired}
+use Rattle.tree_theory.specs.declared.position.Position.{Position}
+use Rattle.tree_theory.specs.declared.position.Position.TheVariants.{Root, Linked, Unlinked, Retired}
 use Rattle.tree_theory.proofs.ListLemmas.{handle_cases, child_cases, one_in, other_in, parted_cases, map_in, map_from}
 use Rattle.tree_theory.proofs.ShapeKept.{mark_at, entry_at, covers_at}
 use Rattle.tree_theory.proofs.ShapeLists.{Differ, one_pairs, turned, parted_sizes, parts_differ}
 
 -- a node's place before and after: its parent was h and is r, or its place stays
-pub data Hangs (h r : Handle) (moved : Type 0) (old now : Place) : Type 0 where
+pub data Hangs (h r : Handle) (moved : Type 0) (old now : Position) : Type 0 where
   hangs_same : (moved → ⊥) → old ≡ now → Hangs h r moved old now
   hangs_moved : (marked : Bool) → moved → old ≡ Linked h marked → now ≡ Linked r marked → Hangs h r moved old now
 
-module _ {h r : Handle} {moved : Type 0} {old now : Place} where
+module _ {h r : Handle} {moved : Type 0} {old now : Position} where
   pub hangs_mark : Hangs h r moved old now → IsTrue (is_marked now) → IsTrue (is_marked old)
   hangs_mark (hangs_same a e) marked = mark_at now old (sym e) marked
   hangs_mark (hangs_moved mark a was is) marked = mark_at (Linked h mark) old (sym was) (mark_at now (Linked r mark) is marked)
@@ -87,11 +87,11 @@ entry_of_child body c has =
     let found = map_from (λ entry. entry.1) (entries_of body) c has in
     (found.from.0, subst (λ child. Contains (entries_of body) (found.from.0, child)) found.is found.is_in)
 
-module _ {C : Class} where
-  pub covers_one : {whole one other : Body C} → IsHalved whole one other → (key : C.Key) → CoversBody C key whole → CoversBody C key one
+module _ {Key Query Item : Type 0} {C : Class Key Query Item} where
+  pub covers_one : {whole one other : Body C} → IsHalved whole one other → (key : Key) → CoversBody C key whole → CoversBody C key one
   covers_one halves key covers = record { pairs = λ pair has. covers.pairs pair (one_in pair halves.pairs has); entries = λ entry has. covers.entries entry (one_in entry halves.entries has) }
 
-  pub covers_other : {whole one other : Body C} → IsHalved whole one other → (key : C.Key) → CoversBody C key whole → CoversBody C key other
+  pub covers_other : {whole one other : Body C} → IsHalved whole one other → (key : Key) → CoversBody C key whole → CoversBody C key other
   covers_other halves key covers = record { pairs = λ pair has. covers.pairs pair (other_in pair halves.pairs has); entries = λ entry has. covers.entries entry (other_in entry halves.entries has) }
 
   module _ {t u : Tree C} {h r : Handle} (change : IsSplit t u h r) (shape : Shape t) where
@@ -117,13 +117,13 @@ module _ {C : Class} where
     stands_not_right x n is e = let fresh = change.fresh in absurd (cc)
 
     -- the children of h
-    had_kept : (key : C.Key) (c : Handle) → Contains (entries_of change.kept) (key, c) → Contains (entries_of change.node.body) (key, c)
+    had_kept : (key : Key) (c : Handle) → Contains (entries_of change.kept) (key, c) → Contains (entries_of change.node.body) (key, c)
     had_kept key c has = one_in (key, c) change.halves.entries has
 
-    had_moved : (key : C.Key) (c : Handle) → Contains (entries_of change.moved) (key, c) → Contains (entries_of change.node.body) (key, c)
+    had_moved : (key : Key) (c : Handle) → Contains (entries_of change.moved) (key, c) → Contains (entries_of change.node.body) (key, c)
     had_moved key c has = other_in (key, c) change.halves.entries has
 
-    child_not_parent : (p : Handle) (n : Node C) → t.look p ≡ Some n → (key : C.Key) (c : Handle) → Contains (entries_of n.body) (key, c) → c ≢ p
+    child_not_parent : (p : Handle) (n : Node C) → t.look p ≡ Some n → (key : Key) (c : Handle) → Contains (entries_of n.body) (key, c) → c ≢ p
     child_not_parent p n is key c has same =
         let child = shape.entry_down p n is key c has in
         let one : child.node ≡ n = cc (child.is, is, same) in
@@ -131,7 +131,7 @@ module _ {C : Class} where
         let below = child.level in
         absurd (omega arith)
 
-    kept_not_moved : (key : C.Key) (c : Handle) → Contains (entries_of change.kept) (key, c) → Moved c → ⊥
+    kept_not_moved : (key : Key) (c : Handle) → Contains (entries_of change.kept) (key, c) → Moved c → ⊥
     kept_not_moved key c has moved =
         let entry = entry_of_child change.moved c moved in
         parts_differ change.halves.entries (shape.children_differ h change.node change.before) key entry.0 c has entry.1
@@ -206,21 +206,21 @@ module _ {C : Class} where
     split_root_only =
         each_node (λ x n. n.place ≡ Root → x ≡ u.root) (λ e. absurd (cc)) (λ e. absurd (cc)) (λ x old now a b twin place. shape.root_only x old twin.was (root_was twin.place place) ∙ sym change.clock.root)
 
-    left_down : (key : C.Key) (c : Handle) → Contains (entries_of change.kept) (key, c) → Child u h left c
+    left_down : (key : Key) (c : Handle) → Contains (entries_of change.kept) (key, c) → Child u h left c
     left_down key c has =
         let had = had_kept key c has in
         let child = shape.entry_down h change.node change.before key c had in
         let now = twin_to c child.node (child_not_parent h change.node change.before key c had) child.is in
         record { node = now.0; is = now.1.is; marked = child.marked; place = sym (kept_stays now.1.place (kept_not_moved key c has)) ∙ child.place; level = child.level ∙ ap (λ level. level + 1) now.1.level }
 
-    right_down : (key : C.Key) (c : Handle) → Contains (entries_of change.moved) (key, c) → Child u r right c
+    right_down : (key : Key) (c : Handle) → Contains (entries_of change.moved) (key, c) → Child u r right c
     right_down key c has =
         let had = had_moved key c has in
         let child = shape.entry_down h change.node change.before key c had in
         let now = twin_to c child.node (child_not_parent h change.node change.before key c had) child.is in
         record { node = now.0; is = now.1.is; marked = child.marked; place = moved_goes now.1.place (child_in change.moved key c has) child.marked child.place; level = child.level ∙ ap (λ level. level + 1) now.1.level }
 
-    other_down : (x : Handle) (old now : Node C) → x ≢ h → Twin x old now → (key : C.Key) (c : Handle) → Contains (entries_of now.body) (key, c) → Child u x now c
+    other_down : (x : Handle) (old now : Node C) → x ≢ h → Twin x old now → (key : Key) (c : Handle) → Contains (entries_of now.body) (key, c) → Child u x now c
     other_down x old now apart twin key c has =
         let child = shape.entry_down x old twin.was key c (entry_at now.body old.body (key, c) (sym twin.body) has) in
         elim (handle_cases c h) [
@@ -235,9 +235,9 @@ module _ {C : Class} where
               record { node = below.0; is = below.1.is; marked = child.marked; place = linked_stays below.1.place x child.marked apart child.place; level = sym twin.level ∙ (child.level ∙ ap (λ level. level + 1) below.1.level) }
         ]
 
-    split_entry_down : (x : Handle) (node : Node C) → u.look x ≡ Some node → (key : C.Key) (c : Handle) → Contains (entries_of node.body) (key, c) → Child u x node c
+    split_entry_down : (x : Handle) (node : Node C) → u.look x ≡ Some node → (key : Key) (c : Handle) → Contains (entries_of node.body) (key, c) → Child u x node c
     split_entry_down =
-        each_node (λ x n. (key : C.Key) (c : Handle) → Contains (entries_of n.body) (key, c) → Child u x n c) left_down right_down (λ x old now a b twin. other_down x old now a twin)
+        each_node (λ x n. (key : Key) (c : Handle) → Contains (entries_of n.body) (key, c) → Child u x n c) left_down right_down (λ x old now a b twin. other_down x old now a twin)
 
     -- h still has its parent's entry
     left_up : (q : Handle) (marked : Bool) → Linked change.parent true ≡ Linked q marked → Parent u h left q
@@ -354,28 +354,28 @@ module _ {C : Class} where
         each_node (λ x n. (stamp : ℕ) → n.place ≡ Retired stamp → n.body ≡ Leaf []) (λ stamp e. absurd (cc)) (λ stamp e. absurd (cc)) (λ x old now a b twin stamp place. sym twin.body ∙ shape.retired_empty x old twin.was stamp (retired_was twin.place stamp place))
 
     -- an old entry still covers its child
-    child_covered : (p : Handle) (parent : Node C) → t.look p ≡ Some parent → (key : C.Key) (c : Handle) (node : Node C) → u.look c ≡ Some node → Contains (entries_of parent.body) (key, c) → CoversBody C key node.body
+    child_covered : (p : Handle) (parent : Node C) → t.look p ≡ Some parent → (key : Key) (c : Handle) (node : Node C) → u.look c ≡ Some node → Contains (entries_of parent.body) (key, c) → CoversBody C key node.body
     child_covered p parent is key =
         each_node (λ c n. Contains (entries_of parent.body) (key, c) → CoversBody C key n.body) (λ has. covers_one change.halves key (shape.cover p parent is key h has change.node change.before)) (λ has. let child = shape.entry_down p parent is key r has in absurd (stands_not_right r child.node child.is refl)) (λ c old now a b twin has. covers_at old.body now.body key twin.body (shape.cover p parent is key c has old twin.was))
 
-    split_cover : (p : Handle) (parent : Node C) → u.look p ≡ Some parent → (key : C.Key) (c : Handle) → Contains (entries_of parent.body) (key, c) → (node : Node C) → u.look c ≡ Some node → CoversBody C key node.body
+    split_cover : (p : Handle) (parent : Node C) → u.look p ≡ Some parent → (key : Key) (c : Handle) → Contains (entries_of parent.body) (key, c) → (node : Node C) → u.look c ≡ Some node → CoversBody C key node.body
     split_cover =
-        each_node (λ p n. (key : C.Key) (c : Handle) → Contains (entries_of n.body) (key, c) → (node : Node C) → u.look c ≡ Some node → CoversBody C key node.body)
+        each_node (λ p n. (key : Key) (c : Handle) → Contains (entries_of n.body) (key, c) → (node : Node C) → u.look c ≡ Some node → CoversBody C key node.body)
         (λ key c has node is. child_covered h change.node change.before key c node is (had_kept key c has))
         (λ key c has node is. child_covered h change.node change.before key c node is (had_moved key c has))
         (λ p old now a b twin key c has node is. child_covered p old twin.was key c node is (entry_at now.body old.body (key, c) (sym twin.body) has))
 
     -- and the right node of a marked child
-    abbrev Beside : C.Key → Node C → Type 0
+    abbrev Beside : Key → Node C → Type 0
     Beside key n = IsTrue (is_marked n.place) → (x : Handle) (beside : Node C) → n.right ≡ Some x → u.look x ≡ Some beside → CoversBody C key beside.body
 
-    left_beside : (p : Handle) (parent : Node C) → t.look p ≡ Some parent → (key : C.Key) → Contains (entries_of parent.body) (key, h) → Beside key left
+    left_beside : (p : Handle) (parent : Node C) → t.look p ≡ Some parent → (key : Key) → Contains (entries_of parent.body) (key, h) → Beside key left
     left_beside p parent is key has marked x beside to_right is_right =
         let same : x ≡ r = cc in
         let one : right ≡ beside = cc (change.right_now, is_right, same) in
         covers_at change.moved beside.body key (ap (λ node. node.body) one) (covers_other change.halves key (shape.cover p parent is key h has change.node change.before))
 
-    other_beside : (p : Handle) (parent : Node C) → t.look p ≡ Some parent → (key : C.Key) (c : Handle) (old now : Node C) → Twin c old now → Contains (entries_of parent.body) (key, c) → Beside key now
+    other_beside : (p : Handle) (parent : Node C) → t.look p ≡ Some parent → (key : Key) (c : Handle) (old now : Node C) → Twin c old now → Contains (entries_of parent.body) (key, c) → Beside key now
     other_beside p parent is key c old now twin has marked x beside to_right is_right =
         let mark = hangs_mark twin.place marked in
         let next = shape.mark_right c old twin.was mark in
@@ -388,13 +388,13 @@ module _ {C : Class} where
         let one : there.0 ≡ beside = cc (there.1.is, is_right, same) in
         covers_at next.node.body beside.body key (there.1.body ∙ ap (λ node. node.body) one) (shape.cover_marked p parent is key c has old twin.was mark next.right next.node next.is_right next.is)
 
-    beside_covered : (p : Handle) (parent : Node C) → t.look p ≡ Some parent → (key : C.Key) (c : Handle) (node : Node C) → u.look c ≡ Some node → Contains (entries_of parent.body) (key, c) → Beside key node
+    beside_covered : (p : Handle) (parent : Node C) → t.look p ≡ Some parent → (key : Key) (c : Handle) (node : Node C) → u.look c ≡ Some node → Contains (entries_of parent.body) (key, c) → Beside key node
     beside_covered p parent is key =
         each_node (λ c n. Contains (entries_of parent.body) (key, c) → Beside key n) (left_beside p parent is key) (λ has. let child = shape.entry_down p parent is key r has in absurd (stands_not_right r child.node child.is refl)) (λ c old now a b twin. other_beside p parent is key c old now twin)
 
-    split_cover_marked : (p : Handle) (parent : Node C) → u.look p ≡ Some parent → (key : C.Key) (c : Handle) → Contains (entries_of parent.body) (key, c) → (node : Node C) → u.look c ≡ Some node → Beside key node
+    split_cover_marked : (p : Handle) (parent : Node C) → u.look p ≡ Some parent → (key : Key) (c : Handle) → Contains (entries_of parent.body) (key, c) → (node : Node C) → u.look c ≡ Some node → Beside key node
     split_cover_marked =
-        each_node (λ p n. (key : C.Key) (c : Handle) → Contains (entries_of n.body) (key, c) → (node : Node C) → u.look c ≡ Some node → Beside key node)
+        each_node (λ p n. (key : Key) (c : Handle) → Contains (entries_of n.body) (key, c) → (node : Node C) → u.look c ≡ Some node → Beside key node)
         (λ key c has node is. beside_covered h change.node change.before key c node is (had_kept key c has))
         (λ key c has node is. beside_covered h change.node change.before key c node is (had_moved key c has))
         (λ p old now a b twin key c has node is. beside_covered p old twin.was key c node is (entry_at now.body old.body (key, c) (sym twin.body) has))

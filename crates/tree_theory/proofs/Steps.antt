@@ -19,7 +19,7 @@ use Rattle.tree_theory.proofs.ShapePlace.{shape_placed, shape_cleaned}
 use Rattle.tree_theory.proofs.ShapeRetire.{shape_retired}
 use Rattle.tree_theory.proofs.ShapeSplit.{shape_split}
 
-module _ {C : Class} where
+module _ {Key Query Item : Type 0} {C : Class Key Query Item} where
   pub step_keeps : {t u : Tree C} → Laws C → Invariant t → IsStep t u → Invariant u
   step_keeps laws inv (opens query change) = record { shape = shape_opened inv.shape change; searches = searches_opened inv.shape inv.searches change }
   step_keeps laws inv (closes s change) = record { shape = shape_closed inv.shape change; searches = searches_closed inv.shape inv.searches change }

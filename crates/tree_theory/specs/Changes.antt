@@ -9,7 +9,7 @@ use Rattle.tree_theory.specs.Nodes.{PlainBody, Body, Node, Search, Tree, is_mark
 use Rattle.tree_theory.specs.Nodes.PlainBody.{Leaf, Inner}
 use Rattle.tree_theory.specs.Walks.{Done}
 use Rattle.tree_theory.specs.declared.TheConstants.{NODE_SIZE, TOP_LEVEL}
-use Rattle.tree_theory.specs.declared.place.Place.TheVariants.{Root, Linked, Unlinked, Retired}
+use Rattle.tree_theory.specs.declared.position.Position.TheVariants.{Root, Linked, Unlinked, Retired}
 
 -- two bodies share out the contents of one, and neither is empty
 pub record IsHalved {Key Item : Type 0} (whole one other : PlainBody Key Item) : Type 0 where
@@ -19,15 +19,18 @@ pub record IsHalved {Key Item : Type 0} (whole one other : PlainBody Key Item) :
   pub other_filled : 0 < size_of other
 
 -- the key is the union of all keys of the body: the least that covers them
-pub record IsUnion (C : Class) (body : Body C) (key : C.Key) : Type 0 where
+pub record IsUnion {Key Query Item : Type 0} (C : Class Key Query Item) (body : Body C)
+    (key : Key) : Type 0 where
   pub covers : CoversBody C key body
-  pub least : (cover : C.Key) → CoversBody C cover body → C.Covers cover key
+  pub least : (cover : Key) → CoversBody C cover body → C.Covers cover key
 
 -- the key of a node's entry: the union of its keys, or the old key where the node is empty
-abbrev pub IsKeyFor : (C : Class) → Body C → C.Key → C.Key → Type 0
-IsKeyFor C body old key = ((0 < size_of body) × IsUnion C body key) ⊎ ((size_of body ≡ 0) × (key ≡ old))
+abbrev pub IsKeyFor : {Key Query Item : Type 0} (C : Class Key Query Item) → Body C → Key → Key
+    → Type 0
+IsKeyFor C body old key = ((0 < size_of body) × IsUnion C body key)
+    ⊎ ((size_of body ≡ 0) × (key ≡ old))
 
-module _ {C : Class} where
+module _ {Key Query Item : Type 0} {C : Class Key Query Item} where
   -- What stays.
 
   -- the same root, counter and next number
@@ -65,7 +68,8 @@ module _ {C : Class} where
   -- a new list of attached numbers: it has each running number of the old list, and besides the old
   -- ones only numbers of Also
   pub record Numbers (t : Tree C) (Also : ℕ → Type 0) (old new : List ℕ) : Type 0 where
-    pub keeps : (s : ℕ) (search : Search C) → t.searches s ≡ Some search → Contains old s → Contains new s
+    pub keeps : (s : ℕ) (search : Search C) → t.searches s ≡ Some search → Contains old s
+        → Contains new s
     pub only : (s : ℕ) → Contains new s → Contains old s ⊎ Also s
 
   abbrev pub Copied : Tree C → List ℕ → List ℕ → Type 0
@@ -74,7 +78,7 @@ module _ {C : Class} where
   -- Searches.
 
   -- a search opens under the next number, with the root on its stack
-  pub record IsOpened (t u : Tree C) (query : C.Query) : Type 0 where
+  pub record IsOpened (t u : Tree C) (query : Query) : Type 0 where
     pub nodes : SameNodes t u
     pub root : u.root ≡ t.root
     pub counter : u.counter ≡ t.counter
@@ -98,9 +102,10 @@ module _ {C : Class} where
     pub attached : List ℕ
     pub numbers : Numbers t (λ other. other ≡ s) node.attached attached
     pub joins : Contains attached s
-    pub entries : List (C.Key × Handle)
-    pub consistent : Picked (λ entry. C.Consistent entry.0 search.query) (entries_of node.body) entries
-    pub pairs : List (ℕ × C.Item)
+    pub entries : List (Key × Handle)
+    pub consistent : Picked (λ entry. C.Consistent entry.0 search.query) (entries_of node.body)
+        entries
+    pub pairs : List (ℕ × Item)
     pub matching : Picked (λ pair. C.Matches pair.1 search.query) (pairs_of node.body) pairs
     pub nodes : OneNode t u x node (record node { attached = attached })
     pub searches : OneSearch t u s search (visited t.counter memo node rest entries pairs search)
@@ -119,48 +124,50 @@ module _ {C : Class} where
   -- Pairs and entries.
 
   -- an entry names the node, and its key covers this one
-  pub record CoveringEntry (t : Tree C) (h : Handle) (node : Node C) (key : C.Key) : Type 0 where
+  pub record CoveringEntry (t : Tree C) (h : Handle) (node : Node C) (key : Key) : Type 0 where
     pub parent : Handle
     pub marked : Bool
     pub place : node.place ≡ Linked parent marked
     pub parent_node : Node C
     pub is : t.look parent ≡ Some parent_node
-    pub entry_key : C.Key
+    pub entry_key : Key
     pub entry : Contains (entries_of parent_node.body) (entry_key, h)
     pub covers : C.Covers entry_key key
 
   -- the node may take this key: it is the root, or its entry covers the key already
-  abbrev pub MayTake : Tree C → Handle → Node C → C.Key → Type 0
+  abbrev pub MayTake : Tree C → Handle → Node C → Key → Type 0
   MayTake t h node key = (node.place ≡ Root) ⊎ CoveringEntry t h node key
 
   -- a leaf with room gets a pair that no attached running search looks for
-  pub record IsPlaced (t u : Tree C) (h : Handle) (pair : ℕ × C.Item) : Type 0 where
+  pub record IsPlaced (t u : Tree C) (h : Handle) (pair : ℕ × Item) : Type 0 where
     pub node : Node C
-    pub pairs : List (ℕ × C.Item)
+    pub pairs : List (ℕ × Item)
     pub body : node.body ≡ Leaf pairs
     pub room : length pairs < NODE_SIZE
     pub may_take : MayTake t h node (C.key_of pair.1)
-    pub none_matches : (s : ℕ) (search : Search C) → t.searches s ≡ Some search → Contains node.attached s → C.Matches pair.1 search.query → ⊥
+    pub none_matches : (s : ℕ) (search : Search C) → t.searches s ≡ Some search
+        → Contains node.attached s → C.Matches pair.1 search.query → ⊥
     pub nodes : OneNode t u h node (record node { body = Leaf (pairs ++ pair ∷ []) })
     pub searches : SameSearches t u
     pub clock : SameClock t u
 
   -- the node h is behind an entry with this key: the entry names h, or names the marked node whose
   -- right node is h
-  pub record StandsBehind (t : Tree C) (h : Handle) (key : C.Key) : Type 0 where
+  pub record StandsBehind (t : Tree C) (h : Handle) (key : Key) : Type 0 where
     pub parent : Handle
     pub node : Node C
     pub is : t.look parent ≡ Some node
     pub child : Handle
     pub entry : Contains (entries_of node.body) (key, child)
-    pub behind : (child ≡ h) ⊎ ((left : Node C) × (t.look child ≡ Some left) × IsTrue (is_marked left.place) × (left.right ≡ Some h))
+    pub behind : (child ≡ h) ⊎ ((left : Node C) × (t.look child ≡ Some left)
+        × IsTrue (is_marked left.place) × (left.right ≡ Some h))
 
   -- the running search s has nothing to look for in h, where h is the node `node`; if h is marked,
   -- s is done with its right node
   pub record MayJoin (t : Tree C) (h : Handle) (node : Node C) (s : ℕ) : Type 0 where
     pub search : Search C
     pub running : t.searches s ≡ Some search
-    pub key : C.Key
+    pub key : Key
     pub stands : StandsBehind t h key
     pub inconsistent : C.Consistent key search.query → ⊥
     pub right_done : IsTrue (is_marked node.place) → (r : Handle) → node.right ≡ Some r → Done t s r
@@ -176,17 +183,20 @@ module _ {C : Class} where
 
   -- The key of an entry of p becomes its union with another key. Each search that is done with p
   -- and consistent with the union was consistent with the old key, or is done with the child.
-  pub record IsEnlarged (t u : Tree C) (p : Handle) (key : C.Key) : Type 0 where
+  pub record IsEnlarged (t u : Tree C) (p : Handle) (key : Key) : Type 0 where
     pub node : Node C
-    pub entries : List (C.Key × Handle)
+    pub entries : List (Key × Handle)
     pub body : node.body ≡ Inner entries
     pub index : ℕ
-    pub old : C.Key
+    pub old : Key
     pub child : Handle
     pub entry : slice_get entries index ≡ Some (old, child)
     pub may_take : MayTake t p node key
-    pub seen : (s : ℕ) (search : Search C) → t.searches s ≡ Some search → Contains node.attached s → C.Consistent (C.united old key) search.query → C.Consistent old search.query ⊎ Done t s child
-    pub nodes : OneNode t u p node (record node { body = Inner (slice_set entries index (C.united old key, child)) })
+    pub seen : (s : ℕ) (search : Search C) → t.searches s ≡ Some search → Contains node.attached s
+        → C.Consistent (C.united old key) search.query → C.Consistent old search.query
+        ⊎ Done t s child
+    pub nodes : OneNode t u p node
+        (record node { body = Inner (slice_set entries index (C.united old key, child)) })
     pub searches : SameSearches t u
     pub clock : SameClock t u
 
@@ -206,10 +216,20 @@ module _ {C : Class} where
     pub numbers : Copied t node.attached attached
     pub before : t.look h ≡ Some node
     pub fresh : t.look r ≡ None
-    pub left_now : u.look h ≡ Some (record node { body = kept; right = Some r; place = Linked parent true })
-    pub right_now : u.look r ≡ Some (record node { body = moved; place = Unlinked h; attached = attached })
-    pub children : (x : Handle) → x ≢ h → x ≢ r → Contains (children_of moved) x → u.look x ≡ option_map (under r) (t.look x)
-    pub others : (x : Handle) → x ≢ h → x ≢ r → (Contains (children_of moved) x → ⊥) → u.look x ≡ t.look x
+    pub left_now : u.look h ≡ Some (record node {
+      body = kept;
+      right = Some r;
+      place = Linked parent true;
+    })
+    pub right_now : u.look r ≡ Some (record node {
+      body = moved;
+      place = Unlinked h;
+      attached = attached;
+    })
+    pub children : (x : Handle) → x ≢ h → x ≢ r → Contains (children_of moved) x
+        → u.look x ≡ option_map (under r) (t.look x)
+    pub others : (x : Handle) → x ≢ h → x ≢ r → (Contains (children_of moved) x → ⊥)
+        → u.look x ≡ t.look x
     pub searches : SameSearches t u
     pub clock : SameClock t u
 
@@ -234,9 +254,9 @@ module _ {C : Class} where
     pub one : Body C
     pub two : Body C
     pub halves : IsHalved node.body one two
-    pub one_key : C.Key
+    pub one_key : Key
     pub one_union : IsUnion C one one_key
-    pub two_key : C.Key
+    pub two_key : Key
     pub two_union : IsUnion C two two_key
     pub one_attached : List ℕ
     pub one_numbers : Copied t node.attached one_attached
@@ -246,12 +266,19 @@ module _ {C : Class} where
     pub before : t.look t.root ≡ Some node
     pub fresh_one : t.look a ≡ None
     pub fresh_two : t.look b ≡ None
-    pub root_now : u.look t.root ≡ Some (record node { level = node.level + 1; body = Inner ((one_key, a) ∷ (two_key, b) ∷ []) })
+    pub root_now : u.look t.root
+        ≡ Some (record node {
+          level = node.level + 1;
+          body = Inner ((one_key, a) ∷ (two_key, b) ∷ []);
+        })
     pub one_now : u.look a ≡ Some (grown t node one one_attached)
     pub two_now : u.look b ≡ Some (grown t node two two_attached)
-    pub one_children : (x : Handle) → x ≢ t.root → x ≢ a → x ≢ b → Contains (children_of one) x → u.look x ≡ option_map (under a) (t.look x)
-    pub two_children : (x : Handle) → x ≢ t.root → x ≢ a → x ≢ b → Contains (children_of two) x → u.look x ≡ option_map (under b) (t.look x)
-    pub others : (x : Handle) → x ≢ t.root → x ≢ a → x ≢ b → (Contains (children_of one) x → ⊥) → (Contains (children_of two) x → ⊥) → u.look x ≡ t.look x
+    pub one_children : (x : Handle) → x ≢ t.root → x ≢ a → x ≢ b → Contains (children_of one) x
+        → u.look x ≡ option_map (under a) (t.look x)
+    pub two_children : (x : Handle) → x ≢ t.root → x ≢ a → x ≢ b → Contains (children_of two) x
+        → u.look x ≡ option_map (under b) (t.look x)
+    pub others : (x : Handle) → x ≢ t.root → x ≢ a → x ≢ b → (Contains (children_of one) x → ⊥)
+        → (Contains (children_of two) x → ⊥) → u.look x ≡ t.look x
     pub searches : SameSearches t u
     pub clock : SameClock t u
 
@@ -260,22 +287,26 @@ module _ {C : Class} where
     pub node : Node C
     pub left : Node C
     pub right : Node C
-    pub entries : List (C.Key × Handle)
+    pub entries : List (Key × Handle)
     pub body : node.body ≡ Inner entries
     pub room : length entries < NODE_SIZE
     pub index : ℕ
-    pub old : C.Key
+    pub old : Key
     pub entry : slice_get entries index ≡ Some (old, l)
     pub place : left.place ≡ Linked p true
     pub is_right : left.right ≡ Some r
-    pub left_key : C.Key
+    pub left_key : Key
     pub for_left : IsKeyFor C left.body old left_key
-    pub right_key : C.Key
+    pub right_key : Key
     pub for_right : IsKeyFor C right.body old right_key
     pub parent_before : t.look p ≡ Some node
     pub left_before : t.look l ≡ Some left
     pub right_before : t.look r ≡ Some right
-    pub parent_now : u.look p ≡ Some (record node { body = Inner (slice_set entries index (left_key, l) ++ (right_key, r) ∷ []) })
+    pub parent_now : u.look p ≡ Some
+        (record node {
+          body = Inner
+              (slice_set entries index (left_key, l) ++ (right_key, r) ∷ []);
+        })
     pub left_now : u.look l ≡ Some (record left { place = Linked p false; seq = t.counter + 1 })
     pub right_now : u.look r ≡ Some (record right { place = Linked p false })
     pub others : (x : Handle) → x ≢ p → x ≢ l → x ≢ r → u.look x ≡ t.look x
@@ -285,11 +316,11 @@ module _ {C : Class} where
   -- Cleaning.
 
   -- a leaf keeps the pairs that are in Kept, and no others
-  pub record IsCleaned (t u : Tree C) (Kept : ℕ × C.Item → Type 0) (h : Handle) : Type 0 where
+  pub record IsCleaned (t u : Tree C) (Kept : ℕ × Item → Type 0) (h : Handle) : Type 0 where
     pub node : Node C
-    pub pairs : List (ℕ × C.Item)
+    pub pairs : List (ℕ × Item)
     pub body : node.body ≡ Leaf pairs
-    pub left : List (ℕ × C.Item)
+    pub left : List (ℕ × Item)
     pub kept : Picked Kept pairs left
     pub nodes : OneNode t u h node (record node { body = Leaf left })
     pub searches : SameSearches t u
@@ -302,11 +333,11 @@ module _ {C : Class} where
     pub empty : leaf.body ≡ Leaf []
     pub place : leaf.place ≡ Linked p false
     pub node : Node C
-    pub entries : List (C.Key × Handle)
+    pub entries : List (Key × Handle)
     pub body : node.body ≡ Inner entries
     pub more : 1 < length entries
     pub index : ℕ
-    pub key : C.Key
+    pub key : Key
     pub entry : slice_get entries index ≡ Some (key, l)
     pub leaf_before : t.look l ≡ Some leaf
     pub parent_before : t.look p ≡ Some node
@@ -332,6 +363,14 @@ module _ {C : Class} where
 
   -- one empty leaf, the root, and no search
   pub record IsStarted (u : Tree C) : Type 0 where
-    pub root_now : u.look u.root ≡ Some (record { level = 0; body = Leaf []; seq = u.counter; right = None; place = Root; attached = [] })
+    pub root_now : u.look u.root
+        ≡ Some (record {
+          level = 0;
+          body = Leaf [];
+          seq = u.counter;
+          right = None;
+          place = Root;
+          attached = [];
+        })
     pub others : (x : Handle) → x ≢ u.root → u.look x ≡ None
     pub searches : (s : ℕ) → u.searches s ≡ None

@@ -10,9 +10,9 @@ abbrev pub pairs_at : {Key Item : Type 0} → Option (PlainNode Key Item) → Li
 pairs_at None = []
 pairs_at (Some node) = pairs_of node.body
 
-module _ {C : Class} where
+module _ {Key Query Item : Type 0} {C : Class Key Query Item} where
   -- some node has the pair
-  pub record InContents (t : Tree C) (pair : ℕ × C.Item) : Type 0 where
+  pub record InContents (t : Tree C) (pair : ℕ × Item) : Type 0 where
     pub handle : Handle
     pub node : Node C
     pub is : t.look handle ≡ Some node
@@ -24,18 +24,19 @@ module _ {C : Class} where
     pub listed : (h : Handle) → Contains handles h ↔ IsSome (t.look h)
 
   -- the pairs of these nodes, in their order
-  abbrev pub contents_of : Tree C → List Handle → List (ℕ × C.Item)
+  abbrev pub contents_of : Tree C → List Handle → List (ℕ × Item)
   contents_of t handles = flat_map (λ h. pairs_at (t.look h)) handles
 
   -- the list has each pair of the tree as often as its nodes have it
-  pub record IsContents (t : Tree C) (contents : List (ℕ × C.Item)) : Type 0 where
+  pub record IsContents (t : Tree C) (contents : List (ℕ × Item)) : Type 0 where
     pub handles : List Handle
     pub listing : IsListing t handles
     pub same : IsPermutation (contents_of t handles) contents
 
 -- up to order, `after` is `before` without some pairs: at most as many as a node has, all outside
 -- of Kept
-pub record LosesPairs {Item : Type 0} (Kept : ℕ × Item → Type 0) (before after : List (ℕ × Item)) : Type 0 where
+pub record LosesPairs {Item : Type 0} (Kept : ℕ × Item
+    → Type 0) (before after : List (ℕ × Item)) : Type 0 where
   pub lost : List (ℕ × Item)
   pub same : IsPermutation before (after ++ lost)
   pub few : length lost ≤ NODE_SIZE

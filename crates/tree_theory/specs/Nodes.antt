@@ -2,11 +2,11 @@
 use Rattle.std.specs.Prelude.{ℕ, Bool, false, ◌||◌, nat_lt, List, [], ◌∷◌, ◌++◌, map, length, Option, Some, None, if◌then◌else◌}
 use Rattle.node_arena.specs.declared.handle.Handle.{Handle}
 use Rattle.tree_theory.specs.KeyClasses.{Class}
-use Rattle.tree_theory.specs.declared.place.Place.{Place}
-use Rattle.tree_theory.specs.declared.place.Place.TheVariants.{Root, Linked, Unlinked, Retired}
+use Rattle.tree_theory.specs.declared.position.Position.{Position}
+use Rattle.tree_theory.specs.declared.position.Position.TheVariants.{Root, Linked, Unlinked, Retired}
 
 -- a marked node has a right node that no entry names yet
-abbrev pub is_marked : Place → Bool
+abbrev pub is_marked : Position → Bool
 is_marked Root = false
 is_marked (Linked parent marked) = marked
 is_marked (Unlinked left) = false
@@ -14,11 +14,11 @@ is_marked (Retired stamp) = false
 
 -- A search with this memo follows the rightlink of a node at this place with this number: what it
 -- looks for may have moved to the right since.
-abbrev pub is_followed : Place → ℕ → ℕ → Bool
+abbrev pub is_followed : Position → ℕ → ℕ → Bool
 is_followed place seq memo = is_marked place || nat_lt memo seq
 
 -- the place with this parent if it is linked; any other place is the same
-abbrev pub place_under : Handle → Place → Place
+abbrev pub place_under : Handle → Position → Position
 place_under parent Root = Root
 place_under parent (Linked other marked) = Linked parent marked
 place_under parent (Unlinked left) = Unlinked left
@@ -47,7 +47,7 @@ module _ (Key Item : Type 0) where
     pub body : PlainBody
     pub seq : ℕ
     pub right : Option Handle
-    pub place : Place
+    pub place : Position
     pub attached : List ℕ
 
 -- a search: its query, the counter when it began, its stack of nodes to visit, each with a memo of
@@ -60,18 +60,18 @@ pub record PlainSearch (Query Item : Type 0) : Type 0 where
 
 -- Bodies, nodes and searches have the types of their class as parameters, not the class, so that
 -- code can have them as values.
-abbrev pub Body : Class → Type 0
-Body C = PlainBody C.Key C.Item
+abbrev pub Body : {Key Query Item : Type 0} → Class Key Query Item → Type 0
+Body {Key} {Query} {Item} C = PlainBody Key Item
 
-abbrev pub Node : Class → Type 0
-Node C = PlainNode C.Key C.Item
+abbrev pub Node : {Key Query Item : Type 0} → Class Key Query Item → Type 0
+Node {Key} {Query} {Item} C = PlainNode Key Item
 
-abbrev pub Search : Class → Type 0
-Search C = PlainSearch C.Query C.Item
+abbrev pub Search : {Key Query Item : Type 0} → Class Key Query Item → Type 0
+Search {Key} {Query} {Item} C = PlainSearch Query Item
 
 -- `next` is the number of the next search. A search runs under each number for which `searches` has
 -- one.
-pub record Tree (C : Class) : Type 0 where
+pub record Tree {Key Query Item : Type 0} (C : Class Key Query Item) : Type 0 where
   pub look : Handle → Option (Node C)
   pub root : Handle
   pub counter : ℕ
@@ -105,12 +105,18 @@ module _ {Key Item : Type 0} where
   followed node memo = if is_followed node.place node.seq memo then onward node.right memo else []
 
 -- a new search: the root is on its stack
-abbrev pub opened : {C : Class} → Tree C → C.Query → Search C
-opened t query = record { query = query; begun = t.counter; stack = (t.root, t.counter) ∷ []; found = [] }
+abbrev pub opened : {Key Query Item : Type 0} {C : Class Key Query Item} → Tree C → Query → Search C
+opened t query = record {
+  query = query;
+  begun = t.counter;
+  stack = (t.root, t.counter) ∷ [];
+  found = [];
+}
 
 -- the search after a visit of this node: `rest` is left of its stack, these entries are consistent
 -- and these pairs match
-abbrev pub visited : {Key Query Item : Type 0} → ℕ → ℕ → PlainNode Key Item → List (Handle × ℕ) → List (Key × Handle) → List (ℕ × Item) → PlainSearch Query Item → PlainSearch Query Item
+abbrev pub visited : {Key Query Item : Type 0} → ℕ → ℕ → PlainNode Key Item → List (Handle × ℕ)
+    → List (Key × Handle) → List (ℕ × Item) → PlainSearch Query Item → PlainSearch Query Item
 visited counter memo node rest entries pairs search =
     record search {
       stack = rest ++ followed node memo ++ pushed counter entries;

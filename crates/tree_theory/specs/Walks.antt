@@ -4,7 +4,7 @@ use Rattle.node_arena.specs.declared.handle.Handle.{Handle}
 use Rattle.tree_theory.specs.KeyClasses.{Class}
 use Rattle.tree_theory.specs.Nodes.{Node, Search, Tree, is_followed}
 
-module _ {C : Class} where
+module _ {Key Query Item : Type 0} {C : Class Key Query Item} where
   -- a search that comes to x with this memo follows to its right node y
   pub record Step (t : Tree C) (memo : ℕ) (x y : Handle) : Type 0 where
     pub node : Node C

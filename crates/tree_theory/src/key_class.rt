@@ -1,15 +1,16 @@
 //! The keys of a search tree.
 
 ghost use Rattle.std.specs.Prelude.{◌≡◌, ◌↔◌, List, ℕ, ◌<◌, ◌≤◌, Some, IsTrue, IsBitSet, length, count_ones, slice_get};
+ghost use Rattle.tree_theory.specs.KeyClasses.{Class, Laws};
 ghost use Rattle.tree_theory.specs.declared.TheConstants.{NODE_SIZE};
 
 /// What a search tree knows of its keys: the key of an item, whether items behind a key may match a
 /// query, and the union of keys. A class is a type that needs no values.
 ///
-/// `covers`, `consistent` and `matches` decide the facts `covered`, `may_match` and `is_match`.
-/// `picks` says which masks `pick_split` may return. The laws hold for all values of the types,
-/// except `whole_covers`: it holds for the keys that meet `is_key`, as every key in hand does
-/// (`known_key`).
+/// `class` is what the theory knows of the class: `covers`, `consistent` and `matches` decide its
+/// facts `Covers`, `Consistent` and `Matches`. `picks` says which masks `pick_split` may return.
+/// The laws hold for all values of the types, except `whole_covers`: it holds for the keys that
+/// meet `is_key`, as every key in hand does (`fact_known_key`).
 pub trait KeyClass {
     /// A key stands for all items below a node, as a frame does.
     type Key: Copy;
@@ -22,15 +23,7 @@ pub trait KeyClass {
 
     ghost is_key: { Self.Key → Type 0 };
 
-    ghost covered: { Self.Key → Self.Key → Type 0 };
-
-    ghost may_match: { Self.Key → Self.Query → Type 0 };
-
-    ghost is_match: { Self.Item → Self.Query → Type 0 };
-
-    ghost key_with: { Self.Item → Self.Key };
-
-    ghost united: { Self.Key → Self.Key → Self.Key };
+    ghost class: { Class Self.Key Self.Query Self.Item };
 
     ghost whole_key: { Self.Key };
 
@@ -41,20 +34,20 @@ pub trait KeyClass {
     ghost picks: { List Self.Key → ℕ → Type 0 };
 
     /// Fact for the checker, no effect: every key in hand meets `is_key`.
-    fn known_key(key: Self::Key)
+    fn fact_known_key(key: Self::Key)
         ensures { is_key key };
 
     /// The key of an item: the least key that stands for it.
     fn key_of(item: Self::Item) -> Self::Key
-        ensures { result ≡ key_with item };
+        ensures { result ≡ class.key_of item };
 
     /// Whether the outer key covers the inner one: it stands for whatever the inner one stands for.
     fn covers(outer: Self::Key, inner: Self::Key) -> bool
-        ensures { IsTrue result ↔ covered outer inner };
+        ensures { IsTrue result ↔ class.Covers outer inner };
 
     /// The least key that covers both.
     fn union(one: Self::Key, other: Self::Key) -> Self::Key
-        ensures { result ≡ united one other };
+        ensures { result ≡ class.united one other };
 
     /// The key that covers every key in hand.
     fn whole() -> Self::Key
@@ -62,21 +55,21 @@ pub trait KeyClass {
 
     /// Whether an item behind the key may match the query.
     fn consistent(key: Self::Key, query: Self::Query) -> bool
-        ensures { IsTrue result ↔ may_match key query };
+        ensures { IsTrue result ↔ class.Consistent key query };
 
     /// `consistent` for each key of a node: bit i is set exactly if key i is consistent, and bits
     /// beyond the keys are clear. The query is not copied.
     fn matching_mask(keys: &[Self::Key], query: &Self::Query) -> u16
         requires { length keys.now ≤ NODE_SIZE }
         ensures each { (i : ℕ) (key : Self.Key) → slice_get keys.now i ≡ Some key
-            → (IsBitSet result i ↔ may_match key query.now) }
+            → (IsBitSet result i ↔ class.Consistent key query.now) }
         ensures no_other { (i : ℕ) → IsBitSet result i → i < length keys.now };
 
     /// `matching_mask` of a query in hand.
     fn consistent_mask(keys: &[Self::Key], query: Self::Query) -> u16
         requires { length keys.now ≤ NODE_SIZE }
         ensures each { (i : ℕ) (key : Self.Key) → slice_get keys.now i ≡ Some key
-            → (IsBitSet result i ↔ may_match key query) }
+            → (IsBitSet result i ↔ class.Consistent key query) }
         ensures no_other { (i : ℕ) → IsBitSet result i → i < length keys.now }
     {
         Self::matching_mask(keys, &query)
@@ -84,11 +77,11 @@ pub trait KeyClass {
 
     /// Whether the item matches the query.
     fn matches(item: Self::Item, query: Self::Query) -> bool
-        ensures { IsTrue result ↔ is_match item query };
+        ensures { IsTrue result ↔ class.Matches item query };
 
     /// `matches` for an item and a query that stay where they are: neither is copied.
     fn matches_in_place(item: &Self::Item, query: &Self::Query) -> bool
-        ensures { IsTrue result ↔ is_match item.now query.now };
+        ensures { IsTrue result ↔ class.Matches item.now query.now };
 
     /// How much a key grows when it is united with the other one. A walk descends by an entry of
     /// least penalty.
@@ -108,19 +101,7 @@ pub trait KeyClass {
         ensures least { 4 ≤ count_ones result }
         ensures most { count_ones result ≤ 12 };
 
-    ghost whole_covers: { (key : Self.Key) → is_key key → covered whole_key key };
+    ghost whole_covers: { (key : Self.Key) → is_key key → class.Covers whole_key key };
 
-    ghost reflexive: { (key : Self.Key) → covered key key };
-
-    ghost transitive: { (a b c : Self.Key) → covered a b → covered b c → covered a c };
-
-    ghost covers_first: { (a b : Self.Key) → covered (united a b) a };
-
-    ghost covers_second: { (a b : Self.Key) → covered (united a b) b };
-
-    ghost least: { (a b cover : Self.Key) → covered cover a → covered cover b → covered cover (united a b) };
-
-    ghost monotone: { (a b : Self.Key) (query : Self.Query) → covered a b → may_match b query → may_match a query };
-
-    ghost sound: { (item : Self.Item) (query : Self.Query) → is_match item query → may_match (key_with item) query };
+    ghost laws: { Laws class };
 }

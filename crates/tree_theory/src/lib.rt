@@ -8,7 +8,7 @@ mod laws;
 mod laws_contents;
 mod laws_shape;
 mod masks;
-mod place;
+mod position;
 
 pub use key_class::KeyClass;
 pub use laws::{
@@ -18,7 +18,7 @@ pub use laws::{
 pub use laws_contents::steps_and_contents;
 pub use laws_shape::steps_keep_the_shape;
 pub use masks::{has_bit, with_bit};
-pub use place::Place;
+pub use position::Position;
 
 /// How many pairs or entries a node has at most.
 pub const NODE_SIZE: usize = 16;

@@ -13,4 +13,4 @@ returns-else-is_leaf-clause-halved g c =
 pub returns-else-is_leaf-clause-picked : goal.returns-else-is_leaf-clause-picked
 returns-else-is_leaf-clause-picked g c =
     let inner = c.is_leaf.ensures.inner c.if-is_leaf.false in
-    subst (λ body. IfOk c.halves_of_entries.result (λ made. IsPickedOut g.C.KeyClass.key_with g.C.KeyClass.picks body (plain_body made.left) (plain_body made.right))) (whole_inner c.args.node.now.body inner.0 _ _ inner.1 c.keys.ensures.value c.children.ensures.value) c.halves_of_entries.ensures.picked
+    subst (λ body. IfOk c.halves_of_entries.result (λ made. IsPickedOut g.C.KeyClass.class.key_of g.C.KeyClass.picks body (plain_body made.left) (plain_body made.right))) (whole_inner c.args.node.now.body inner.0 _ _ inner.1 c.keys.ensures.value c.children.ensures.value) c.halves_of_entries.ensures.picked

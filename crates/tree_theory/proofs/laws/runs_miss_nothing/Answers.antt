@@ -1,13 +1,10 @@
 use Rattle.tree_theory.proofs.Ready.{misses_nothing, places_behind_none}
 use Rattle.tree_theory.proofs.Steps.{reached_keeps}
 use Rattle.tree_theory.proofs.laws.runs_miss_nothing.Goals as goal
-use Rattle.tree_theory.specs.KeyClasses.{Laws, class_of}
 
 pub returns : goal.returns
 returns g c =
-    let key = g.C.KeyClass in
-    let law = g.met.C.KeyClass in
-    let laws : Laws (class_of key.covered key.may_match key.is_match key.key_with key.united) = record { reflexive = law.reflexive; transitive = law.transitive; covers_first = law.covers_first; covers_second = law.covers_second; least = law.least; monotone = law.monotone; sound = law.sound } in
+    let laws = g.met.C.KeyClass.laws in
     record {
       invariant = λ t reached. reached_keeps laws reached;
       complete = λ t reached. misses_nothing laws t (reached_keeps laws reached);

@@ -1,10 +1,7 @@
 use Rattle.tree_theory.proofs.Steps.{step_keeps, started_keeps}
 use Rattle.tree_theory.proofs.laws.steps_keep_the_invariant.Goals as goal
-use Rattle.tree_theory.specs.KeyClasses.{Laws, class_of}
 
 pub returns : goal.returns
 returns g c =
-    let key = g.C.KeyClass in
-    let law = g.met.C.KeyClass in
-    let laws : Laws (class_of key.covered key.may_match key.is_match key.key_with key.united) = record { reflexive = law.reflexive; transitive = law.transitive; covers_first = law.covers_first; covers_second = law.covers_second; least = law.least; monotone = law.monotone; sound = law.sound } in
+    let laws = g.met.C.KeyClass.laws in
     record { started = λ t. started_keeps; steps = λ t u. step_keeps laws }

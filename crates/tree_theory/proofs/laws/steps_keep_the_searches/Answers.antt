@@ -3,13 +3,10 @@ use Rattle.tree_theory.proofs.SearchRetire.{searches_retired, searches_freed, se
 use Rattle.tree_theory.proofs.SearchSplit.{searches_split, searches_grown, searches_installed}
 use Rattle.tree_theory.proofs.SearchVisit.{searches_opened, searches_closed, searches_visited, searches_visited_gone}
 use Rattle.tree_theory.proofs.laws.steps_keep_the_searches.Goals as goal
-use Rattle.tree_theory.specs.KeyClasses.{Laws, class_of}
 
 pub returns : goal.returns
 returns g c =
-    let key = g.C.KeyClass in
-    let law = g.met.C.KeyClass in
-    let laws : Laws (class_of key.covered key.may_match key.is_match key.key_with key.united) = record { reflexive = law.reflexive; transitive = law.transitive; covers_first = law.covers_first; covers_second = law.covers_second; least = law.least; monotone = law.monotone; sound = law.sound } in
+    let laws = g.met.C.KeyClass.laws in
     record {
       opened = λ t u query. searches_opened;
       closed = λ t u s. searches_closed;

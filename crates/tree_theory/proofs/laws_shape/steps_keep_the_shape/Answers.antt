@@ -7,13 +7,10 @@ use Rattle.tree_theory.proofs.ShapePlace.{shape_placed, shape_cleaned}
 use Rattle.tree_theory.proofs.ShapeRetire.{shape_retired}
 use Rattle.tree_theory.proofs.ShapeSplit.{shape_split}
 use Rattle.tree_theory.proofs.laws_shape.steps_keep_the_shape.Goals as goal
-use Rattle.tree_theory.specs.KeyClasses.{Laws, class_of}
 
 pub returns : goal.returns
 returns g c =
-    let key = g.C.KeyClass in
-    let law = g.met.C.KeyClass in
-    let laws : Laws (class_of key.covered key.may_match key.is_match key.key_with key.united) = record { reflexive = law.reflexive; transitive = law.transitive; covers_first = law.covers_first; covers_second = law.covers_second; least = law.least; monotone = law.monotone; sound = law.sound } in
+    let laws = g.met.C.KeyClass.laws in
     record {
       opened = λ t u query shape change. shape_opened shape change;
       closed = λ t u s shape change. shape_closed shape change;

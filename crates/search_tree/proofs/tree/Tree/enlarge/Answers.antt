@@ -1,4 +1,3 @@
-use Rattle.tree_theory.specs.KeyClasses.{Laws, class_of}
 use Rattle.search_tree.proofs.WalkSteps.{entry_inner, entry_within, entry_there, enlarged_sound, enlarged_call, has_enlarged}
 use Rattle.search_tree.proofs.tree.Tree.enlarge.Goals as goal
 
@@ -10,9 +9,7 @@ set_key-requires-clause-place g c = entry_within _ _ c.args.parent c.args.place 
 
 pub invariant_of-self : goal.invariant_of-self
 invariant_of-self g c =
-    let key = g.C.KeyClass in
-    let law = g.met.C.KeyClass in
-    let laws : Laws (class_of key.covered key.may_match key.is_match key.key_with key.united) = record { reflexive = law.reflexive; transitive = law.transitive; covers_first = law.covers_first; covers_second = law.covers_second; least = law.least; monotone = law.monotone; sound = law.sound } in
+    let laws = g.met.C.KeyClass.laws in
     let may = rw (← c.self.view_is) at c.requires in
     enlarged_sound _ _ _ laws c.args.parent c.args.place c.args.old c.args.key c.args.child may (rw c.union-union.ensures at (c.set_key.ensures c.args.old c.args.child (entry_there _ _ c.args.parent c.args.place c.args.old c.args.key c.args.child may))) c.self.invariant
 

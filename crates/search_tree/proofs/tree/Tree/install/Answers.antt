@@ -1,4 +1,3 @@
-use Rattle.tree_theory.specs.KeyClasses.{Laws, class_of}
 use Rattle.search_tree.proofs.InstallSteps.{parent_inner, entry_there, place_within, keyed_inner, keyed_room, installed_sound, installed_same, installed_call, installed_step}
 use Rattle.search_tree.proofs.tree.Tree.install.Goals as goal
 
@@ -20,9 +19,7 @@ push_entry-requires-clause-room g c =
 
 pub invariant_of-self : goal.invariant_of-self
 invariant_of-self g c =
-    let key = g.C.KeyClass in
-    let law = g.met.C.KeyClass in
-    let laws : Laws (class_of key.covered key.may_match key.is_match key.key_with key.united) = record { reflexive = law.reflexive; transitive = law.transitive; covers_first = law.covers_first; covers_second = law.covers_second; least = law.least; monotone = law.monotone; sound = law.sound } in
+    let laws = g.met.C.KeyClass.laws in
     let may = rw (← c.self.view_is) at c.requires.may in
     installed_sound _ _ _ may c.self.invariant _ _ _ _ _ _ (c.set_key.ensures may.old c.args.entry.now.left (entry_there _ _ _ may)) c.push_entry.ensures c.set_place.ensures c.set_seq.ensures c.set_place-2.ensures (rw (← c.self.view_is) at c.requires.seq) laws
 

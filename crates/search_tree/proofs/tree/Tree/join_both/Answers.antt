@@ -1,12 +1,9 @@
-use Rattle.tree_theory.specs.KeyClasses.{Laws, class_of}
 use Rattle.search_tree.proofs.DescentLemmas.{both_joined, list_set, second_set, second_sound}
 use Rattle.search_tree.proofs.tree.Tree.join_both.Goals as goal
 
 pub invariant_of-self : goal.invariant_of-self
 invariant_of-self g c =
-    let key = g.C.KeyClass in
-    let law = g.met.C.KeyClass in
-    let laws : Laws (class_of key.covered key.may_match key.is_match key.key_with key.united) = record { reflexive = law.reflexive; transitive = law.transitive; covers_first = law.covers_first; covers_second = law.covers_second; least = law.least; monotone = law.monotone; sound = law.sound } in
+    let laws = g.met.C.KeyClass.laws in
     let may = rw (← c.self.view_is) at c.requires.may in
     let leads = rw (← c.self.view_is) at c.requires.leads in
     let one = c.set_attached.new.nodes in
@@ -17,9 +14,7 @@ invariant_of-self g c =
 
 pub returns-clause-ok : goal.returns-clause-ok
 returns-clause-ok g c =
-    let key = g.C.KeyClass in
-    let law = g.met.C.KeyClass in
-    let laws : Laws (class_of key.covered key.may_match key.is_match key.key_with key.united) = record { reflexive = law.reflexive; transitive = law.transitive; covers_first = law.covers_first; covers_second = law.covers_second; least = law.least; monotone = law.monotone; sound = law.sound } in
+    let laws = g.met.C.KeyClass.laws in
     let may = rw (← c.self.view_is) at c.requires.may in
     let leads = rw (← c.self.view_is) at c.requires.leads in
     let one = c.set_attached.new.nodes in

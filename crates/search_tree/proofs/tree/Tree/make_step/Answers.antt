@@ -1,6 +1,5 @@
 use Rattle.std.proofs.Common.{refl}
 use Rattle.std.proofs.lemmas.Result.{err_from_is_err_and}
-use Rattle.tree_theory.specs.KeyClasses.{class_of}
 use Rattle.search_tree.specs.Cases.TakesStep.{begins_anew, climbs, descends, is_held, places, wants_memory}
 use Rattle.search_tree.proofs.AdvanceLemmas.{if_ok, makes_room}
 use Rattle.search_tree.proofs.tree.Tree.make_step.Goals as goal
@@ -29,4 +28,4 @@ pub returns-in-Place-clause-first : goal.returns-in-Place-clause-first
 returns-in-Place-clause-first g c = places c.in-Place.ensures.first.1 c.in-Place.ensures.first.2 c.place.ensures.step refl
 
 pub returns-in-Make-clause-first : goal.returns-in-Make-clause-first
-returns-in-Make-clause-first g c = makes_room (class_of g.C.KeyClass.covered g.C.KeyClass.may_match g.C.KeyClass.is_match g.C.KeyClass.key_with g.C.KeyClass.united) c.args.self.now c.make_room.new.self c.args.at _ _ _ _ (c.args.key, c.args.item) c.in-Make.room _ c.in-Make.ensures.first c.make_room.ensures.made
+returns-in-Make-clause-first g c = makes_room g.C.KeyClass.class c.args.self.now c.make_room.new.self c.args.at _ _ _ _ (c.args.key, c.args.item) c.in-Make.room _ c.in-Make.ensures.first c.make_room.ensures.made

@@ -2,7 +2,6 @@ use Rattle.std.proofs.Common.{refl, sym, ap, ◌∙◌}
 use Rattle.std.specs.Option.{option_copied}
 use Rattle.std.proofs.lemmas.Grind.{get_or-set_at}
 use Rattle.predicate_locks.specs.Searches.{search_at}
-use Rattle.tree_theory.specs.KeyClasses.{Laws, class_of}
 use Rattle.tree_nodes.proofs.ListEnds.{read_any}
 use Rattle.search_tree.proofs.VisitCalls.{no_query, on_err, same_ready, runs_somewhere, after_visit, visit_call}
 use Rattle.search_tree.proofs.VisitSteps.{roomier_sound, roomier_call}
@@ -25,9 +24,7 @@ returns-in_err-visit_last-clause-err g c =
 
 pub invariant_of-self-2 : goal.invariant_of-self-2
 invariant_of-self-2 g c =
-    let key = g.C.KeyClass in
-    let law = g.met.C.KeyClass in
-    let laws : Laws (class_of key.covered key.may_match key.is_match key.key_with key.united) = record { reflexive = law.reflexive; transitive = law.transitive; covers_first = law.covers_first; covers_second = law.covers_second; least = law.least; monotone = law.monotone; sound = law.sound } in
+    let laws = g.met.C.KeyClass.laws in
     let may = rw (← c.self.view_is) at c.requires in
     after_visit _ _ c.args.search c.args.at laws c.in-Some.query.now c.index_mut.result.now c.visit_last.new.progress c.visit_last.new.nodes c.self.invariant may.first (sym c.index_mut.ensures.value) (sym (ap option_copied c.in-Some.is) ∙ c.query_in_place.ensures) c.in_ok-visit_last.ensures.ok
 

@@ -4,7 +4,7 @@ use node_arena::Handle;
 
 /// The place of a node in the search tree.
 #[derive(Clone, Copy, Debug, PartialEq, Eq)]
-pub enum Place {
+pub enum Position {
     /// At the top.
     Root,
 

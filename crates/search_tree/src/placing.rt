@@ -5,7 +5,6 @@ ghost use Rattle.search_tree.specs.Advances.{HasPlacedBehindNone};
 ghost use Rattle.search_tree.specs.Trees.{tree_of};
 ghost use Rattle.search_tree.specs.Walks.{IsHolder, NoneHolds, MayPlace};
 ghost use Rattle.tree_theory.specs.Changes.{IsPlaced};
-ghost use Rattle.tree_theory.specs.KeyClasses.{class_of};
 
 use crate::tree::Tree;
 use node_arena::Handle;
@@ -21,12 +20,8 @@ pub(crate) fn holder_of<C: KeyClass, A: Allocator>(
     attached: &Attached<A>,
     item: C::Item,
 ) -> Option<u64>
-    ensures held { IfSome result
-        (IsHolder (class_of C.covered C.may_match C.is_match C.key_with C.united) running.now
-        attached.now.numbers item) }
-    ensures free { IfNone result
-        (NoneHolds (class_of C.covered C.may_match C.is_match C.key_with C.united) running.now
-        attached.now.numbers item) }
+    ensures held { IfSome result (IsHolder C.class running.now attached.now.numbers item) }
+    ensures free { IfNone result (NoneHolds C.class running.now attached.now.numbers item) }
 {
     running.first_meeting(
         attached,
@@ -37,14 +32,9 @@ pub(crate) fn holder_of<C: KeyClass, A: Allocator>(
 impl<C: KeyClass, A: Allocator> Tree<C, A> {
     /// Adds a pair to a leaf that may take it. No ready search looks for the pair.
     pub(crate) fn place(&mut self, at: Handle, key: u64, item: C::Item)
-        requires { MayPlace (class_of C.covered C.may_match C.is_match C.key_with C.united) self.old
-            at (key, item) }
-        ensures placed { HasPlacedBehindNone
-            (class_of C.covered C.may_match C.is_match C.key_with C.united) self.old self.new
-            (key, item) }
-        ensures step { IsPlaced
-            (tree_of (class_of C.covered C.may_match C.is_match C.key_with C.united) self.old)
-            (tree_of (class_of C.covered C.may_match C.is_match C.key_with C.united) self.new) at
+        requires { MayPlace C.class self.old at (key, item) }
+        ensures placed { HasPlacedBehindNone C.class self.old self.new (key, item) }
+        ensures step { IsPlaced (tree_of C.class self.old) (tree_of C.class self.new) at
             (key, item) }
     {
         push_pair(&mut self.nodes, at, key, item);

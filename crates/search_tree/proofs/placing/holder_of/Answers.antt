@@ -1,6 +1,6 @@
 use Rattle.std.proofs.Common.{Option, None, Some, IfNone, rules}
 use Rattle.std.proofs.lemmas.Option.{IfSome_then}
-use Rattle.search_tree.proofs.walking.holder_of.Goals as goal
+use Rattle.search_tree.proofs.placing.holder_of.Goals as goal
 
 none_then : {T : Type 0} (r : Option T) {P Q : Type 0} → IfNone r P → (P → Q) → IfNone r Q
 none_then None none goes = goes none
