@@ -7,7 +7,7 @@ use Rattle.features.specs.Changes.{change_id, after_change, after, IsUnnamed, Ca
 use Rattle.features.specs.Rows.{feature_with, without}
 use Rattle.features.specs.declared.tables.Table.{Table}
 use Rattle.features.specs.Tables.{HasRoom}
-use Rattle.memory.specs.declared.refused.Refused.{Refused}
+use Rattle.memory.specs.declared.no_memory.NoMemory.{NoMemory}
 use Rattle.features.specs.declared.stores.StoreFault.{StoreFault}
 use Rattle.features.specs.declared.stores.StoreFault.TheVariants.{Full, Memory}
 use Rattle.std.specs.Result.{IsErrAnd}
@@ -86,7 +86,7 @@ module _ (limit version : ℕ) (office : List ℕ) (changes : List Change) (rows
   pub few_added : len + added ≤ limit + deleted → added ≤ limit
   few_added few = omega (arith, few, len_is, deleted_is, deletions_within version office changes rows can)
 
-pub not_full : (r : Result (Unit {0}) StoreFault) (x : Refused) → IsErrAnd r (λ fault. fault ≡ Memory x) → r ≡ Err Full → ⊥
+pub not_full : (r : Result (Unit {0}) StoreFault) (x : NoMemory) → IsErrAnd r (λ fault. fault ≡ Memory x) → r ≡ Err Full → ⊥
 not_full (Ok u) x h same = absurd cc
 not_full (Err Full) x h same = absurd cc
 not_full (Err (Memory y)) x h same = absurd cc

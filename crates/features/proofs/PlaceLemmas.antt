@@ -1,11 +1,7 @@
--- Binary search in a rising list of ids.
-use Rattle.std.proofs.Common.{◌≡◌, ◌≢◌, ℕ, zero, suc, ◌<◌, ◌≤◌, List, [], ◌∷◌, length, get_or, Result, Ok, Err, inl, inr, sym, arith}
-use Rattle.std.specs.List.Sorted.{IsSearchInRange, IsBinarySearchResult, IsNonDecreasingBy}
-use Rattle.std.specs.Ordering.{nat_cmp, ordering_index}
-use Rattle.std.proofs.lemmas.Cmp.{ranked}
+-- Rising lists of ids.
+use Rattle.std.proofs.Common.{◌≡◌, ◌≢◌, ℕ, zero, suc, ◌<◌, ◌≤◌, List, [], ◌∷◌, length, get_or, inl, inr, arith}
 use Rattle.std.proofs.lemmas.Bool.{cases_lt}
-use Rattle.std.proofs.lemmas.Bool.Decides.{nat_tests}
-use Rattle.features.specs.Places.{IsLess, AreRising, IsAt, IsGapFor, IsPlaceOf}
+use Rattle.features.specs.Places.{IsLess, AreRising, IsAt, IsGapFor}
 
 -- an id that is less than a list is less than each of its ids
 pub less_at : (id : ℕ) (ids : List ℕ) (j d : ℕ) → IsLess id ids → j < length ids → id < get_or ids j d
@@ -32,17 +28,6 @@ rising_at (id ∷ ids) zero zero d rising le lt = omega arith
 rising_at (id ∷ ids) zero (suc j) d rising le lt = omega (arith, less_at id ids j d rising.0 (omega arith))
 rising_at (id ∷ ids) (suc i) zero d rising le lt = absurd (omega arith)
 rising_at (id ∷ ids) (suc i) (suc j) d rising le lt = rising_at ids i j d rising.1 (omega arith) (omega arith)
-
--- a binary search ends at the index of the id, or at its gap
-pub searched : (id : ℕ) (ids : List ℕ) → AreRising ids → (r : Result ℕ ℕ) → IsSearchInRange r (length ids) → IsBinarySearchResult (λ x. nat_cmp x id) ids r → IsPlaceOf id ids r
-searched id ids rising (Ok at) in_range equal = record { in_range = in_range; has_id = λ d. ranked _ id _ (sym (equal d)) }
-searched id ids rising (Err at) in_range parted =
-    let rise : IsNonDecreasingBy (λ x. ordering_index (nat_cmp x id)) ids = λ i j d le lt. (let up = rising_at ids i j d rising le lt in grind (arith, nat_tests, up)) in
-    record {
-      in_range = in_range;
-      smaller_before = λ j d lt. ranked _ id _ (sym ((parted rise).0 j d (omega arith) lt));
-      greater_after = λ j d le lt. ranked _ id _ (sym ((parted rise).1 j d le lt));
-    }
 
 pub gap_tail : (id other : ℕ) (ids : List ℕ) (i : ℕ) → IsGapFor id (other ∷ ids) (suc i) → IsGapFor id ids i
 gap_tail id other ids i gap = record {

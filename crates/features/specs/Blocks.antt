@@ -63,8 +63,8 @@ excess_in blocks = length (flat_map above_half blocks)
 abbrev pub spare_in : List (ArrayVec Entry) → ℕ → ℕ
 spare_in blocks capacity = capacity - max 1 (length blocks)
 
--- how many entries come at least before these blocks would need more room than that: a block is split
--- only when all of its upper half has come
+-- how many entries come at least before these blocks would need more room than that: a block is
+-- split only when all of its upper half has come
 abbrev pub fill_in : List (ArrayVec Entry) → ℕ → ℕ
 fill_in blocks capacity = HALF * capacity - (excess_in blocks + HALF * max 1 (length blocks))
 
@@ -74,24 +74,34 @@ room_in blocks capacity = max (spare_in blocks capacity) (fill_in blocks capacit
 
 -- the blocks with one more entry
 abbrev pub with_entry : List (ArrayVec Entry) → Position → Entry → List (ArrayVec Entry)
-with_entry blocks position entry = slice_set blocks position.block (record { items = insert (block_at blocks position.block) position.index entry })
+with_entry blocks position entry =
+    slice_set blocks position.block
+    (record { items = insert (block_at blocks position.block) position.index entry })
 
 -- the blocks with an entry less
 abbrev pub without_entry : List (ArrayVec Entry) → Position → List (ArrayVec Entry)
-without_entry blocks position = slice_set blocks position.block (record { items = remove (block_at blocks position.block) position.index })
+without_entry blocks position =
+    slice_set blocks position.block
+    (record { items = remove (block_at blocks position.block) position.index })
 
 -- the blocks with another place at this position
 abbrev pub with_place : List (ArrayVec Entry) → Position → ℕ → List (ArrayVec Entry)
 with_place blocks position place =
-    slice_set blocks position.block (record { items = slice_set (block_at blocks position.block) position.index (record (entry_at (block_at blocks position.block) position.index) { place = place }) })
+    slice_set blocks position.block
+    (record {
+      items = slice_set (block_at blocks position.block) position.index
+          (record (entry_at (block_at blocks position.block) position.index) { place = place });
+    })
 
 -- the blocks with two in place of one: its lower half and the rest
 abbrev pub halved : List (ArrayVec Entry) → ℕ → List (ArrayVec Entry)
-halved blocks at = insert (slice_set blocks at (record { items = take HALF (block_at blocks at) })) (at + 1) (record { items = drop HALF (block_at blocks at) })
+halved blocks at = insert (slice_set blocks at (record { items = take HALF (block_at blocks at) }))
+    (at + 1) (record { items = drop HALF (block_at blocks at) })
 
 -- the blocks with one in place of two neighbours
 abbrev pub joined : List (ArrayVec Entry) → ℕ → List (ArrayVec Entry)
-joined blocks at = slice_set (remove blocks (at + 1)) at (record { items = block_at blocks at ++ block_at blocks (at + 1) })
+joined blocks at = slice_set (remove blocks (at + 1)) at
+    (record { items = block_at blocks at ++ block_at blocks (at + 1) })
 
 -- what a contract sees of `Entries`: the entries by rising id, and how many more certainly fit
 -- without growth

@@ -16,14 +16,16 @@ change_id (Delete id known) = id
 -- seen does not matter here; it is compared when the list is judged.
 abbrev pub after_change : ℕ → List ℕ → Change → List Feature → List Feature
 after_change version office (Add id class shape) rows =
-    with_row (record { id = id; version = version; office = office; class = class; shape = shape }) rows
+    with_row (record { id = id; version = version; office = office; class = class; shape = shape })
+    rows
 after_change version office (Reshape id known shape) rows = with_shape id version shape rows
 after_change version office (Delete id known) rows = without id rows
 
 -- the features after a list of changes
 abbrev pub after : ℕ → List ℕ → List Change → List Feature → List Feature
 after version office [] rows = rows
-after version office (change ∷ changes) rows = after version office changes (after_change version office change rows)
+after version office (change ∷ changes) rows =
+    after version office changes (after_change version office change rows)
 
 -- no change of the list has this id
 abbrev pub IsUnnamed : ℕ → List Change → Type 0
@@ -39,7 +41,8 @@ CanChange (Delete id known) rows = IsSome (feature_with id rows)
 -- each change can be made in these features, and no two have the same id
 abbrev pub CanApply : List Change → List Feature → Type 0
 CanApply [] rows = Unit {0}
-CanApply (change ∷ changes) rows = CanChange change rows × IsUnnamed (change_id change) changes × CanApply changes rows
+CanApply (change ∷ changes) rows = CanChange change rows × IsUnnamed (change_id change) changes
+    × CanApply changes rows
 
 -- how many features a list of changes adds, and how many it deletes
 abbrev pub additions : List Change → ℕ

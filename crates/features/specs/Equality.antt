@@ -37,26 +37,46 @@ same_flag-told false true e = absurd (false≢true e)
 same_flag-told false false e = refl
 
 abbrev pub same_feature : Feature → Feature → Bool
-same_feature a b = nat_eq a.id b.id && nat_eq a.version b.version && same_name a.office b.office && same_name a.class b.class && same_shape a.shape b.shape
+same_feature a b = nat_eq a.id b.id && nat_eq a.version b.version && same_name a.office b.office &&
+    same_name a.class b.class && same_shape a.shape b.shape
 
 same_feature-itself : (a : Feature) → same_feature a a ≡ true
 same_feature-itself a =
-    both_so _ _ (both_so _ _ (both_so _ _ (both_so _ _ (same_number-itself a.id) (same_number-itself a.version)) (same_name-itself a.office)) (same_name-itself a.class)) (same_shape-itself a.shape)
+    both_so _ _ (both_so _ _ (both_so _ _
+    (both_so _ _ (same_number-itself a.id) (same_number-itself a.version))
+    (same_name-itself a.office)) (same_name-itself a.class)) (same_shape-itself a.shape)
 
-feature_by : (a b : Feature) → a.id ≡ b.id → a.version ≡ b.version → a.office ≡ b.office → a.class ≡ b.class → a.shape ≡ b.shape → a ≡ b
-feature_by a b p q r s t = λ i. record { id = p i; version = q i; office = r i; class = s i; shape = t i }
+feature_by : (a b : Feature) → a.id ≡ b.id → a.version ≡ b.version → a.office ≡ b.office
+    → a.class ≡ b.class → a.shape ≡ b.shape → a ≡ b
+feature_by a b p q r s t = λ i. record {
+  id = p i;
+  version = q i;
+  office = r i;
+  class = s i;
+  shape = t i;
+}
 
 same_feature-told : (a b : Feature) → same_feature a b ≡ true → a ≡ b
 same_feature-told a b e =
-    let four = first_so (nat_eq a.id b.id && nat_eq a.version b.version && same_name a.office b.office && same_name a.class b.class) (same_shape a.shape b.shape) e in
-    let three = first_so (nat_eq a.id b.id && nat_eq a.version b.version && same_name a.office b.office) (same_name a.class b.class) four in
-    let two = first_so (nat_eq a.id b.id && nat_eq a.version b.version) (same_name a.office b.office) three in
+    let four = first_so (nat_eq a.id b.id && nat_eq a.version b.version && same_name a.office
+    b.office && same_name a.class b.class) (same_shape a.shape b.shape) e in
+    let three = first_so (nat_eq a.id b.id && nat_eq a.version b.version && same_name a.office
+    b.office) (same_name a.class b.class) four in
+    let two = first_so (nat_eq a.id b.id && nat_eq a.version b.version)
+    (same_name a.office b.office) three in
     feature_by a b
     ((unsigned_Decides a.id b.id).0 (first_so (nat_eq a.id b.id) (nat_eq a.version b.version) two))
-    ((unsigned_Decides a.version b.version).0 (second_so (nat_eq a.id b.id) (nat_eq a.version b.version) two))
-    ((bytes_decides a.office b.office).0 (second_so (nat_eq a.id b.id && nat_eq a.version b.version) (same_name a.office b.office) three))
-    ((bytes_decides a.class b.class).0 (second_so (nat_eq a.id b.id && nat_eq a.version b.version && same_name a.office b.office) (same_name a.class b.class) four))
-    ((same_shape_decides a.shape b.shape).0 (second_so (nat_eq a.id b.id && nat_eq a.version b.version && same_name a.office b.office && same_name a.class b.class) (same_shape a.shape b.shape) e))
+    ((unsigned_Decides a.version b.version).0
+    (second_so (nat_eq a.id b.id) (nat_eq a.version b.version) two))
+    ((bytes_decides a.office b.office).0
+    (second_so (nat_eq a.id b.id && nat_eq a.version b.version) (same_name a.office b.office)
+    three))
+    ((bytes_decides a.class b.class).0
+    (second_so (nat_eq a.id b.id && nat_eq a.version b.version && same_name a.office b.office)
+    (same_name a.class b.class) four))
+    ((same_shape_decides a.shape b.shape).0
+    (second_so (nat_eq a.id b.id && nat_eq a.version b.version && same_name a.office b.office &&
+    same_name a.class b.class) (same_shape a.shape b.shape) e))
 
 pub same_feature_decides : (a b : Feature) → Decides (same_feature a b) (a ≡ b)
 same_feature_decides = decides_by same_feature same_feature-itself same_feature-told
@@ -68,8 +88,10 @@ same_change (Delete a v) (Delete b w) = nat_eq a b && nat_eq v w
 same_change a b = false
 
 same_change-itself : (a : Change) → same_change a a ≡ true
-same_change-itself (Add a c s) = both_so _ _ (both_so _ _ (same_number-itself a) (same_name-itself c)) (same_shape-itself s)
-same_change-itself (Reshape a v s) = both_so _ _ (both_so _ _ (same_number-itself a) (same_number-itself v)) (same_shape-itself s)
+same_change-itself (Add a c s) =
+    both_so _ _ (both_so _ _ (same_number-itself a) (same_name-itself c)) (same_shape-itself s)
+same_change-itself (Reshape a v s) =
+    both_so _ _ (both_so _ _ (same_number-itself a) (same_number-itself v)) (same_shape-itself s)
 same_change-itself (Delete a v) = both_so _ _ (same_number-itself a) (same_number-itself v)
 
 same_change-told : (a b : Change) → same_change a b ≡ true → a ≡ b
@@ -77,7 +99,8 @@ same_change-told (Add a c s) (Add b d t) e =
     let two = first_so (nat_eq a b && same_name c d) (same_shape s t) e in
     let p = (unsigned_Decides a b).0 (first_so (nat_eq a b) (same_name c d) two) in
     let q = (bytes_decides c d).0 (second_so (nat_eq a b) (same_name c d) two) in
-    let r = (same_shape_decides s t).0 (second_so (nat_eq a b && same_name c d) (same_shape s t) e) in
+    let r = (same_shape_decides s t).0
+    (second_so (nat_eq a b && same_name c d) (same_shape s t) e) in
     λ i. Add (p i) (q i) (r i)
 same_change-told (Reshape a v s) (Reshape b w t) e =
     let two = first_so (nat_eq a b && nat_eq v w) (same_shape s t) e in
@@ -101,23 +124,35 @@ pub same_changes_decides : (a b : List Change) → Decides (same_changes a b) (a
 same_changes_decides = pointwise_decides same_change_decides
 
 abbrev pub same_subject : Subject → Subject → Bool
-same_subject a b = same_name a.name b.name && same_name a.office b.office && same_name a.role b.role && same_flag a.steward b.steward
+same_subject a b = same_name a.name b.name && same_name a.office b.office && same_name a.role b.role
+    && same_flag a.steward b.steward
 
 same_subject-itself : (a : Subject) → same_subject a a ≡ true
-same_subject-itself a = both_so _ _ (both_so _ _ (both_so _ _ (same_name-itself a.name) (same_name-itself a.office)) (same_name-itself a.role)) (same_flag-itself a.steward)
+same_subject-itself a = both_so _ _
+    (both_so _ _ (both_so _ _ (same_name-itself a.name) (same_name-itself a.office))
+    (same_name-itself a.role)) (same_flag-itself a.steward)
 
-subject_by : (a b : Subject) → a.name ≡ b.name → a.office ≡ b.office → a.role ≡ b.role → a.steward ≡ b.steward → a ≡ b
+subject_by : (a b : Subject) → a.name ≡ b.name → a.office ≡ b.office → a.role ≡ b.role
+    → a.steward ≡ b.steward → a ≡ b
 subject_by a b p q r s = λ i. record { name = p i; office = q i; role = r i; steward = s i }
 
 same_subject-told : (a b : Subject) → same_subject a b ≡ true → a ≡ b
 same_subject-told a b e =
-    let three = first_so (same_name a.name b.name && same_name a.office b.office && same_name a.role b.role) (same_flag a.steward b.steward) e in
-    let two = first_so (same_name a.name b.name && same_name a.office b.office) (same_name a.role b.role) three in
+    let three = first_so (same_name a.name b.name && same_name a.office b.office && same_name a.role
+    b.role) (same_flag a.steward b.steward) e in
+    let two = first_so (same_name a.name b.name && same_name a.office b.office)
+    (same_name a.role b.role) three in
     subject_by a b
-    ((bytes_decides a.name b.name).0 (first_so (same_name a.name b.name) (same_name a.office b.office) two))
-    ((bytes_decides a.office b.office).0 (second_so (same_name a.name b.name) (same_name a.office b.office) two))
-    ((bytes_decides a.role b.role).0 (second_so (same_name a.name b.name && same_name a.office b.office) (same_name a.role b.role) three))
-    (same_flag-told a.steward b.steward (second_so (same_name a.name b.name && same_name a.office b.office && same_name a.role b.role) (same_flag a.steward b.steward) e))
+    ((bytes_decides a.name b.name).0
+    (first_so (same_name a.name b.name) (same_name a.office b.office) two))
+    ((bytes_decides a.office b.office).0
+    (second_so (same_name a.name b.name) (same_name a.office b.office) two))
+    ((bytes_decides a.role b.role).0
+    (second_so (same_name a.name b.name && same_name a.office b.office)
+    (same_name a.role b.role) three))
+    (same_flag-told a.steward b.steward
+    (second_so (same_name a.name b.name && same_name a.office b.office && same_name a.role
+    b.role) (same_flag a.steward b.steward) e))
 
 pub same_subject_decides : (a b : Subject) → Decides (same_subject a b) (a ≡ b)
 same_subject_decides = decides_by same_subject same_subject-itself same_subject-told

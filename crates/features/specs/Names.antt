@@ -10,7 +10,8 @@ is_name_byte b = (nat_le 97 b && nat_le b 122) || (nat_le 48 b && nat_le b 57) |
 
 -- 1 to `NAME_LIMIT` such bytes
 abbrev pub is_name : List ℕ → Bool
-is_name bytes = nat_le 1 (length bytes) && nat_le (length bytes) NAME_LIMIT && list_all is_name_byte bytes
+is_name bytes = nat_le 1 (length bytes) && nat_le (length bytes) NAME_LIMIT && list_all is_name_byte
+    bytes
 
 -- the name with this text, if it is a valid one
 abbrev pub name_of : List ℕ → Option (List ℕ)
@@ -30,6 +31,8 @@ pub record HoldsName (bytes : List ℕ) (len : ℕ) : Type 0 where
 pub length_again : (bytes : List ℕ) (len : ℕ) → HoldsName bytes len → length (take len bytes) ≡ len
 length_again bytes len h = length-take-le len bytes (omega (arith, h.whole, h.within))
 
-pub padded_again : (bytes : List ℕ) (len : ℕ) → HoldsName bytes len → take len bytes ++ padding (length (take len bytes)) ≡ bytes
+pub padded_again : (bytes : List ℕ) (len : ℕ) → HoldsName bytes len
+    → take len bytes ++ padding (length (take len bytes)) ≡ bytes
 padded_again bytes len h =
-    ap (λ n. take len bytes ++ padding n) (length_again bytes len h) ∙ ap (λ xs. take len bytes ++ xs) (sym h.padded) ∙ take-append-drop len bytes
+    ap (λ n. take len bytes ++ padding n) (length_again bytes len h) ∙ ap
+    (λ xs. take len bytes ++ xs) (sym h.padded) ∙ take-append-drop len bytes

@@ -1,6 +1,7 @@
 -- The index of an id in a rising list of ids, or the index at which it would be inserted.
-use Rattle.std.specs.Prelude.{◌≡◌, ℕ, ◌<◌, ◌≤◌, List, [], ◌∷◌, length, slice_index_or, Result, Ok, Err}
+use Rattle.std.specs.Prelude.{◌≡◌, ℕ, ◌<◌, ◌≤◌, List, [], ◌∷◌, length, slice_index_or}
 
+-- the id is less than all of these
 abbrev pub IsLess : ℕ → List ℕ → Type 0
 IsLess id [] = Unit {0}
 IsLess id (other ∷ ids) = (id < other) × IsLess id ids
@@ -20,7 +21,3 @@ pub record IsGapFor (id : ℕ) (ids : List ℕ) (i : ℕ) : Type 0 where
   pub in_range : i ≤ length ids
   pub smaller_before : (j d : ℕ) → j < i → slice_index_or ids j d < id
   pub greater_after : (j d : ℕ) → i ≤ j → j < length ids → id < slice_index_or ids j d
-
-abbrev pub IsPlaceOf : ℕ → List ℕ → Result ℕ ℕ → Type 0
-IsPlaceOf id ids (Ok i) = IsAt id ids i
-IsPlaceOf id ids (Err i) = IsGapFor id ids i

@@ -20,13 +20,15 @@ IsSortedById (row ∷ rows) = IsBelowAll row.id rows × IsSortedById rows
 -- the list with one more feature, inserted before the first greater id
 abbrev pub with_row : Feature → List Feature → List Feature
 with_row new [] = new ∷ []
-with_row new (row ∷ rows) = if nat_lt new.id row.id then new ∷ row ∷ rows else row ∷ with_row new rows
+with_row new (row ∷ rows) = if nat_lt new.id row.id then new ∷ row ∷ rows
+    else row ∷ with_row new rows
 
 -- the list after the feature with this id got a shape and a version; office and class stay
 abbrev pub with_shape : ℕ → ℕ → List Point → List Feature → List Feature
 with_shape id version shape [] = []
 with_shape id version shape (row ∷ rows) =
-    if row.id == id then record row { version = version; shape = shape } ∷ rows else row ∷ with_shape id version shape rows
+    if row.id == id then record row { version = version; shape = shape } ∷ rows
+    else row ∷ with_shape id version shape rows
 
 -- the list without the feature with this id
 abbrev pub without : ℕ → List Feature → List Feature

@@ -35,7 +35,8 @@ module _ {A : Type 0} where
   rows_of table = rows_at (places_in table.entries.items) table.features.items
 
   abbrev pub IsSound : Table A → Type 0
-  IsSound table = AreTied (ids_in table.entries.items) (places_in table.entries.items) table.features.items
+  IsSound table = AreTied (ids_in table.entries.items) (places_in table.entries.items)
+      table.features.items
 
   -- n more features fit without growth, and their places fit into 32 bits
   pub record HasRoom (n : ℕ) (table : Table A) : Type 0 where
@@ -46,4 +47,7 @@ module _ {A : Type 0} where
 -- the places, with `to` in place of `from` for this id
 pub record IsRenumbered (ids : List ℕ) (id from to : ℕ) (old new : List ℕ) : Type 0 where
   pub len : length new ≡ length old
-  pub by_index : (k d : ℕ) → k < length old → slice_index_or new k d ≡ (if (slice_index_or ids k d == id) && (slice_index_or old k d == from) then to else slice_index_or old k d)
+  pub by_index : (k d : ℕ) → k < length old
+      → slice_index_or new k d
+      ≡ (if (slice_index_or ids k d == id) && (slice_index_or old k d == from) then to
+      else slice_index_or old k d)

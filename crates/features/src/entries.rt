@@ -1,6 +1,6 @@
 //! The entries of a store: for each id the place of its feature, by rising id.
 
-ghost use Rattle.std.specs.Prelude.{◌≡◌, ◌+◌, ◌-◌, ◌<◌, ◌≤◌, ◌++◌, [], ℕ, All, length, drop, nat_lt, slice_get, vec_len, vec_capacity, IfSome, IfNone, IfOk, IfErr, OnOk, IsTrue, IsFalse};
+ghost use Rattle.std.specs.Prelude.{◌≡◌, ◌+◌, ◌-◌, ◌<◌, ◌≤◌, ◌++◌, [], ℕ, All, length, drop, nat_lt, slice_get, vec_len, vec_capacity, IfSome, IfNone, IfOk, IfErr, IsOk, OnOk, IsTrue, IsFalse};
 ghost use Rattle.features.specs.Blocks.{AreFilled, AreFilledBut, HasGap, HasPlace, IsInserted, IsPresent, IsRemoved, IsWithin, block_at, entries_of, entry_at, fill_in, flat_index, halved, ids_in, joined, last_of, places_in, room_in, spare_in, with_entry, with_place, without_entry};
 ghost use Rattle.features.specs.Places.{AreRising, IsAt, IsGapFor};
 ghost use Rattle.features.specs.Tables.{IsRenumbered, rows_at};
@@ -8,7 +8,7 @@ ghost use Rattle.features.specs.Tables.{IsRenumbered, rows_at};
 use crate::rows::Feature;
 use crate::tables::FEATURE_LIMIT;
 use arrayvec::ArrayVec;
-use memory::{GrowVec, Refused};
+use memory::{GrowVec, NoMemory};
 use std::alloc::Allocator;
 use std::marker::Model;
 
@@ -93,7 +93,8 @@ fn find(blocks: &[Block], id: u64) -> Result<Position, Position>
         (λ position. IsAt id (ids_in (entries_of blocks.now)) (flat_index blocks.now position)) }
     ensures present { IfOk result (λ position. IsPresent position blocks.now) }
     ensures missing { IfErr result
-        (λ position. IsGapFor id (ids_in (entries_of blocks.now)) (flat_index blocks.now position)) }
+        (λ position. IsGapFor id (ids_in (entries_of blocks.now))
+        (flat_index blocks.now position)) }
     ensures within { IfErr result (λ position. IsWithin position blocks.now) }
 {
     let block = block_for(blocks, id);
@@ -499,12 +500,13 @@ impl<A: Allocator> Entries<A> {
     }
 
     /// Makes room for this many more entries; there are at most `count`. None needs no memory.
-    pub(crate) fn make_room(&mut self, count: usize, additional: usize) -> Result<(), Refused>
+    pub(crate) fn make_room(&mut self, count: usize, additional: usize) -> Result<(), NoMemory>
         requires count { length self.old.items ≤ count }
         requires count_few { count ≤ FEATURE_LIMIT }
         requires few { additional ≤ FEATURE_LIMIT }
         ensures items { self.new.items ≡ self.old.items }
         ensures ok { OnOk result (additional ≤ self.new.room) }
+        ensures certain { additional ≡ 0 → IsOk result }
     {
         if additional == 0 {
             return Ok(());

@@ -1,8 +1,8 @@
 //! The store of features.
 
-ghost use Rattle.std.specs.Prelude.{◌≡◌, ◌+◌, ◌<◌, ◌≤◌, ◌↔◌, [], ◌∷◌, List, ℕ, length, slice_get, IsTrue, IfOk, IfErr, OnOk, OnErr};
+ghost use Rattle.std.specs.Prelude.{◌≡◌, ◌+◌, ◌<◌, ◌≤◌, ◌↔◌, [], ◌∷◌, List, ℕ, length, slice_get, IsOk, IsTrue, IfOk, IfErr, OnOk, OnErr};
 ghost use Rattle.std.specs.Option.{option_copied};
-ghost use Rattle.memory.specs.Refused.{refused};
+ghost use Rattle.memory.specs.NoMemory.{out_of_memory};
 ghost use Rattle.features.specs.Changes.{CanApply, CanChange, additions, after, after_change, deletions};
 ghost use Rattle.features.specs.Rows.{IsSortedById, feature_with};
 ghost use Rattle.features.specs.Tables.{HasRoom, IsSound, rows_of};
@@ -13,7 +13,7 @@ use crate::meters::Meter;
 use crate::names::Name;
 use crate::rows::{Change, Feature};
 use crate::tables::{self, FEATURE_LIMIT, Table};
-use memory::{Refused, vec_with_room};
+use memory::{NoMemory, vec_with_room};
 use std::alloc::Allocator;
 use std::fmt;
 use std::marker::Model;
@@ -22,7 +22,7 @@ use std::marker::Model;
 #[derive(Debug, Drop, PartialEq, Eq)]
 pub enum StoreFault {
     Full,
-    Memory(Refused),
+    Memory(NoMemory),
 }
 
 impl StoreFault {
@@ -39,14 +39,14 @@ impl StoreFault {
     }
 }
 
-impl From<Refused> for StoreFault {
+impl From<NoMemory> for StoreFault {
     ghost use Rattle.std.specs.Prelude.{◌≡◌};
     ghost use Rattle.features.specs.declared.stores.StoreFault.TheVariants.{Memory};
 
-    ghost from_gives = { λ refused fault. fault ≡ Memory refused };
+    ghost from_gives = { λ no_memory fault. fault ≡ Memory no_memory };
 
-    fn from(refused: Refused) -> Self {
-        StoreFault::Memory(refused)
+    fn from(no_memory: NoMemory) -> Self {
+        StoreFault::Memory(no_memory)
     }
 }
 
@@ -140,7 +140,7 @@ impl<A: Allocator> Store<A> {
         ensures ok { IfOk result (λ rows. rows.items ≡ self.now) }
         ensures cost { OnOk result (meter.new ≡ ticked_by (length self.now) meter.old) }
         ensures err { OnErr result (meter.new ≡ meter.old) }
-        ensures memory { IfErr result (λ fault. fault ≡ StoreFault.Memory refused) }
+        ensures memory { IfErr result (λ fault. fault ≡ StoreFault.Memory out_of_memory) }
     {
         let mut rows = vec_with_room(alloc, self.table.features.len())?;
         self.table
@@ -176,6 +176,7 @@ impl<A: Allocator> Store<A> {
         ensures err { OnErr result (self.new ≡ self.old) }
         ensures full { (result ≡ Err StoreFault.Full)
             ↔ (FEATURE_LIMIT < length (after version office changes.now self.old)) }
+        ensures certain { additions changes.now ≡ 0 → IsOk result }
     {
         let added = count_additions(changes);
         let deleted = count_deletions(changes);

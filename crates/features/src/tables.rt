@@ -1,13 +1,13 @@
 //! The table in which a store keeps its features.
 
-ghost use Rattle.std.specs.Prelude.{◌≡◌, ◌+◌, ◌≤◌, vec_len, ℕ, OnOk, None, IsSome};
+ghost use Rattle.std.specs.Prelude.{◌≡◌, ◌+◌, ◌≤◌, vec_len, ℕ, IsOk, OnOk, None, IsSome};
 ghost use Rattle.std.specs.Option.{option_copied};
 ghost use Rattle.features.specs.Rows.{feature_with, with_row, with_shape, without};
 ghost use Rattle.features.specs.Tables.{HasRoom, IsSound, rows_of};
 
 use crate::entries::{Entries, Entry};
 use crate::rows::Feature;
-use memory::{GrowVec, Refused};
+use memory::{GrowVec, NoMemory};
 use plane::Shape;
 use std::alloc::Allocator;
 
@@ -37,13 +37,14 @@ pub(crate) fn find<A: Allocator>(table: &Table<A>, id: u64) -> Option<&Feature>
 pub(crate) fn make_room<A: Allocator>(
     table: &mut Table<A>,
     additional: usize,
-) -> Result<(), Refused>
+) -> Result<(), NoMemory>
     requires few { additional ≤ FEATURE_LIMIT }
     requires sound { IsSound table.old }
     requires numbers { vec_len table.old.features ≤ FEATURE_LIMIT }
     ensures rows { rows_of table.new ≡ rows_of table.old }
     ensures sound { IsSound table.new }
     ensures ok { OnOk result (HasRoom additional table.new) }
+    ensures certain { additional ≡ 0 → IsOk result }
 {
     table.entries.make_room(table.features.len(), additional)?;
     table.features.make_room(additional)
