@@ -13,7 +13,7 @@ use Rattle.audit_trail.specs.Legal.{IsSeated, after_deed}
 use Rattle.audit_trail.specs.Records.{DeedData, answered, governed, PlainState, RecordData}
 use Rattle.plain_world.specs.Admitting.{given, may_go_on, may_sit, own_search, owned, placed, search_with, subject_at}
 use Rattle.plain_world.specs.Answers.{AnswerData}
-use Rattle.plain_world.specs.Events.{Commit, Ended, Finish, Govern, Happens, Number, Refused, Reply, Roll, Rows, TakenOut, TakeSeat, reply_of}
+use Rattle.plain_world.specs.Events.{Commit, Ended, Finish, Govern, Happens, Number, Failed, Reply, Roll, Rows, TakenOut, TakeSeat, reply_of}
 use Rattle.plain_world.specs.Laws.{AddsAlone, HasOneMore, deed_of}
 use Rattle.plain_world.specs.Rolls.{RolledData}
 use Rattle.plain_world.specs.Staging.{staged_in}
@@ -22,7 +22,7 @@ use Rattle.plain_world.specs.declared.faults.Fault.{Fault}
 use Rattle.plain_world.specs.declared.faults.Fault.TheVariants as faults
 use Rattle.plain_world.specs.declared.outcomes.Outcome.{Outcome}
 use Rattle.plain_world.specs.declared.outcomes.Outcome.TheVariants as outcomes
-use Rattle.plain_world.specs.declared.searches.Search.{Search}
+use Rattle.plain_world.specs.declared.open_searches.Search.{Search}
 use Rattle.plain_world.specs.declared.settings.TheConstants.{SEAT_LIMIT}
 use Rattle.plain_world.proofs.AdmittedLemmas.{admitted, seat_same}
 use Rattle.plain_world.proofs.AnswerLemmas.{answer_exact, piece_leads_on, policy_stewards}
@@ -179,7 +179,7 @@ govern_refused rolled seat document old new (Err fault) happens = seen_same roll
 -- Rolling.
 
 -- a roll that is refused leaves the chronicle unchanged
-pub roll_refused : (seat : ℕ) (old new : WorldData) (fault : Fault) (first : ℕ) (rolled : List RecordData) → Happens (Roll seat) old new (Refused fault) → LeadsTo first rolled old
+pub roll_refused : (seat : ℕ) (old new : WorldData) (fault : Fault) (first : ℕ) (rolled : List RecordData) → Happens (Roll seat) old new (Failed fault) → LeadsTo first rolled old
     → (seen rolled new ≡ seen rolled old) × LeadsTo first rolled new
 roll_refused seat old new fault first rolled happens leads =
     let same = leaves (Roll seat) old new fault happens in

@@ -26,7 +26,12 @@ records_in (piece ∷ pieces) = piece.records ++ records_in pieces
 
 -- a world, with the records that were rolled out of it
 abbrev pub seen : List RecordData → WorldData → ChronicleData
-seen rolled w = record { opening = w.opening; seats = w.seats; records = rolled ++ w.trail; decider = w.state.decider }
+seen rolled w = record {
+  opening = w.opening;
+  seats = w.seats;
+  records = rolled ++ w.trail;
+  decider = w.state.decider;
+}
 
 -- The records that were rolled out are legal from the opening on, and lead to the base of the
 -- present trail. Their numbers begin with `first`, and the trail's follow them.
@@ -59,4 +64,6 @@ noted seat deed c = record c { records = c.records ++ record { seat = seat; deed
 
 -- a decider is put in force, and that is recorded
 abbrev pub governed_by : ℕ → DeciderData → ChronicleData → ChronicleData
-governed_by seat decider c = record (noted seat (governed decider.edition decider) c) { decider = decider }
+governed_by seat decider c = record (noted seat (governed decider.edition decider) c) {
+  decider = decider;
+}

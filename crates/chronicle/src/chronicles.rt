@@ -2,7 +2,7 @@
 
 ghost use Rattle.std.specs.Prelude.{◌≡◌, ◌≤◌, IfOk, IfErr};
 ghost use Rattle.chronicle.specs.Chronicles.{IsSoundChronicle, opened_by};
-ghost use Rattle.memory.specs.Refused.{refused};
+ghost use Rattle.memory.specs.NoMemory.{out_of_memory};
 
 use audit_trail::RECORD_LIMIT;
 use features::{FEATURE_LIMIT, Subjects};
@@ -30,11 +30,13 @@ impl<A: Allocator> Model for Chronicle<A> {
 
     ghost Value = { ChronicleData };
 
-    ghost coded = { code_by StoredChronicle (Prim.hlevel codes) stored_chronicle restored_chronicle restored_chronicle-stored_chronicle };
+    ghost coded = { code_by StoredChronicle (Prim.hlevel codes) stored_chronicle restored_chronicle
+        restored_chronicle-stored_chronicle };
 
     ghost view = { λ c. seen (records_in (map arc_value c.pieces.items)) c.world.plain };
 
-    ghost invariant = { λ c. LeadsTo c.first (records_in (map arc_value c.pieces.items)) c.world.plain };
+    ghost invariant = { λ c. LeadsTo c.first (records_in (map arc_value c.pieces.items))
+        c.world.plain };
 }
 
 impl<A: Allocator> Chronicle<A> {
@@ -43,7 +45,7 @@ impl<A: Allocator> Chronicle<A> {
     pub fn sound(&self)
         ensures { IsSoundChronicle self.now }
     {
-        self.world.world_is_sound();
+        self.world.fact_sound();
     }
 }
 
@@ -58,7 +60,7 @@ impl<A: Allocator + Copy> Chronicle<A> {
     ) -> Result<Self, (Document<Global>, Fault)>
         ensures ok { IfOk result
             (λ c. c ≡ opened_by (record { document = document; edition = 1 })) }
-        ensures err { IfErr result (λ e. e ≡ (document, Fault.Memory refused)) }
+        ensures err { IfErr result (λ e. e ≡ (document, Fault.Memory out_of_memory)) }
     {
         Chronicle::open_at(
             alloc,
@@ -88,7 +90,7 @@ impl<A: Allocator + Copy> Chronicle<A> {
         requires steps { limits.steps ≤ STEP_LIMIT }
         ensures ok { IfOk result
             (λ c. c ≡ opened_by (record { document = document; edition = starts.edition })) }
-        ensures err { IfErr result (λ e. e ≡ (document, Fault.Memory refused)) }
+        ensures err { IfErr result (λ e. e ≡ (document, Fault.Memory out_of_memory)) }
     {
         let world = World::open_at(alloc, heap, subjects, document, starts, limits)?;
         let first = world.trail().first();

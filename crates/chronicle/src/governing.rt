@@ -52,8 +52,8 @@ impl<A: Allocator + Copy> Chronicle<A> {
     pub fn roll(&mut self, heap: Global, seat: u32) -> Result<(), Fault>
         ensures { self.new ≡ self.old }
     {
-        self.world.world_is_sound();
-        self.pieces.make_place()?;
+        self.world.fact_sound();
+        self.pieces.make_slot()?;
         let piece = self.world.roll(heap, seat)?;
         self.pieces.push_reserved(piece);
         Ok(())

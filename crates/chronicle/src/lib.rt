@@ -2,8 +2,8 @@
 //! the present trail.
 #![tactic(auto)]
 
-mod changing;
 mod chronicles;
+mod committing;
 mod comparing;
 mod governing;
 mod reading;

@@ -7,16 +7,16 @@ use Rattle.audit_trail.specs.Legal.{subject_of, IsSeated}
 use Rattle.audit_trail.specs.declared.trails.TheConstants.{FIRST_LIMIT}
 use Rattle.plain_world.specs.declared.faults.Fault.{Fault}
 use Rattle.plain_world.specs.declared.faults.Fault.TheVariants as faults
-use Rattle.plain_world.specs.declared.searches.Search.{Search}
+use Rattle.plain_world.specs.declared.open_searches.Search.{Search}
 use Rattle.plain_world.specs.Admitting.{and_then, given, subject_at, stewarded, owned, own_search, has_answered_ready, may_record, may_finish, transaction_owned, own_transaction, all_placed, may_commit, edition_left, may_govern, next_first, refused_if, may_roll}
-use Rattle.plain_world.specs.Events.{Reply, Number, Done, Visited, Advanced, Tended, Rows, Ended, TakenOut, Refused, If, UnlessMemory, is_want}
+use Rattle.plain_world.specs.Events.{Reply, Number, Done, Visited, Advanced, Tended, Rows, Ended, TakenOut, Failed, If, UnlessMemory, is_want}
 use Rattle.plain_world.specs.Staging.{TransactionData, transaction_with, staged_in}
 use Rattle.plain_world.specs.States.{WorldData}
 use Rattle.plain_world.specs.Admitting as admitting
 use Rattle.plain_world.proofs.RunLemmas.{and_then_ok, given_ok, same_ok}
 
 abbrev pub is_refusal : Reply → Bool
-is_refusal (Refused fault) = true
+is_refusal (Failed fault) = true
 is_refusal _ = false
 
 -- an event whose reply is no refusal was admitted
@@ -26,16 +26,16 @@ admitted (Ok x) old new reply Does apart h = (x, refl, h)
 
 -- a claim on the reply that holds for a refused event and for an admitted one holds
 pub by_if : {T : Type 0} (may : Result T Fault) (old new : WorldData) (reply : Reply) (Does : T → Type 0) (P : Reply → Type 0)
-    → ((fault : Fault) → may ≡ Err fault → new ≡ old → P (Refused fault)) → ((x : T) → may ≡ Ok x → Does x → P reply) → If may old new reply Does → P reply
+    → ((fault : Fault) → may ≡ Err fault → new ≡ old → P (Failed fault)) → ((x : T) → may ≡ Ok x → Does x → P reply) → If may old new reply Does → P reply
 by_if (Err fault) old new reply Does P refused each h = subst P (sym h.1) (refused fault refl h.0)
 by_if (Ok x) old new reply Does P refused each h = each x refl h
 
 -- as `by_if`, for an event that may end with X12
 pub by_unless : (old new : WorldData) (reply : Reply) (Does : Type 0) (P : Reply → Type 0)
-    → ((fault : Fault) → is_want fault ≡ true → new ≡ old → P (Refused fault)) → (Does → P reply) → UnlessMemory old new reply Does → P reply
-by_unless old new (Refused fault) Does P refused each h = go (is_want fault) refl h
+    → ((fault : Fault) → is_want fault ≡ true → new ≡ old → P (Failed fault)) → (Does → P reply) → UnlessMemory old new reply Does → P reply
+by_unless old new (Failed fault) Does P refused each h = go (is_want fault) refl h
   where
-    go : (b : Bool) → is_want fault ≡ b → MatchBool b (new ≡ old) Does → P (Refused fault)
+    go : (b : Bool) → is_want fault ≡ b → MatchBool b (new ≡ old) Does → P (Failed fault)
     go true e h = refused fault e h
     go false e h = each h
 by_unless old new (Number n) Does P refused each h = each h

@@ -14,13 +14,13 @@ use Rattle.plain_world.specs.declared.faults.Fault.{Fault}
 use Rattle.plain_world.specs.declared.faults.Fault.TheVariants as faults
 use Rattle.tree_answers.specs.declared.fault.TreeFault.TheVariants as tree
 use Rattle.plain_world.specs.declared.outcomes.Outcome.TheVariants as outcomes
-use Rattle.plain_world.specs.declared.searches.Search.{Search}
+use Rattle.plain_world.specs.declared.open_searches.Search.{Search}
 use Rattle.plain_world.specs.declared.settings.TheConstants.{SEAT_LIMIT}
-use Rattle.plain_world.specs.declared.steps.Advance.TheVariants as advances
+use Rattle.plain_world.specs.declared.advances.Advance.TheVariants as advances
 use Rattle.tree_answers.specs.declared.answers.Step.TheVariants as steps
 use Rattle.tree_answers.specs.declared.answers.Visit.TheVariants as visits
 use Rattle.plain_world.specs.Admitting.{LAST, search_with, subject_at, placed, own_transaction, may_add, may_sit, may_open, may_go_on, may_finish, may_begin, may_step, may_stage, may_commit, may_govern, may_roll}
-use Rattle.plain_world.specs.Events.{Event, TakeSeat, OpenSearch, VisitNext, Finish, DropSearch, Begin, Stage, AdvanceWalk, Commit, Abort, Govern, Tend, Roll, Reply, Number, Done, Visited, Advanced, Tended, Ended, Refused, is_memory, Happens, Sees, Walks, Visits, Advances, Applies, CommitsAs, Tends, recorded, with_ready, without_transaction}
+use Rattle.plain_world.specs.Events.{Event, TakeSeat, OpenSearch, VisitNext, Finish, DropSearch, Begin, Stage, AdvanceWalk, Commit, Abort, Govern, Tend, Roll, Reply, Number, Done, Visited, Advanced, Tended, Ended, Failed, is_memory, Happens, Sees, Walks, Visits, Advances, Applies, CommitsAs, Tends, recorded, with_ready, without_transaction}
 use Rattle.plain_world.specs.Laws.{IsAsked, IsAskedSearch, IsAskedTransaction}
 use Rattle.plain_world.specs.Staging.{TransactionData, transaction_with, staged_in, with_step, staged, one_placed, ended, next_placement}
 use Rattle.plain_world.specs.States.{WorldData}
@@ -211,7 +211,7 @@ module _ (event : Event) (old : WorldData) (reply : Reply) where
 asked_sees : (event : Event) (number : ℕ) (old new : WorldData) (reply : Reply) → Sees number old new reply → IsAsked event old new reply
 asked_sees event number old new (Visited visits.More) d = asked_same event old _ new d
 asked_sees event number old new (Visited visits.Ready) d = asked_to event old _ new _ d (searches_ready event old _ number) (transactions_stay event old _) refl
-asked_sees event number old new (Refused (faults.Tree tree.Overrun)) d = asked_to event old _ new _ d (searches_end event old _ number) (transactions_stay event old _) refl
+asked_sees event number old new (Failed (faults.Tree tree.Overrun)) d = asked_to event old _ new _ d (searches_end event old _ number) (transactions_stay event old _) refl
 asked_sees event number old new _ d = absurd d
 
 asked_walks : (event : Event) (number : ℕ) (shape : List Point) (old new : WorldData) (reply : Reply) → Walks number shape old new reply → IsAsked event old new reply
@@ -220,21 +220,21 @@ asked_walks event number shape old new (Advanced (advances.Walked steps.Split)) 
 asked_walks event number shape old new (Advanced (advances.Walked steps.Installed)) d = asked_same event old _ new d
 asked_walks event number shape old new (Advanced (advances.Walked steps.Restarted)) d = asked_same event old _ new d
 asked_walks event number shape old new (Advanced (advances.Walked steps.Placed)) d = asked_to event old _ new _ d.1 (searches_stay event old _) (transactions_placed event old _ number) refl
-asked_walks event number shape old new (Refused (faults.Tree (tree.Held search))) d = asked_same event old _ new d.1
-asked_walks event number shape old new (Refused (faults.Tree tree.Full)) d = asked_same event old _ new d
-asked_walks event number shape old new (Refused (faults.Tree tree.TooHigh)) d = asked_same event old _ new d
-asked_walks event number shape old new (Refused (faults.Tree tree.Spent)) d = asked_same event old _ new d
-asked_walks event number shape old new (Refused (faults.Tree tree.Overrun)) d = asked_to event old _ new _ d (searches_stay event old _) (transactions_end event old _ number) refl
+asked_walks event number shape old new (Failed (faults.Tree (tree.Held search))) d = asked_same event old _ new d.1
+asked_walks event number shape old new (Failed (faults.Tree tree.Full)) d = asked_same event old _ new d
+asked_walks event number shape old new (Failed (faults.Tree tree.TooHigh)) d = asked_same event old _ new d
+asked_walks event number shape old new (Failed (faults.Tree tree.Spent)) d = asked_same event old _ new d
+asked_walks event number shape old new (Failed (faults.Tree tree.Overrun)) d = asked_to event old _ new _ d (searches_stay event old _) (transactions_end event old _ number) refl
 asked_walks event number shape old new _ d = absurd d
 
 asked_tends : (event : Event) (old new : WorldData) (reply : Reply) → Tends old new reply → IsAsked event old new reply
 asked_tends event old new (Tended tending) d = asked_same event old _ new d
-asked_tends event old new (Refused (faults.Tree tree.Spent)) d = asked_same event old _ new d
+asked_tends event old new (Failed (faults.Tree tree.Spent)) d = asked_same event old _ new d
 asked_tends event old new _ d = absurd d
 
 -- events that may end with X12, and events that may be refused
 asked_unless : (event : Event) (old new : WorldData) (reply : Reply) (Does : Type 0) → (Does → IsAsked event old new reply) → MatchBool (is_memory reply) (new ≡ old) Does → IsAsked event old new reply
-asked_unless event old new reply Does each d = by_unless old new reply Does (λ r. IsAsked event old new r) (λ fault want same. asked_same event old (Refused fault) new same) each d
+asked_unless event old new reply Does each d = by_unless old new reply Does (λ r. IsAsked event old new r) (λ fault want same. asked_same event old (Failed fault) new same) each d
 
 asked_visits : (event : Event) (s : Search) (old new : WorldData) (reply : Reply) → Visits s old new reply → IsAsked event old new reply
 asked_visits event s old new reply d = go s.ready d
@@ -254,7 +254,7 @@ asked_applies : (event : Event) (seat number : ℕ) (subject : Subject) (changes
 asked_applies event seat number subject changes old new reply d =
     go (old.state.version == LAST) (nat_lt old.limits.features (length (after (old.state.version + 1) subject.office changes old.state.features))) d
   where
-    go : (last full : Bool) → MatchBool last ((new ≡ old) × (reply ≡ Refused faults.Spent)) (MatchBool full ((new ≡ old) × (reply ≡ Refused faults.StoreFull))
+    go : (last full : Bool) → MatchBool last ((new ≡ old) × (reply ≡ Failed faults.Spent)) (MatchBool full ((new ≡ old) × (reply ≡ Failed faults.StoreFull))
         ((reply ≡ Ended (outcomes.Applied (old.state.version + 1))) × (new ≡ without_transaction number (recorded seat (applied subject (old.state.version + 1) changes) old)))) → IsAsked event old new reply
     go true full d = asked_same event old reply new d.0
     go false true d = asked_same event old reply new d.0
@@ -300,49 +300,49 @@ asked_staged seat k change old reply u may told number t is =
 
 pub is_asked : (event : Event) (old new : WorldData) (reply : Reply) → Happens event old new reply → IsAsked event old new reply
 is_asked (TakeSeat name) old new reply happens =
-    by_if (may_sit name old) old new reply _ (λ r. IsAsked (TakeSeat name) old new r) (λ fault may same. asked_same (TakeSeat name) old (Refused fault) new same)
+    by_if (may_sit name old) old new reply _ (λ r. IsAsked (TakeSeat name) old new r) (λ fault may same. asked_same (TakeSeat name) old (Failed fault) new same)
     (λ subject may d. asked_unless (TakeSeat name) old new reply _ (λ d. subst (λ (x : WorldData). IsAsked (TakeSeat name) old x reply) (sym d.0) (record {
       searches = searches_stay (TakeSeat name) old reply;
       transactions = transactions_stay (TakeSeat name) old reply;
       seats = inr (name, subject, refl, sat name old subject may, d.1, refl);
     })) d) happens
 is_asked (OpenSearch seat window) old new reply happens =
-    by_if (may_open seat old) old new reply _ (λ r. IsAsked (OpenSearch seat window) old new r) (λ fault may same. asked_same (OpenSearch seat window) old (Refused fault) new same)
+    by_if (may_open seat old) old new reply _ (λ r. IsAsked (OpenSearch seat window) old new r) (λ fault may same. asked_same (OpenSearch seat window) old (Failed fault) new same)
     (λ number may d. asked_unless (OpenSearch seat window) old new reply _
     (λ d. asked_to (OpenSearch seat window) old reply new _ d.0 (asked_opened seat number window old reply d.1) (transactions_stay (OpenSearch seat window) old reply) refl) d) happens
 is_asked (VisitNext seat number) old new reply happens =
-    by_if (may_go_on seat number old) old new reply _ (λ r. IsAsked (VisitNext seat number) old new r) (λ fault may same. asked_same (VisitNext seat number) old (Refused fault) new same)
+    by_if (may_go_on seat number old) old new reply _ (λ r. IsAsked (VisitNext seat number) old new r) (λ fault may same. asked_same (VisitNext seat number) old (Failed fault) new same)
     (λ s may d. asked_visits (VisitNext seat number) s old new reply d) happens
 is_asked (Finish seat number) old new reply happens =
-    by_if (may_finish seat number old) old new reply _ (λ r. IsAsked (Finish seat number) old new r) (λ fault may same. asked_same (Finish seat number) old (Refused fault) new same)
+    by_if (may_finish seat number old) old new reply _ (λ r. IsAsked (Finish seat number) old new r) (λ fault may same. asked_same (Finish seat number) old (Failed fault) new same)
     (λ who may d. asked_unless (Finish seat number) old new reply _
     (λ d. asked_to (Finish seat number) old reply new _ d.3 (searches_end (Finish seat number) old reply who.1.number) (transactions_stay (Finish seat number) old reply) refl) d) happens
 is_asked (DropSearch seat number) old new reply happens =
-    by_if (may_go_on seat number old) old new reply _ (λ r. IsAsked (DropSearch seat number) old new r) (λ fault may same. asked_same (DropSearch seat number) old (Refused fault) new same)
+    by_if (may_go_on seat number old) old new reply _ (λ r. IsAsked (DropSearch seat number) old new r) (λ fault may same. asked_same (DropSearch seat number) old (Failed fault) new same)
     (λ s may d. asked_to (DropSearch seat number) old reply new _ d.0 (searches_end (DropSearch seat number) old reply number) (transactions_stay (DropSearch seat number) old reply) refl) happens
 is_asked (Begin seat) old new reply happens =
-    by_if (may_begin seat old) old new reply _ (λ r. IsAsked (Begin seat) old new r) (λ fault may same. asked_same (Begin seat) old (Refused fault) new same)
+    by_if (may_begin seat old) old new reply _ (λ r. IsAsked (Begin seat) old new r) (λ fault may same. asked_same (Begin seat) old (Failed fault) new same)
     (λ number may d. asked_unless (Begin seat) old new reply _
     (λ d. asked_to (Begin seat) old reply new _ d.0 (searches_stay (Begin seat) old reply) (asked_begun seat number old reply d.1) refl) d) happens
 is_asked (Stage seat number change) old new reply happens =
-    by_if (may_stage seat number change old) old new reply _ (λ r. IsAsked (Stage seat number change) old new r) (λ fault may same. asked_same (Stage seat number change) old (Refused fault) new same)
+    by_if (may_stage seat number change old) old new reply _ (λ r. IsAsked (Stage seat number change) old new r) (λ fault may same. asked_same (Stage seat number change) old (Failed fault) new same)
     (λ u may d. asked_to (Stage seat number change) old reply new _ d.0 (searches_stay (Stage seat number change) old reply) (asked_staged seat number change old reply u may d.1) refl) happens
 is_asked (AdvanceWalk seat number) old new reply happens =
-    by_if (may_step seat number old) old new reply _ (λ r. IsAsked (AdvanceWalk seat number) old new r) (λ fault may same. asked_same (AdvanceWalk seat number) old (Refused fault) new same)
+    by_if (may_step seat number old) old new reply _ (λ r. IsAsked (AdvanceWalk seat number) old new r) (λ fault may same. asked_same (AdvanceWalk seat number) old (Failed fault) new same)
     (λ t may d. asked_advances (AdvanceWalk seat number) number t old new reply d) happens
 is_asked (Commit seat number) old new reply happens =
-    by_if (may_commit seat number old) old new reply _ (λ r. IsAsked (Commit seat number) old new r) (λ fault may same. asked_same (Commit seat number) old (Refused fault) new same)
+    by_if (may_commit seat number old) old new reply _ (λ r. IsAsked (Commit seat number) old new r) (λ fault may same. asked_same (Commit seat number) old (Failed fault) new same)
     (λ subject may d. asked_unless (Commit seat number) old new reply _
     (λ d. asked_commits_as (Commit seat number) d.0 seat number subject (staged_in number old.transactions) old new reply d.2) d) happens
 is_asked (Abort seat number) old new reply happens =
-    by_if (may_step seat number old) old new reply _ (λ r. IsAsked (Abort seat number) old new r) (λ fault may same. asked_same (Abort seat number) old (Refused fault) new same)
+    by_if (may_step seat number old) old new reply _ (λ r. IsAsked (Abort seat number) old new r) (λ fault may same. asked_same (Abort seat number) old (Failed fault) new same)
     (λ t may d. asked_to (Abort seat number) old reply new _ d.0 (searches_stay (Abort seat number) old reply) (transactions_end (Abort seat number) old reply number) refl) happens
 is_asked (Govern seat document) old new reply happens =
-    by_if (may_govern seat old) old new reply _ (λ r. IsAsked (Govern seat document) old new r) (λ fault may same. asked_same (Govern seat document) old (Refused fault) new same)
+    by_if (may_govern seat old) old new reply _ (λ r. IsAsked (Govern seat document) old new r) (λ fault may same. asked_same (Govern seat document) old (Failed fault) new same)
     (λ u may d. asked_unless (Govern seat document) old new reply _
     (λ d. asked_to (Govern seat document) old reply new _ d.1 (searches_stay (Govern seat document) old reply) (transactions_stay (Govern seat document) old reply) refl) d) happens
 is_asked (Tend slot) old new reply happens = asked_tends (Tend slot) old new reply happens
 is_asked (Roll seat) old new reply happens =
-    by_if (may_roll seat old) old new reply _ (λ r. IsAsked (Roll seat) old new r) (λ fault may same. asked_same (Roll seat) old (Refused fault) new same)
+    by_if (may_roll seat old) old new reply _ (λ r. IsAsked (Roll seat) old new r) (λ fault may same. asked_same (Roll seat) old (Failed fault) new same)
     (λ u may d. asked_unless (Roll seat) old new reply _
     (λ d. asked_to (Roll seat) old reply new _ d.1 (searches_stay (Roll seat) old reply) (transactions_stay (Roll seat) old reply) refl) d) happens

@@ -17,10 +17,10 @@ use Rattle.combining.proofs.questions.Question.TheSendSync as question
 use Rattle.decision.proofs.CrossingLemmas.{shared_decider_send, shared_decider_sync}
 use Rattle.audit_trail.proofs.causes.Refusal.TheSendSync as refusal
 use Rattle.audit_trail.proofs.CrossingLemmas.{trail_send, trail_sync}
-use Rattle.plain_world.proofs.searches.Searches.TheSendSync as searches
+use Rattle.plain_world.proofs.open_searches.Searches.TheSendSync as searches
 use Rattle.plain_world.proofs.settings.Limits.TheSendSync as limits
 use Rattle.plain_world.proofs.settings.Starts.TheSendSync as starts
-use Rattle.plain_world.proofs.staging.Transaction.TheSendSync as transaction
+use Rattle.plain_world.proofs.open_transactions.Transaction.TheSendSync as transaction
 use Rattle.plain_world.specs.contracts.answers.Answer as Answer
 use Rattle.plain_world.specs.contracts.answers.Answer.TheInside as answer_inside
 use Rattle.plain_world.specs.contracts.denials.Denial as Denial

@@ -12,7 +12,7 @@ use Rattle.plain_world.specs.declared.faults.Fault.{Fault}
 use Rattle.plain_world.specs.declared.faults.Fault.TheVariants as faults
 use Rattle.plain_world.specs.declared.outcomes.Outcome.TheVariants as outcomes
 use Rattle.plain_world.specs.Admitting.{LAST}
-use Rattle.plain_world.specs.Events.{Reply, Ended, Refused, reply_of, If, UnlessMemory, is_memory, Applies, Commits, recorded, without_transaction}
+use Rattle.plain_world.specs.Events.{Reply, Ended, Failed, reply_of, If, UnlessMemory, is_memory, Applies, Commits, recorded, without_transaction}
 use Rattle.plain_world.specs.Staging.{staged_in}
 use Rattle.plain_world.specs.States.{WorldData}
 
@@ -21,21 +21,21 @@ admitted may x old new reply Does e h = subst (λ (r : Result _ Fault). If r old
 
 -- a fault that is passed on
 pub handed_on : {T : Type 0} (gives : T → Reply) (result : Result T Fault) (fault : Fault) (old new : WorldData) (Does : Type 0) → IsErrAnd result (λ f. f ≡ fault)
-    → UnlessMemory old new (Refused fault) Does → UnlessMemory old new (reply_of gives result) Does
+    → UnlessMemory old new (Failed fault) Does → UnlessMemory old new (reply_of gives result) Does
 handed_on gives (Ok x) fault old new Does h same = absurd h
-handed_on gives (Err f) fault old new Does h same = subst (λ (g : Fault). UnlessMemory old new (Refused g) Does) (sym h) same
+handed_on gives (Err f) fault old new Does h same = subst (λ (g : Fault). UnlessMemory old new (Failed g) Does) (sym h) same
 
 -- an accepted list that would leave too many features
 pub too_many : (seat number : ℕ) (subject : Subject) (changes : List Change) (old : WorldData) (count : ℕ) → old.state.version ≢ LAST → old.limits.features < count → count ≡ length (after (old.state.version + 1) subject.office changes old.state.features)
-    → Applies seat number subject changes old old (Refused faults.StoreFull)
+    → Applies seat number subject changes old old (Failed faults.StoreFull)
 too_many seat number subject changes old count left more counted =
     let not_last : (old.state.version == LAST) ≡ false = grind (arith, nat_tests, left) in
     let full : nat_lt old.limits.features (length (after (old.state.version + 1) subject.office changes old.state.features)) ≡ true = rw (← counted) (grind (arith, nat_tests, more)) in
     go _ _ not_last full
   where
     go : (last over : Bool) → last ≡ false → over ≡ true
-        → MatchBool last ((old ≡ old) × (Refused faults.StoreFull ≡ Refused faults.Spent)) (MatchBool over ((old ≡ old) × (Refused faults.StoreFull ≡ Refused faults.StoreFull))
-        ((Refused faults.StoreFull ≡ Ended (outcomes.Applied (old.state.version + 1))) × (old ≡ without_transaction number (recorded seat (applied subject (old.state.version + 1) changes) old))))
+        → MatchBool last ((old ≡ old) × (Failed faults.StoreFull ≡ Failed faults.Spent)) (MatchBool over ((old ≡ old) × (Failed faults.StoreFull ≡ Failed faults.StoreFull))
+        ((Failed faults.StoreFull ≡ Ended (outcomes.Applied (old.state.version + 1))) × (old ≡ without_transaction number (recorded seat (applied subject (old.state.version + 1) changes) old))))
     go true over e f = absurd cc
     go false true e f = (refl, refl)
     go false false e f = absurd cc

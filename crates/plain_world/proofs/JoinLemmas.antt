@@ -13,12 +13,12 @@ use Rattle.audit_trail.proofs.LegalLemmas.{legal-append, legal_seated, replay-ap
 use Rattle.plain_world.specs.declared.faults.Fault.TheVariants as faults
 use Rattle.tree_answers.specs.declared.fault.TreeFault.TheVariants as tree
 use Rattle.plain_world.specs.declared.outcomes.Outcome.TheVariants as outcomes
-use Rattle.plain_world.specs.declared.searches.Search.{Search}
-use Rattle.plain_world.specs.declared.steps.Advance.TheVariants as advances
+use Rattle.plain_world.specs.declared.open_searches.Search.{Search}
+use Rattle.plain_world.specs.declared.advances.Advance.TheVariants as advances
 use Rattle.tree_answers.specs.declared.answers.Step.TheVariants as steps
 use Rattle.tree_answers.specs.declared.answers.Visit.TheVariants as visits
 use Rattle.plain_world.specs.Admitting.{LAST, may_sit, may_open, may_go_on, may_finish, may_begin, may_step, may_stage, may_commit, may_govern, may_roll}
-use Rattle.plain_world.specs.Events.{Event, TakeSeat, OpenSearch, VisitNext, Finish, DropSearch, Begin, Stage, AdvanceWalk, Commit, Abort, Govern, Tend, Roll, Reply, Visited, Advanced, Tended, Ended, TakenOut, Refused, If, UnlessMemory, is_memory, Happens, Run, Sees, Walks, Visits, Advances, Applies, CommitsAs, Tends, recorded, without_transaction}
+use Rattle.plain_world.specs.Events.{Event, TakeSeat, OpenSearch, VisitNext, Finish, DropSearch, Begin, Stage, AdvanceWalk, Commit, Abort, Govern, Tend, Roll, Reply, Visited, Advanced, Tended, Ended, TakenOut, Failed, If, UnlessMemory, is_memory, Happens, Run, Sees, Walks, Visits, Advances, Applies, CommitsAs, Tends, recorded, without_transaction}
 use Rattle.plain_world.specs.Laws.{records_out}
 use Rattle.plain_world.specs.Staging.{TransactionData, next_placement, staged_in}
 use Rattle.plain_world.specs.States.{WorldData, IsSoundWorld}
@@ -56,7 +56,7 @@ moves_to old new reply told e h = subst (λ (r : Reply). Moves old new r) (sym e
 moves_sees : (number : ℕ) (old new : WorldData) (reply : Reply) → Sees number old new reply → Moves old new reply
 moves_sees number old new (Visited visits.More) d = stays old new d
 moves_sees number old new (Visited visits.Ready) d = stays_by old new _ d refl refl
-moves_sees number old new (Refused (faults.Tree tree.Overrun)) d = stays_by old new _ d refl refl
+moves_sees number old new (Failed (faults.Tree tree.Overrun)) d = stays_by old new _ d refl refl
 moves_sees number old new _ d = absurd d
 
 moves_walks : (number : ℕ) (shape : List Point) (old new : WorldData) (reply : Reply) → Walks number shape old new reply → Moves old new reply
@@ -65,16 +65,16 @@ moves_walks number shape old new (Advanced (advances.Walked steps.Split)) d = st
 moves_walks number shape old new (Advanced (advances.Walked steps.Installed)) d = stays old new d
 moves_walks number shape old new (Advanced (advances.Walked steps.Restarted)) d = stays old new d
 moves_walks number shape old new (Advanced (advances.Walked steps.Placed)) d = stays_by old new _ d.1 refl refl
-moves_walks number shape old new (Refused (faults.Tree (tree.Held search))) d = stays old new d.1
-moves_walks number shape old new (Refused (faults.Tree tree.Full)) d = stays old new d
-moves_walks number shape old new (Refused (faults.Tree tree.TooHigh)) d = stays old new d
-moves_walks number shape old new (Refused (faults.Tree tree.Spent)) d = stays old new d
-moves_walks number shape old new (Refused (faults.Tree tree.Overrun)) d = stays_by old new _ d refl refl
+moves_walks number shape old new (Failed (faults.Tree (tree.Held search))) d = stays old new d.1
+moves_walks number shape old new (Failed (faults.Tree tree.Full)) d = stays old new d
+moves_walks number shape old new (Failed (faults.Tree tree.TooHigh)) d = stays old new d
+moves_walks number shape old new (Failed (faults.Tree tree.Spent)) d = stays old new d
+moves_walks number shape old new (Failed (faults.Tree tree.Overrun)) d = stays_by old new _ d refl refl
 moves_walks number shape old new _ d = absurd d
 
 moves_tends : (old new : WorldData) (reply : Reply) → Tends old new reply → Moves old new reply
 moves_tends old new (Tended tending) d = stays old new d
-moves_tends old new (Refused (faults.Tree tree.Spent)) d = stays old new d
+moves_tends old new (Failed (faults.Tree tree.Spent)) d = stays old new d
 moves_tends old new _ d = absurd d
 
 moves_visits : (s : Search) (old new : WorldData) (reply : Reply) → Visits s old new reply → Moves old new reply
@@ -95,7 +95,7 @@ moves_applies : (seat number : ℕ) (subject : Subject) (changes : List Change) 
 moves_applies seat number subject changes old new reply d =
     go (old.state.version == LAST) (nat_lt old.limits.features (length (after (old.state.version + 1) subject.office changes old.state.features))) d
   where
-    go : (last full : Bool) → MatchBool last ((new ≡ old) × (reply ≡ Refused faults.Spent)) (MatchBool full ((new ≡ old) × (reply ≡ Refused faults.StoreFull))
+    go : (last full : Bool) → MatchBool last ((new ≡ old) × (reply ≡ Failed faults.Spent)) (MatchBool full ((new ≡ old) × (reply ≡ Failed faults.StoreFull))
         ((reply ≡ Ended (outcomes.Applied (old.state.version + 1))) × (new ≡ without_transaction number (recorded seat (applied subject (old.state.version + 1) changes) old)))) → Moves old new reply
     go true full d = moves_to old new reply _ d.1 (stays old new d.0)
     go false true d = moves_to old new reply _ d.1 (stays old new d.0)

@@ -20,16 +20,16 @@ use Rattle.audit_trail.proofs.ListingLemmas.{listed_sorted}
 use Rattle.plain_world.specs.declared.faults.Fault.TheVariants as faults
 use Rattle.tree_answers.specs.declared.fault.TreeFault.TheVariants as tree
 use Rattle.plain_world.specs.declared.outcomes.Outcome.TheVariants as outcomes
-use Rattle.plain_world.specs.declared.searches.Search.{Search}
+use Rattle.plain_world.specs.declared.open_searches.Search.{Search}
 use Rattle.plain_world.specs.declared.settings.Limits.{Limits}
 use Rattle.plain_world.specs.declared.settings.Starts.{Starts}
 use Rattle.plain_world.specs.declared.settings.TheConstants.{SEAT_LIMIT, CHANGE_LIMIT}
-use Rattle.plain_world.specs.declared.steps.Advance.TheVariants as advances
+use Rattle.plain_world.specs.declared.advances.Advance.TheVariants as advances
 use Rattle.tree_answers.specs.declared.answers.Step.TheVariants as steps
 use Rattle.tree_answers.specs.declared.answers.Visit.TheVariants as visits
 use Rattle.plain_world.specs.Admitting.{LAST, subject_at, own_transaction, may_add, may_sit, may_open, may_go_on, may_finish, may_begin, may_step, may_stage, may_commit, may_govern, may_roll}
 use Rattle.plain_world.specs.Answers.{AnswerData}
-use Rattle.plain_world.specs.Events.{Event, TakeSeat, OpenSearch, VisitNext, Finish, DropSearch, Begin, Stage, AdvanceWalk, Commit, Abort, Govern, Tend, Roll, Reply, Visited, Advanced, Tended, Rows, Ended, Refused, is_memory, Happens, Run, Sees, Walks, Visits, Advances, Applies, CommitsAs, Tends, recorded, without_transaction}
+use Rattle.plain_world.specs.Events.{Event, TakeSeat, OpenSearch, VisitNext, Finish, DropSearch, Begin, Stage, AdvanceWalk, Commit, Abort, Govern, Tend, Roll, Reply, Visited, Advanced, Tended, Rows, Ended, Failed, is_memory, Happens, Run, Sees, Walks, Visits, Advances, Applies, CommitsAs, Tends, recorded, without_transaction}
 use Rattle.plain_world.specs.Laws.{AreApart, IsOrdered}
 use Rattle.plain_world.specs.Staging.{TransactionData, transaction_with, staged_in, with_step, staged, one_placed, ended, names, next_placement}
 use Rattle.plain_world.specs.States.{WorldData, IsSoundWorld, opened}
@@ -120,7 +120,7 @@ ordered_by new w e sorted apart = subst (λ (w : WorldData). IsOrdered w) (sym e
 ordered_sees : (number : ℕ) (old new : WorldData) (reply : Reply) → Sees number old new reply → IsOrdered old → IsOrdered new
 ordered_sees number old new (Visited visits.More) d h = ordered_same old new d h
 ordered_sees number old new (Visited visits.Ready) d h = ordered_by new _ d h.sorted h.apart
-ordered_sees number old new (Refused (faults.Tree tree.Overrun)) d h = ordered_by new _ d h.sorted h.apart
+ordered_sees number old new (Failed (faults.Tree tree.Overrun)) d h = ordered_by new _ d h.sorted h.apart
 ordered_sees number old new _ d h = absurd d
 
 ordered_walks : (number : ℕ) (shape : List Point) (old new : WorldData) (reply : Reply) → Walks number shape old new reply → IsOrdered old → IsOrdered new
@@ -129,16 +129,16 @@ ordered_walks number shape old new (Advanced (advances.Walked steps.Split)) d h 
 ordered_walks number shape old new (Advanced (advances.Walked steps.Installed)) d h = ordered_same old new d h
 ordered_walks number shape old new (Advanced (advances.Walked steps.Restarted)) d h = ordered_same old new d h
 ordered_walks number shape old new (Advanced (advances.Walked steps.Placed)) d h = ordered_by new _ d.1 h.sorted (apart_placed number old.transactions h.apart)
-ordered_walks number shape old new (Refused (faults.Tree (tree.Held search))) d h = ordered_same old new d.1 h
-ordered_walks number shape old new (Refused (faults.Tree tree.Full)) d h = ordered_same old new d h
-ordered_walks number shape old new (Refused (faults.Tree tree.TooHigh)) d h = ordered_same old new d h
-ordered_walks number shape old new (Refused (faults.Tree tree.Spent)) d h = ordered_same old new d h
-ordered_walks number shape old new (Refused (faults.Tree tree.Overrun)) d h = ordered_by new _ d h.sorted (apart_ended number old.transactions h.apart)
+ordered_walks number shape old new (Failed (faults.Tree (tree.Held search))) d h = ordered_same old new d.1 h
+ordered_walks number shape old new (Failed (faults.Tree tree.Full)) d h = ordered_same old new d h
+ordered_walks number shape old new (Failed (faults.Tree tree.TooHigh)) d h = ordered_same old new d h
+ordered_walks number shape old new (Failed (faults.Tree tree.Spent)) d h = ordered_same old new d h
+ordered_walks number shape old new (Failed (faults.Tree tree.Overrun)) d h = ordered_by new _ d h.sorted (apart_ended number old.transactions h.apart)
 ordered_walks number shape old new _ d h = absurd d
 
 ordered_tends : (old new : WorldData) (reply : Reply) → Tends old new reply → IsOrdered old → IsOrdered new
 ordered_tends old new (Tended tending) d h = ordered_same old new d h
-ordered_tends old new (Refused (faults.Tree tree.Spent)) d h = ordered_same old new d h
+ordered_tends old new (Failed (faults.Tree tree.Spent)) d h = ordered_same old new d h
 ordered_tends old new _ d h = absurd d
 
 ordered_visits : (s : Search) (old new : WorldData) (reply : Reply) → Visits s old new reply → IsOrdered old → IsOrdered new
@@ -160,7 +160,7 @@ ordered_applies : (seat number : ℕ) (subject : Subject) (old new : WorldData) 
 ordered_applies seat number subject old new reply judged d h =
     go (old.state.version == LAST) (nat_lt old.limits.features (length (after (old.state.version + 1) subject.office (staged_in number old.transactions) old.state.features))) d
   where
-    go : (last full : Bool) → MatchBool last ((new ≡ old) × (reply ≡ Refused faults.Spent)) (MatchBool full ((new ≡ old) × (reply ≡ Refused faults.StoreFull))
+    go : (last full : Bool) → MatchBool last ((new ≡ old) × (reply ≡ Failed faults.Spent)) (MatchBool full ((new ≡ old) × (reply ≡ Failed faults.StoreFull))
         ((reply ≡ Ended (outcomes.Applied (old.state.version + 1))) × (new ≡ without_transaction number (recorded seat (applied subject (old.state.version + 1) (staged_in number old.transactions)) old))))
         → IsOrdered new
     go true full d = ordered_same old new d.0 h

@@ -18,7 +18,7 @@ use Rattle.plain_world.specs.declared.outcomes.Outcome.{Outcome}
 use Rattle.plain_world.specs.declared.outcomes.Outcome.TheVariants as outcomes
 use Rattle.plain_world.specs.Admitting.{LAST, may_commit}
 use Rattle.plain_world.specs.Answers.{denial_of}
-use Rattle.plain_world.specs.Events.{Commit, Ended, Refused, Happens, CommitsAs, Applies, without_transaction, recorded}
+use Rattle.plain_world.specs.Events.{Commit, Ended, Failed, Happens, CommitsAs, Applies, without_transaction, recorded}
 use Rattle.plain_world.specs.Laws.{IsJudgement, EndsAs, GoesWith, asked}
 use Rattle.plain_world.specs.Staging.{TransactionData, staged_in}
 use Rattle.plain_world.specs.States.{WorldData}
@@ -48,7 +48,7 @@ ends_applied : (seat number : ℕ) (subject : Subject) (t : TransactionData) (ol
 ends_applied seat number subject t old new outcome judged d =
     go (old.state.version == LAST) (nat_lt old.limits.features (length (after (old.state.version + 1) subject.office t.changes old.state.features))) d
   where
-    go : (last full : Bool) → MatchBool last ((new ≡ old) × (Ended outcome ≡ Refused faults.Spent)) (MatchBool full ((new ≡ old) × (Ended outcome ≡ Refused faults.StoreFull))
+    go : (last full : Bool) → MatchBool last ((new ≡ old) × (Ended outcome ≡ Failed faults.Spent)) (MatchBool full ((new ≡ old) × (Ended outcome ≡ Failed faults.StoreFull))
         ((Ended outcome ≡ Ended (outcomes.Applied (old.state.version + 1))) × (new ≡ without_transaction number (recorded seat (applied subject (old.state.version + 1) t.changes) old)))) → IsJudgement subject t old.state new.state outcome
     go true full d = absurd (cc (d.1))
     go false true d = absurd (cc (d.1))

@@ -12,12 +12,12 @@ use Rattle.audit_trail.specs.Records.{applied}
 use Rattle.plain_world.specs.declared.faults.Fault.TheVariants as faults
 use Rattle.tree_answers.specs.declared.fault.TreeFault.TheVariants as tree
 use Rattle.plain_world.specs.declared.outcomes.Outcome.TheVariants as outcomes
-use Rattle.plain_world.specs.declared.searches.Search.{Search}
-use Rattle.plain_world.specs.declared.steps.Advance.TheVariants as advances
+use Rattle.plain_world.specs.declared.open_searches.Search.{Search}
+use Rattle.plain_world.specs.declared.advances.Advance.TheVariants as advances
 use Rattle.tree_answers.specs.declared.answers.Step.TheVariants as steps
 use Rattle.tree_answers.specs.declared.answers.Visit.TheVariants as visits
 use Rattle.plain_world.specs.Admitting.{LAST, may_sit, may_open, may_go_on, may_finish, may_begin, may_step, may_stage, may_commit, may_govern, may_roll}
-use Rattle.plain_world.specs.Events.{Event, TakeSeat, OpenSearch, VisitNext, Finish, DropSearch, Begin, Stage, AdvanceWalk, Commit, Abort, Govern, Tend, Roll, Reply, Visited, Advanced, Tended, Ended, Refused, is_memory, Happens, Sees, Walks, Visits, Advances, Finishes, Applies, CommitsAs, Governs, Rolls, Tends, recorded, without_transaction}
+use Rattle.plain_world.specs.Events.{Event, TakeSeat, OpenSearch, VisitNext, Finish, DropSearch, Begin, Stage, AdvanceWalk, Commit, Abort, Govern, Tend, Roll, Reply, Visited, Advanced, Tended, Ended, Failed, is_memory, Happens, Sees, Walks, Visits, Advances, Finishes, Applies, CommitsAs, Governs, Rolls, Tends, recorded, without_transaction}
 use Rattle.plain_world.specs.Laws.{StandsAs, HasOneMore, AddsAlone}
 use Rattle.plain_world.specs.Staging.{TransactionData, next_placement, staged_in}
 use Rattle.plain_world.specs.States.{WorldData}
@@ -33,7 +33,7 @@ stands_by old new w e h = subst (λ (w : WorldData). StandsAs old w) (sym e) h
 stands_sees : (number : ℕ) (old new : WorldData) (reply : Reply) → Sees number old new reply → StandsAs old new
 stands_sees number old new (Visited visits.More) d = stands_same old new d
 stands_sees number old new (Visited visits.Ready) d = stands_by old new _ d (refl, refl, refl, refl)
-stands_sees number old new (Refused (faults.Tree tree.Overrun)) d = stands_by old new _ d (refl, refl, refl, refl)
+stands_sees number old new (Failed (faults.Tree tree.Overrun)) d = stands_by old new _ d (refl, refl, refl, refl)
 stands_sees number old new _ d = absurd d
 
 stands_walks : (number : ℕ) (shape : List Point) (old new : WorldData) (reply : Reply) → Walks number shape old new reply → StandsAs old new
@@ -42,16 +42,16 @@ stands_walks number shape old new (Advanced (advances.Walked steps.Split)) d = s
 stands_walks number shape old new (Advanced (advances.Walked steps.Installed)) d = stands_same old new d
 stands_walks number shape old new (Advanced (advances.Walked steps.Restarted)) d = stands_same old new d
 stands_walks number shape old new (Advanced (advances.Walked steps.Placed)) d = stands_by old new _ d.1 (refl, refl, refl, refl)
-stands_walks number shape old new (Refused (faults.Tree (tree.Held search))) d = stands_same old new d.1
-stands_walks number shape old new (Refused (faults.Tree tree.Full)) d = stands_same old new d
-stands_walks number shape old new (Refused (faults.Tree tree.TooHigh)) d = stands_same old new d
-stands_walks number shape old new (Refused (faults.Tree tree.Spent)) d = stands_same old new d
-stands_walks number shape old new (Refused (faults.Tree tree.Overrun)) d = stands_by old new _ d (refl, refl, refl, refl)
+stands_walks number shape old new (Failed (faults.Tree (tree.Held search))) d = stands_same old new d.1
+stands_walks number shape old new (Failed (faults.Tree tree.Full)) d = stands_same old new d
+stands_walks number shape old new (Failed (faults.Tree tree.TooHigh)) d = stands_same old new d
+stands_walks number shape old new (Failed (faults.Tree tree.Spent)) d = stands_same old new d
+stands_walks number shape old new (Failed (faults.Tree tree.Overrun)) d = stands_by old new _ d (refl, refl, refl, refl)
 stands_walks number shape old new _ d = absurd d
 
 stands_tends : (old new : WorldData) (reply : Reply) → Tends old new reply → StandsAs old new
 stands_tends old new (Tended tending) d = stands_same old new d
-stands_tends old new (Refused (faults.Tree tree.Spent)) d = stands_same old new d
+stands_tends old new (Failed (faults.Tree tree.Spent)) d = stands_same old new d
 stands_tends old new _ d = absurd d
 
 stands_visits : (s : Search) (old new : WorldData) (reply : Reply) → Visits s old new reply → StandsAs old new
@@ -80,7 +80,7 @@ adds_applies : (seat number : ℕ) (subject : Subject) (old new : WorldData) (re
 adds_applies seat number subject old new reply seated d =
     go (old.state.version == LAST) (nat_lt old.limits.features (length (after (old.state.version + 1) subject.office (staged_in number old.transactions) old.state.features))) d
   where
-    go : (last full : Bool) → MatchBool last ((new ≡ old) × (reply ≡ Refused faults.Spent)) (MatchBool full ((new ≡ old) × (reply ≡ Refused faults.StoreFull))
+    go : (last full : Bool) → MatchBool last ((new ≡ old) × (reply ≡ Failed faults.Spent)) (MatchBool full ((new ≡ old) × (reply ≡ Failed faults.StoreFull))
         ((reply ≡ Ended (outcomes.Applied (old.state.version + 1))) × (new ≡ without_transaction number (recorded seat (applied subject (old.state.version + 1) (staged_in number old.transactions)) old))))
         → AddsAlone (Commit seat number) old new reply
     go true full d = subst (λ (r : Reply). AddsAlone (Commit seat number) old new r) (sym d.1) (stands_same old new d.0)

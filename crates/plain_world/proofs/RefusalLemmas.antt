@@ -14,11 +14,11 @@ use Rattle.plain_world.specs.declared.faults.Fault.{Fault}
 use Rattle.plain_world.specs.declared.faults.Fault.TheVariants as faults
 use Rattle.tree_answers.specs.declared.fault.TreeFault.TheVariants as tree
 use Rattle.plain_world.specs.declared.outcomes.Outcome.TheVariants as outcomes
-use Rattle.plain_world.specs.declared.searches.Search.{Search}
-use Rattle.plain_world.specs.declared.steps.Advance.TheVariants as advances
+use Rattle.plain_world.specs.declared.open_searches.Search.{Search}
+use Rattle.plain_world.specs.declared.advances.Advance.TheVariants as advances
 use Rattle.tree_answers.specs.declared.answers.Visit.TheVariants as visits
 use Rattle.plain_world.specs.Admitting.{LAST, and_then, given, subject_at, search_with, owned, transaction_owned, may_sit, may_open, may_go_on, may_finish, may_begin, may_step, may_stage, may_commit, may_govern, may_roll}
-use Rattle.plain_world.specs.Events.{Event, TakeSeat, OpenSearch, VisitNext, Finish, DropSearch, Begin, Stage, AdvanceWalk, Commit, Abort, Govern, Tend, Roll, Reply, Visited, Advanced, Ended, Refused, If, UnlessMemory, is_want, Happens, Sees, Walks, Visits, Advances, Applies, CommitsAs, Tends, recorded, without_search, without_transaction}
+use Rattle.plain_world.specs.Events.{Event, TakeSeat, OpenSearch, VisitNext, Finish, DropSearch, Begin, Stage, AdvanceWalk, Commit, Abort, Govern, Tend, Roll, Reply, Visited, Advanced, Ended, Failed, If, UnlessMemory, is_want, Happens, Sees, Walks, Visits, Advances, Applies, CommitsAs, Tends, recorded, without_search, without_transaction}
 use Rattle.plain_world.specs.Laws.{Leaves}
 use Rattle.plain_world.specs.Staging.{TransactionData, transaction_with, next_placement, staged_in}
 use Rattle.plain_world.specs.States.{WorldData}
@@ -29,7 +29,7 @@ abbrev pub is_overrun : Fault → Bool
 is_overrun (faults.Tree tree.Overrun) = true
 is_overrun _ = false
 
-fault_same : (a b : Fault) → Refused a ≡ Refused b → a ≡ b
+fault_same : (a b : Fault) → Failed a ≡ Failed b → a ≡ b
 fault_same a b e = cc
 
 err_same : {T : Type 0} (a b : Fault) → ◌≡◌ {A = Result T Fault} (Err a) (Err b) → a ≡ b
@@ -94,11 +94,11 @@ want_no_overrun : (fault : Fault) → is_want fault ≡ true → is_overrun faul
 want_no_overrun (faults.Memory refused) e = refl
 want_no_overrun _ e = absurd cc
 
-sees_refused : (number : ℕ) (old new : WorldData) (fault : Fault) → Sees number old new (Refused fault) → EndsBy fault old new (without_search number old)
+sees_refused : (number : ℕ) (old new : WorldData) (fault : Fault) → Sees number old new (Failed fault) → EndsBy fault old new (without_search number old)
 sees_refused number old new (faults.Tree tree.Overrun) d = d
 sees_refused number old new _ d = absurd d
 
-walks_refused : (number : ℕ) (shape : List Point) (old new : WorldData) (fault : Fault) → Walks number shape old new (Refused fault) → EndsBy fault old new (without_transaction number old)
+walks_refused : (number : ℕ) (shape : List Point) (old new : WorldData) (fault : Fault) → Walks number shape old new (Failed fault) → EndsBy fault old new (without_transaction number old)
 walks_refused number shape old new (faults.Tree (tree.Held search)) d = d.1
 walks_refused number shape old new (faults.Tree tree.Full) d = d
 walks_refused number shape old new (faults.Tree tree.TooHigh) d = d
@@ -106,29 +106,29 @@ walks_refused number shape old new (faults.Tree tree.Spent) d = d
 walks_refused number shape old new (faults.Tree tree.Overrun) d = d
 walks_refused number shape old new _ d = absurd d
 
-unless_ends : (fault : Fault) (old new without : WorldData) (Does : Type 0) → (Does → EndsBy fault old new without) → UnlessMemory old new (Refused fault) Does → EndsBy fault old new without
+unless_ends : (fault : Fault) (old new without : WorldData) (Does : Type 0) → (Does → EndsBy fault old new without) → UnlessMemory old new (Failed fault) Does → EndsBy fault old new without
 unless_ends fault old new without Does each h = go (is_want fault) refl h
   where
     go : (b : Bool) → is_want fault ≡ b → MatchBool b (new ≡ old) Does → EndsBy fault old new without
     go true e h = keeps (is_overrun fault) _ _ (want_no_overrun fault e) h
     go false e h = each h
 
-visits_refused : (s : Search) (old new : WorldData) (fault : Fault) → Visits s old new (Refused fault) → EndsBy fault old new (without_search s.number old)
+visits_refused : (s : Search) (old new : WorldData) (fault : Fault) → Visits s old new (Failed fault) → EndsBy fault old new (without_search s.number old)
 visits_refused s old new fault d = go s.ready d
   where
-    go : (b : Bool) → MatchBool b ((new ≡ old) × (Refused fault ≡ Visited visits.Ready)) (MatchBool (is_want fault) (new ≡ old) (Sees s.number old new (Refused fault))) → EndsBy fault old new (without_search s.number old)
+    go : (b : Bool) → MatchBool b ((new ≡ old) × (Failed fault ≡ Visited visits.Ready)) (MatchBool (is_want fault) (new ≡ old) (Sees s.number old new (Failed fault))) → EndsBy fault old new (without_search s.number old)
     go true d = absurd (cc (d.1))
     go false d = unless_ends fault old new _ _ (λ d. sees_refused s.number old new fault d) d
 
-advances_refused : (number : ℕ) (t : TransactionData) (old new : WorldData) (fault : Fault) → Advances number t old new (Refused fault) → EndsBy fault old new (without_transaction number old)
+advances_refused : (number : ℕ) (t : TransactionData) (old new : WorldData) (fault : Fault) → Advances number t old new (Failed fault) → EndsBy fault old new (without_transaction number old)
 advances_refused number t old new fault d = go (next_placement t) d
   where
-    go : (o : Option (ℕ × List Point)) → MatchOption o ((new ≡ old) × (Refused fault ≡ Advanced advances.AllPlaced)) (λ placement. MatchBool (is_want fault) (new ≡ old) (Walks number placement.1 old new (Refused fault))) → EndsBy fault old new (without_transaction number old)
+    go : (o : Option (ℕ × List Point)) → MatchOption o ((new ≡ old) × (Failed fault ≡ Advanced advances.AllPlaced)) (λ placement. MatchBool (is_want fault) (new ≡ old) (Walks number placement.1 old new (Failed fault))) → EndsBy fault old new (without_transaction number old)
     go None d = absurd (cc (d.1))
     go (Some placement) d = unless_ends fault old new _ _ (λ d. walks_refused number placement.1 old new fault d) d
 
 if_ends : {T : Type 0} (may : Result T Fault) (fault : Fault) (old new without : WorldData) (Does : T → Type 0) → IsPlain may → ((x : T) → may ≡ Ok x → Does x → EndsBy fault old new without)
-    → If may old new (Refused fault) Does → EndsBy fault old new without
+    → If may old new (Failed fault) Does → EndsBy fault old new without
 if_ends (Err by) fault old new without Does plain each h =
     keeps (is_overrun fault) _ _ (subst (λ (f : Fault). is_overrun f ≡ false) (sym (fault_same fault by h.1)) (plain by refl)) h.0
 if_ends (Ok x) fault old new without Does plain each h = each x refl h
@@ -151,47 +151,47 @@ unless_same : (b : Bool) (old new : WorldData) (Does : Type 0) → (Does → new
 unless_same true old new Does each h = h
 unless_same false old new Does each h = each h
 
-tends_same : (old new : WorldData) (fault : Fault) → Tends old new (Refused fault) → new ≡ old
+tends_same : (old new : WorldData) (fault : Fault) → Tends old new (Failed fault) → new ≡ old
 tends_same old new (faults.Tree tree.Spent) d = d
 tends_same old new _ d = absurd d
 
-applies_same : (seat number : ℕ) (subject : Subject) (changes : List Change) (old new : WorldData) (fault : Fault) → Applies seat number subject changes old new (Refused fault) → new ≡ old
+applies_same : (seat number : ℕ) (subject : Subject) (changes : List Change) (old new : WorldData) (fault : Fault) → Applies seat number subject changes old new (Failed fault) → new ≡ old
 applies_same seat number subject changes old new fault d =
     go (old.state.version == LAST) (nat_lt old.limits.features (length (after (old.state.version + 1) subject.office changes old.state.features))) d
   where
-    go : (last full : Bool) → MatchBool last ((new ≡ old) × (Refused fault ≡ Refused faults.Spent)) (MatchBool full ((new ≡ old) × (Refused fault ≡ Refused faults.StoreFull))
-        ((Refused fault ≡ Ended (outcomes.Applied (old.state.version + 1))) × (new ≡ without_transaction number (recorded seat (applied subject (old.state.version + 1) changes) old)))) → new ≡ old
+    go : (last full : Bool) → MatchBool last ((new ≡ old) × (Failed fault ≡ Failed faults.Spent)) (MatchBool full ((new ≡ old) × (Failed fault ≡ Failed faults.StoreFull))
+        ((Failed fault ≡ Ended (outcomes.Applied (old.state.version + 1))) × (new ≡ without_transaction number (recorded seat (applied subject (old.state.version + 1) changes) old)))) → new ≡ old
     go true full d = d.0
     go false true d = d.0
     go false false d = absurd (cc (d.0))
 
-commits_same : (judgement : Judgement) (seat number : ℕ) (subject : Subject) (changes : List Change) (old new : WorldData) (fault : Fault) → CommitsAs judgement seat number subject changes old new (Refused fault) → new ≡ old
+commits_same : (judgement : Judgement) (seat number : ℕ) (subject : Subject) (changes : List Change) (old new : WorldData) (fault : Fault) → CommitsAs judgement seat number subject changes old new (Failed fault) → new ≡ old
 commits_same judgements.Accepted seat number subject changes old new fault d = applies_same seat number subject changes old new fault d
 commits_same (judgements.Refused refusal question) seat number subject changes old new fault d = absurd (cc (d.0))
 
-pub leaves : (event : Event) (old new : WorldData) (fault : Fault) → Happens event old new (Refused fault) → Leaves event old new fault
+pub leaves : (event : Event) (old new : WorldData) (fault : Fault) → Happens event old new (Failed fault) → Leaves event old new fault
 leaves (TakeSeat name) old new fault happens =
-    if_same (may_sit name old) (Refused fault) old new _ (λ x d. unless_same (is_want fault) old new _ (λ d. absurd (cc (d.1))) d) happens
+    if_same (may_sit name old) (Failed fault) old new _ (λ x d. unless_same (is_want fault) old new _ (λ d. absurd (cc (d.1))) d) happens
 leaves (OpenSearch seat window) old new fault happens =
-    if_same (may_open seat old) (Refused fault) old new _ (λ x d. unless_same (is_want fault) old new _ (λ d. absurd (cc (d.1))) d) happens
+    if_same (may_open seat old) (Failed fault) old new _ (λ x d. unless_same (is_want fault) old new _ (λ d. absurd (cc (d.1))) d) happens
 leaves (VisitNext seat number) old new fault happens =
     leaves_visit seat number old new fault (if_ends (may_go_on seat number old) fault old new (without_search number old) _ (plain_go_on seat number old)
     (λ s may d. subst (λ (n : ℕ). EndsBy fault old new (without_search n old)) (visited_number seat number old s may) (visits_refused s old new fault d)) happens)
 leaves (Finish seat number) old new fault happens =
-    if_same (may_finish seat number old) (Refused fault) old new _ (λ x d. unless_same (is_want fault) old new _ (λ d. absurd (cc (d.2))) d) happens
-leaves (DropSearch seat number) old new fault happens = if_same (may_go_on seat number old) (Refused fault) old new _ (λ x d. absurd (cc (d.1))) happens
+    if_same (may_finish seat number old) (Failed fault) old new _ (λ x d. unless_same (is_want fault) old new _ (λ d. absurd (cc (d.2))) d) happens
+leaves (DropSearch seat number) old new fault happens = if_same (may_go_on seat number old) (Failed fault) old new _ (λ x d. absurd (cc (d.1))) happens
 leaves (Begin seat) old new fault happens =
-    if_same (may_begin seat old) (Refused fault) old new _ (λ x d. unless_same (is_want fault) old new _ (λ d. absurd (cc (d.1))) d) happens
-leaves (Stage seat number change) old new fault happens = if_same (may_stage seat number change old) (Refused fault) old new _ (λ x d. absurd (cc (d.1))) happens
+    if_same (may_begin seat old) (Failed fault) old new _ (λ x d. unless_same (is_want fault) old new _ (λ d. absurd (cc (d.1))) d) happens
+leaves (Stage seat number change) old new fault happens = if_same (may_stage seat number change old) (Failed fault) old new _ (λ x d. absurd (cc (d.1))) happens
 leaves (AdvanceWalk seat number) old new fault happens =
     leaves_advance seat number old new fault (if_ends (may_step seat number old) fault old new (without_transaction number old) _ (plain_step seat number old)
     (λ t may d. advances_refused number t old new fault d) happens)
 leaves (Commit seat number) old new fault happens =
-    if_same (may_commit seat number old) (Refused fault) old new _ (λ subject d. unless_same (is_want fault) old new _
+    if_same (may_commit seat number old) (Failed fault) old new _ (λ subject d. unless_same (is_want fault) old new _
     (λ d. commits_same d.0 seat number subject (staged_in number old.transactions) old new fault d.2) d) happens
-leaves (Abort seat number) old new fault happens = if_same (may_step seat number old) (Refused fault) old new _ (λ x d. absurd (cc (d.1))) happens
+leaves (Abort seat number) old new fault happens = if_same (may_step seat number old) (Failed fault) old new _ (λ x d. absurd (cc (d.1))) happens
 leaves (Govern seat document) old new fault happens =
-    if_same (may_govern seat old) (Refused fault) old new _ (λ x d. unless_same (is_want fault) old new _ (λ d. absurd (cc (d.0))) d) happens
+    if_same (may_govern seat old) (Failed fault) old new _ (λ x d. unless_same (is_want fault) old new _ (λ d. absurd (cc (d.0))) d) happens
 leaves (Tend slot) old new fault happens = tends_same old new fault happens
 leaves (Roll seat) old new fault happens =
-    if_same (may_roll seat old) (Refused fault) old new _ (λ x d. unless_same (is_want fault) old new _ (λ d. absurd (cc (d.0))) d) happens
+    if_same (may_roll seat old) (Failed fault) old new _ (λ x d. unless_same (is_want fault) old new _ (λ d. absurd (cc (d.0))) d) happens

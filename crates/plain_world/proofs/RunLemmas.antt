@@ -16,13 +16,13 @@ use Rattle.plain_world.specs.declared.faults.Fault.{Fault}
 use Rattle.plain_world.specs.declared.faults.Fault.TheVariants as faults
 use Rattle.tree_answers.specs.declared.fault.TreeFault.TheVariants as tree
 use Rattle.plain_world.specs.declared.outcomes.Outcome.TheVariants as outcomes
-use Rattle.plain_world.specs.declared.searches.Search.{Search}
+use Rattle.plain_world.specs.declared.open_searches.Search.{Search}
 use Rattle.plain_world.specs.declared.settings.TheConstants.{SEAT_LIMIT}
-use Rattle.plain_world.specs.declared.steps.Advance.TheVariants as advances
+use Rattle.plain_world.specs.declared.advances.Advance.TheVariants as advances
 use Rattle.tree_answers.specs.declared.answers.Step.TheVariants as steps
 use Rattle.tree_answers.specs.declared.answers.Visit.TheVariants as visits
 use Rattle.plain_world.specs.Admitting.{LAST, and_then, given, placed, subject_at, stewarded, may_sit, may_open, may_go_on, own_search, has_answered_ready, may_record, may_finish, may_begin, own_transaction, all_placed, may_step, may_stage, may_commit, may_govern, may_roll}
-use Rattle.plain_world.specs.Events.{Event, TakeSeat, OpenSearch, VisitNext, Finish, DropSearch, Begin, Stage, AdvanceWalk, Commit, Abort, Govern, Tend, Roll, Reply, Visited, Advanced, Tended, Ended, Refused, If, is_memory, Happens, Run, Sees, Walks, Visits, Advances, Finishes, Applies, CommitsAs, Governs, Rolls, Tends, recorded, without_transaction}
+use Rattle.plain_world.specs.Events.{Event, TakeSeat, OpenSearch, VisitNext, Finish, DropSearch, Begin, Stage, AdvanceWalk, Commit, Abort, Govern, Tend, Roll, Reply, Visited, Advanced, Tended, Ended, Failed, If, is_memory, Happens, Run, Sees, Walks, Visits, Advances, Finishes, Applies, CommitsAs, Governs, Rolls, Tends, recorded, without_transaction}
 use Rattle.plain_world.specs.Staging.{TransactionData, next_placement, staged_in}
 use Rattle.plain_world.specs.States.{WorldData, IsSoundWorld}
 use Rattle.plain_world.proofs.SoundLemmas.{sound_seated, sound_added}
@@ -90,7 +90,7 @@ commit_seated seat number w subject e =
 sound_sees : (number : ℕ) (old new : WorldData) (reply : Reply) → Sees number old new reply → IsSoundWorld old → IsSoundWorld new
 sound_sees number old new (Visited visits.More) d h = sound_same _ new d h
 sound_sees number old new (Visited visits.Ready) d h = sound_same _ new d h
-sound_sees number old new (Refused (faults.Tree tree.Overrun)) d h = sound_same _ new d h
+sound_sees number old new (Failed (faults.Tree tree.Overrun)) d h = sound_same _ new d h
 sound_sees number old new _ d h = absurd d
 
 sound_walks : (number : ℕ) (shape : List Point) (old new : WorldData) (reply : Reply) → Walks number shape old new reply → IsSoundWorld old → IsSoundWorld new
@@ -99,16 +99,16 @@ sound_walks number shape old new (Advanced (advances.Walked steps.Split)) d h = 
 sound_walks number shape old new (Advanced (advances.Walked steps.Installed)) d h = sound_same _ new d h
 sound_walks number shape old new (Advanced (advances.Walked steps.Restarted)) d h = sound_same _ new d h
 sound_walks number shape old new (Advanced (advances.Walked steps.Placed)) d h = sound_same _ new d.1 h
-sound_walks number shape old new (Refused (faults.Tree (tree.Held search))) d h = sound_same _ new d.1 h
-sound_walks number shape old new (Refused (faults.Tree tree.Full)) d h = sound_same _ new d h
-sound_walks number shape old new (Refused (faults.Tree tree.TooHigh)) d h = sound_same _ new d h
-sound_walks number shape old new (Refused (faults.Tree tree.Spent)) d h = sound_same _ new d h
-sound_walks number shape old new (Refused (faults.Tree tree.Overrun)) d h = sound_same _ new d h
+sound_walks number shape old new (Failed (faults.Tree (tree.Held search))) d h = sound_same _ new d.1 h
+sound_walks number shape old new (Failed (faults.Tree tree.Full)) d h = sound_same _ new d h
+sound_walks number shape old new (Failed (faults.Tree tree.TooHigh)) d h = sound_same _ new d h
+sound_walks number shape old new (Failed (faults.Tree tree.Spent)) d h = sound_same _ new d h
+sound_walks number shape old new (Failed (faults.Tree tree.Overrun)) d h = sound_same _ new d h
 sound_walks number shape old new _ d h = absurd d
 
 sound_tends : (old new : WorldData) (reply : Reply) → Tends old new reply → IsSoundWorld old → IsSoundWorld new
 sound_tends old new (Tended tending) d h = sound_same _ new d h
-sound_tends old new (Refused (faults.Tree tree.Spent)) d h = sound_same _ new d h
+sound_tends old new (Failed (faults.Tree tree.Spent)) d h = sound_same _ new d h
 sound_tends old new _ d h = absurd d
 
 sound_visits : (s : Search) (old new : WorldData) (reply : Reply) → Visits s old new reply → IsSoundWorld old → IsSoundWorld new
@@ -134,7 +134,7 @@ sound_applies : (seat number : ℕ) (subject : Subject) (changes : List Change) 
 sound_applies seat number subject changes old new reply seated judged d h =
     go (old.state.version == LAST) (nat_lt old.limits.features (length (after (old.state.version + 1) subject.office changes old.state.features))) d
   where
-    go : (last full : Bool) → MatchBool last ((new ≡ old) × (reply ≡ Refused faults.Spent)) (MatchBool full ((new ≡ old) × (reply ≡ Refused faults.StoreFull)) ((reply ≡ Ended (outcomes.Applied (old.state.version + 1))) × (new ≡ without_transaction number (recorded seat (applied subject (old.state.version + 1) changes) old)))) → IsSoundWorld new
+    go : (last full : Bool) → MatchBool last ((new ≡ old) × (reply ≡ Failed faults.Spent)) (MatchBool full ((new ≡ old) × (reply ≡ Failed faults.StoreFull)) ((reply ≡ Ended (outcomes.Applied (old.state.version + 1))) × (new ≡ without_transaction number (recorded seat (applied subject (old.state.version + 1) changes) old)))) → IsSoundWorld new
     go true full d = sound_same old new d.0 h
     go false true d = sound_same old new d.0 h
     go false false d = sound_same _ new d.1 (sound_added old.seats old.base old.trail old.state _ h (seated, judged, refl))

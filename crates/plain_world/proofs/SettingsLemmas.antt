@@ -11,12 +11,12 @@ use Rattle.audit_trail.specs.Records.{applied}
 use Rattle.plain_world.specs.declared.faults.Fault.TheVariants as faults
 use Rattle.tree_answers.specs.declared.fault.TreeFault.TheVariants as tree
 use Rattle.plain_world.specs.declared.outcomes.Outcome.TheVariants as outcomes
-use Rattle.plain_world.specs.declared.searches.Search.{Search}
-use Rattle.plain_world.specs.declared.steps.Advance.TheVariants as advances
+use Rattle.plain_world.specs.declared.open_searches.Search.{Search}
+use Rattle.plain_world.specs.declared.advances.Advance.TheVariants as advances
 use Rattle.tree_answers.specs.declared.answers.Step.TheVariants as steps
 use Rattle.tree_answers.specs.declared.answers.Visit.TheVariants as visits
 use Rattle.plain_world.specs.Admitting.{LAST, may_sit, may_open, may_go_on, may_finish, may_begin, may_step, may_stage, may_commit, may_govern, may_roll}
-use Rattle.plain_world.specs.Events.{Event, TakeSeat, OpenSearch, VisitNext, Finish, DropSearch, Begin, Stage, AdvanceWalk, Commit, Abort, Govern, Tend, Roll, Reply, Visited, Advanced, Tended, Ended, Refused, is_memory, Happens, Sees, Walks, Visits, Advances, CommitsAs, Tends, recorded, without_transaction}
+use Rattle.plain_world.specs.Events.{Event, TakeSeat, OpenSearch, VisitNext, Finish, DropSearch, Begin, Stage, AdvanceWalk, Commit, Abort, Govern, Tend, Roll, Reply, Visited, Advanced, Tended, Ended, Failed, is_memory, Happens, Sees, Walks, Visits, Advances, CommitsAs, Tends, recorded, without_transaction}
 use Rattle.plain_world.specs.Settings.{IsSettled, settings}
 use Rattle.plain_world.specs.Staging.{TransactionData, next_placement, staged_in}
 use Rattle.plain_world.specs.States.{WorldData}
@@ -33,7 +33,7 @@ module _ (old new : WorldData) where
   stay_sees : (number : ℕ) (reply : Reply) → Sees number old new reply → Stay
   stay_sees number (Visited visits.More) d = ap settings d
   stay_sees number (Visited visits.Ready) d = ap settings d
-  stay_sees number (Refused (faults.Tree tree.Overrun)) d = ap settings d
+  stay_sees number (Failed (faults.Tree tree.Overrun)) d = ap settings d
   stay_sees number _ d = absurd d
 
   stay_walks : (number : ℕ) (shape : List Point) (reply : Reply) → Walks number shape old new reply → Stay
@@ -42,16 +42,16 @@ module _ (old new : WorldData) where
   stay_walks number shape (Advanced (advances.Walked steps.Installed)) d = ap settings d
   stay_walks number shape (Advanced (advances.Walked steps.Restarted)) d = ap settings d
   stay_walks number shape (Advanced (advances.Walked steps.Placed)) d = ap settings d.1
-  stay_walks number shape (Refused (faults.Tree (tree.Held search))) d = ap settings d.1
-  stay_walks number shape (Refused (faults.Tree tree.Full)) d = ap settings d
-  stay_walks number shape (Refused (faults.Tree tree.TooHigh)) d = ap settings d
-  stay_walks number shape (Refused (faults.Tree tree.Spent)) d = ap settings d
-  stay_walks number shape (Refused (faults.Tree tree.Overrun)) d = ap settings d
+  stay_walks number shape (Failed (faults.Tree (tree.Held search))) d = ap settings d.1
+  stay_walks number shape (Failed (faults.Tree tree.Full)) d = ap settings d
+  stay_walks number shape (Failed (faults.Tree tree.TooHigh)) d = ap settings d
+  stay_walks number shape (Failed (faults.Tree tree.Spent)) d = ap settings d
+  stay_walks number shape (Failed (faults.Tree tree.Overrun)) d = ap settings d
   stay_walks number shape _ d = absurd d
 
   stay_tends : (reply : Reply) → Tends old new reply → Stay
   stay_tends (Tended tending) d = ap settings d
-  stay_tends (Refused (faults.Tree tree.Spent)) d = ap settings d
+  stay_tends (Failed (faults.Tree tree.Spent)) d = ap settings d
   stay_tends _ d = absurd d
 
   stay_visits : (s : Search) (reply : Reply) → Visits s old new reply → Stay
@@ -72,7 +72,7 @@ module _ (old new : WorldData) where
   stay_commits_as judgements.Accepted seat number subject changes reply d =
       go (old.state.version == LAST) (nat_lt old.limits.features (length (after (old.state.version + 1) subject.office changes old.state.features))) d
     where
-      go : (last full : Bool) → MatchBool last ((new ≡ old) × (reply ≡ Refused faults.Spent)) (MatchBool full ((new ≡ old) × (reply ≡ Refused faults.StoreFull))
+      go : (last full : Bool) → MatchBool last ((new ≡ old) × (reply ≡ Failed faults.Spent)) (MatchBool full ((new ≡ old) × (reply ≡ Failed faults.StoreFull))
           ((reply ≡ Ended (outcomes.Applied (old.state.version + 1))) × (new ≡ without_transaction number (recorded seat (applied subject (old.state.version + 1) changes) old)))) → Stay
       go true full d = ap settings d.0
       go false true d = ap settings d.0

@@ -17,15 +17,15 @@ use Rattle.audit_trail.specs.Records.{applied}
 use Rattle.plain_world.specs.declared.faults.Fault.TheVariants as faults
 use Rattle.tree_answers.specs.declared.fault.TreeFault.TheVariants as tree
 use Rattle.plain_world.specs.declared.outcomes.Outcome.TheVariants as outcomes
-use Rattle.plain_world.specs.declared.searches.Search.{Search}
+use Rattle.plain_world.specs.declared.open_searches.Search.{Search}
 use Rattle.plain_world.specs.declared.settings.Limits.{Limits}
 use Rattle.plain_world.specs.declared.settings.Starts.{Starts}
 use Rattle.plain_world.specs.declared.settings.TheConstants.{CHANGE_LIMIT, SEARCH_LIMIT, TRANSACTION_LIMIT}
-use Rattle.plain_world.specs.declared.steps.Advance.TheVariants as advances
+use Rattle.plain_world.specs.declared.advances.Advance.TheVariants as advances
 use Rattle.tree_answers.specs.declared.answers.Step.TheVariants as steps
 use Rattle.tree_answers.specs.declared.answers.Visit.TheVariants as visits
 use Rattle.plain_world.specs.Admitting.{LAST, subject_at, next_search, next_transaction, own_transaction, may_add, may_sit, may_open, may_go_on, may_finish, may_begin, may_step, may_stage, may_commit, may_govern, may_roll}
-use Rattle.plain_world.specs.Events.{Event, TakeSeat, OpenSearch, VisitNext, Finish, DropSearch, Begin, Stage, AdvanceWalk, Commit, Abort, Govern, Tend, Roll, Reply, Visited, Advanced, Tended, Ended, Refused, is_memory, Happens, Run, Sees, Walks, Visits, Advances, Applies, CommitsAs, Tends, recorded, with_ready, without_transaction}
+use Rattle.plain_world.specs.Events.{Event, TakeSeat, OpenSearch, VisitNext, Finish, DropSearch, Begin, Stage, AdvanceWalk, Commit, Abort, Govern, Tend, Roll, Reply, Visited, Advanced, Tended, Ended, Failed, is_memory, Happens, Run, Sees, Walks, Visits, Advances, Applies, CommitsAs, Tends, recorded, with_ready, without_transaction}
 use Rattle.plain_world.specs.Laws.{IsBelowEach, AreGiven, IsWithin, AreWithin, IsUnderWay}
 use Rattle.plain_world.specs.Staging.{TransactionData, transaction_with, staged_in, with_step, staged, one_placed, ended, names, next_placement, placements, brought_by}
 use Rattle.plain_world.specs.States.{WorldData, opened}
@@ -189,7 +189,7 @@ given_left number w h = given_filter (λ (s : Search). s.number) (λ s. not (s.n
 way_sees : (number : ℕ) (old new : WorldData) (reply : Reply) → Sees number old new reply → IsUnderWay old → IsUnderWay new
 way_sees number old new (Visited visits.More) d h = way_same old new d h
 way_sees number old new (Visited visits.Ready) d h = way_by new _ d (given_ready number old.next_search old.searches h.searches) h.transactions h.within
-way_sees number old new (Refused (faults.Tree tree.Overrun)) d h = way_by new _ d (given_left number old h) h.transactions h.within
+way_sees number old new (Failed (faults.Tree tree.Overrun)) d h = way_by new _ d (given_left number old h) h.transactions h.within
 way_sees number old new _ d h = absurd d
 
 way_walks : (number : ℕ) (t : TransactionData) (placement : ℕ × List Point) (old new : WorldData) (reply : Reply) → transaction_with number old.transactions ≡ Some t → next_placement t ≡ Some placement → Walks number placement.1 old new reply → IsUnderWay old → IsUnderWay new
@@ -200,16 +200,16 @@ way_walks number t placement old new (Advanced (advances.Walked steps.Restarted)
 way_walks number t placement old new (Advanced (advances.Walked steps.Placed)) found next d h =
     way_by new _ d.1 h.searches (given_step one_placed (λ t. refl) number old.next_transaction old.transactions h.transactions)
     (within_step one_placed number old.transactions t found (within_placed t placement next) h.within)
-way_walks number t placement old new (Refused (faults.Tree (tree.Held search))) found next d h = way_same old new d.1 h
-way_walks number t placement old new (Refused (faults.Tree tree.Full)) found next d h = way_same old new d h
-way_walks number t placement old new (Refused (faults.Tree tree.TooHigh)) found next d h = way_same old new d h
-way_walks number t placement old new (Refused (faults.Tree tree.Spent)) found next d h = way_same old new d h
-way_walks number t placement old new (Refused (faults.Tree tree.Overrun)) found next d h = way_by new _ d h.searches (given_ended number old h) (within_ended number old.transactions h.within)
+way_walks number t placement old new (Failed (faults.Tree (tree.Held search))) found next d h = way_same old new d.1 h
+way_walks number t placement old new (Failed (faults.Tree tree.Full)) found next d h = way_same old new d h
+way_walks number t placement old new (Failed (faults.Tree tree.TooHigh)) found next d h = way_same old new d h
+way_walks number t placement old new (Failed (faults.Tree tree.Spent)) found next d h = way_same old new d h
+way_walks number t placement old new (Failed (faults.Tree tree.Overrun)) found next d h = way_by new _ d h.searches (given_ended number old h) (within_ended number old.transactions h.within)
 way_walks number t placement old new _ found next d h = absurd d
 
 way_tends : (old new : WorldData) (reply : Reply) → Tends old new reply → IsUnderWay old → IsUnderWay new
 way_tends old new (Tended tending) d h = way_same old new d h
-way_tends old new (Refused (faults.Tree tree.Spent)) d h = way_same old new d h
+way_tends old new (Failed (faults.Tree tree.Spent)) d h = way_same old new d h
 way_tends old new _ d h = absurd d
 
 way_visits : (s : Search) (old new : WorldData) (reply : Reply) → Visits s old new reply → IsUnderWay old → IsUnderWay new
@@ -230,7 +230,7 @@ way_applies : (seat number : ℕ) (subject : Subject) (changes : List Change) (o
 way_applies seat number subject changes old new reply d h =
     go (old.state.version == LAST) (nat_lt old.limits.features (length (after (old.state.version + 1) subject.office changes old.state.features))) d
   where
-    go : (last full : Bool) → MatchBool last ((new ≡ old) × (reply ≡ Refused faults.Spent)) (MatchBool full ((new ≡ old) × (reply ≡ Refused faults.StoreFull))
+    go : (last full : Bool) → MatchBool last ((new ≡ old) × (reply ≡ Failed faults.Spent)) (MatchBool full ((new ≡ old) × (reply ≡ Failed faults.StoreFull))
         ((reply ≡ Ended (outcomes.Applied (old.state.version + 1))) × (new ≡ without_transaction number (recorded seat (applied subject (old.state.version + 1) changes) old)))) → IsUnderWay new
     go true full d = way_same old new d.0 h
     go false true d = way_same old new d.0 h

@@ -9,7 +9,7 @@ use Rattle.audit_trail.specs.declared.trails.TheConstants.{FIRST_LIMIT}
 use Rattle.plain_world.specs.declared.faults.Fault.{Fault}
 use Rattle.plain_world.specs.declared.faults.Fault.TheVariants.{NoSuch, NotYours, NotReady, NotPlaced, NamedTwice, TooManyChanges, NotSteward, Spent, Tree, TrailFull, NoSubject, NoPlace, TooMany}
 use Rattle.tree_answers.specs.declared.fault.TreeFault.TheVariants as tree
-use Rattle.plain_world.specs.declared.searches.Search.{Search}
+use Rattle.plain_world.specs.declared.open_searches.Search.{Search}
 use Rattle.plain_world.specs.declared.settings.TheConstants.{SEAT_LIMIT, SEARCH_LIMIT, TRANSACTION_LIMIT, CHANGE_LIMIT}
 use Rattle.plain_world.specs.Staging.{TransactionData, transaction_with, placements, names}
 use Rattle.plain_world.specs.States.{WorldData}
@@ -110,7 +110,8 @@ transaction_owned seat t = if t.seat == seat then Ok t else Err NotYours
 
 -- the seat's own transaction of a number
 abbrev pub own_transaction : ℕ → ℕ → WorldData → Result TransactionData Fault
-own_transaction seat number w = and_then (given (transaction_with number w.transactions)) (transaction_owned seat)
+own_transaction seat number w =
+    and_then (given (transaction_with number w.transactions)) (transaction_owned seat)
 
 -- to advance or to abort a transaction
 abbrev pub may_step : ℕ → ℕ → WorldData → Result TransactionData Fault

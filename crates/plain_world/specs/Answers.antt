@@ -35,7 +35,8 @@ IsDenial denial = Denies denial.decider.document denial.question denial.rule
 -- the denial that goes with a cause: one for a denied question, none for any other cause
 abbrev pub denial_of : DeciderData → Cause → Option Question → Option DenialData
 denial_of decider (Denied rule) None = None
-denial_of decider (Denied rule) (Some question) = Some (record { question = question; decider = decider; rule = rule })
+denial_of decider (Denied rule) (Some question) =
+    Some (record { question = question; decider = decider; rule = rule })
 denial_of decider Exists question = None
 denial_of decider Absent question = None
 denial_of decider (Stale current) question = None

@@ -10,7 +10,7 @@ use Rattle.decision.specs.Deciders as deciders
 use Rattle.decision.specs.Deciders.{DeciderData}
 use Rattle.audit_trail.specs.Coding as trails
 use Rattle.audit_trail.specs.Records.{PlainState}
-use Rattle.plain_world.specs.declared.searches.Search.{Search}
+use Rattle.plain_world.specs.declared.open_searches.Search.{Search}
 use Rattle.plain_world.specs.declared.settings.Limits.{Limits}
 use Rattle.plain_world.specs.declared.settings.Starts.{Starts}
 use Rattle.plain_world.specs.Answers.{AnswerData, DenialData}
@@ -29,7 +29,11 @@ restored_denial s = record { question = s.0; decider = deciders.restored s.1.0; 
 
 abbrev pub restored_denial-stored_denial : (d : DenialData) → restored_denial (stored_denial d) ≡ d
 restored_denial-stored_denial d =
-    ap (λ (decider : DeciderData). let e : DenialData = record { question = d.question; decider = decider; rule = d.rule } in e) (deciders.restored-stored d.decider)
+    ap (λ (decider : DeciderData). let e : DenialData = record {
+      question = d.question;
+      decider = decider;
+      rule = d.rule;
+    } in e) (deciders.restored-stored d.decider)
 
 abbrev pub StoredAnswer : Type 0
 StoredAnswer = Subject × (List Point × (deciders.Stored × List Feature))
@@ -38,11 +42,22 @@ abbrev pub stored_answer : AnswerData → StoredAnswer
 stored_answer a = (a.subject, (a.window, (deciders.stored a.decider, a.rows)))
 
 abbrev pub restored_answer : StoredAnswer → AnswerData
-restored_answer s = record { subject = s.0; window = s.1.0; decider = deciders.restored s.1.1.0; rows = s.1.1.1 }
+restored_answer s = record {
+  subject = s.0;
+  window = s.1.0;
+  decider = deciders.restored s.1.1.0;
+  rows = s.1.1.1;
+}
 
 abbrev pub restored_answer-stored_answer : (a : AnswerData) → restored_answer (stored_answer a) ≡ a
 restored_answer-stored_answer a =
-    ap (λ (decider : DeciderData). let e : AnswerData = record { subject = a.subject; window = a.window; decider = decider; rows = a.rows } in e) (deciders.restored-stored a.decider)
+    ap (λ (decider : DeciderData). let e : AnswerData = record {
+      subject = a.subject;
+      window = a.window;
+      decider = decider;
+      rows = a.rows;
+    } in e)
+    (deciders.restored-stored a.decider)
 
 abbrev pub StoredState : Type 0
 StoredState = List Feature × (ℕ × deciders.Stored)
@@ -55,7 +70,11 @@ restored_state s = record { features = s.0; version = s.1.0; decider = deciders.
 
 abbrev pub restored_state-stored_state : (s : PlainState) → restored_state (stored_state s) ≡ s
 restored_state-stored_state s =
-    ap (λ (decider : DeciderData). let e : PlainState = record { features = s.features; version = s.version; decider = decider } in e) (deciders.restored-stored s.decider)
+    ap (λ (decider : DeciderData). let e : PlainState = record {
+      features = s.features;
+      version = s.version;
+      decider = decider;
+    } in e) (deciders.restored-stored s.decider)
 
 abbrev pub StoredRolled : Type 0
 StoredRolled = StoredState × (ℕ × List trails.StoredRecord)
@@ -64,7 +83,11 @@ abbrev pub stored_rolled : RolledData → StoredRolled
 stored_rolled r = (stored_state r.base, (r.first, map trails.stored r.records))
 
 abbrev pub restored_rolled : StoredRolled → RolledData
-restored_rolled s = record { base = restored_state s.0; first = s.1.0; records = map trails.restored s.1.1 }
+restored_rolled s = record {
+  base = restored_state s.0;
+  first = s.1.0;
+  records = map trails.restored s.1.1;
+}
 
 abbrev pub restored_rolled-stored_rolled : (r : RolledData) → restored_rolled (stored_rolled r) ≡ r
 restored_rolled-stored_rolled r =
@@ -75,13 +98,29 @@ restored_rolled-stored_rolled r =
 -- the parts of a world that hold no document, and then those that do
 abbrev pub StoredWorld : Type 0
 StoredWorld =
-    (List Subject × (Starts × (Limits × (List Subject × (ℕ × (List Search × (ℕ × (List TransactionData × ℕ))))))))
+    (List Subject × (Starts × (Limits
+    × (List Subject × (ℕ × (List Search × (ℕ × (List TransactionData × ℕ))))))))
     × (deciders.Stored × (StoredState × (List trails.StoredRecord × StoredState)))
 
 abbrev pub stored_world : WorldData → StoredWorld
 stored_world w = (
-  (w.subjects, (w.starts, (w.limits, (w.seats, (w.first, (w.searches, (w.next_search, (w.transactions, w.next_transaction)))))))),
-  (deciders.stored w.opening, (stored_state w.base, (map trails.stored w.trail, stored_state w.state))),
+  (
+    w.subjects,
+    (
+      w.starts,
+      (
+        w.limits,
+        (w.seats, (w.first, (w.searches, (w.next_search, (w.transactions, w.next_transaction))))),
+      ),
+    ),
+  ),
+  (
+    deciders.stored w.opening,
+    (
+      stored_state w.base,
+      (map trails.stored w.trail, stored_state w.state),
+    ),
+  ),
 )
 
 abbrev pub restored_world : StoredWorld → WorldData

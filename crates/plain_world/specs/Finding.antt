@@ -6,7 +6,8 @@ use Rattle.features.specs.declared.rows.Feature.{Feature}
 
 -- each feature that meets the window has its id among these
 abbrev pub NamesAll : List Feature → List Point → List ℕ → Type 0
-NamesAll features window ids = All (λ feature. Meet feature.shape window → Contains ids feature.id) features
+NamesAll features window ids =
+    All (λ feature. Meet feature.shape window → Contains ids feature.id) features
 
 -- each feature that meets the window was found: a pair has its id, whatever the pair's shape
 abbrev pub FindsAll : List Feature → List Point → List (ℕ × List Point) → Type 0

@@ -21,7 +21,7 @@ use Rattle.plain_world.specs.declared.faults.Fault.TheVariants as faults
 use Rattle.tree_answers.specs.declared.fault.TreeFault.TheVariants as tree
 use Rattle.plain_world.specs.declared.outcomes.Outcome.{Outcome}
 use Rattle.plain_world.specs.declared.outcomes.Outcome.TheVariants as outcomes
-use Rattle.plain_world.specs.declared.searches.Search.{Search}
+use Rattle.plain_world.specs.declared.open_searches.Search.{Search}
 use Rattle.plain_world.specs.declared.settings.TheConstants.{CHANGE_LIMIT}
 use Rattle.plain_world.specs.Admitting.{search_with}
 use Rattle.plain_world.specs.Answers.{AnswerData, DenialData, IsDenial, denial_of}
@@ -50,13 +50,15 @@ Accounts w = IsLegal w.seats w.base w.trail × (replay w.base w.trail ≡ w.stat
 abbrev pub IsApplied : ℕ → Subject → TransactionData → PlainState → PlainState → Type 0
 IsApplied version subject t old new =
     Judged old subject t.changes judgements.Accepted × (version ≡ old.version + 1)
-    × (new.features ≡ after version subject.office t.changes old.features) × (new.version ≡ version) × (new.decider ≡ old.decider)
+    × (new.features ≡ after version subject.office t.changes old.features) × (new.version ≡ version)
+    × (new.decider ≡ old.decider)
 
 -- a denial goes with a denied change alone: it has this decider, which denies its question, and the
 -- rule of the cause
 abbrev pub GoesWith : DeciderData → Cause → Option DenialData → Type 0
 GoesWith decider (Denied rule) None = ⊥
-GoesWith decider (Denied rule) (Some denial) = (denial.decider ≡ decider) × (denial.rule ≡ rule) × IsDenial denial
+GoesWith decider (Denied rule) (Some denial) =
+    (denial.decider ≡ decider) × (denial.rule ≡ rule) × IsDenial denial
 GoesWith decider Exists denial = denial ≡ None
 GoesWith decider Absent denial = denial ≡ None
 GoesWith decider (Stale current) denial = denial ≡ None
@@ -70,12 +72,14 @@ asked (Some denial) = Some denial.question
 abbrev pub IsJudgement : Subject → TransactionData → PlainState → PlainState → Outcome → Type 0
 IsJudgement subject t old new (outcomes.Applied version) = IsApplied version subject t old new
 IsJudgement subject t old new (outcomes.Refused refusal denial) =
-    Judged old subject t.changes (judgements.Refused refusal (asked denial)) × GoesWith old.decider refusal.cause denial × (new ≡ old)
+    Judged old subject t.changes (judgements.Refused refusal (asked denial))
+    × GoesWith old.decider refusal.cause denial × (new ≡ old)
 
 -- the seat's own transaction of this number ends with this outcome
 abbrev pub EndsAs : ℕ → ℕ → WorldData → WorldData → Outcome → Type 0
 EndsAs seat number old new outcome =
-    (subject : Subject) × (t : TransactionData) × IsSeated seat old.seats subject × (transaction_with number old.transactions ≡ Some t)
+    (subject : Subject) × (t : TransactionData) × IsSeated seat old.seats subject
+    × (transaction_with number old.transactions ≡ Some t)
     × (t.seat ≡ seat) × IsJudgement subject t old.state new.state outcome
 
 -- the seat's subject is a steward and put the document in force, under the next edition; features
@@ -83,25 +87,30 @@ EndsAs seat number old new outcome =
 abbrev pub IsStewards : ℕ → DocumentData → ℕ → WorldData → WorldData → Type 0
 IsStewards seat document edition old new =
     ((subject : Subject) × IsSeated seat old.seats subject × IsTrue subject.steward)
-    × (edition ≡ old.state.decider.edition + 1) × (new.state.decider.document ≡ document) × (new.state.decider.edition ≡ edition)
+    × (edition ≡ old.state.decider.edition + 1) × (new.state.decider.document ≡ document)
+    × (new.state.decider.edition ≡ edition)
     × (new.state.features ≡ old.state.features) × (new.state.version ≡ old.state.version)
 
 -- a piece is the old base and trail; it is legal from its base, and its replay and its numbers lead
 -- on to the new base and first number
 abbrev pub LeadsOn : WorldData → WorldData → RolledData → Type 0
 LeadsOn old new piece =
-    IsLegal old.seats piece.base piece.records × (replay piece.base piece.records ≡ new.base) × (piece.first + length piece.records ≡ new.first)
-    × (piece.base ≡ old.base) × (piece.first ≡ old.first) × (piece.records ≡ old.trail) × (new.trail ≡ [])
+    IsLegal old.seats piece.base piece.records × (replay piece.base piece.records ≡ new.base)
+    × (piece.first + length piece.records ≡ new.first)
+    × (piece.base ≡ old.base) × (piece.first ≡ old.first) × (piece.records ≡ old.trail)
+    × (new.trail ≡ [])
 
 -- the trail has one more record, of this deed, and the state is what the deed makes of the old one
 abbrev pub HasOneMore : ℕ → DeedData → WorldData → WorldData → Type 0
 HasOneMore seat deed old new =
-    (new.trail ≡ old.trail ++ record { seat = seat; deed = deed } ∷ []) × (new.state ≡ after_deed deed old.state)
+    (new.trail ≡ old.trail ++ record { seat = seat; deed = deed } ∷ [])
+    × (new.state ≡ after_deed deed old.state)
     × (new.base ≡ old.base) × (new.first ≡ old.first)
 
 -- state, base and trail are unchanged
 abbrev pub StandsAs : WorldData → WorldData → Type 0
-StandsAs old new = (new.trail ≡ old.trail) × (new.state ≡ old.state) × (new.base ≡ old.base) × (new.first ≡ old.first)
+StandsAs old new = (new.trail ≡ old.trail) × (new.state ≡ old.state) × (new.base ≡ old.base)
+    × (new.first ≡ old.first)
 
 -- the deed of an outcome
 abbrev pub deed_of : Subject → List Change → Outcome → DeedData
@@ -113,18 +122,23 @@ deed_of subject changes (outcomes.Refused refusal denial) = turned_away subject 
 -- state unchanged.
 abbrev pub AddsAlone : Event → WorldData → WorldData → Reply → Type 0
 AddsAlone (Finish seat search) old new (Rows answer) =
-    HasOneMore seat (answered answer.subject answer.window (map (λ row. row.id) answer.rows) (map (λ row. row.version) answer.rows)) old new
+    HasOneMore seat (answered answer.subject answer.window (map (λ row. row.id) answer.rows)
+    (map (λ row. row.version) answer.rows)) old new
 AddsAlone (Commit seat number) old new (Ended outcome) =
-    (subject : Subject) × IsSeated seat old.seats subject × HasOneMore seat (deed_of subject (staged_in number old.transactions) outcome) old new
-AddsAlone (Govern seat document) old new (Number edition) = HasOneMore seat (governed edition (record { document = document; edition = edition })) old new
+    (subject : Subject) × IsSeated seat old.seats subject
+    × HasOneMore seat (deed_of subject (staged_in number old.transactions) outcome) old new
+AddsAlone (Govern seat document) old new (Number edition) =
+    HasOneMore seat (governed edition (record { document = document; edition = edition })) old new
 AddsAlone (Roll seat) old new (TakenOut piece) =
-    (new.trail ≡ []) × (new.state ≡ old.state) × (new.base ≡ old.state) × (new.first ≡ old.first + length old.trail)
+    (new.trail ≡ []) × (new.state ≡ old.state) × (new.base ≡ old.state)
+    × (new.first ≡ old.first + length old.trail)
 AddsAlone event old new reply = StandsAs old new
 
 -- what a refusal leaves: the world unchanged, except that an overrun ends its search or transaction
 abbrev pub Leaves : Event → WorldData → WorldData → Fault → Type 0
 Leaves (VisitNext seat number) old new (faults.Tree tree.Overrun) = new ≡ without_search number old
-Leaves (AdvanceWalk seat number) old new (faults.Tree tree.Overrun) = new ≡ without_transaction number old
+Leaves (AdvanceWalk seat number) old new (faults.Tree tree.Overrun) =
+    new ≡ without_transaction number old
 Leaves event old new fault = new ≡ old
 
 -- no list that is staged names a feature twice
@@ -146,7 +160,8 @@ records_out ((event, _) ∷ steps) = records_out steps
 -- the decider in force after these events: the last one put in force, or else the one before them
 abbrev pub in_force : DeciderData → List (Event × Reply) → DeciderData
 in_force decider [] = decider
-in_force decider ((Govern seat document, Number edition) ∷ steps) = in_force (record { document = document; edition = edition }) steps
+in_force decider ((Govern seat document, Number edition) ∷ steps) =
+    in_force (record { document = document; edition = edition }) steps
 in_force decider (step ∷ steps) = in_force decider steps
 
 abbrev pub IsBelowEach : ℕ → List ℕ → Type 0
@@ -176,13 +191,15 @@ pub record IsUnderWay (w : WorldData) : Type 0 where
 -- the outcome that a judgement asks for at a state
 abbrev pub outcome_of : PlainState → Judgement → Outcome
 outcome_of state judgements.Accepted = outcomes.Applied (state.version + 1)
-outcome_of state (judgements.Refused refusal question) = outcomes.Refused refusal (denial_of state.decider refusal.cause question)
+outcome_of state (judgements.Refused refusal question) =
+    outcomes.Refused refusal (denial_of state.decider refusal.cause question)
 
 -- A search that is open after an event was open before it, for the same seat and window; or the
 -- event opened it, for the seat and window that the event names.
 abbrev pub IsAskedSearch : Event → WorldData → Reply → ℕ → Search → Type 0
 IsAskedSearch event old reply number s =
-    ((before : Search) × (search_with number old.searches ≡ Some before) × (s.seat ≡ before.seat) × (s.window ≡ before.window))
+    ((before : Search) × (search_with number old.searches ≡ Some before) × (s.seat ≡ before.seat)
+    × (s.window ≡ before.window))
     ⊎ ((event ≡ OpenSearch s.seat s.window) × (reply ≡ Number number))
 
 -- a staged list is unchanged, or has one more change, which the event stages for this seat and
@@ -190,24 +207,30 @@ IsAskedSearch event old reply number s =
 abbrev pub IsAskedStaging : Event → Reply → ℕ → TransactionData → TransactionData → Type 0
 IsAskedStaging event reply number before t =
     (t.changes ≡ before.changes)
-    ⊎ ((change : Change) × (event ≡ Stage t.seat number change) × (reply ≡ Done) × (t.changes ≡ before.changes ++ change ∷ []))
+    ⊎ ((change : Change) × (event ≡ Stage t.seat number change) × (reply ≡ Done)
+    × (t.changes ≡ before.changes ++ change ∷ []))
 
 -- A transaction that is open after an event was open before it, for the same seat; or the event
 -- opened it, for the seat that the event names, and nothing is staged.
 abbrev pub IsAskedTransaction : Event → WorldData → Reply → ℕ → TransactionData → Type 0
 IsAskedTransaction event old reply number t =
-    ((before : TransactionData) × (transaction_with number old.transactions ≡ Some before) × (t.seat ≡ before.seat) × IsAskedStaging event reply number before t)
+    ((before : TransactionData) × (transaction_with number old.transactions ≡ Some before)
+    × (t.seat ≡ before.seat) × IsAskedStaging event reply number before t)
     ⊎ ((event ≡ Begin t.seat) × (reply ≡ Number number) × (t.changes ≡ []))
 
 -- the seats are unchanged, or one more is given, to the subject that the event names
 abbrev pub AreAskedSeats : Event → WorldData → WorldData → Reply → Type 0
 AreAskedSeats event old new reply =
     (new.seats ≡ old.seats)
-    ⊎ ((name : List ℕ) × (subject : Subject) × (event ≡ TakeSeat name) × (subject_named name old.subjects ≡ Some subject)
+    ⊎ ((name : List ℕ) × (subject : Subject) × (event ≡ TakeSeat name)
+    × (subject_named name old.subjects ≡ Some subject)
     × (reply ≡ Number (length old.seats + 1)) × (new.seats ≡ old.seats ++ subject ∷ []))
 
 -- what is open after an event was open before it, or the event asked for it
 pub record IsAsked (event : Event) (old new : WorldData) (reply : Reply) : Type 0 where
-  pub searches : (number : ℕ) (s : Search) → search_with number new.searches ≡ Some s → IsAskedSearch event old reply number s
-  pub transactions : (number : ℕ) (t : TransactionData) → transaction_with number new.transactions ≡ Some t → IsAskedTransaction event old reply number t
+  pub searches : (number : ℕ) (s : Search) → search_with number new.searches ≡ Some s
+      → IsAskedSearch event old reply number s
+  pub transactions : (number : ℕ) (t : TransactionData)
+      → transaction_with number new.transactions ≡ Some t
+      → IsAskedTransaction event old reply number t
   pub seats : AreAskedSeats event old new reply

@@ -31,6 +31,9 @@ settings w =
 -- A search or a transaction that opens gets the next number, and the next one is then one higher.
 -- No event changes anything else of these, so no number is given twice.
 abbrev pub IsSettled : Event → WorldData → WorldData → Reply → Type 0
-IsSettled (OpenSearch seat window) old new (Number number) = (number ≡ old.next_search) × (settings new ≡ record (settings old) { next_search = number + 1 })
-IsSettled (Begin seat) old new (Number number) = (number ≡ old.next_transaction) × (settings new ≡ record (settings old) { next_transaction = number + 1 })
+IsSettled (OpenSearch seat window) old new (Number number) =
+    (number ≡ old.next_search) × (settings new ≡ record (settings old) { next_search = number + 1 })
+IsSettled (Begin seat) old new (Number number) =
+    (number ≡ old.next_transaction)
+    × (settings new ≡ record (settings old) { next_transaction = number + 1 })
 IsSettled event old new reply = settings new ≡ settings old

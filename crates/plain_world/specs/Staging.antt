@@ -41,9 +41,11 @@ staged_in number [] = []
 staged_in number (t ∷ ts) = if t.number == number then t.changes else staged_in number ts
 
 -- the list with a step done in the transaction of a number
-abbrev pub with_step : (TransactionData → TransactionData) → ℕ → List TransactionData → List TransactionData
+abbrev pub with_step : (TransactionData → TransactionData) → ℕ → List TransactionData
+    → List TransactionData
 with_step step number [] = []
-with_step step number (t ∷ ts) = if t.number == number then step t ∷ ts else t ∷ with_step step number ts
+with_step step number (t ∷ ts) =
+    if t.number == number then step t ∷ ts else t ∷ with_step step number ts
 
 -- one more change is staged
 abbrev pub staged : Change → TransactionData → TransactionData
@@ -65,9 +67,11 @@ names id changes = list_any (λ change. change_id change == id) changes
 abbrev pub MayStage : ℕ → Change → List TransactionData → Type 0
 MayStage number change [] = Unit {0}
 MayStage number change (t ∷ ts) =
-    MatchBool (t.number == number) ((length t.changes < CHANGE_LIMIT) × IsUnnamed (change_id change) t.changes) (MayStage number change ts)
+    MatchBool (t.number == number) ((length t.changes < CHANGE_LIMIT)
+    × IsUnnamed (change_id change) t.changes) (MayStage number change ts)
 
 -- the transaction of that number, if there is one, has placed fewer shapes than a list may bring
 abbrev pub MayPlace : ℕ → List TransactionData → Type 0
 MayPlace number [] = Unit {0}
-MayPlace number (t ∷ ts) = MatchBool (t.number == number) (t.placed < CHANGE_LIMIT) (MayPlace number ts)
+MayPlace number (t ∷ ts) = MatchBool (t.number == number) (t.placed < CHANGE_LIMIT)
+    (MayPlace number ts)

@@ -6,7 +6,7 @@ use Rattle.audit_trail.specs.Legal.{replay, IsLegal}
 use Rattle.audit_trail.specs.Records.{PlainState, RecordData}
 use Rattle.audit_trail.specs.declared.trails.TheConstants.{RECORD_LIMIT}
 use Rattle.features.specs.declared.tables.TheConstants.{FEATURE_LIMIT}
-use Rattle.plain_world.specs.declared.searches.Search.{Search}
+use Rattle.plain_world.specs.declared.open_searches.Search.{Search}
 use Rattle.plain_world.specs.declared.settings.Limits.{Limits}
 use Rattle.plain_world.specs.declared.settings.Starts.{Starts}
 use Rattle.plain_world.specs.declared.settings.TheConstants.{SEAT_LIMIT}
@@ -33,7 +33,8 @@ pub record WorldData : Type 0 where
   pub next_transaction : ℕ
 
 -- the trail is legal from its base, and the state is its replay
-pub record IsSound (seats : List Subject) (base : PlainState) (trail : List RecordData) (state : PlainState) : Type 0 where
+pub record IsSound (seats : List Subject) (base : PlainState) (trail : List RecordData)
+    (state : PlainState) : Type 0 where
   pub legal : IsLegal seats base trail
   pub replayed : replay base trail ≡ state
   pub few_seats : length seats ≤ SEAT_LIMIT
@@ -66,7 +67,8 @@ opened subjects decider starts limits =
 
 -- what every world keeps: it is sound, its limits of records and features are at most the greatest
 -- ones, and its trail is within its limit
-pub record Keeps (limits : Limits) (seats : List Subject) (base : PlainState) (trail : List RecordData) (state : PlainState) : Type 0 where
+pub record Keeps (limits : Limits) (seats : List Subject) (base : PlainState)
+    (trail : List RecordData) (state : PlainState) : Type 0 where
   pub sound : IsSound seats base trail state
   pub records : limits.records ≤ RECORD_LIMIT
   pub features : limits.features ≤ FEATURE_LIMIT

@@ -7,9 +7,9 @@ ghost use Rattle.plain_world.specs.Admitting.{may_sit, subject_at, stewarded, ow
 ghost use Rattle.plain_world.specs.Staging.{TransactionData, transaction_with};
 
 use crate::faults::Fault;
-use crate::searches::Search;
+use crate::open_searches::Search;
+use crate::open_transactions::{Transaction, names, placement_count, transaction_in};
 use crate::settings::{CHANGE_LIMIT, SEARCH_LIMIT, SEAT_LIMIT, TRANSACTION_LIMIT};
-use crate::staging::{Transaction, names, placement_count, transaction_in};
 use crate::worlds::PlainWorld;
 use audit_trail::FIRST_LIMIT;
 use features::{Change, Name, Subject};

@@ -30,11 +30,22 @@ impl<A: Allocator> Model for Answer<A> {
 
     ghost Value = { AnswerData };
 
-    ghost coded = { code_by StoredAnswer (Prim.hlevel codes) stored_answer restored_answer restored_answer-stored_answer };
+    ghost coded = { code_by StoredAnswer (Prim.hlevel codes) stored_answer restored_answer
+        restored_answer-stored_answer };
 
-    ghost view = { λ a. record { subject = a.subject; window = a.window; decider = arc_value a.decider; rows = a.rows.items } };
+    ghost view = { λ a. record {
+      subject = a.subject;
+      window = a.window;
+      decider = arc_value a.decider;
+      rows = a.rows.items;
+    } };
 
-    ghost invariant = { λ a. IsAnswer (record { subject = a.subject; window = a.window; decider = arc_value a.decider; rows = a.rows.items }) };
+    ghost invariant = { λ a. IsAnswer (record {
+      subject = a.subject;
+      window = a.window;
+      decider = arc_value a.decider;
+      rows = a.rows.items;
+    }) };
 }
 
 impl<A: Allocator> Answer<A> {

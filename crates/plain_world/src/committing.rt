@@ -1,6 +1,6 @@
 //! Transactions: staged, placed, and committed as a whole or not at all.
 
-ghost use Rattle.std.specs.Prelude.{◌≡◌, ◌<◌, length, OnOk, IfOk, IsSome, Option};
+ghost use Rattle.std.specs.Prelude.{◌≡◌, ◌<◌, length, OnOk, Option};
 ghost use Rattle.std.specs.Arc.{arc_value};
 ghost use Rattle.features.specs.Changes.{after, CanApply};
 ghost use Rattle.combining.specs.declared.questions.Question.{Question};
@@ -9,20 +9,18 @@ ghost use Rattle.audit_trail.specs.Judging.{Judged, AreDistinct, IsFounded};
 ghost use Rattle.audit_trail.specs.Legal.{IsSeated};
 ghost use Rattle.audit_trail.specs.Records as deeds;
 ghost use Rattle.plain_world.specs.Answers.{denial_of};
-ghost use Rattle.plain_world.specs.Events.{Happens, Begin, Stage, Commit, Abort, Number, Done, Ended, reply_of, UnlessMemory, TurnsAway, Applies, without_transaction};
-ghost use Rattle.plain_world.specs.Admitting.{map_ok, may_step};
-ghost use Rattle.plain_world.specs.Staging.{next_placement, staged_in, with_step, one_placed, MayPlace};
+ghost use Rattle.plain_world.specs.Events.{Happens, Begin, Stage, Commit, Abort, Number, Done, Ended, reply_of, UnlessMemory, TurnsAway, Applies, changes_in, without_transaction};
+ghost use Rattle.plain_world.specs.Staging.{staged_in};
 
 use crate::denials::denial_for;
 use crate::faults::Fault;
+use crate::open_transactions::{Transaction, end, stage_in, staged_in};
 use crate::outcomes::Outcome;
-use crate::staging::{Transaction, end, place_in, stage_in, staged_in};
 use crate::worlds::PlainWorld;
 use audit_trail::{Deed, Judgement, Record, Refusal, judge};
 use combining::Question;
 use features::{Change, Subject};
-use memory::{GrowVec, Refused, copied};
-use plane::Shape;
+use memory::{GrowVec, copied};
 use std::alloc::Allocator;
 
 impl<A: Allocator> PlainWorld<A> {
@@ -36,34 +34,6 @@ impl<A: Allocator> PlainWorld<A> {
         self.may_stage(seat, number, &change)?;
         stage_in(&mut self.transactions, number, change);
         Ok(())
-    }
-
-    /// The pair of a transaction that is to be placed next, or `None` where all are placed. X1
-    /// where the seat was not given or no such transaction is open, X2 where it is another seat's.
-    pub fn next_to_place(&self, seat: u32, number: u64) -> Result<Option<(u64, Shape)>, Fault>
-        ensures value { map_ok next_placement (may_step seat number self.now) ≡ result }
-        ensures may { IfOk result (λ next. IsSome next → MayPlace number self.now.transactions) }
-    {
-        let transaction = self.may_step(seat, number)?;
-        Ok(transaction.next())
-    }
-
-    /// Removes a transaction whose walk the index has ended (S7). Only a part of the event
-    /// `advance`: `transactions` calls it.
-    pub fn end_transaction(&mut self, number: u64)
-        ensures { self.new ≡ without_transaction number self.old }
-    {
-        end(&mut self.transactions, number);
-    }
-
-    /// Counts the next shape of a transaction as placed. Only a part of the event `advance`:
-    /// `transactions` calls it once the index has placed the shape.
-    pub fn place_next(&mut self, number: u64)
-        requires { MayPlace number self.old.transactions }
-        ensures { self.new
-            ≡ record self.old { transactions = with_step one_placed number self.old.transactions } }
-    {
-        place_in(&mut self.transactions, number);
     }
 
     /// Aborts a transaction. X1 where the seat was not given or no such transaction is open, X2
@@ -85,7 +55,7 @@ impl<A: Allocator + Copy> PlainWorld<A> {
     {
         let number = self.may_begin(seat)?;
         let transaction = Transaction::new(self.alloc, number, seat)?;
-        self.transactions.make_place()?;
+        self.transactions.make_slot()?;
         self.transactions.push_reserved(transaction);
         self.next_transaction = number + 1;
         Ok(number)
@@ -165,9 +135,9 @@ impl<A: Allocator + Copy> PlainWorld<A> {
         }
         let version = self.version + 1;
         let office = subject.office;
-        let told = applied(self.alloc, seat, subject, version, changes.as_slice())?;
+        let told = applied(seat, subject, version, changes);
         let entry = self.trail.prepare(told)?;
-        self.store.apply(version, office, changes.as_slice())?;
+        self.store.apply(version, office, changes_in(&entry))?;
         self.version = version;
         self.trail.put(entry);
         end(&mut self.transactions, number);
@@ -197,23 +167,32 @@ fn turned_away<A: Allocator>(
 
 /// The record of a list that is applied.
 fn applied<A: Allocator>(
-    alloc: A,
     seat: u32,
     subject: Subject,
     version: u64,
-    changes: &[Change],
-) -> Result<Record<A>, Refused>
-    ensures { IfOk result
-        (λ entry. entry
-        ≡ record { seat = seat; deed = deeds.applied subject version changes.now }) }
+    changes: Vec<Change, A>,
+) -> Record<A>
+    ensures { result
+        ≡ record { seat = seat; deed = deeds.applied subject version changes.items } }
 {
-    let changes = copied(alloc, changes)?;
-    Ok(Record::new(
+    Record::new(
         seat,
         Deed::Applied {
             subject,
             version,
             changes,
         },
-    ))
+    )
+}
+
+/// The list that a record tells of; none where it is not of a list.
+fn changes_in<A: Allocator>(entry: &Record<A>) -> &[Change]
+    ensures { result.now ≡ changes_in entry.now.deed }
+{
+    match entry.deed() {
+        Deed::Applied { changes, .. } => changes.as_slice(),
+        Deed::Refused { changes, .. } => changes.as_slice(),
+        Deed::Answered { .. } => &[],
+        Deed::Governed { .. } => &[],
+    }
 }

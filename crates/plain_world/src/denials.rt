@@ -8,7 +8,7 @@ ghost use Rattle.plain_world.specs.Answers.{denial_of};
 use audit_trail::Cause;
 use combining::Question;
 use decision::Decider;
-use memory::{Refused, another};
+use memory::{NoMemory, another};
 use std::marker::Model;
 use std::sync::Arc;
 
@@ -29,11 +29,17 @@ impl Model for Denial {
 
     ghost Value = { DenialData };
 
-    ghost coded = { code_by StoredDenial (Prim.hlevel codes) stored_denial restored_denial restored_denial-stored_denial };
+    ghost coded = { code_by StoredDenial (Prim.hlevel codes) stored_denial restored_denial
+        restored_denial-stored_denial };
 
-    ghost view = { λ d. record { question = d.question; decider = arc_value d.decider; rule = d.rule } };
+    ghost view = { λ d. record {
+      question = d.question;
+      decider = arc_value d.decider;
+      rule = d.rule;
+    } };
 
-    ghost invariant = { λ d. IsDenial (record { question = d.question; decider = arc_value d.decider; rule = d.rule }) };
+    ghost invariant = { λ d. IsDenial
+        (record { question = d.question; decider = arc_value d.decider; rule = d.rule }) };
 }
 
 impl Denial {
@@ -70,7 +76,7 @@ pub(crate) fn denial_for(
     decider: &Arc<Decider>,
     cause: &Cause,
     question: &Option<Question>,
-) -> Result<Option<Denial>, Refused>
+) -> Result<Option<Denial>, NoMemory>
     requires { IsFounded (arc_value decider.now).document cause.now question.now }
     ensures { IfOk result
         (λ made. made ≡ denial_of (arc_value decider.now) cause.now question.now) }

@@ -3,7 +3,7 @@
 ghost use Rattle.std.specs.Prelude.{◌≡◌};
 
 use features::StoreFault;
-use memory::Refused;
+use memory::NoMemory;
 use std::fmt;
 use tree_answers::TreeFault;
 
@@ -35,7 +35,7 @@ pub enum Fault {
     /// X11: the list would leave more than `Limits::features` features.
     StoreFull,
     /// X12: an allocation was refused.
-    Memory(Refused),
+    Memory(NoMemory),
     /// X13: no subject has this name.
     NoSubject,
     /// X14: all `SEAT_LIMIT` seats are given.
@@ -82,14 +82,14 @@ impl fmt::Display for Fault {
     }
 }
 
-impl From<Refused> for Fault {
+impl From<NoMemory> for Fault {
     ghost use Rattle.std.specs.Prelude.{◌≡◌};
     ghost use Rattle.plain_world.specs.declared.faults.Fault.TheVariants.{Memory};
 
-    ghost from_gives = { λ refused fault. fault ≡ Memory refused };
+    ghost from_gives = { λ no_memory fault. fault ≡ Memory no_memory };
 
-    fn from(refused: Refused) -> Self {
-        Fault::Memory(refused)
+    fn from(no_memory: NoMemory) -> Self {
+        Fault::Memory(no_memory)
     }
 }
 
@@ -102,7 +102,7 @@ impl From<StoreFault> for Fault {
     fn from(refusal: StoreFault) -> Self {
         match refusal {
             StoreFault::Full => Fault::StoreFull,
-            StoreFault::Memory(refused) => Fault::Memory(refused),
+            StoreFault::Memory(no_memory) => Fault::Memory(no_memory),
         }
     }
 }

@@ -1,12 +1,14 @@
 //! How a policy is put in force.
 
-ghost use Rattle.std.specs.Prelude.{◌≡◌, ◌<◌, ◌+◌, IfErr, OnOk};
+ghost use Rattle.std.specs.Prelude.{◌≡◌, ◌<◌, ◌+◌, length, IsTrue, IfErr, OnOk};
 ghost use Rattle.std.specs.Arc.{arc_value};
+ghost use Rattle.features.specs.declared.actors.Subject.{Subject};
+ghost use Rattle.audit_trail.specs.Legal.{IsSeated};
 ghost use Rattle.plain_world.specs.Admitting.{map_ok, may_govern};
-ghost use Rattle.plain_world.specs.Events.{Happens, Govern, Number, reply_of, reply_handing};
+ghost use Rattle.plain_world.specs.Events.{Happens, Govern, Governs, Number, UnlessMemory, reply_of, reply_handing};
 
 use crate::faults::Fault;
-use crate::worlds::{PlainWorld, made_decider};
+use crate::worlds::{PlainWorld, copied_decider, made_decider};
 use audit_trail::{Deed, Record};
 use decision::Decider;
 use memory::another;
@@ -40,6 +42,19 @@ impl<A: Allocator + Copy> PlainWorld<A> {
             (reply_of Number result) }
     {
         self.may_govern(seat)?;
+        self.put_in_force(seat, decider)
+    }
+
+    /// Records the decider of the next edition, and puts it in force.
+    fn put_in_force(&mut self, seat: u32, decider: Arc<Decider>) -> Result<u64, Fault>
+        requires steward { (subject : Subject) × IsSeated seat self.old.seats subject
+            × IsTrue subject.steward }
+        requires below { length self.old.trail < self.old.limits.records }
+        requires next { (arc_value decider).edition ≡ self.old.state.decider.edition + 1 }
+        ensures { UnlessMemory self.old self.new (reply_of Number result)
+            (Governs seat (arc_value decider).document self.old self.new
+            (reply_of Number result)) }
+    {
         let kept = another(&decider)?;
         let edition = decider.edition();
         let told = Record::new(
@@ -55,6 +70,21 @@ impl<A: Allocator + Copy> PlainWorld<A> {
         Ok(edition)
     }
 
+    /// Puts a document in force as `govern` does, with the same faults, and makes no copy of it. A
+    /// fault drops the document.
+    pub fn govern_or_drop(
+        &mut self,
+        heap: Global,
+        seat: u32,
+        document: Document<Global>,
+    ) -> Result<u64, Fault>
+        ensures { Happens (Govern seat document) self.old self.new (reply_of Number result) }
+    {
+        self.may_govern(seat)?;
+        let decider = made_decider(heap, document, self.decider.edition() + 1)?;
+        self.put_in_force(seat, decider)
+    }
+
     /// Puts a copy of a document in force, with the faults of `govern`.
     fn govern_copy(
         &mut self,
@@ -64,9 +94,9 @@ impl<A: Allocator + Copy> PlainWorld<A> {
     ) -> Result<u64, Fault>
         ensures { Happens (Govern seat document.now) self.old self.new (reply_of Number result) }
     {
-        let edition = self.next_edition(seat)?;
-        let decider = made_decider(heap, document, edition)?;
-        self.govern_by(seat, decider)
+        self.may_govern(seat)?;
+        let decider = copied_decider(heap, document, self.decider.edition() + 1)?;
+        self.put_in_force(seat, decider)
     }
 
     /// Puts a document in force as the next edition, and returns the edition. X1 where the seat was

@@ -4,7 +4,7 @@ ghost use Rattle.std.specs.Prelude.{◌≡◌};
 ghost use Rattle.std.specs.List.{list_any};
 ghost use Rattle.plain_world.specs.Keeping.{brings, is_staged, stands};
 
-use crate::staging::Transaction;
+use crate::open_transactions::Transaction;
 use crate::worlds::PlainWorld;
 use features::{Change, Meter, Store};
 use plane::Shape;

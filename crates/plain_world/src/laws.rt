@@ -8,7 +8,7 @@ ghost use Rattle.audit_trail.specs.Judging.{Judged};
 ghost use Rattle.audit_trail.specs.declared.causes.Judgement.{Judgement};
 ghost use Rattle.audit_trail.specs.Legal.{IsSeated, IsLegal, replay};
 ghost use Rattle.plain_world.specs.Answers.{AnswerData};
-ghost use Rattle.plain_world.specs.Events.{Event, Finish, Commit, Govern, Roll, Reply, Number, Rows, Ended, TakenOut, Happens, Refused, Run};
+ghost use Rattle.plain_world.specs.Events.{Event, Finish, Commit, Govern, Roll, Reply, Number, Rows, Ended, TakenOut, Happens, Failed, Run};
 ghost use Rattle.plain_world.specs.Laws.{IsExact, Accounts, EndsAs, IsStewards, LeadsOn, AddsAlone, Leaves, IsAsked, IsOrdered, IsUnderWay, records_out, in_force, outcome_of};
 ghost use Rattle.plain_world.specs.Rolls.{RolledData};
 ghost use Rattle.plain_world.specs.Settings.{IsSettled};
@@ -102,7 +102,7 @@ pub fn records_are_added_alone()
 /// transaction.
 pub fn every_refusal_changes_nothing()
     ensures { (event : Event) (old new : WorldData) (fault : Fault)
-        → Happens event old new (Refused fault) → Leaves event old new fault }
+        → Happens event old new (Failed fault) → Leaves event old new fault }
 {}
 
 /// A world that has just been opened is sound; its features are sorted by id, and no staged list
@@ -162,6 +162,6 @@ pub fn every_commit_ends_as_judged()
         (judgement : Judgement) (reply : Reply) → IsSeated seat old.seats subject
         → transaction_with number old.transactions ≡ Some t
         → Judged old.state subject t.changes judgement → Happens (Commit seat number) old new reply
-        → ((fault : Fault) × (reply ≡ Refused fault))
+        → ((fault : Fault) × (reply ≡ Failed fault))
         ⊎ (reply ≡ Ended (outcome_of old.state judgement)) }
 {}

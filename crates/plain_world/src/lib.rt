@@ -3,23 +3,25 @@
 #![tactic(auto)]
 
 mod admitting;
+mod advances;
 mod answers;
 mod committing;
 mod denials;
 mod faults;
+mod for_the_index;
 mod governing;
 mod keeping;
 mod laws;
 mod listing;
+mod open_searches;
+mod open_transactions;
 mod outcomes;
 mod rolling;
-mod searches;
 mod searching;
 mod settings;
-mod staging;
-mod steps;
 mod worlds;
 
+pub use advances::Advance;
 pub use answers::Answer;
 pub use denials::Denial;
 pub use faults::Fault;
@@ -30,12 +32,11 @@ pub use laws::{
     pieces_and_trail_join, policy_in_force_is_the_last, records_are_added_alone, runs_go_on,
     what_is_under_way_is_in_order, what_is_under_way_was_asked,
 };
+pub use open_searches::Search;
 pub use outcomes::Outcome;
 pub use rolling::Rolled;
-pub use searches::Search;
 pub use settings::{
     CHANGE_LIMIT, Limits, ROLLED_LIMIT, SEARCH_LIMIT, SEAT_LIMIT, STEP_LIMIT, Starts,
     TRANSACTION_LIMIT,
 };
-pub use steps::Advance;
 pub use worlds::{Base, PlainWorld};

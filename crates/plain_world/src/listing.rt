@@ -12,7 +12,7 @@ use crate::answers::Answer;
 use audit_trail::{Deed, Record};
 use decision::{Folded, Ruling};
 use features::{Action, Feature, Meter, Store};
-use memory::{GrowVec, Refused};
+use memory::{GrowVec, NoMemory};
 use plane::{Shape, meets};
 use std::alloc::Allocator;
 
@@ -20,7 +20,7 @@ use std::alloc::Allocator;
 pub(crate) fn ids_found<A: Allocator>(
     alloc: A,
     found: &[(u64, Shape)],
-) -> Result<Vec<u64, A>, Refused>
+) -> Result<Vec<u64, A>, NoMemory>
     ensures rises { IfOk result (λ ids. IsStrictlyIncreasing ids.items) }
     ensures keeps { IfOk result
         (λ ids. (id : ℕ) → Contains (map (λ pair. pair.0) found.now) id → Contains ids.items id) }
@@ -32,7 +32,7 @@ pub(crate) fn ids_found<A: Allocator>(
 }
 
 /// The id of each pair.
-fn first_parts<A: Allocator>(alloc: A, found: &[(u64, Shape)]) -> Result<Vec<u64, A>, Refused>
+fn first_parts<A: Allocator>(alloc: A, found: &[(u64, Shape)]) -> Result<Vec<u64, A>, NoMemory>
     ensures { IfOk result (λ ids. ids.items ≡ map (λ pair. pair.0) found.now) }
 {
     let mut ids = Vec::new(alloc);
@@ -62,7 +62,7 @@ pub(crate) fn listed<A: Allocator>(
     store: &Store<A>,
     ids: &[u64],
     meter: &mut Meter,
-) -> Result<Vec<Feature, A>, Refused>
+) -> Result<Vec<Feature, A>, NoMemory>
     requires reads { folded.now.action ≡ Action.Read }
     requires rise { IsStrictlyIncreasing ids.now }
     requires all { NamesAll store.now window.now ids.now }
@@ -73,8 +73,8 @@ pub(crate) fn listed<A: Allocator>(
     ensures metered { meter.new ≤ meter.old + length ids.now }
     ensures raised { meter.old ≤ meter.new }
 {
-    stand_in_order(store);
-    count_to_the_greatest(meter);
+    fact_sorted_by_id(store);
+    fact_ticks_within(meter);
     let mut rows = Vec::new(alloc);
     for id in ids {
         if let Some(feature) = store.get(*id, meter) {
@@ -87,7 +87,7 @@ pub(crate) fn listed<A: Allocator>(
 }
 
 /// Fact for the checker, no effect: the store is sorted by id. `row_at` states it, `get` does not.
-fn stand_in_order<A: Allocator>(store: &Store<A>)
+fn fact_sorted_by_id<A: Allocator>(store: &Store<A>)
     ensures { IsSortedById store.now }
 {
     let _first = store.row_at(0);
@@ -95,7 +95,7 @@ fn stand_in_order<A: Allocator>(store: &Store<A>)
 
 /// Fact for the checker, no effect: a meter's ticks are at most `u64::MAX`. `ticks` states it, a
 /// tick does not.
-fn count_to_the_greatest(meter: &Meter)
+fn fact_ticks_within(meter: &Meter)
     ensures { meter.now ≤ u64.MAX }
 {
     let _ticks = meter.ticks();
@@ -129,7 +129,7 @@ pub(crate) fn answered<A: Allocator + Copy>(
     alloc: A,
     seat: u32,
     answer: &Answer<A>,
-) -> Result<Record<A>, Refused>
+) -> Result<Record<A>, NoMemory>
     ensures { IfOk result
         (λ entry. entry
         ≡ record {
@@ -151,7 +151,7 @@ pub(crate) fn answered<A: Allocator + Copy>(
     ))
 }
 
-fn ids_of<A: Allocator>(alloc: A, rows: &[Feature]) -> Result<Vec<u64, A>, Refused>
+fn ids_of<A: Allocator>(alloc: A, rows: &[Feature]) -> Result<Vec<u64, A>, NoMemory>
     ensures { IfOk result (λ ids. ids.items ≡ map (λ row. row.id) rows.now) }
 {
     let mut ids = Vec::new(alloc);
@@ -161,7 +161,7 @@ fn ids_of<A: Allocator>(alloc: A, rows: &[Feature]) -> Result<Vec<u64, A>, Refus
     Ok(ids)
 }
 
-fn versions_of<A: Allocator>(alloc: A, rows: &[Feature]) -> Result<Vec<u64, A>, Refused>
+fn versions_of<A: Allocator>(alloc: A, rows: &[Feature]) -> Result<Vec<u64, A>, NoMemory>
     ensures { IfOk result (λ versions. versions.items ≡ map (λ row. row.version) rows.now) }
 {
     let mut versions = Vec::new(alloc);

@@ -2,7 +2,7 @@
 
 ghost use Rattle.std.specs.Prelude.{◌≡◌, ◌+◌, ◌≤◌, length, map, string_bytes, IfOk, IfErr};
 ghost use Rattle.std.specs.Arc.{arc_value};
-ghost use Rattle.memory.specs.Refused.{refused};
+ghost use Rattle.memory.specs.NoMemory.{out_of_memory};
 ghost use Rattle.audit_trail.specs.JsonLines.{lines_from};
 ghost use Rattle.audit_trail.specs.declared.trails.TheConstants.{FIRST_LIMIT};
 ghost use Rattle.plain_world.specs.Events.{Happens, Roll, Rolls, TakenOut, UnlessMemory, reply_of};
@@ -35,11 +35,17 @@ impl<A: Allocator> Model for Rolled<A> {
 
     ghost Value = { RolledData };
 
-    ghost coded = { code_by StoredRolled (Prim.hlevel codes) stored_rolled restored_rolled restored_rolled-stored_rolled };
+    ghost coded = { code_by StoredRolled (Prim.hlevel codes) stored_rolled restored_rolled
+        restored_rolled-stored_rolled };
 
-    ghost view = { λ r. record { base = r.base; first = r.trail.first; records = r.trail.records } };
+    ghost view = { λ r. record {
+      base = r.base;
+      first = r.trail.first;
+      records = r.trail.records;
+    } };
 
-    ghost invariant = { λ r. map string_bytes r.lines.items ≡ lines_from r.trail.first r.trail.records };
+    ghost invariant = { λ r. map string_bytes r.lines.items
+        ≡ lines_from r.trail.first r.trail.records };
 }
 
 impl<A: Allocator> Rolled<A> {
@@ -105,7 +111,7 @@ impl<A: Allocator + Copy> PlainWorld<A> {
                 let piece = failed.value;
                 self.base = piece.base;
                 self.trail = piece.trail;
-                Err(Fault::Memory(failed.refusal))
+                Err(Fault::Memory(failed.cause))
             }
         }
     }
@@ -113,7 +119,7 @@ impl<A: Allocator + Copy> PlainWorld<A> {
     /// The present state, as the base of a new trail.
     fn present(&self) -> Result<Base<A>, Fault>
         ensures ok { IfOk result (λ base. base ≡ self.now.state) }
-        ensures err { IfErr result (λ fault. fault ≡ Fault.Memory refused) }
+        ensures err { IfErr result (λ fault. fault ≡ Fault.Memory out_of_memory) }
     {
         let mut meter = Meter::new();
         let features = match self.store.dump(self.alloc, &mut meter) {

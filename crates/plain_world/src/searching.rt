@@ -2,7 +2,7 @@
 
 ghost use Rattle.std.specs.Prelude.{◌≡◌, ◌≤◌, ◌<◌, ◌+◌, ◌++◌, [], ◌∷◌, false, length, IfOk, OnErr, IsTrue, Some};
 ghost use Rattle.audit_trail.specs.Listing.{Listed};
-ghost use Rattle.plain_world.specs.declared.searches.Search.{Search};
+ghost use Rattle.plain_world.specs.declared.open_searches.Search.{Search};
 ghost use Rattle.plain_world.specs.Admitting.{may_finish, search_with};
 ghost use Rattle.plain_world.specs.Finding.{FindsAll};
 ghost use Rattle.plain_world.specs.Events.{Happens, TakeSeat, Finish, DropSearch, Number, Done, Rows, reply_of, with_ready, without_search};
@@ -10,11 +10,10 @@ ghost use Rattle.plain_world.specs.Events.{Happens, TakeSeat, Finish, DropSearch
 use crate::answers::Answer;
 use crate::faults::Fault;
 use crate::listing::{answered, ids_found, listed};
-use crate::searches::Search;
-use crate::settings::{SEARCH_LIMIT, SEAT_LIMIT};
+use crate::settings::SEAT_LIMIT;
 use crate::worlds::PlainWorld;
 use features::{Action, Meter, Name, Subject};
-use memory::{GrowVec, Refused, another};
+use memory::{GrowVec, NoMemory, another};
 use plane::Shape;
 use std::alloc::Allocator;
 
@@ -30,49 +29,6 @@ impl<A: Allocator> PlainWorld<A> {
         self.seats.make_room(1)?;
         self.seats.push_reserved(subject);
         Ok(self.seats.len() as u32)
-    }
-
-    /// Adds a search that the index has opened for a seat, under the next number. Only a part of
-    /// the event `open_search`: `transactions` calls it. It takes no memory.
-    pub fn enter_search(&mut self, seat: u32, window: Shape)
-        requires few { length self.old.searches < SEARCH_LIMIT }
-        requires left { self.old.next_search < u64.MAX }
-        ensures { self.new
-            ≡ record self.old {
-              searches = self.old.searches
-                  ++ record {
-                    number = self.old.next_search;
-                    seat = seat;
-                    window = window;
-                    ready = false;
-                  }
-                  ∷ [];
-              next_search = self.old.next_search + 1;
-            } }
-    {
-        self.searches.push(Search {
-            number: self.next_search,
-            seat,
-            window,
-            ready: false,
-        });
-        self.next_search += 1;
-    }
-
-    /// Marks a search as ready. Only a part of the event `visit`: `transactions` calls it once the
-    /// index has answered Ready.
-    pub fn make_ready(&mut self, number: u64)
-        ensures { self.new ≡ record self.old { searches = with_ready number self.old.searches } }
-    {
-        self.searches.make_ready(number);
-    }
-
-    /// Removes a search that the index has dropped (S7). Only a part of the event `visit`:
-    /// `transactions` calls it.
-    pub fn forget_search(&mut self, number: u64)
-        ensures { self.new ≡ without_search number self.old }
-    {
-        self.searches.forget(number);
     }
 
     /// Drops a search. X1 where the seat was not given or no such search is open, X2 where it is
@@ -127,7 +83,7 @@ impl<A: Allocator + Copy> PlainWorld<A> {
         window: Shape,
         found: &[(u64, Shape)],
         meter: &mut Meter,
-    ) -> Result<Answer<A>, Refused>
+    ) -> Result<Answer<A>, NoMemory>
         requires { FindsAll self.now.state.features window found.now }
         ensures told { IfOk result (λ a. Listed self.now.state subject window a.rows
             × (a

@@ -2,20 +2,20 @@
 
 ghost use Rattle.std.specs.Prelude.{◌≡◌, ◌≤◌, length, IfOk, IfErr};
 ghost use Rattle.std.specs.Arc.{arc_value};
-ghost use Rattle.memory.specs.Refused.{refused};
+ghost use Rattle.memory.specs.NoMemory.{out_of_memory};
 ghost use Rattle.audit_trail.specs.Legal.{IsLegal, replay};
 ghost use Rattle.audit_trail.specs.Judging.{AreDistinct};
 ghost use Rattle.plain_world.specs.Staging.{staged_in};
 ghost use Rattle.plain_world.specs.States.{IsSoundWorld, opened};
 
 use crate::faults::Fault;
-use crate::searches::Searches;
+use crate::open_searches::Searches;
+use crate::open_transactions::{Transaction, staged_in};
 use crate::settings::{CHANGE_LIMIT, Limits, ROLLED_LIMIT, SEAT_LIMIT, STEP_LIMIT, Starts};
-use crate::staging::{Transaction, staged_in};
 use audit_trail::{RECORD_LIMIT, Trail};
 use decision::Decider;
 use features::{Change, FEATURE_LIMIT, Feature, Store, Subject, Subjects};
-use memory::{Refused, another, shared};
+use memory::{NoMemory, another, shared};
 use policy_documents::Document;
 use std::alloc::{Allocator, Global};
 use std::marker::Model;
@@ -40,9 +40,14 @@ impl<A: Allocator> Model for Base<A> {
 
     ghost Value = { PlainState };
 
-    ghost coded = { code_by StoredState (Prim.hlevel codes) stored_state restored_state restored_state-stored_state };
+    ghost coded = { code_by StoredState (Prim.hlevel codes) stored_state restored_state
+        restored_state-stored_state };
 
-    ghost view = { λ b. record { features = b.features.items; version = b.version; decider = arc_value b.decider } };
+    ghost view = { λ b. record {
+      features = b.features.items;
+      version = b.version;
+      decider = arc_value b.decider;
+    } };
 }
 
 /// The world of many sessions without its index: the features, the policy in force and the trail,
@@ -75,7 +80,8 @@ impl<A: Allocator> Model for PlainWorld<A> {
 
     ghost Value = { WorldData };
 
-    ghost coded = { code_by StoredWorld (Prim.hlevel codes) stored_world restored_world restored_world-stored_world };
+    ghost coded = { code_by StoredWorld (Prim.hlevel codes) stored_world restored_world
+        restored_world-stored_world };
 
     ghost view = { λ w. record {
       subjects = w.subjects;
@@ -93,7 +99,8 @@ impl<A: Allocator> Model for PlainWorld<A> {
       next_transaction = w.next_transaction;
     } };
 
-    ghost invariant = { λ w. Keeps w.limits w.seats.items w.base w.trail.records (record { features = w.store; version = w.version; decider = arc_value w.decider }) };
+    ghost invariant = { λ w. Keeps w.limits w.seats.items w.base w.trail.records
+        (record { features = w.store; version = w.version; decider = arc_value w.decider }) };
 }
 
 impl<A: Allocator> PlainWorld<A> {
@@ -164,7 +171,7 @@ impl<A: Allocator> PlainWorld<A> {
     /// The invariant of every world: its trail is legal from its base, the state is its replay, and
     /// at most `SEAT_LIMIT` seats were given. The function does nothing; its contract states the
     /// fact.
-    pub fn world_is_sound(&self)
+    pub fn fact_sound(&self)
         ensures { IsSoundWorld self.now }
     {
         let _seats = &self.seats;
@@ -191,9 +198,9 @@ impl<A: Allocator + Copy> PlainWorld<A> {
         ensures ok { IfOk result
             (λ w. w ≡ opened subjects (record { document = document; edition = starts.edition })
             starts limits) }
-        ensures err { IfErr result (λ e. e ≡ (document, Fault.Memory refused)) }
+        ensures err { IfErr result (λ e. e ≡ (document, Fault.Memory out_of_memory)) }
     {
-        let decider = match made_decider(heap, &document, starts.edition) {
+        let decider = match copied_decider(heap, &document, starts.edition) {
             Ok(decider) => decider,
             Err(refusal) => return Err((document, Fault::Memory(refusal))),
         };
@@ -210,7 +217,7 @@ impl<A: Allocator + Copy> PlainWorld<A> {
         decider: Arc<Decider>,
         starts: Starts,
         limits: Limits,
-    ) -> Result<Self, Refused>
+    ) -> Result<Self, NoMemory>
         requires rolled { starts.rolled ≤ ROLLED_LIMIT }
         requires records { limits.records ≤ RECORD_LIMIT }
         requires features { limits.features ≤ FEATURE_LIMIT }
@@ -245,17 +252,29 @@ impl<A: Allocator + Copy> PlainWorld<A> {
 }
 
 /// A decider of a copy of this document, under an edition.
-pub(crate) fn made_decider(
+pub(crate) fn copied_decider(
     heap: Global,
     document: &Document<Global>,
     edition: u64,
-) -> Result<Arc<Decider>, Refused>
+) -> Result<Arc<Decider>, NoMemory>
     ensures { IfOk result
         (λ decider. arc_value decider ≡ record { document = document.now; edition = edition }) }
 {
     let copy = document.copy(heap)?;
-    match Decider::new(copy, edition) {
+    made_decider(heap, copy, edition)
+}
+
+/// A decider of this document, under an edition.
+pub(crate) fn made_decider(
+    heap: Global,
+    document: Document<Global>,
+    edition: u64,
+) -> Result<Arc<Decider>, NoMemory>
+    ensures { IfOk result
+        (λ decider. arc_value decider ≡ record { document = document; edition = edition }) }
+{
+    match Decider::new(document, edition) {
         Ok(decider) => Ok(shared(heap, decider)?),
-        Err(failed) => Err(failed.refusal),
+        Err(failed) => Err(failed.cause),
     }
 }

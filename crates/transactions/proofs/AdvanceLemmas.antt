@@ -3,10 +3,10 @@ use Rattle.std.proofs.Common.{◌≡◌, ℕ, Bool, true, false, List, Option, S
 use Rattle.frame_keys.specs.Splits.{PicksRight}
 use Rattle.plane.specs.declared.point.Point.{Point}
 use Rattle.plain_world.specs.declared.faults.Fault.{Fault}
-use Rattle.plain_world.specs.declared.steps.Advance.{Advance}
-use Rattle.plain_world.specs.declared.steps.Advance.TheVariants as advances
+use Rattle.plain_world.specs.declared.advances.Advance.{Advance}
+use Rattle.plain_world.specs.declared.advances.Advance.TheVariants as advances
 use Rattle.plain_world.specs.Admitting.{map_ok, may_step}
-use Rattle.plain_world.specs.Events.{Happens, AdvanceWalk, Advanced, Refused, without_transaction}
+use Rattle.plain_world.specs.Events.{Happens, AdvanceWalk, Advanced, Failed, without_transaction}
 use Rattle.plain_world.specs.Staging.{TransactionData, transaction_with, next_placement, with_step, one_placed}
 use Rattle.plain_world.specs.States.{WorldData}
 use Rattle.search_tree.specs.Advances.{HasPlacedBehindNone, IsAdvance, MayRefuse, MayWalk, is_placed}
@@ -16,10 +16,10 @@ use Rattle.tree_answers.specs.declared.answers.Step.{Step}
 use Rattle.tree_answers.specs.declared.answers.Step.TheVariants as steps
 use Rattle.tree_answers.specs.declared.fault.TreeFault.{TreeFault}
 use Rattle.tree_answers.specs.declared.fault.TreeFault.TheVariants as tree
-use Rattle.transactions.specs.Index.{Index, IndexedWorld, IsWorld, Serves, frames}
-use Rattle.transactions.specs.Refusing.{RefusesGrowth, is_overrun, told}
+use Rattle.transactions.specs.Index.{Index, IndexedWorld, IsWorld, IndexServes, frames}
+use Rattle.transactions.specs.Refusing.{RefusesGrowth, is_overrun_fault, world_fault}
 use Rattle.transactions.specs.Walking.{IsWalked, WalksOn, after_step, area_growth, margin_growth, next_walk, told_step}
-use Rattle.transactions.specs.Walks.{IsWalkFor, JourneyData, ended, with_walk}
+use Rattle.transactions.specs.Walks.{IsWalkFor, JourneyData, walk_ended, with_walk}
 use Rattle.transactions.proofs.StepLemmas.{AfterStep, GoesOn, ended_happens, is_no_overrun, is_no_placing, is_the_overrun, is_the_placing, moved_happens, next_of, none_seeks, placed_happens, placed_step, refused_happens, refuses_growth, stepped_as}
 use Rattle.transactions.proofs.WalkLemmas.{ended_again, kept_again, next_for}
 use Rattle.transactions.proofs.WorldLemmas.{indexed, world_ended, world_kept_walk, world_placed}
@@ -82,7 +82,7 @@ module _ (seat number : ℕ) (w : WorldData) (t u : Index) (js : List JourneyDat
       placed_walks ks left = left ∙ left_by true None placed refl
 
     module _ (unplaced : after.placed ≡ false) where
-      onward : Serves w u × GoesOn w t u walk after
+      onward : IndexServes w u × GoesOn w t u walk after
       onward = is_no_placing w t u walk after step (sym says ∙ unplaced) stepped
 
       pub moved_world : (ks : List JourneyData) → ks ≡ with_walk number (Some after) (with_walk number None js) → IsWorld (indexed w u ks)
@@ -100,38 +100,38 @@ module _ (seat number : ℕ) (w : WorldData) (t u : Index) (js : List JourneyDat
     ceased : AfterStep w t u walk after (Err fault)
     ceased = stepped_as w t u walk after answer (Err fault) h.serves going.waits is made
 
-    kept_by : (b : Bool) → is_overrun fault ≡ b → (if b then ended number js else with_walk number (Some after) js) ≡ after_step number after answer js
-    kept_by b over = ap (λ (c : Bool). if c then ended number js else with_walk number (Some after) js) (sym over) ∙ ap (λ (r : Result Step TreeFault). after_step number after r js) (sym is)
+    kept_by : (b : Bool) → is_overrun_fault fault ≡ b → (if b then walk_ended number js else with_walk number (Some after) js) ≡ after_step number after answer js
+    kept_by b over = ap (λ (c : Bool). if c then walk_ended number js else with_walk number (Some after) js) (sym over) ∙ ap (λ (r : Result Step TreeFault). after_step number after r js) (sym is)
 
-    module _ (over : is_overrun fault ≡ true) where
-      overrun : (fault ≡ tree.Overrun) × Serves w u
+    module _ (over : is_overrun_fault fault ≡ true) where
+      overrun : (fault ≡ tree.Overrun) × IndexServes w u
       overrun = is_the_overrun w t u walk after fault over ceased
 
-      pub ended_world : (v : WorldData) (ks : List JourneyData) → v ≡ without_transaction number w → ks ≡ ended number (with_walk number None js) → IsWorld (indexed v u ks)
+      pub ended_world : (v : WorldData) (ks : List JourneyData) → v ≡ without_transaction number w → ks ≡ walk_ended number (with_walk number None js) → IsWorld (indexed v u ks)
       ended_world v ks to left = world_ended seat number w t u js walk own.0 own.1 own.2 going v ks overrun.1 to (left ∙ ended_again number None js) h
 
-      pub ended_event : (v : WorldData) → v ≡ without_transaction number w → Happens (AdvanceWalk seat number) w v (Refused (told fault))
+      pub ended_event : (v : WorldData) → v ≡ without_transaction number w → Happens (AdvanceWalk seat number) w v (Failed (world_fault fault))
       ended_event v to =
-          subst (λ (f : TreeFault). Happens (AdvanceWalk seat number) w v (Refused (told f))) (sym overrun.0)
+          subst (λ (f : TreeFault). Happens (AdvanceWalk seat number) w v (Failed (world_fault f))) (sym overrun.0)
           (ended_happens seat number w own.0 (walk.key, walk.item) own.1 going.next v to)
 
-      pub ended_growth : RefusesGrowth t (told fault)
-      ended_growth = subst (λ (f : TreeFault). RefusesGrowth t (told f)) (sym overrun.0) tt
+      pub ended_growth : RefusesGrowth t (world_fault fault)
+      ended_growth = subst (λ (f : TreeFault). RefusesGrowth t (world_fault f)) (sym overrun.0) tt
 
-      pub ended_walks : (ks : List JourneyData) → ks ≡ ended number (with_walk number None js) → ks ≡ after_step number after answer js
+      pub ended_walks : (ks : List JourneyData) → ks ≡ walk_ended number (with_walk number None js) → ks ≡ after_step number after answer js
       ended_walks ks left = left ∙ (ended_again number None js ∙ kept_by true over)
 
-    module _ (under : is_overrun fault ≡ false) where
-      waiting : Serves w u × GoesOn w t u walk after × MayRefuse frames t walk.item fault
+    module _ (under : is_overrun_fault fault ≡ false) where
+      waiting : IndexServes w u × GoesOn w t u walk after × MayRefuse frames t walk.item fault
       waiting = is_no_overrun w t u walk after fault under ceased
 
       pub refused_world : (ks : List JourneyData) → ks ≡ with_walk number (Some after) (with_walk number None js) → IsWorld (indexed w u ks)
       refused_world ks left = world_kept_walk seat number w t u js walk own.0 own.1 own.2 going after ks waiting.0 waiting.1 (left ∙ kept_again number None (Some after) js) h
 
-      pub refused_event : Happens (AdvanceWalk seat number) w w (Refused (told fault))
+      pub refused_event : Happens (AdvanceWalk seat number) w w (Failed (world_fault fault))
       refused_event = refused_happens seat number w own.0 (walk.key, walk.item) own.1 going.next t fault h.serves waiting.2
 
-      pub refused_growth : RefusesGrowth t (told fault)
+      pub refused_growth : RefusesGrowth t (world_fault fault)
       refused_growth = refuses_growth t walk.item fault waiting.2
 
       pub refused_walks : (ks : List JourneyData) → ks ≡ with_walk number (Some after) (with_walk number None js) → ks ≡ after_step number after answer js

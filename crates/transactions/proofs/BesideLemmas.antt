@@ -13,15 +13,15 @@ use Rattle.audit_trail.specs.declared.causes.Judgement.TheVariants as judgements
 use Rattle.audit_trail.specs.Records.{applied}
 use Rattle.plain_world.specs.declared.faults.Fault.TheVariants as faults
 use Rattle.plain_world.specs.declared.outcomes.Outcome.TheVariants as outcomes
-use Rattle.plain_world.specs.declared.searches.Search.{Search}
+use Rattle.plain_world.specs.declared.open_searches.Search.{Search}
 use Rattle.plain_world.specs.Admitting.{LAST, and_then, subject_at, own_transaction, all_placed, may_record, may_sit, may_begin, may_step, may_stage, may_commit, may_govern, may_roll, search_with}
-use Rattle.plain_world.specs.Events.{TakeSeat, Begin, Stage, Commit, Abort, Govern, Roll, Reply, Ended, Refused, Happens, Applies, CommitsAs, recorded, without_transaction}
+use Rattle.plain_world.specs.Events.{TakeSeat, Begin, Stage, Commit, Abort, Govern, Roll, Reply, Ended, Failed, Happens, Applies, CommitsAs, recorded, without_transaction}
 use Rattle.plain_world.specs.Laws.{IsUnderWay}
 use Rattle.plain_world.specs.Staging.{TransactionData, transaction_with, placements, staged_in}
 use Rattle.plain_world.specs.States.{WorldData}
 use Rattle.plain_world.proofs.AdmittedLemmas.{by_if, by_unless, own_open, staged_of}
 use Rattle.plain_world.proofs.RunLemmas.{and_then_ok}
-use Rattle.transactions.specs.Index.{Index, Serves, AreAmong, HasFeatures, HasPlacements, told_here}
+use Rattle.transactions.specs.Index.{Index, IndexServes, AreAmong, HasFeatures, HasPlacements, told_here}
 use Rattle.transactions.proofs.PairLemmas.{features_after, staged_more, begun_more, ended_less, all_there}
 
 -- searches and limits are unchanged, and an index that had the old world's pairs has the new one's
@@ -32,7 +32,7 @@ pub record Beside (old new : WorldData) : Type 0 where
   pub features : (all : List (ℕ × List Point)) → HasFeatures all old.state.features → HasPlacements all old.transactions → HasFeatures all new.state.features
   pub placements : (all : List (ℕ × List Point)) → HasPlacements all old.transactions → HasPlacements all new.transactions
 
-pub serves_beside : (old new : WorldData) (t : Index) → Beside old new → Serves old t → Serves new t
+pub serves_beside : (old new : WorldData) (t : Index) → Beside old new → IndexServes old t → IndexServes new t
 serves_beside old new t b h = record {
   contents = h.contents;
   are_contents = h.are_contents;
@@ -121,7 +121,7 @@ beside_applies seat number subject who old new reply may d =
     let changes = staged_in number old.transactions in
     go (old.state.version == LAST) (nat_lt old.limits.features (length (after (old.state.version + 1) subject.office changes old.state.features))) d
   where
-    go : (last full : Bool) → MatchBool last ((new ≡ old) × (reply ≡ Refused faults.Spent)) (MatchBool full ((new ≡ old) × (reply ≡ Refused faults.StoreFull))
+    go : (last full : Bool) → MatchBool last ((new ≡ old) × (reply ≡ Failed faults.Spent)) (MatchBool full ((new ≡ old) × (reply ≡ Failed faults.StoreFull))
         ((reply ≡ Ended (outcomes.Applied (old.state.version + 1))) × (new ≡ without_transaction number (recorded seat (applied subject (old.state.version + 1) (staged_in number old.transactions)) old)))) → Beside old new
     go true full d = beside_same old new d.0
     go false true d = beside_same old new d.0

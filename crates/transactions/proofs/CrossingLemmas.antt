@@ -10,7 +10,7 @@ use Rattle.frame_keys.specs.contracts.frames.FramesKeyClass.TheImpl as frames
 use Rattle.search_tree.proofs.tree.Tree.TheSendSync as tree
 use Rattle.plain_world.proofs.CrossingLemmas.{plain_world_send}
 use Rattle.transactions.proofs.kept_slots.KeptSlots.TheSendSync as kept
-use Rattle.transactions.proofs.walks.Walks.TheSendSync as walks
+use Rattle.transactions.proofs.open_walks.Walks.TheSendSync as walks
 use Rattle.transactions.specs.contracts.worlds.World as World
 use Rattle.transactions.specs.contracts.worlds.World.TheInside as inside
 

@@ -12,11 +12,11 @@ use Rattle.plain_world.specs.declared.faults.Fault.TheVariants as faults
 use Rattle.plain_world.specs.declared.outcomes.Outcome.{Outcome}
 use Rattle.plain_world.specs.declared.outcomes.Outcome.TheVariants as outcomes
 use Rattle.plain_world.specs.Admitting.{LAST, may_sit, may_begin, may_step, may_stage, may_commit, may_govern, may_roll}
-use Rattle.plain_world.specs.Events.{TakeSeat, Begin, Stage, Commit, Abort, Govern, Roll, Reply, Done, Number, Ended, Refused, Happens, Applies, CommitsAs, recorded, without_transaction}
+use Rattle.plain_world.specs.Events.{TakeSeat, Begin, Stage, Commit, Abort, Govern, Roll, Reply, Done, Number, Ended, Failed, Happens, Applies, CommitsAs, recorded, without_transaction}
 use Rattle.plain_world.specs.Staging.{TransactionData, staged_in, ended as without}
 use Rattle.plain_world.specs.States.{WorldData}
 use Rattle.plain_world.proofs.AdmittedLemmas.{admitted, by_if, by_unless}
-use Rattle.transactions.specs.Walks.{AreWalks, JourneyData, begun, ended}
+use Rattle.transactions.specs.Walks.{AreWalks, JourneyData, walk_begun, walk_ended}
 use Rattle.transactions.proofs.WalkLemmas.{walks_begun, walks_ended, walks_staged}
 
 -- what holds of a world holds of one that equals it
@@ -55,18 +55,18 @@ walks_stage seat number change old new js reply happens h =
     by_if (may_stage seat number change old) old new reply _ (λ _. AreWalks new.transactions js) (λ fault may same. known (λ (w : WorldData). AreWalks w.transactions js) new old same h)
     (λ x may d. known (λ (w : WorldData). AreWalks w.transactions js) new _ d.0 (walks_staged number change old.transactions js h)) happens
 
-pub walks_begin : (seat number : ℕ) (old new : WorldData) (js : List JourneyData) → Happens (Begin seat) old new (Number number) → AreWalks old.transactions js → AreWalks new.transactions (begun number js)
+pub walks_begin : (seat number : ℕ) (old new : WorldData) (js : List JourneyData) → Happens (Begin seat) old new (Number number) → AreWalks old.transactions js → AreWalks new.transactions (walk_begun number js)
 walks_begin seat number old new js happens h =
     let d = admitted (may_begin seat old) old new (Number number) _ refl happens in
     let same : d.0 ≡ number = cc (d.2.1) in
     let t : TransactionData = record { number = d.0; seat = seat; changes = []; placed = 0 } in
-    known (λ (w : WorldData). AreWalks w.transactions (begun number js)) new _ d.2.0
-    (subst (λ (n : ℕ). AreWalks (old.transactions ++ t ∷ []) (begun n js)) same (walks_begun t old.transactions js h))
+    known (λ (w : WorldData). AreWalks w.transactions (walk_begun number js)) new _ d.2.0
+    (subst (λ (n : ℕ). AreWalks (old.transactions ++ t ∷ []) (walk_begun n js)) same (walks_begun t old.transactions js h))
 
-pub walks_abort : (seat number : ℕ) (old new : WorldData) (js : List JourneyData) → Happens (Abort seat number) old new Done → AreWalks old.transactions js → AreWalks new.transactions (ended number js)
+pub walks_abort : (seat number : ℕ) (old new : WorldData) (js : List JourneyData) → Happens (Abort seat number) old new Done → AreWalks old.transactions js → AreWalks new.transactions (walk_ended number js)
 walks_abort seat number old new js happens h =
     let d = admitted (may_step seat number old) old new Done _ refl happens in
-    known (λ (w : WorldData). AreWalks w.transactions (ended number js)) new _ d.2.0 (walks_ended number old.transactions js h)
+    known (λ (w : WorldData). AreWalks w.transactions (walk_ended number js)) new _ d.2.0 (walks_ended number old.transactions js h)
 
 -- ---- commits
 
@@ -77,7 +77,7 @@ ends_applied : (seat number : ℕ) (subject : Subject) (changes : List Change) (
 ends_applied seat number subject changes old new outcome d =
     go (old.state.version == LAST) (nat_lt old.limits.features (length (after (old.state.version + 1) subject.office changes old.state.features))) d
   where
-    go : (last full : Bool) → MatchBool last ((new ≡ old) × (Ended outcome ≡ Refused faults.Spent)) (MatchBool full ((new ≡ old) × (Ended outcome ≡ Refused faults.StoreFull))
+    go : (last full : Bool) → MatchBool last ((new ≡ old) × (Ended outcome ≡ Failed faults.Spent)) (MatchBool full ((new ≡ old) × (Ended outcome ≡ Failed faults.StoreFull))
         ((Ended outcome ≡ Ended (outcomes.Applied (old.state.version + 1))) × (new ≡ without_transaction number (recorded seat (applied subject (old.state.version + 1) changes) old)))) → Ends number old new
     go true full d = absurd (cc (d.1))
     go false true d = absurd (cc (d.1))
@@ -87,8 +87,8 @@ ends_as : (judgement : Judgement) (seat number : ℕ) (subject : Subject) (chang
 ends_as judgements.Accepted seat number subject changes old new outcome d = ends_applied seat number subject changes old new outcome d
 ends_as (judgements.Refused refusal question) seat number subject changes old new outcome d = known (Ends number old) new _ d.1 refl
 
-pub walks_commit : (seat number : ℕ) (old new : WorldData) (js : List JourneyData) (outcome : Outcome) → Happens (Commit seat number) old new (Ended outcome) → AreWalks old.transactions js → AreWalks new.transactions (ended number js)
+pub walks_commit : (seat number : ℕ) (old new : WorldData) (js : List JourneyData) (outcome : Outcome) → Happens (Commit seat number) old new (Ended outcome) → AreWalks old.transactions js → AreWalks new.transactions (walk_ended number js)
 walks_commit seat number old new js outcome happens h =
     let d = admitted (may_commit seat number old) old new (Ended outcome) _ refl happens in
     let ends = ends_as d.2.0 seat number d.0 (staged_in number old.transactions) old new outcome d.2.2 in
-    subst (λ (ts : List TransactionData). AreWalks ts (ended number js)) (sym ends) (walks_ended number old.transactions js h)
+    subst (λ (ts : List TransactionData). AreWalks ts (walk_ended number js)) (sym ends) (walks_ended number old.transactions js h)

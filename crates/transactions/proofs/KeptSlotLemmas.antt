@@ -22,7 +22,7 @@ use Rattle.tree_theory.specs.Nodes.{Node, Tree, pairs_of}
 use Rattle.tree_theory.proofs.ListLemmas.{handle_cases, nothing_in, picked_from}
 use Rattle.transactions.specs.Index.{Index, frames}
 use Rattle.transactions.specs.Kept.{AreKept, TendsBy, is_idle, is_noted}
-use Rattle.transactions.specs.Stepping.{Keeps}
+use Rattle.transactions.specs.Stepping.{KeepsPair}
 use Rattle.transactions.specs.declared.kept_slots.KeptSlots.{KeptSlots}
 
 abbrev Pair : Type 0
@@ -114,28 +114,28 @@ module _ (Kept : Pair → Type 0) (slot : ℕ) (t u : Index) where
 
 module _ (w : WorldData) (slot : ℕ) (t u : Index) where
   -- a node where nothing is due has only pairs that the world keeps
-  kept_here : TendsBy (Keeps w) slot t u (Ok Idle) → (at : Handle) → at.slot ≡ slot → (pair : Pair) → Contains (pairs_at (value_at t.nodes at)) pair → Keeps w pair
+  kept_here : TendsBy (KeepsPair w) slot t u (Ok Idle) → (at : Handle) → at.slot ≡ slot → (pair : Pair) → Contains (pairs_at (value_at t.nodes at)) pair → KeepsPair w pair
   kept_here tends at is pair has = go (value_at t.nodes at) refl has
     where
-      go : (o : Option (Node frames)) → value_at t.nodes at ≡ o → Contains (pairs_at o) pair → Keeps w pair
+      go : (o : Option (Node frames)) → value_at t.nodes at ≡ o → Contains (pairs_at o) pair → KeepsPair w pair
       go None e has = absurd (nothing_in pair has)
       go (Some node) e has =
           let due = tends.first at is (ap is_some e) in
           not_false (is_kept pair.0 pair.1 w) (λ unkept. due.clean (record { node = node; is = e; pair = pair; holds = has; unkept = unkept }))
 
   -- where nothing is found to do, the slot may be noted
-  pub kept_noted : TendsBy (Keeps w) slot t u (Ok Idle) → (old new : KeptSlots) → ((other : ℕ) → is_noted new other ≡ true → (is_noted old other ≡ true) ⊎ (other ≡ slot)) → AreKept w u old → AreKept w u new
+  pub kept_noted : TendsBy (KeepsPair w) slot t u (Ok Idle) → (old new : KeptSlots) → ((other : ℕ) → is_noted new other ≡ true → (is_noted old other ≡ true) ⊎ (other ≡ slot)) → AreKept w u old → AreKept w u new
   kept_noted tends old new noted h at is pair has = elim (noted at.slot is) [
     | inl before ↦ h at before pair has
     | inr this ↦
-        by_node (Keeps w) slot t u (is_kept pair.0 pair.1 w) (Ok Idle) tends
+        by_node (KeepsPair w) slot t u (is_kept pair.0 pair.1 w) (Ok Idle) tends
         (λ x there some. kept_here tends at this pair (subst (λ (i : Index). Contains (pairs_at (value_at i.nodes at)) pair) (tends.step x there some) has))
         (λ same. kept_here tends at this pair (subst (λ (i : Index). Contains (pairs_at (value_at i.nodes at)) pair) same has))
   ]
 
 -- a keeper of every pair does at a slot whose pairs the world keeps what the world would do
-module _ (w : WorldData) (slot : ℕ) (t u : Index) (Every : Pair → Type 0) (every : (pair : Pair) → Every pair) (kept : (at : Handle) → at.slot ≡ slot → (pair : Pair) → Contains (pairs_at (value_at t.nodes at)) pair → Keeps w pair) where
-  none_due : (at : Handle) → at.slot ≡ slot → NothingDue frames t Every at → NothingDue frames t (Keeps w) at
+module _ (w : WorldData) (slot : ℕ) (t u : Index) (Every : Pair → Type 0) (every : (pair : Pair) → Every pair) (kept : (at : Handle) → at.slot ≡ slot → (pair : Pair) → Contains (pairs_at (value_at t.nodes at)) pair → KeepsPair w pair) where
+  none_due : (at : Handle) → at.slot ≡ slot → NothingDue frames t Every at → NothingDue frames t (KeepsPair w) at
   none_due at is due = record {
     stays = due.stays;
     linked = due.linked;
@@ -146,7 +146,7 @@ module _ (w : WorldData) (slot : ℕ) (t u : Index) (Every : Pair → Type 0) (e
   none_cleaned : TendsBy Every slot t u (Ok Cleaned) → ⊥
   none_cleaned tends = let wrong = tends.nobody (λ at is some. let due = tends.first at is some in due.0.unkept (every due.0.pair)) in absurd (cc (wrong))
 
-  pub tends_by_all : (answer : Result Tending TreeFault) → TendsBy Every slot t u answer → TendsBy (Keeps w) slot t u answer
+  pub tends_by_all : (answer : Result Tending TreeFault) → TendsBy Every slot t u answer → TendsBy (KeepsPair w) slot t u answer
   tends_by_all (Ok Idle) tends = record { tended = tends.tended; contents = tends.contents; first = λ at is some. none_due at is (tends.first at is some); step = tends.step; refused = tends.refused; nobody = tends.nobody; untouched = tends.untouched }
   tends_by_all (Ok Freed) tends = record { tended = tends.tended; contents = tends.contents; first = tends.first; step = tends.step; refused = tends.refused; nobody = tends.nobody; untouched = tends.untouched }
   tends_by_all (Ok Installed) tends = record { tended = tends.tended; contents = tends.contents; first = tends.first; step = tends.step; refused = tends.refused; nobody = tends.nobody; untouched = tends.untouched }

@@ -9,7 +9,7 @@ use Rattle.plane.specs.declared.point.Point.{Point}
 use Rattle.predicate_locks.specs.Searches.{Searches as Running}
 use Rattle.features.specs.declared.actors.Subject.{Subject}
 use Rattle.decision.specs.Deciders.{DeciderData}
-use Rattle.plain_world.specs.declared.searches.Search.{Search}
+use Rattle.plain_world.specs.declared.open_searches.Search.{Search}
 use Rattle.plain_world.specs.declared.settings.Limits.{Limits}
 use Rattle.plain_world.specs.declared.settings.Starts.{Starts}
 use Rattle.plain_world.specs.Admitting.{search_with}
@@ -25,7 +25,7 @@ use Rattle.search_tree.specs.Trees.{IsFirst, SeenSearch, search_in}
 use Rattle.tree_answers.specs.declared.fault.TreeFault.{TreeFault}
 use Rattle.tree_answers.specs.declared.answers.Tending.{Tending}
 use Rattle.tree_answers.specs.declared.answers.Tending.TheVariants.{Idle, Freed, Installed, Cleaned, Retired}
-use Rattle.transactions.specs.Index.{Index, Serves, frames, seen_there, told_here}
+use Rattle.transactions.specs.Index.{Index, IndexServes, frames, seen_there, told_here}
 use Rattle.transactions.proofs.KeptLemmas.{world_kept}
 use Rattle.transactions.proofs.PairLemmas.{features_more, placements_more, placed_more}
 use Rattle.transactions.proofs.SearchLemmas.{pushed_here, pushed_other, ready_here, ready_other, ready_length, gone_here, gone_other, one_less}
@@ -44,20 +44,20 @@ some_of f None y e = absurd cc
 some_of f (Some x) y e = (x, refl, cc (e))
 
 -- a search that is open in the world is open in the index, with the same window and as ready
-pub seen_of : (w : WorldData) (t : Index) (number : ℕ) (s : Search) → Serves w t → search_with number w.searches ≡ Some s → (seen : Seen) × (search_in t number ≡ Some seen) × (seen.query ≡ s.window) × (seen.ready ≡ s.ready)
+pub seen_of : (w : WorldData) (t : Index) (number : ℕ) (s : Search) → IndexServes w t → search_with number w.searches ≡ Some s → (seen : Seen) × (search_in t number ≡ Some seen) × (seen.query ≡ s.window) × (seen.ready ≡ s.ready)
 seen_of w t number s h is =
     let there = some_of seen_there (search_in t number) (told_here s) (h.searches number ∙ ap (option_map told_here) is) in
     (there.0, there.1, ap (λ (p : List Point × Bool). p.0) there.2, ap (λ (p : List Point × Bool). p.1) there.2)
 
 -- a search that is open in the index is open in the world
-pub told_of : (w : WorldData) (t : Index) (number : ℕ) (seen : Seen) → Serves w t → search_in t number ≡ Some seen → (s : Search) × (search_with number w.searches ≡ Some s) × (s.window ≡ seen.query) × (s.ready ≡ seen.ready)
+pub told_of : (w : WorldData) (t : Index) (number : ℕ) (seen : Seen) → IndexServes w t → search_in t number ≡ Some seen → (s : Search) × (search_with number w.searches ≡ Some s) × (s.window ≡ seen.query) × (s.ready ≡ seen.ready)
 told_of w t number seen h is =
     let here = some_of told_here (search_with number w.searches) (seen_there seen) (sym (h.searches number) ∙ ap (option_map seen_there) is) in
     (here.0, here.1, ap (λ (p : List Point × Bool). p.0) here.2, ap (λ (p : List Point × Bool). p.1) here.2)
 
 -- ---- the index's own steps
 
-pub serves_alike : (w : WorldData) (t u : Index) → Serves w t → SameContents frames t u → ((number : ℕ) → search_in u number ≡ search_in t number) → u.running ≡ t.running → u.limit ≡ t.limit → Serves w u
+pub serves_alike : (w : WorldData) (t u : Index) → IndexServes w t → SameContents frames t u → ((number : ℕ) → search_in u number ≡ search_in t number) → u.running ≡ t.running → u.limit ≡ t.limit → IndexServes w u
 serves_alike w t u h contents searches running limit = record {
   contents = h.contents;
   are_contents = contents h.contents h.are_contents;
@@ -70,8 +70,8 @@ serves_alike w t u h contents searches running limit = record {
 }
 
 -- the next shape of a transaction is placed
-pub serves_placed : (w : WorldData) (t u : Index) (number : ℕ) (pair : ℕ × List Point) → Serves w t → HasPlacedBehindNone frames t u pair
-    → ((tr : TransactionData) → transaction_with number w.transactions ≡ Some tr → next_placement tr ≡ Some pair) → Serves (record w { transactions = with_step one_placed number w.transactions }) u
+pub serves_placed : (w : WorldData) (t u : Index) (number : ℕ) (pair : ℕ × List Point) → IndexServes w t → HasPlacedBehindNone frames t u pair
+    → ((tr : TransactionData) → transaction_with number w.transactions ≡ Some tr → next_placement tr ≡ Some pair) → IndexServes (record w { transactions = with_step one_placed number w.transactions }) u
 serves_placed w t u number pair h placed next =
     let more = λ (p : ℕ × List Point) (has : Contains h.contents p). Contains-append_left h.contents (pair ∷ []) p has in
     record {
@@ -86,8 +86,8 @@ serves_placed w t u number pair h placed next =
     }
 
 -- a search is opened
-pub serves_opened : (w : WorldData) (t u : Index) (seat number search : ℕ) (window : List Point) → Serves w t → number ≡ w.next_search → IsOpen frames t u window search
-    → Serves (record w { searches = w.searches ++ record { number = number; seat = seat; window = window; ready = false } ∷ []; next_search = number + 1 }) u
+pub serves_opened : (w : WorldData) (t u : Index) (seat number search : ℕ) (window : List Point) → IndexServes w t → number ≡ w.next_search → IsOpen frames t u window search
+    → IndexServes (record w { searches = w.searches ++ record { number = number; seat = seat; window = window; ready = false } ∷ []; next_search = number + 1 }) u
 serves_opened w t u seat number search window h next opens =
     let same : search ≡ number = opens.number ∙ (h.next ∙ sym next) in
     let new : Search = record { number = number; seat = seat; window = window; ready = false } in
@@ -109,7 +109,7 @@ serves_opened w t u seat number search window h next opens =
     }
 
 -- a search ends
-pub serves_shut : (w : WorldData) (t u : Index) (number : ℕ) (s : Search) → Serves w t → IsUnderWay w → search_with number w.searches ≡ Some s → IsShut frames t u number → Serves (without_search number w) u
+pub serves_shut : (w : WorldData) (t u : Index) (number : ℕ) (s : Search) → IndexServes w t → IsUnderWay w → search_with number w.searches ≡ Some s → IsShut frames t u number → IndexServes (without_search number w) u
 serves_shut w t u number s h way is shut = record {
   contents = h.contents;
   are_contents = shut.contents h.contents h.are_contents;
@@ -132,7 +132,7 @@ serves_shut w t u number s h way is shut = record {
 -- ---- visits
 
 -- there is more to see
-pub serves_more : (w : WorldData) (t u : Index) (number : ℕ) (s : Search) → Serves w t → search_with number w.searches ≡ Some s → IsFurther frames t u number false → (s.ready ≡ false) × Serves w u
+pub serves_more : (w : WorldData) (t u : Index) (number : ℕ) (s : Search) → IndexServes w t → search_with number w.searches ≡ Some s → IsFurther frames t u number false → (s.ready ≡ false) × IndexServes w u
 serves_more w t u number s h is further =
     let seen = seen_of w t number s h is in
     let same : further.before ≡ seen.0 = cc (further.ran, seen.1) in
@@ -156,8 +156,8 @@ serves_more w t u number s h is further =
     )
 
 -- the search is ready
-pub serves_ready : (w : WorldData) (t u : Index) (number : ℕ) (s : Search) → Serves w t → search_with number w.searches ≡ Some s → IsFurther frames t u number true
-    → (s.ready ≡ false) × Serves (record w { searches = with_ready number w.searches }) u
+pub serves_ready : (w : WorldData) (t u : Index) (number : ℕ) (s : Search) → IndexServes w t → search_with number w.searches ≡ Some s → IsFurther frames t u number true
+    → (s.ready ≡ false) × IndexServes (record w { searches = with_ready number w.searches }) u
 serves_ready w t u number s h is further =
     let seen = seen_of w t number s h is in
     let same : further.before ≡ seen.0 = cc (further.ran, seen.1) in
@@ -182,7 +182,7 @@ serves_ready w t u number s h is further =
 
 -- ---- tending
 
-pub serves_tended : (w : WorldData) (t u : Index) (tending : Tending) → IsOrdered w → Serves w t → HasTended frames t u tending → ContentsTended frames t (λ pair. IsTrue (is_kept pair.0 pair.1 w)) u tending → Serves w u
+pub serves_tended : (w : WorldData) (t u : Index) (tending : Tending) → IsOrdered w → IndexServes w t → HasTended frames t u tending → ContentsTended frames t (λ pair. IsTrue (is_kept pair.0 pair.1 w)) u tending → IndexServes w u
 serves_tended w t u Idle ordered h tended contents = serves_alike w t u h contents tended.searches tended.running tended.limit
 serves_tended w t u Freed ordered h tended contents = serves_alike w t u h contents tended.searches tended.running tended.limit
 serves_tended w t u Installed ordered h tended contents = serves_alike w t u h contents tended.searches tended.running tended.limit
@@ -208,7 +208,7 @@ serves_tended w t u Cleaned ordered h tended contents =
 
 -- ---- a world that has just been opened
 
-pub serves_first : (subjects : List Subject) (decider : DeciderData) (starts : Starts) (limits : Limits) (t : Index) → IsFirst frames starts.generation starts.counter starts.search limits.steps t → Serves (opened subjects decider starts limits) t
+pub serves_first : (subjects : List Subject) (decider : DeciderData) (starts : Starts) (limits : Limits) (t : Index) → IsFirst frames starts.generation starts.counter starts.search limits.steps t → IndexServes (opened subjects decider starts limits) t
 serves_first subjects decider starts limits t first = record {
   contents = [];
   are_contents = first.contents;
@@ -221,6 +221,6 @@ serves_first subjects decider starts limits t first = record {
 }
 
 -- tending, with any answer
-pub serves_after_tending : (w : WorldData) (t u : Index) (result : Result Tending TreeFault) → IsOrdered w → Serves w t → IfOk result (HasTended frames t u) → IfOk result (ContentsTended frames t (λ pair. IsTrue (is_kept pair.0 pair.1 w)) u) → OnErr result (u ≡ t) → Serves w u
+pub serves_after_tending : (w : WorldData) (t u : Index) (result : Result Tending TreeFault) → IsOrdered w → IndexServes w t → IfOk result (HasTended frames t u) → IfOk result (ContentsTended frames t (λ pair. IsTrue (is_kept pair.0 pair.1 w)) u) → OnErr result (u ≡ t) → IndexServes w u
 serves_after_tending w t u (Ok tending) ordered h tended contents same = serves_tended w t u tending ordered h tended contents
-serves_after_tending w t u (Err fault) ordered h tended contents same = subst (λ (x : Index). Serves w x) (sym same) h
+serves_after_tending w t u (Err fault) ordered h tended contents same = subst (λ (x : Index). IndexServes w x) (sym same) h

@@ -4,13 +4,13 @@ use Rattle.std.specs.Bool.{MatchBool}
 use Rattle.std.specs.Option.{option_map}
 use Rattle.plane.specs.declared.point.Point.{Point}
 use Rattle.plane.specs.Rows.{Meet}
-use Rattle.memory.specs.declared.refused.Refused.{Refused as Refusal}
+use Rattle.memory.specs.declared.no_memory.NoMemory.{NoMemory}
 use Rattle.plain_world.specs.declared.faults.Fault.{Fault}
 use Rattle.plain_world.specs.declared.faults.Fault.TheVariants as faults
-use Rattle.plain_world.specs.declared.searches.Search.{Search}
-use Rattle.plain_world.specs.declared.steps.Advance.TheVariants as advances
+use Rattle.plain_world.specs.declared.open_searches.Search.{Search}
+use Rattle.plain_world.specs.declared.advances.Advance.TheVariants as advances
 use Rattle.plain_world.specs.Admitting.{map_ok, may_go_on, may_step, own_transaction, search_with, subject_at}
-use Rattle.plain_world.specs.Events.{Happens, HoldsBack, NoReadySeeks, VisitNext, AdvanceWalk, Advances, Visits, UnlessMemory, Walks, Reply, Visited, Advanced, Refused, without_search, without_transaction, with_ready}
+use Rattle.plain_world.specs.Events.{Happens, HoldsBack, NoReadySeeks, VisitNext, AdvanceWalk, Advances, Visits, UnlessMemory, Walks, Reply, Visited, Advanced, Failed, without_search, without_transaction, with_ready}
 use Rattle.plain_world.specs.Laws.{IsUnderWay}
 use Rattle.plain_world.specs.Staging.{TransactionData, transaction_with, next_placement, with_step, one_placed}
 use Rattle.plain_world.specs.States.{WorldData}
@@ -28,8 +28,8 @@ use Rattle.tree_answers.specs.declared.answers.Visit.{Visit}
 use Rattle.tree_answers.specs.declared.answers.Visit.TheVariants as visits
 use Rattle.tree_answers.specs.declared.fault.TreeFault.{TreeFault}
 use Rattle.tree_answers.specs.declared.fault.TreeFault.TheVariants as tree
-use Rattle.transactions.specs.Index.{Index, Serves, frames}
-use Rattle.transactions.specs.Refusing.{RefusesGrowth, is_overrun, told}
+use Rattle.transactions.specs.Index.{Index, IndexServes, frames}
+use Rattle.transactions.specs.Refusing.{RefusesGrowth, is_overrun_fault, world_fault}
 use Rattle.transactions.specs.Walks.{IsWalkFor}
 use Rattle.transactions.proofs.ServeLemmas.{seen_of, told_of, serves_alike, serves_more, serves_ready, serves_shut}
 
@@ -37,13 +37,13 @@ use Rattle.transactions.proofs.ServeLemmas.{seen_of, told_of, serves_alike, serv
 
 module _ (w : WorldData) (t u : Index) (number : ℕ) (s : Search) where
   abbrev pub AfterVisit : Result Visit TreeFault → Type 0
-  AfterVisit (Ok visits.More) = (s.ready ≡ false) × Serves w u
-  AfterVisit (Ok visits.Ready) = (s.ready ≡ true → Serves w u) × (s.ready ≡ false → Serves (record w { searches = with_ready number w.searches }) u)
-  AfterVisit (Err tree.Overrun) = (s.ready ≡ false) × IsOverrun t number × Serves (without_search number w) u
-  AfterVisit (Err (tree.Memory refusal)) = (s.ready ≡ false) × Serves w u
+  AfterVisit (Ok visits.More) = (s.ready ≡ false) × IndexServes w u
+  AfterVisit (Ok visits.Ready) = (s.ready ≡ true → IndexServes w u) × (s.ready ≡ false → IndexServes (record w { searches = with_ready number w.searches }) u)
+  AfterVisit (Err tree.Overrun) = (s.ready ≡ false) × IsOverrun t number × IndexServes (without_search number w) u
+  AfterVisit (Err (tree.Memory refusal)) = (s.ready ≡ false) × IndexServes w u
   AfterVisit (Err fault) = ⊥
 
-  module _ (h : Serves w t) (way : IsUnderWay w) (is : search_with number w.searches ≡ Some s) where
+  module _ (h : IndexServes w t) (way : IsUnderWay w) (is : search_with number w.searches ≡ Some s) where
     -- a search that waits is not ready
     waiting : option_map (λ (x : SeenSearch (List Point) (List Point)). x.ready) (search_in t number) ≡ Some false → s.ready ≡ false
     waiting waits =
@@ -67,7 +67,7 @@ module _ (w : WorldData) (t u : Index) (number : ℕ) (s : Search) where
         let seen = seen_of w t number s h is in
         let wrong : None ≡ Some seen.0 = sym gone ∙ seen.1 in
         absurd (cc (wrong))
-    after_visit _ (was_ready ready same) = (λ r. subst (λ (x : Index). Serves w x) (sym same) h, λ u. apart (ready_there ready) u)
+    after_visit _ (was_ready ready same) = (λ r. subst (λ (x : Index). IndexServes w x) (sym same) h, λ u. apart (ready_there ready) u)
     after_visit _ (overruns over shut) = (waiting over.waits, over, serves_shut w t u number s h way is shut)
     after_visit _ (goes_on visits.More under further) = serves_more w t u number s h is further
     after_visit _ (goes_on visits.Ready under further) = let after = serves_ready w t u number s h is further in (λ r. apart r after.0, λ u. after.1)
@@ -88,13 +88,13 @@ module _ (w : WorldData) (t u : Index) (old new : PlainWalk (List Point)) where
 
   abbrev pub AfterStep : Result Step TreeFault → Type 0
   AfterStep (Ok steps.Placed) = HasPlacedBehindNone frames t u (old.key, old.item)
-  AfterStep (Ok step) = Serves w u × GoesOn
-  AfterStep (Err tree.Overrun) = Serves w u
-  AfterStep (Err fault) = Serves w u × GoesOn × MayRefuse frames t old.item fault
+  AfterStep (Ok step) = IndexServes w u × GoesOn
+  AfterStep (Err tree.Overrun) = IndexServes w u
+  AfterStep (Err fault) = IndexServes w u × GoesOn × MayRefuse frames t old.item fault
 
-  pub after_step : Serves w t → old.placed ≡ false → (result : Result Step TreeFault) → IsAdvance frames t u old new result → AfterStep result
+  pub after_step : IndexServes w t → old.placed ≡ false → (result : Result Step TreeFault) → IsAdvance frames t u old new result → AfterStep result
   after_step h waits _ (was_placed placed same stays) = let wrong : true ≡ false = sym placed ∙ waits in absurd (cc (wrong))
-  after_step h waits _ (walk_overruns unplaced spent same stays) = subst (λ (x : Index). Serves w x) (sym same) h
+  after_step h waits _ (walk_overruns unplaced spent same stays) = subst (λ (x : Index). IndexServes w x) (sym same) h
   after_step h waits _ (walk_goes_on steps.Moved may stepped has) = (serves_alike w t u h has.contents has.searches has.running has.counts.limit, record { key = stepped.key; item = stepped.item; waits = stepped.placed })
   after_step h waits _ (walk_goes_on steps.Restarted may stepped has) = (serves_alike w t u h has.contents has.searches has.running has.counts.limit, record { key = stepped.key; item = stepped.item; waits = stepped.placed })
   after_step h waits _ (walk_goes_on steps.Installed may stepped has) = (serves_alike w t u h has.contents has.tended.searches has.tended.running has.tended.limit, record { key = stepped.key; item = stepped.item; waits = stepped.placed })
@@ -103,7 +103,7 @@ module _ (w : WorldData) (t u : Index) (old new : PlainWalk (List Point)) where
   after_step h waits _ (walk_goes_on steps.Placed may stepped has) = has
   after_step h waits _ (is_refused fault may why untouched stays) = refused fault why
     where
-      same : Serves w u
+      same : IndexServes w u
       same = let alike = untouched.alike in serves_alike w t u h alike.contents alike.searches alike.running alike.counts.limit
 
       on : GoesOn
@@ -120,7 +120,7 @@ module _ (w : WorldData) (t u : Index) (old new : PlainWalk (List Point)) where
       refused (tree.Memory refusal) why = (same, on, why)
 
 -- why a walk is refused, in the world's words
-pub refuses_growth : (t : Index) (item : List Point) (fault : TreeFault) → MayRefuse frames t item fault → RefusesGrowth t (told fault)
+pub refuses_growth : (t : Index) (item : List Point) (fault : TreeFault) → MayRefuse frames t item fault → RefusesGrowth t (world_fault fault)
 refuses_growth t item tree.NoSearch why = absurd why
 refuses_growth t item tree.TooMany why = absurd why
 refuses_growth t item (tree.Held search) why = tt
@@ -131,13 +131,13 @@ refuses_growth t item tree.Overrun why = absurd why
 refuses_growth t item (tree.Memory refusal) why = tt
 
 -- a search that holds a walk back is open in the world, and looks for the shape
-pub holds_back : (w : WorldData) (t : Index) (item : List Point) (search : ℕ) → Serves w t → IsHeldBy frames t item search → HoldsBack search item w
+pub holds_back : (w : WorldData) (t : Index) (item : List Point) (search : ℕ) → IndexServes w t → IsHeldBy frames t item search → HoldsBack search item w
 holds_back w t item search h held =
     let here = told_of w t search held.seen h held.runs in
     (here.0, here.1, subst (λ (window : List Point). Meet item window) (sym here.2) held.matches)
 
 -- no search that is ready in the world looks for what the index has placed
-pub none_seeks : (w : WorldData) (t u : Index) (pair : ℕ × List Point) → Serves w t → HasPlacedBehindNone frames t u pair → NoReadySeeks pair.1 w
+pub none_seeks : (w : WorldData) (t u : Index) (pair : ℕ × List Point) → IndexServes w t → HasPlacedBehindNone frames t u pair → NoReadySeeks pair.1 w
 none_seeks w t u pair h placed number s is ready meets =
     let seen = seen_of w t number s h is in
     placed.behind number seen.0 seen.1 (seen.3 ∙ ready) (subst (λ (window : List Point). Meet pair.1 window) (sym seen.2) meets)
@@ -168,7 +168,7 @@ next_of seat number w pair e = go (may_step seat number w) refl e
         (tr, is, (own_open seat number w tr a.2).0, cc (e))
 
 -- what a visit leaves, where its answer is known
-pub visited_as : (w : WorldData) (t u : Index) (number : ℕ) (s : Search) (result known : Result Visit TreeFault) → Serves w t → IsUnderWay w → search_with number w.searches ≡ Some s → result ≡ known → IsVisit frames t u number result → AfterVisit w t u number s known
+pub visited_as : (w : WorldData) (t u : Index) (number : ℕ) (s : Search) (result known : Result Visit TreeFault) → IndexServes w t → IsUnderWay w → search_with number w.searches ≡ Some s → result ≡ known → IsVisit frames t u number result → AfterVisit w t u number s known
 visited_as w t u number s result known h way is same visit = subst (λ (r : Result Visit TreeFault). AfterVisit w t u number s r) same (after_visit w t u number s h way is result visit)
 
 -- a search that was not ready becomes ready
@@ -179,25 +179,25 @@ ready_happens seat number w v s may named unready is =
     (is ∙ ap (λ (n : ℕ). record w { searches = with_ready n w.searches }) (sym named)))
 
 -- a search has made all its steps
-pub overrun_happens : (seat number : ℕ) (w v : WorldData) (s : Search) → may_go_on seat number w ≡ Ok s → s.number ≡ number → s.ready ≡ false → v ≡ without_search number w → Happens (VisitNext seat number) w v (Refused (faults.Tree tree.Overrun))
+pub overrun_happens : (seat number : ℕ) (w v : WorldData) (s : Search) → may_go_on seat number w ≡ Ok s → s.number ≡ number → s.ready ≡ false → v ≡ without_search number w → Happens (VisitNext seat number) w v (Failed (faults.Tree tree.Overrun))
 overrun_happens seat number w v s may named unready is =
-    visit_happens seat number w v s (Refused (faults.Tree tree.Overrun)) may
-    (subst (λ (b : Bool). MatchBool b ((v ≡ w) × (Refused (faults.Tree tree.Overrun) ≡ Visited visits.Ready)) (v ≡ without_search s.number w)) (sym unready)
+    visit_happens seat number w v s (Failed (faults.Tree tree.Overrun)) may
+    (subst (λ (b : Bool). MatchBool b ((v ≡ w) × (Failed (faults.Tree tree.Overrun) ≡ Visited visits.Ready)) (v ≡ without_search s.number w)) (sym unready)
     (is ∙ ap (λ (n : ℕ). without_search n w) (sym named)))
 
 -- ---- steps of walks as events
 
 -- what a step of a walk leaves, where its answer is known
-pub stepped_as : (w : WorldData) (t u : Index) (old new : PlainWalk (List Point)) (result known : Result Step TreeFault) → Serves w t → old.placed ≡ false → result ≡ known → IsAdvance frames t u old new result → AfterStep w t u old new known
+pub stepped_as : (w : WorldData) (t u : Index) (old new : PlainWalk (List Point)) (result known : Result Step TreeFault) → IndexServes w t → old.placed ≡ false → result ≡ known → IsAdvance frames t u old new result → AfterStep w t u old new known
 stepped_as w t u old new result known h waits same step = subst (λ (r : Result Step TreeFault). AfterStep w t u old new r) same (after_step w t u old new h waits result step)
 
 -- ---- refusals by their faults
 
-pub visit_ends : (w : WorldData) (t u : Index) (number : ℕ) (s : Search) (fault : TreeFault) → is_overrun fault ≡ true → AfterVisit w t u number s (Err fault) → (fault ≡ tree.Overrun) × (s.ready ≡ false) × Serves (without_search number w) u
+pub visit_ends : (w : WorldData) (t u : Index) (number : ℕ) (s : Search) (fault : TreeFault) → is_overrun_fault fault ≡ true → AfterVisit w t u number s (Err fault) → (fault ≡ tree.Overrun) × (s.ready ≡ false) × IndexServes (without_search number w) u
 visit_ends w t u number s tree.Overrun e after = (refl, after.0, after.2)
 visit_ends w t u number s fault e after = absurd cc
 
-pub visit_wants : (w : WorldData) (t u : Index) (number : ℕ) (s : Search) (fault : TreeFault) → is_overrun fault ≡ false → AfterVisit w t u number s (Err fault) → (s.ready ≡ false) × Serves w u × ((refusal : Refusal) × (fault ≡ tree.Memory refusal))
+pub visit_wants : (w : WorldData) (t u : Index) (number : ℕ) (s : Search) (fault : TreeFault) → is_overrun_fault fault ≡ false → AfterVisit w t u number s (Err fault) → (s.ready ≡ false) × IndexServes w u × ((refusal : NoMemory) × (fault ≡ tree.Memory refusal))
 visit_wants w t u number s tree.NoSearch e after = absurd after
 visit_wants w t u number s tree.TooMany e after = absurd after
 visit_wants w t u number s (tree.Held search) e after = absurd after
@@ -208,11 +208,11 @@ visit_wants w t u number s tree.Overrun e after = absurd cc
 visit_wants w t u number s (tree.Memory refusal) e after = (after.0, after.1, (refusal, refl))
 
 -- a visit that ran out of memory
-pub want_happens : (seat number : ℕ) (w : WorldData) (s : Search) (fault : TreeFault) (refusal : Refusal) → may_go_on seat number w ≡ Ok s → s.ready ≡ false → fault ≡ tree.Memory refusal → Happens (VisitNext seat number) w w (Refused (told fault))
+pub want_happens : (seat number : ℕ) (w : WorldData) (s : Search) (fault : TreeFault) (refusal : NoMemory) → may_go_on seat number w ≡ Ok s → s.ready ≡ false → fault ≡ tree.Memory refusal → Happens (VisitNext seat number) w w (Failed (world_fault fault))
 want_happens seat number w s fault refusal may unready is =
-    subst (λ (f : TreeFault). Happens (VisitNext seat number) w w (Refused (told f))) (sym is)
-    (visit_happens seat number w w s (Refused (faults.Memory refusal)) may
-    (subst (λ (b : Bool). MatchBool b ((w ≡ w) × (Refused (faults.Memory refusal) ≡ Visited visits.Ready)) (w ≡ w)) (sym unready) refl))
+    subst (λ (f : TreeFault). Happens (VisitNext seat number) w w (Failed (world_fault f))) (sym is)
+    (visit_happens seat number w w s (Failed (faults.Memory refusal)) may
+    (subst (λ (b : Bool). MatchBool b ((w ≡ w) × (Failed (faults.Memory refusal) ≡ Visited visits.Ready)) (w ≡ w)) (sym unready) refl))
 
 -- ---- a walk's answer, by whether its pair is placed, and by what refuses it
 
@@ -226,18 +226,18 @@ module _ (w : WorldData) (t u : Index) (old new : PlainWalk (List Point)) where
   is_the_placing steps.Placed e after = (refl, after)
   is_the_placing step e after = absurd cc
 
-  pub is_no_placing : (step : Step) → is_placed step ≡ false → AfterStep w t u old new (Ok step) → Serves w u × GoesOn w t u old new
+  pub is_no_placing : (step : Step) → is_placed step ≡ false → AfterStep w t u old new (Ok step) → IndexServes w u × GoesOn w t u old new
   is_no_placing steps.Moved e after = after
   is_no_placing steps.Split e after = after
   is_no_placing steps.Installed e after = after
   is_no_placing steps.Restarted e after = after
   is_no_placing steps.Placed e after = absurd cc
 
-  pub is_the_overrun : (fault : TreeFault) → is_overrun fault ≡ true → AfterStep w t u old new (Err fault) → (fault ≡ tree.Overrun) × Serves w u
+  pub is_the_overrun : (fault : TreeFault) → is_overrun_fault fault ≡ true → AfterStep w t u old new (Err fault) → (fault ≡ tree.Overrun) × IndexServes w u
   is_the_overrun tree.Overrun e after = (refl, after)
   is_the_overrun fault e after = absurd cc
 
-  pub is_no_overrun : (fault : TreeFault) → is_overrun fault ≡ false → AfterStep w t u old new (Err fault) → Serves w u × GoesOn w t u old new × MayRefuse frames t old.item fault
+  pub is_no_overrun : (fault : TreeFault) → is_overrun_fault fault ≡ false → AfterStep w t u old new (Err fault) → IndexServes w u × GoesOn w t u old new × MayRefuse frames t old.item fault
   is_no_overrun tree.NoSearch e after = after
   is_no_overrun tree.TooMany e after = after
   is_no_overrun (tree.Held search) e after = after
@@ -260,10 +260,10 @@ module _ (seat number : ℕ) (w : WorldData) (tr : TransactionData) (pair : ℕ 
   pub placed_happens : (v : WorldData) → NoReadySeeks pair.1 w → v ≡ record w { transactions = with_step one_placed number w.transactions } → Happens (AdvanceWalk seat number) w v (Advanced (advances.Walked steps.Placed))
   placed_happens v none is = advance_happens seat number w v tr pair _ may next (none, is)
 
-  pub ended_happens : (v : WorldData) → v ≡ without_transaction number w → Happens (AdvanceWalk seat number) w v (Refused (faults.Tree tree.Overrun))
+  pub ended_happens : (v : WorldData) → v ≡ without_transaction number w → Happens (AdvanceWalk seat number) w v (Failed (faults.Tree tree.Overrun))
   ended_happens v is = advance_happens seat number w v tr pair _ may next is
 
-  pub refused_happens : (t : Index) (fault : TreeFault) → Serves w t → MayRefuse frames t pair.1 fault → Happens (AdvanceWalk seat number) w w (Refused (told fault))
+  pub refused_happens : (t : Index) (fault : TreeFault) → IndexServes w t → MayRefuse frames t pair.1 fault → Happens (AdvanceWalk seat number) w w (Failed (world_fault fault))
   refused_happens t tree.NoSearch h why = absurd why
   refused_happens t tree.TooMany h why = absurd why
   refused_happens t (tree.Held search) h why = advance_happens seat number w w tr pair _ may next (holds_back w t pair.1 search h why, refl)

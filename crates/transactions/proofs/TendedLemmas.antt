@@ -9,10 +9,10 @@ use Rattle.features.specs.declared.rows.Feature.{Feature}
 use Rattle.policy_documents.specs.Documents.{DocumentData}
 use Rattle.plain_world.specs.declared.faults.Fault.{Fault}
 use Rattle.plain_world.specs.declared.outcomes.Outcome.{Outcome}
-use Rattle.plain_world.specs.declared.searches.Search.{Search}
+use Rattle.plain_world.specs.declared.open_searches.Search.{Search}
 use Rattle.plain_world.specs.Admitting.{may_begin, may_finish, may_go_on, may_govern, may_open, may_roll, may_sit, may_stage}
 use Rattle.plain_world.specs.Answers.{AnswerData}
-use Rattle.plain_world.specs.Events.{Event, TakeSeat, Finish, DropSearch, Begin, Stage, Commit, Abort, Govern, Roll, Reply, Done, Number, Ended, Rows, Refused, Happens}
+use Rattle.plain_world.specs.Events.{Event, TakeSeat, Finish, DropSearch, Begin, Stage, Commit, Abort, Govern, Roll, Reply, Done, Number, Ended, Rows, Failed, Happens}
 use Rattle.plain_world.specs.Keeping.{brings, is_staged, stands}
 use Rattle.plain_world.specs.Staging.{TransactionData, staged, with_step}
 use Rattle.plain_world.specs.States.{WorldData}
@@ -26,8 +26,8 @@ use Rattle.tree_answers.specs.declared.fault.TreeFault.{TreeFault}
 use Rattle.tree_theory.specs.Contents.{pairs_at}
 use Rattle.transactions.specs.Index.{Index, IsWorld, frames}
 use Rattle.transactions.specs.Kept.{AreKept, IsTended, is_noted}
-use Rattle.transactions.specs.Stepping.{Keeps}
-use Rattle.transactions.specs.Walks.{JourneyData, begun, ended}
+use Rattle.transactions.specs.Stepping.{KeepsPair}
+use Rattle.transactions.specs.Walks.{JourneyData, walk_begun, walk_ended}
 use Rattle.transactions.specs.declared.kept_slots.KeptSlots.{KeptSlots}
 use Rattle.transactions.proofs.KeptSlotLemmas.{Fewer, fewer_one, fewer_same}
 use Rattle.transactions.proofs.WorldLemmas.{indexed, world_begun, world_dropped, world_finished, world_govern, world_opened, world_roll, world_seat, world_stage}
@@ -40,7 +40,7 @@ Stays old new = (new.state.features ≡ old.state.features) × (new.transactions
 
 -- what the old world keeps, the new one keeps
 abbrev pub KeepsOn : WorldData → WorldData → Type 0
-KeepsOn old new = (pair : ℕ × List Point) → Keeps old pair → Keeps new pair
+KeepsOn old new = (pair : ℕ × List Point) → KeepsPair old pair → KeepsPair new pair
 
 pub keeps_same : (old new : WorldData) → Stays old new → KeepsOn old new
 keeps_same old new stays pair h =
@@ -161,19 +161,19 @@ module _ (w v : WorldData) (t : Index) (js : List JourneyData) (notes : KeptSlot
   unchanged_world : v ≡ w → IsTended (indexed v t js) notes
   unchanged_world same = subst (λ (x : WorldData). IsTended (indexed x t js) notes) (sym same) h
 
-  pub tended_begin_refused : (seat : ℕ) (fault : Fault) → Happens (Begin seat) w v (Refused fault) → IsTended (indexed v t js) notes
+  pub tended_begin_refused : (seat : ℕ) (fault : Fault) → Happens (Begin seat) w v (Failed fault) → IsTended (indexed v t js) notes
   tended_begin_refused seat fault happens = unchanged_world (leaves (Begin seat) w v fault happens)
 
-  pub tended_abort_refused : (seat number : ℕ) (fault : Fault) → Happens (Abort seat number) w v (Refused fault) → IsTended (indexed v t js) notes
+  pub tended_abort_refused : (seat number : ℕ) (fault : Fault) → Happens (Abort seat number) w v (Failed fault) → IsTended (indexed v t js) notes
   tended_abort_refused seat number fault happens = unchanged_world (leaves (Abort seat number) w v fault happens)
 
-  pub tended_commit_refused : (seat number : ℕ) (fault : Fault) → Happens (Commit seat number) w v (Refused fault) → IsTended (indexed v t js) notes
+  pub tended_commit_refused : (seat number : ℕ) (fault : Fault) → Happens (Commit seat number) w v (Failed fault) → IsTended (indexed v t js) notes
   tended_commit_refused seat number fault happens = unchanged_world (leaves (Commit seat number) w v fault happens)
 
-  pub tended_drop_refused : (seat number : ℕ) (fault : Fault) → Happens (DropSearch seat number) w v (Refused fault) → IsTended (indexed v t js) notes
+  pub tended_drop_refused : (seat number : ℕ) (fault : Fault) → Happens (DropSearch seat number) w v (Failed fault) → IsTended (indexed v t js) notes
   tended_drop_refused seat number fault happens = unchanged_world (leaves (DropSearch seat number) w v fault happens)
 
-  pub tended_finish_refused : (seat number : ℕ) (fault : Fault) → Happens (Finish seat number) w v (Refused fault) → IsTended (indexed v t js) notes
+  pub tended_finish_refused : (seat number : ℕ) (fault : Fault) → Happens (Finish seat number) w v (Failed fault) → IsTended (indexed v t js) notes
   tended_finish_refused seat number fault happens = unchanged_world (leaves (Finish seat number) w v fault happens)
 
   pub tended_seat : (name : List ℕ) (reply : Reply) → Happens (TakeSeat name) w v reply → IsTended (indexed v t js) notes
@@ -188,7 +188,7 @@ module _ (w v : WorldData) (t : Index) (js : List JourneyData) (notes : KeptSlot
   pub tended_roll : (seat : ℕ) (reply : Reply) → Happens (Roll seat) w v reply → IsTended (indexed v t js) notes
   tended_roll seat reply happens = record { world = world_roll seat w v t js reply happens h.world; kept = beside w v t notes (keeps_roll seat w v reply happens) h.kept }
 
-  pub tended_begun : (seat number : ℕ) → Happens (Begin seat) w v (Number number) → IsTended (indexed v t (begun number js)) notes
+  pub tended_begun : (seat number : ℕ) → Happens (Begin seat) w v (Number number) → IsTended (indexed v t (walk_begun number js)) notes
   tended_begun seat number happens = record { world = world_begun seat number w v t js happens h.world; kept = beside w v t notes (keeps_begun seat w v (Number number) happens) h.kept }
 
   module _ (u : Index) where

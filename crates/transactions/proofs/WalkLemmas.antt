@@ -8,7 +8,7 @@ use Rattle.plain_world.proofs.TransactionLemmas.{brought_append}
 use Rattle.search_tree.specs.Trees.{PlainWalk}
 use Rattle.transactions.specs.Index.{Index}
 use Rattle.transactions.specs.Walking.{next_walk, walk_at_root}
-use Rattle.transactions.specs.Walks.{AreWalks, IsWalkFor, JourneyData, begun, ended, walk_of, with_walk}
+use Rattle.transactions.specs.Walks.{AreWalks, IsWalkFor, JourneyData, walk_begun, walk_ended, walk_of, with_walk}
 
 abbrev Walk : Type 0
 Walk = PlainWalk (List Point)
@@ -55,19 +55,19 @@ walks_placed number (t ∷ ts) (j ∷ js) h = go (t.number == number) (j.number 
     go false true e behind = absurd (cc (e))
     go false false e behind = (h.0, h.1, behind)
 
-pub walks_begun : (t : TransactionData) (ts : List TransactionData) (js : List JourneyData) → AreWalks ts js → AreWalks (ts ++ t ∷ []) (begun t.number js)
+pub walks_begun : (t : TransactionData) (ts : List TransactionData) (js : List JourneyData) → AreWalks ts js → AreWalks (ts ++ t ∷ []) (walk_begun t.number js)
 walks_begun t [] [] h = (refl, tt, tt)
 walks_begun t [] (j ∷ js) h = absurd h
 walks_begun t (first ∷ ts) [] h = absurd h
 walks_begun t (first ∷ ts) (j ∷ js) h = (h.0, h.1, walks_begun t ts js h.2)
 
-pub walks_ended : (number : ℕ) (ts : List TransactionData) (js : List JourneyData) → AreWalks ts js → AreWalks (without number ts) (ended number js)
+pub walks_ended : (number : ℕ) (ts : List TransactionData) (js : List JourneyData) → AreWalks ts js → AreWalks (without number ts) (walk_ended number js)
 walks_ended number [] [] h = tt
 walks_ended number [] (j ∷ js) h = absurd h
 walks_ended number (t ∷ ts) [] h = absurd h
 walks_ended number (t ∷ ts) (j ∷ js) h = go (t.number == number) (j.number == number) (same_test number t j h.0) (walks_ended number ts js h.2)
   where
-    go : (b c : Bool) → c ≡ b → AreWalks (without number ts) (ended number js) → AreWalks (if not b then t ∷ without number ts else without number ts) (if not c then j ∷ ended number js else ended number js)
+    go : (b c : Bool) → c ≡ b → AreWalks (without number ts) (walk_ended number js) → AreWalks (if not b then t ∷ without number ts else without number ts) (if not c then j ∷ walk_ended number js else walk_ended number js)
     go true true e behind = behind
     go true false e behind = absurd (cc (e))
     go false true e behind = absurd (cc (e))
@@ -131,14 +131,14 @@ kept_again number one other (j ∷ js) = go (j.number == number) refl (kept_agai
     go true is behind = ap (λ (b : Bool). put b (record j { walk = one }) js) is
     go false is behind = ap (λ (b : Bool). put b j (with_walk number one js)) is ∙ ap (λ (rest : List JourneyData). j ∷ rest) behind
 
-pub ended_again : (number : ℕ) (one : Option Walk) (js : List JourneyData) → ended number (with_walk number one js) ≡ ended number js
+pub ended_again : (number : ℕ) (one : Option Walk) (js : List JourneyData) → walk_ended number (with_walk number one js) ≡ walk_ended number js
 ended_again number one [] = refl
 ended_again number one (j ∷ js) = go (j.number == number) refl (ended_again number one js)
   where
     left : (b : Bool) (j : JourneyData) (js : List JourneyData) → List JourneyData
-    left b j js = if not b then j ∷ ended number js else ended number js
+    left b j js = if not b then j ∷ walk_ended number js else walk_ended number js
 
-    go : (b : Bool) → (j.number == number) ≡ b → ended number (with_walk number one js) ≡ ended number js
-        → ended number (if b then record j { walk = one } ∷ js else j ∷ with_walk number one js) ≡ (if not b then j ∷ ended number js else ended number js)
+    go : (b : Bool) → (j.number == number) ≡ b → walk_ended number (with_walk number one js) ≡ walk_ended number js
+        → walk_ended number (if b then record j { walk = one } ∷ js else j ∷ with_walk number one js) ≡ (if not b then j ∷ walk_ended number js else walk_ended number js)
     go true is behind = ap (λ (b : Bool). left b (record j { walk = one }) js) is
     go false is behind = ap (λ (b : Bool). left b j (with_walk number one js)) is ∙ ap (λ (rest : List JourneyData). j ∷ rest) behind

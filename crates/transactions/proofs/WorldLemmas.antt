@@ -14,14 +14,14 @@ use Rattle.decision.specs.Deciders.{DeciderData}
 use Rattle.audit_trail.specs.Records.{answered}
 use Rattle.plain_world.specs.declared.faults.Fault.{Fault}
 use Rattle.plain_world.specs.declared.faults.Fault.TheVariants as faults
-use Rattle.plain_world.specs.declared.steps.Advance.TheVariants as advances
-use Rattle.plain_world.specs.declared.searches.Search.{Search}
+use Rattle.plain_world.specs.declared.advances.Advance.TheVariants as advances
+use Rattle.plain_world.specs.declared.open_searches.Search.{Search}
 use Rattle.plain_world.specs.declared.settings.Limits.{Limits}
 use Rattle.plain_world.specs.declared.settings.Starts.{Starts}
 use Rattle.plain_world.specs.declared.settings.TheConstants.{TRANSACTION_LIMIT}
 use Rattle.plain_world.specs.Admitting.{LAST, given, may_begin, may_finish, may_go_on, may_open, may_step, next_transaction, own_search, owned, search_with, subject_at}
 use Rattle.plain_world.specs.Answers.{AnswerData}
-use Rattle.plain_world.specs.Events.{Event, TakeSeat, OpenSearch, Finish, DropSearch, AdvanceWalk, Begin, Stage, Commit, Abort, Govern, Roll, Reply, Done, Number, Advanced, Ended, Rows, Refused, Happens, recorded, without_search, without_transaction}
+use Rattle.plain_world.specs.Events.{Event, TakeSeat, OpenSearch, Finish, DropSearch, AdvanceWalk, Begin, Stage, Commit, Abort, Govern, Roll, Reply, Done, Number, Advanced, Ended, Rows, Failed, Happens, recorded, without_search, without_transaction}
 use Rattle.plain_world.specs.Finding.{FindsAll}
 use Rattle.plain_world.specs.Laws.{IsUnderWay}
 use Rattle.plain_world.specs.Staging.{TransactionData, transaction_with, next_placement, with_step, one_placed}
@@ -37,8 +37,8 @@ use Rattle.tree_answers.specs.declared.answers.Step.TheVariants as steps
 use Rattle.tree_answers.specs.declared.fault.TreeFault.TheVariants as tree
 use Rattle.search_tree.specs.Calls.{IsComplete, IsOpen, IsShut}
 use Rattle.search_tree.specs.Trees.{IsFirst, PlainWalk, SeenSearch, search_in}
-use Rattle.transactions.specs.Index.{HasFeatures, Index, IndexedWorld, IsWorld, Serves, frames}
-use Rattle.transactions.specs.Walks.{AreWalks, IsWalkFor, JourneyData, begun, ended, with_walk}
+use Rattle.transactions.specs.Index.{HasFeatures, Index, IndexedWorld, IsWorld, IndexServes, frames}
+use Rattle.transactions.specs.Walks.{AreWalks, IsWalkFor, JourneyData, walk_begun, walk_ended, with_walk}
 use Rattle.transactions.proofs.SearchLemmas.{has_number}
 use Rattle.transactions.proofs.ServeLemmas.{seen_of, serves_first, serves_opened, serves_placed, serves_shut}
 use Rattle.transactions.proofs.StepLemmas.{GoesOn, goes_on_for, none_seeks, placed_happens, ended_happens}
@@ -50,7 +50,7 @@ abbrev pub indexed : WorldData → Index → List JourneyData → IndexedWorld
 indexed w t js = record { plain = w; index = t; walks = js }
 
 -- an event, after which the index serves the new world and the walks are those of its transactions
-pub world_by : (event : Event) (w v : WorldData) (t u : Index) (js ks : List JourneyData) (reply : Reply) → Happens event w v reply → IsWorld (indexed w t js) → Serves v u → AreWalks v.transactions ks → IsWorld (indexed v u ks)
+pub world_by : (event : Event) (w v : WorldData) (t u : Index) (js ks : List JourneyData) (reply : Reply) → Happens event w v reply → IsWorld (indexed w t js) → IndexServes v u → AreWalks v.transactions ks → IsWorld (indexed v u ks)
 world_by event w v t u js ks reply happens h serves walks = record {
   ordered = ordered_event event w v reply happens h.ordered;
   under_way = way_event event w v reply happens h.under_way;
@@ -79,8 +79,8 @@ world_roll seat w v t js reply happens h = beside (Roll seat) w v t js js reply 
 
 -- ---- transactions begin and end
 
-pub world_begun : (seat number : ℕ) (w v : WorldData) (t : Index) (js : List JourneyData) → Happens (Begin seat) w v (Number number) → IsWorld (indexed w t js) → IsWorld (indexed v t (begun number js))
-world_begun seat number w v t js happens h = beside (Begin seat) w v t js (begun number js) (Number number) happens h (beside_begin seat w v (Number number) happens) (walks_begin seat number w v js happens h.walks)
+pub world_begun : (seat number : ℕ) (w v : WorldData) (t : Index) (js : List JourneyData) → Happens (Begin seat) w v (Number number) → IsWorld (indexed w t js) → IsWorld (indexed v t (walk_begun number js))
+world_begun seat number w v t js happens h = beside (Begin seat) w v t js (walk_begun number js) (Number number) happens h (beside_begin seat w v (Number number) happens) (walks_begin seat number w v js happens h.walks)
 
 -- there is room for one more walk
 pub few_walks : (seat number : ℕ) (w v : WorldData) (t : Index) (js : List JourneyData) → Happens (Begin seat) w v (Number number) → IsWorld (indexed w t js) → length js < TRANSACTION_LIMIT
@@ -95,11 +95,11 @@ few_walks seat number w v t js happens h =
     room x n l true last is e = absurd cc
     room x n l false last is e = grind (arith, nat_tests, is)
 
-pub world_aborted : (seat number : ℕ) (w v : WorldData) (t : Index) (js : List JourneyData) → Happens (Abort seat number) w v Done → IsWorld (indexed w t js) → IsWorld (indexed v t (ended number js))
-world_aborted seat number w v t js happens h = beside (Abort seat number) w v t js (ended number js) Done happens h (beside_abort seat number w v Done happens) (walks_abort seat number w v js happens h.walks)
+pub world_aborted : (seat number : ℕ) (w v : WorldData) (t : Index) (js : List JourneyData) → Happens (Abort seat number) w v Done → IsWorld (indexed w t js) → IsWorld (indexed v t (walk_ended number js))
+world_aborted seat number w v t js happens h = beside (Abort seat number) w v t js (walk_ended number js) Done happens h (beside_abort seat number w v Done happens) (walks_abort seat number w v js happens h.walks)
 
-pub world_committed : (seat number : ℕ) (w v : WorldData) (t : Index) (js : List JourneyData) (outcome : Outcome) → Happens (Commit seat number) w v (Ended outcome) → IsWorld (indexed w t js) → IsWorld (indexed v t (ended number js))
-world_committed seat number w v t js outcome happens h = beside (Commit seat number) w v t js (ended number js) (Ended outcome) happens h (beside_commit seat number w v (Ended outcome) happens) (walks_commit seat number w v js outcome happens h.walks)
+pub world_committed : (seat number : ℕ) (w v : WorldData) (t : Index) (js : List JourneyData) (outcome : Outcome) → Happens (Commit seat number) w v (Ended outcome) → IsWorld (indexed w t js) → IsWorld (indexed v t (walk_ended number js))
+world_committed seat number w v t js outcome happens h = beside (Commit seat number) w v t js (walk_ended number js) (Ended outcome) happens h (beside_commit seat number w v (Ended outcome) happens) (walks_commit seat number w v js outcome happens h.walks)
 
 -- ---- searches
 
@@ -115,7 +115,7 @@ pub world_dropped : (seat number : ℕ) (w v : WorldData) (t u : Index) (js : Li
 world_dropped seat number w v t u js happens shut h =
     let d = admitted (may_go_on seat number w) w v Done _ refl happens in
     world_by (DropSearch seat number) w v t u js js Done happens h
-    (subst (λ (x : WorldData). Serves x u) (sym d.2.0) (serves_shut w t u number d.0 h.serves h.under_way (goes_on_with seat number w d.0 d.1) shut))
+    (subst (λ (x : WorldData). IndexServes x u) (sym d.2.0) (serves_shut w t u number d.0 h.serves h.under_way (goes_on_with seat number w d.0 d.1) shut))
     (subst (λ (x : WorldData). AreWalks x.transactions js) (sym d.2.0) h.walks)
 
 pub world_finished : (seat number : ℕ) (w v : WorldData) (t u : Index) (js : List JourneyData) (answer : AnswerData) → Happens (Finish seat number) w v (Rows answer) → IsShut frames t u number → IsWorld (indexed w t js) → IsWorld (indexed v u js)
@@ -125,11 +125,11 @@ world_finished seat number w v t u js answer happens shut h =
     let s : Search = d.0.1 in
     let rows = d.2.0 in
     let w1 : WorldData = recorded seat (answered d.0.0 s.window (map (λ row. row.id) rows) (map (λ row. row.version) rows)) w in
-    let serves1 : Serves w1 t = serves_beside w w1 t (record { searches = refl; next = refl; limits = refl; features = λ all f p. f; placements = λ all p. p }) h.serves in
+    let serves1 : IndexServes w1 t = serves_beside w w1 t (record { searches = refl; next = refl; limits = refl; features = λ all f p. f; placements = λ all p. p }) h.serves in
     let way1 : IsUnderWay w1 = record { searches = h.under_way.searches; transactions = h.under_way.transactions; within = h.under_way.within } in
     let number_is : s.number ≡ number = has_number number w.searches s who.running in
     world_by (Finish seat number) w v t u js js (Rows answer) happens h
-    (subst (λ (x : WorldData). Serves x u) (sym (d.2.3 ∙ ap (λ (n : ℕ). without_search n w1) number_is)) (serves_shut w1 t u number s serves1 way1 who.running shut))
+    (subst (λ (x : WorldData). IndexServes x u) (sym (d.2.3 ∙ ap (λ (n : ℕ). without_search n w1) number_is)) (serves_shut w1 t u number s serves1 way1 who.running shut))
     (subst (λ (x : WorldData). AreWalks x.transactions js) (sym d.2.3) h.walks)
 
 -- the image of an element is in the mapped list
@@ -142,7 +142,7 @@ contains_map {A = A} f xs x has = (has.0, subst (λ (n : ℕ). has.0 < n) (sym (
     there (y ∷ ys) (suc k) = there ys k
 
 -- a search that has answered Ready has found all that `finish` looks up
-pub finds_all : (w : WorldData) (t : Index) (number : ℕ) (s : Search) (found : List (ℕ × List Point)) → Serves w t → search_with number w.searches ≡ Some s → IsTrue s.ready → IsComplete frames t number found → FindsAll w.state.features s.window found
+pub finds_all : (w : WorldData) (t : Index) (number : ℕ) (s : Search) (found : List (ℕ × List Point)) → IndexServes w t → search_with number w.searches ≡ Some s → IsTrue s.ready → IsComplete frames t number found → FindsAll w.state.features s.window found
 finds_all w t number s found h is ready complete =
     let seen = seen_of w t number s h is in
     go w.state.features h.features seen
@@ -173,7 +173,7 @@ pub world_opened : (seat number search : ℕ) (window : List Point) (w v : World
     → v ≡ record w { searches = w.searches ++ record { number = number; seat = seat; window = window; ready = false } ∷ []; next_search = number + 1 } → IsOpen frames t u window search → IsWorld (indexed w t js) → IsWorld (indexed v u js)
 world_opened seat number search window w v t u js may is opens h =
     world_by (OpenSearch seat window) w v t u js js (Number number) (admits (may_open seat w) number w v (Number number) _ may (is, refl)) h
-    (subst (λ (x : WorldData). Serves x u) (sym is) (serves_opened w t u seat number search window h.serves (open_number seat w number may) opens))
+    (subst (λ (x : WorldData). IndexServes x u) (sym is) (serves_opened w t u seat number search window h.serves (open_number seat w number may) opens))
     (subst (λ (x : WorldData). AreWalks x.transactions js) (sym is) h.walks)
 
 -- the index opens it under the number that the world gives it
@@ -183,7 +183,7 @@ opened_there seat number search window w t u z js may opens h same =
     subst (λ (x : Index). IsOpen frames x u window number) same (subst (λ (n : ℕ). IsOpen frames t u window n) one opens)
 
 -- a world whose new index serves it
-pub world_served : (w : WorldData) (t u : Index) (js : List JourneyData) → IsWorld (indexed w t js) → Serves w u → IsWorld (indexed w u js)
+pub world_served : (w : WorldData) (t u : Index) (js : List JourneyData) → IsWorld (indexed w t js) → IndexServes w u → IsWorld (indexed w u js)
 world_served w t u js h serves = record { ordered = h.ordered; under_way = h.under_way; serves = serves; walks = h.walks }
 
 -- a world that has just been opened
@@ -225,19 +225,19 @@ module _ (seat number : ℕ) (w : WorldData) (t u : Index) (js : List JourneyDat
   pub world_placed : (v : WorldData) (ks : List JourneyData) → HasPlacedBehindNone frames t u (walk.key, walk.item) → v ≡ record w { transactions = with_step one_placed number w.transactions } → ks ≡ with_walk number None js → IsWorld (indexed w t js) → IsWorld (indexed v u ks)
   world_placed v ks placed is left h =
       world_by (AdvanceWalk seat number) w v t u js ks (Advanced (advances.Walked steps.Placed)) (placed_happens seat number w tr (walk.key, walk.item) may going.next v (none_seeks w t u (walk.key, walk.item) h.serves placed) is) h
-      (subst (λ (x : WorldData). Serves x u) (sym is) (serves_placed w t u number (walk.key, walk.item) h.serves placed
+      (subst (λ (x : WorldData). IndexServes x u) (sym is) (serves_placed w t u number (walk.key, walk.item) h.serves placed
       (λ x there. subst (λ (y : TransactionData). next_placement y ≡ Some (walk.key, walk.item)) (same_one tr x (sym found ∙ there)) going.next)))
       (rw (is, left) (walks_placed number w.transactions js h.walks))
 
   -- the walk ends, and its transaction with it
-  pub world_ended : (v : WorldData) (ks : List JourneyData) → Serves w u → v ≡ without_transaction number w → ks ≡ ended number js → IsWorld (indexed w t js) → IsWorld (indexed v u ks)
+  pub world_ended : (v : WorldData) (ks : List JourneyData) → IndexServes w u → v ≡ without_transaction number w → ks ≡ walk_ended number js → IsWorld (indexed w t js) → IsWorld (indexed v u ks)
   world_ended v ks serves is left h =
-      world_by (AdvanceWalk seat number) w v t u js ks (Refused (faults.Tree tree.Overrun)) (ended_happens seat number w tr (walk.key, walk.item) may going.next v is) h
-      (subst (λ (x : WorldData). Serves x u) (sym is) (serves_beside w (without_transaction number w) u (beside_ended number w w refl refl refl refl refl) serves))
+      world_by (AdvanceWalk seat number) w v t u js ks (Failed (faults.Tree tree.Overrun)) (ended_happens seat number w tr (walk.key, walk.item) may going.next v is) h
+      (subst (λ (x : WorldData). IndexServes x u) (sym is) (serves_beside w (without_transaction number w) u (beside_ended number w w refl refl refl refl refl) serves))
       (rw (is, left) (walks_ended number w.transactions js h.walks))
 
   -- the walk is stored
-  pub world_kept_walk : (after : PlainWalk (List Point)) (ks : List JourneyData) → Serves w u → GoesOn w t u walk after → ks ≡ with_walk number (Some after) js → IsWorld (indexed w t js) → IsWorld (indexed w u ks)
+  pub world_kept_walk : (after : PlainWalk (List Point)) (ks : List JourneyData) → IndexServes w u → GoesOn w t u walk after → ks ≡ with_walk number (Some after) js → IsWorld (indexed w t js) → IsWorld (indexed w u ks)
   world_kept_walk after ks serves on left h = record {
     ordered = h.ordered;
     under_way = h.under_way;

@@ -13,7 +13,8 @@ stored_indexed w = (stored_world w.plain, w.index, w.walks)
 abbrev pub restored_indexed : StoredIndexed → IndexedWorld
 restored_indexed s = record { plain = restored_world s.0; index = s.1; walks = s.2 }
 
-abbrev pub restored_indexed-stored_indexed : (w : IndexedWorld) → restored_indexed (stored_indexed w) ≡ w
+abbrev pub restored_indexed-stored_indexed : (w : IndexedWorld)
+    → restored_indexed (stored_indexed w) ≡ w
 restored_indexed-stored_indexed w =
     let plain = restored_world-stored_world w.plain in
     λ i. record { plain = plain i; index = w.index; walks = w.walks }

@@ -2,24 +2,18 @@
 use Rattle.std.specs.Prelude.{◌≡◌, ℕ, Bool, List, [], ◌∷◌, Contains, length, take}
 use Rattle.std.specs.Option.{option_map}
 use Rattle.plane.specs.declared.point.Point.{Point}
-use Rattle.plane.specs.Extents.{Extent, extent_of, joined}
-use Rattle.plane.specs.Rows.{Meet}
+use Rattle.plane.specs.Extents.{Extent}
 use Rattle.features.specs.declared.rows.Feature.{Feature}
 use Rattle.node_arena.specs.Slots.{slot_count}
-use Rattle.frame_keys.specs.Keys.{Encloses, MayMeet}
+pub use Rattle.frame_keys.specs.Keys.{frames}
 use Rattle.tree_theory.specs.Contents.{IsContents}
-use Rattle.tree_theory.specs.KeyClasses.{Class, class_of}
 use Rattle.search_tree.specs.Trees.{PlainTree, SeenSearch, search_in, tree_of}
-use Rattle.plain_world.specs.declared.searches.Search.{Search}
+use Rattle.plain_world.specs.declared.open_searches.Search.{Search}
 use Rattle.plain_world.specs.Admitting.{search_with}
 use Rattle.plain_world.specs.Laws.{IsOrdered, IsUnderWay}
 use Rattle.plain_world.specs.Staging.{TransactionData, placements}
 use Rattle.plain_world.specs.States.{WorldData}
 use Rattle.transactions.specs.Walks.{AreWalks, JourneyData}
-
--- the class of keys: a key is a frame, items and queries are shapes
-abbrev pub frames : Class
-frames = class_of Encloses MayMeet Meet extent_of joined
 
 abbrev pub Index : Type 0
 Index = PlainTree Extent (List Point) (List Point)
@@ -49,21 +43,24 @@ AreAmong all (pair ∷ pairs) = Contains all pair × AreAmong all pairs
 -- each feature's (id, shape) is in `all`
 abbrev pub HasFeatures : List (ℕ × List Point) → List Feature → Type 0
 HasFeatures all [] = Unit {0}
-HasFeatures all (feature ∷ features) = Contains all (feature.id, feature.shape) × HasFeatures all features
+HasFeatures all (feature ∷ features) =
+    Contains all (feature.id, feature.shape) × HasFeatures all features
 
 -- each (id, shape) that an open transaction has placed is in `all`
 abbrev pub HasPlacements : List (ℕ × List Point) → List TransactionData → Type 0
 HasPlacements all [] = Unit {0}
-HasPlacements all (t ∷ ts) = AreAmong all (take t.placed (placements t.changes)) × HasPlacements all ts
+HasPlacements all (t ∷ ts) = AreAmong all (take t.placed (placements t.changes))
+    × HasPlacements all ts
 
 -- The index of a world has each feature's id and shape, and each shape that an open transaction has
 -- placed. It runs the open searches, each with its window and as ready as it is.
-pub record Serves (w : WorldData) (index : Index) : Type 0 where
+pub record IndexServes (w : WorldData) (index : Index) : Type 0 where
   pub contents : List (ℕ × List Point)
   pub are_contents : IsContents (tree_of frames index) contents
   pub features : HasFeatures contents w.state.features
   pub placements : HasPlacements contents w.transactions
-  pub searches : (number : ℕ) → option_map seen_there (search_in index number) ≡ option_map told_here (search_with number w.searches)
+  pub searches : (number : ℕ) → option_map seen_there (search_in index number)
+      ≡ option_map told_here (search_with number w.searches)
   pub as_many : length index.running.running ≡ length w.searches
   pub next : index.running.next ≡ w.next_search
   pub limit : index.limit ≡ w.limits.steps
@@ -73,5 +70,5 @@ pub record Serves (w : WorldData) (index : Index) : Type 0 where
 pub record IsWorld (w : IndexedWorld) : Type 0 where
   pub ordered : IsOrdered w.plain
   pub under_way : IsUnderWay w.plain
-  pub serves : Serves w.plain w.index
+  pub serves : IndexServes w.plain w.index
   pub walks : AreWalks w.plain.transactions w.walks

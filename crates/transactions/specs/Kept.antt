@@ -11,7 +11,7 @@ use Rattle.tree_answers.specs.declared.answers.Tending.TheVariants.{Idle}
 use Rattle.tree_answers.specs.declared.fault.TreeFault.{TreeFault}
 use Rattle.tree_theory.specs.Contents.{pairs_at}
 use Rattle.transactions.specs.Index.{Index, IndexedWorld, IsWorld, frames}
-use Rattle.transactions.specs.Stepping.{Keeps}
+use Rattle.transactions.specs.Stepping.{KeepsPair}
 use Rattle.transactions.specs.declared.kept_slots.KeptSlots.{KeptSlots}
 
 -- the slot is noted: below the first run's end, or in the second run
@@ -26,7 +26,8 @@ is_idle answer = false
 -- the world keeps each pair in a noted slot
 abbrev pub AreKept : WorldData → Index → KeptSlots → Type 0
 AreKept w index notes =
-    (at : Handle) → is_noted notes at.slot ≡ true → (pair : ℕ × List Point) → Contains (pairs_at (value_at index.nodes at)) pair → Keeps w pair
+    (at : Handle) → is_noted notes at.slot ≡ true → (pair : ℕ × List Point)
+    → Contains (pairs_at (value_at index.nodes at)) pair → KeepsPair w pair
 
 -- what every world keeps, beside what callers see of it
 pub record IsTended (w : IndexedWorld) (notes : KeptSlots) : Type 0 where
@@ -35,11 +36,15 @@ pub record IsTended (w : IndexedWorld) (notes : KeptSlots) : Type 0 where
 
 -- The index does what is first due at the node of the slot, where the pairs in Kept are to stay, or
 -- nothing if there is no node. If it refuses, it is unchanged.
-pub record TendsBy (Kept : ℕ × List Point → Type 0) (slot : ℕ) (old new : Index) (answer : Result Tending TreeFault) : Type 0 where
+pub record TendsBy (Kept : ℕ × List Point → Type 0) (slot : ℕ) (old new : Index)
+    (answer : Result Tending TreeFault) : Type 0 where
   pub tended : IfOk answer (HasTended frames old new)
   pub contents : IfOk answer (ContentsTended frames old Kept new)
-  pub first : (at : Handle) → at.slot ≡ slot → IsSome (value_at old.nodes at) → AnswersFirst frames old Kept at answer
-  pub step : (at : Handle) → at.slot ≡ slot → IsSome (value_at old.nodes at) → IfOk answer (StepsAt frames old Kept at new)
+  pub first : (at : Handle) → at.slot ≡ slot → IsSome (value_at old.nodes at)
+      → AnswersFirst frames old Kept at answer
+  pub step : (at : Handle) → at.slot ≡ slot → IsSome (value_at old.nodes at)
+      → IfOk answer (StepsAt frames old Kept at new)
   pub refused : OnErr answer (new ≡ old)
-  pub nobody : ((at : Handle) → at.slot ≡ slot → IsSome (value_at old.nodes at) → ⊥) → answer ≡ Ok Idle
+  pub nobody : ((at : Handle) → at.slot ≡ slot → IsSome (value_at old.nodes at) → ⊥)
+      → answer ≡ Ok Idle
   pub untouched : ((at : Handle) → at.slot ≡ slot → IsSome (value_at old.nodes at) → ⊥) → new ≡ old

@@ -1,6 +1,6 @@
 -- What the index's counts show when it refuses.
 use Rattle.std.specs.Prelude.{◌≡◌, ℕ, Bool, true, false, Option, None, Some}
-use Rattle.memory.specs.declared.refused.Refused.{Refused}
+use Rattle.memory.specs.declared.no_memory.NoMemory.{NoMemory}
 use Rattle.predicate_locks.specs.Searches.{last_number}
 use Rattle.plain_world.specs.declared.faults.Fault.{Fault}
 use Rattle.plain_world.specs.declared.faults.Fault.TheVariants as faults
@@ -26,16 +26,16 @@ GivesUp index number (faults.Tree tree.Overrun) = IsOverrun index number
 GivesUp index number fault = Unit {0}
 
 -- the world's fault for a refusal of the index: X12 for out of memory, X9 for all others
-abbrev pub told : TreeFault → Fault
-told (tree.Memory refusal) = faults.Memory refusal
-told fault = faults.Tree fault
+abbrev pub world_fault : TreeFault → Fault
+world_fault (tree.Memory refusal) = faults.Memory refusal
+world_fault fault = faults.Tree fault
 
 -- the refused allocation, if the fault is S8
-abbrev pub refusal_of : TreeFault → Option Refused
+abbrev pub refusal_of : TreeFault → Option NoMemory
 refusal_of (tree.Memory refusal) = Some refusal
 refusal_of fault = None
 
 -- the fault is S7: all steps were made
-abbrev pub is_overrun : TreeFault → Bool
-is_overrun tree.Overrun = true
-is_overrun fault = false
+abbrev pub is_overrun_fault : TreeFault → Bool
+is_overrun_fault tree.Overrun = true
+is_overrun_fault fault = false

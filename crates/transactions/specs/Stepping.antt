@@ -5,7 +5,7 @@ use Rattle.node_arena.specs.Slots.{value_at}
 use Rattle.node_arena.specs.declared.handle.Handle.{Handle}
 use Rattle.plane.specs.declared.point.Point.{Point}
 use Rattle.plain_world.specs.declared.faults.Fault.{Fault}
-use Rattle.plain_world.specs.declared.searches.Search.{Search}
+use Rattle.plain_world.specs.declared.open_searches.Search.{Search}
 use Rattle.plain_world.specs.Keeping.{is_kept}
 use Rattle.plain_world.specs.States.{WorldData}
 use Rattle.search_tree.specs.Calls.{IsOpen, IsShut, IsVisit}
@@ -16,12 +16,12 @@ use Rattle.tree_answers.specs.declared.answers.Tending.TheVariants.{Idle}
 use Rattle.tree_answers.specs.declared.answers.Visit.{Visit}
 use Rattle.tree_answers.specs.declared.fault.TreeFault.{TreeFault}
 use Rattle.transactions.specs.Index.{Index, frames}
-use Rattle.transactions.specs.Refusing.{told}
+use Rattle.transactions.specs.Refusing.{world_fault}
 
 -- the index's answer, as the world's
-abbrev pub told_as : {T : Type 0} → Result T TreeFault → Result T Fault
-told_as (Ok answer) = Ok answer
-told_as (Err fault) = Err (told fault)
+abbrev pub in_world_faults : {T : Type 0} → Result T TreeFault → Result T Fault
+in_world_faults (Ok answer) = Ok answer
+in_world_faults (Err fault) = Err (world_fault fault)
 
 -- A search for the window is opened in the index, under the number in the result. If it is refused,
 -- the index is unchanged.
@@ -38,22 +38,27 @@ EndsInIndex number old new (Err fault) = new ≡ old
 -- index is not called.
 abbrev pub VisitsIndex : Result Search Fault → ℕ → Index → Index → Result Visit Fault → Type 0
 VisitsIndex (Ok search) number old new result =
-    (answer : Result Visit TreeFault) × IsVisit frames old new number answer × (result ≡ told_as answer)
+    (answer : Result Visit TreeFault) × IsVisit frames old new number answer
+    × (result ≡ in_world_faults answer)
 VisitsIndex (Err fault) number old new result = new ≡ old
 
 -- the feature of this id has this shape, or an open transaction has staged that it will
-abbrev pub Keeps : WorldData → ℕ × List Point → Type 0
-Keeps w pair = IsTrue (is_kept pair.0 pair.1 w)
+abbrev pub KeepsPair : WorldData → ℕ × List Point → Type 0
+KeepsPair w pair = IsTrue (is_kept pair.0 pair.1 w)
 
 -- The index does what is first due at the node of the slot, or nothing if there is no node, and its
 -- answer is the result. The pairs that the world keeps stay. If it refuses, it is unchanged.
-pub record TendsIndex (w : WorldData) (slot : ℕ) (old new : Index) (result : Result Tending Fault) : Type 0 where
+pub record TendsIndex (w : WorldData) (slot : ℕ) (old new : Index)
+    (result : Result Tending Fault) : Type 0 where
   pub answer : Result Tending TreeFault
-  pub is : result ≡ told_as answer
+  pub is : result ≡ in_world_faults answer
   pub tended : IfOk answer (HasTended frames old new)
-  pub contents : IfOk answer (ContentsTended frames old (Keeps w) new)
-  pub first : (at : Handle) → at.slot ≡ slot → IsSome (value_at old.nodes at) → AnswersFirst frames old (Keeps w) at answer
-  pub step : (at : Handle) → at.slot ≡ slot → IsSome (value_at old.nodes at) → IfOk answer (StepsAt frames old (Keeps w) at new)
+  pub contents : IfOk answer (ContentsTended frames old (KeepsPair w) new)
+  pub first : (at : Handle) → at.slot ≡ slot → IsSome (value_at old.nodes at)
+      → AnswersFirst frames old (KeepsPair w) at answer
+  pub step : (at : Handle) → at.slot ≡ slot → IsSome (value_at old.nodes at)
+      → IfOk answer (StepsAt frames old (KeepsPair w) at new)
   pub refused : OnErr answer (new ≡ old)
-  pub nobody : ((at : Handle) → at.slot ≡ slot → IsSome (value_at old.nodes at) → ⊥) → answer ≡ Ok Idle
+  pub nobody : ((at : Handle) → at.slot ≡ slot → IsSome (value_at old.nodes at) → ⊥)
+      → answer ≡ Ok Idle
   pub untouched : ((at : Handle) → at.slot ≡ slot → IsSome (value_at old.nodes at) → ⊥) → new ≡ old

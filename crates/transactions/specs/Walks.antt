@@ -18,18 +18,20 @@ walk_of number (j ∷ js) = if j.number == number then j.walk else walk_of numbe
 -- the list with this walk, or none, for a transaction
 abbrev pub with_walk : ℕ → Option (PlainWalk (List Point)) → List JourneyData → List JourneyData
 with_walk number walk [] = []
-with_walk number walk (j ∷ js) = if j.number == number then record j { walk = walk } ∷ js else j ∷ with_walk number walk js
+with_walk number walk (j ∷ js) =
+    if j.number == number then record j { walk = walk } ∷ js else j ∷ with_walk number walk js
 
 -- one more transaction, without a walk
-abbrev pub begun : ℕ → List JourneyData → List JourneyData
-begun number js = js ++ record { number = number; walk = None } ∷ []
+abbrev pub walk_begun : ℕ → List JourneyData → List JourneyData
+walk_begun number js = js ++ record { number = number; walk = None } ∷ []
 
 -- the list without a transaction
-abbrev pub ended : ℕ → List JourneyData → List JourneyData
-ended number js = filter (λ j. not (j.number == number)) js
+abbrev pub walk_ended : ℕ → List JourneyData → List JourneyData
+walk_ended number js = filter (λ j. not (j.number == number)) js
 
 -- the walks after a call: on Ok `after x`, on Err unchanged
-abbrev pub if_done : {T : Type 0} → Result T Fault → List JourneyData → (T → List JourneyData) → List JourneyData
+abbrev pub if_done : {T : Type 0} → Result T Fault → List JourneyData → (T → List JourneyData)
+    → List JourneyData
 if_done (Ok x) js after = after x
 if_done (Err fault) js after = js
 

@@ -22,13 +22,21 @@ abbrev pub first_decider : DocumentData → DeciderData
 first_decider document = record { document = document; edition = 1 }
 
 abbrev pub first_starts : Starts
-first_starts = record { generation = 0; counter = 0; search = 1; version = 0; edition = 1; rolled = 0 }
+first_starts = record {
+  generation = 0;
+  counter = 0;
+  search = 1;
+  version = 0;
+  edition = 1;
+  rolled = 0;
+}
 
 abbrev pub greatest_limits : Limits
 greatest_limits = record { steps = STEP_LIMIT; records = RECORD_LIMIT; features = FEATURE_LIMIT }
 
 abbrev pub just_opened : List Subject → DocumentData → WorldData
-just_opened subjects document = opened subjects (first_decider document) first_starts greatest_limits
+just_opened subjects document =
+    opened subjects (first_decider document) first_starts greatest_limits
 
 -- the event of a call
 abbrev pub event_of : Call → Event
@@ -55,7 +63,8 @@ pub record AreMade (made : List Call) (old new : WorldData) : Type 0 where
 -- The answer to a seat's search after these calls. It is exact there, and its rows are sorted by
 -- id; the trail accounts for the state, and the answer's decider is the one that was put in force
 -- last.
-pub record IsAnswerBehind (opening : WorldData) (made : List Call) (seat search : ℕ) (answer : AnswerData) : Type 0 where
+pub record IsAnswerBehind (opening : WorldData) (made : List Call) (seat search : ℕ)
+    (answer : AnswerData) : Type 0 where
   pub there : WorldData
   pub are_made : AreMade made opening there
   pub exact : IsExact seat search there answer

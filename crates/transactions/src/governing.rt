@@ -1,12 +1,12 @@
-//! Putting policies in force, and rolling the trail.
+//! Putting policies in force.
 
 ghost use Rattle.std.specs.Prelude.{◌≡◌, ◌<◌, ◌+◌, IfErr};
 ghost use Rattle.std.specs.Arc.{arc_value};
-ghost use Rattle.plain_world.specs.Events.{Happens, Govern, Roll, Number, TakenOut, reply_handing, reply_of};
+ghost use Rattle.plain_world.specs.Events.{Happens, Govern, Number, reply_handing, reply_of};
 
 use crate::worlds::World;
 use decision::Decider;
-use plain_world::{Fault, Rolled};
+use plain_world::Fault;
 use policy_documents::Document;
 use std::alloc::{Allocator, Global};
 use std::sync::Arc;
@@ -27,6 +27,22 @@ impl<A: Allocator + Copy> World<A> {
         self.plain.govern_by(seat, decider)
     }
 
+    /// Puts a document in force as `govern` does, with the same faults, and makes no copy of it. A
+    /// fault drops the document.
+    pub fn govern_or_drop(
+        &mut self,
+        heap: Global,
+        seat: u32,
+        document: Document<Global>,
+    ) -> Result<u64, Fault>
+        ensures happens { Happens (Govern seat document) self.old.plain self.new.plain
+            (reply_of Number result) }
+        ensures index { self.new.index ≡ self.old.index }
+        ensures walks { self.new.walks ≡ self.old.walks }
+    {
+        self.plain.govern_or_drop(heap, seat, document)
+    }
+
     /// Puts a document in force as the next edition, and returns the edition. X1 where the seat was
     /// not given, X7 where its subject is no steward, X8 where the edition is at its end, X10 where
     /// the trail is full, X12 where an allocation is refused. Each fault returns the document.
@@ -43,17 +59,5 @@ impl<A: Allocator + Copy> World<A> {
         ensures walks { self.new.walks ≡ self.old.walks }
     {
         self.plain.govern(heap, seat, document)
-    }
-
-    /// Takes out the whole trail, with its lines. The new trail begins at the present state, with
-    /// the next number. X1 where the seat was not given, X7 where its subject is no steward, X8
-    /// where the numbers of the new trail would not fit, X12 where an allocation is refused.
-    pub fn roll(&mut self, heap: Global, seat: u32) -> Result<Arc<Rolled<A>, A>, Fault>
-        ensures happens { Happens (Roll seat) self.old.plain self.new.plain
-            (reply_of (λ piece. TakenOut (arc_value piece)) result) }
-        ensures index { self.new.index ≡ self.old.index }
-        ensures walks { self.new.walks ≡ self.old.walks }
-    {
-        self.plain.roll(heap, seat)
     }
 }

@@ -4,7 +4,7 @@
 ghost use Rattle.std.specs.Prelude.{◌≡◌, ◌⊎◌, ◌+◌, ℕ, false, true, IfErr};
 ghost use Rattle.predicate_locks.specs.Searches.{last_number};
 ghost use Rattle.transactions.specs.Kept.{AreKept, TendsBy, is_idle, is_noted};
-ghost use Rattle.transactions.specs.Stepping.{Keeps};
+ghost use Rattle.transactions.specs.Stepping.{KeepsPair};
 
 use frame_keys::Frames;
 use plain_world::PlainWorld;
@@ -69,7 +69,7 @@ impl KeptSlots {
         slot: u32,
     ) -> Result<Tending, TreeFault>
         requires { AreKept world.now index.old self.old }
-        ensures tends { TendsBy (Keeps world.now) slot index.old index.new result }
+        ensures tends { TendsBy (KeepsPair world.now) slot index.old index.new result }
         ensures kept { AreKept world.now index.new self.new }
         ensures spent { IfErr result
             (λ fault. (fault ≡ TreeFault.Spent) × (index.old.counter ≡ last_number)) }

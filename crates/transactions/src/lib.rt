@@ -2,13 +2,14 @@
 //! come in any order, so searches and changes interleave.
 #![tactic(auto)]
 
-mod changing;
+mod committing;
 mod faults;
 mod governing;
 mod kept_slots;
+mod open_walks;
+mod rolling;
 mod searching;
 mod tending;
-mod walks;
 mod worked_run;
 mod worlds;
 

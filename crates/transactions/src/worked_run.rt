@@ -6,7 +6,7 @@ ghost use Rattle.transactions.specs.WorkedRun.{AreMade, IsAnswerBehind, event_of
 
 use crate::worlds::World;
 use features::{Change, Meter, Name, Subjects};
-use memory::Refused;
+use memory::NoMemory;
 use plain_world::{
     Answer, Fault, every_answer_is_exact, every_run_is_ordered, policy_in_force_is_the_last,
 };
@@ -102,7 +102,7 @@ fn make_all<A: Allocator + Copy>(
     world: &mut World<A>,
     heap: Global,
     calls: &[Call],
-) -> Result<(), Refused>
+) -> Result<(), NoMemory>
     ensures { OnOk result (AreMade calls.now world.old.plain world.new.plain) }
 {
     let Some((first, rest)) = calls.split_first() else {
@@ -114,7 +114,11 @@ fn make_all<A: Allocator + Copy>(
 
 /// Makes a call of a world, and drops what it returns. The call is left out only where there is no
 /// memory for a copy of its document.
-fn make<A: Allocator + Copy>(world: &mut World<A>, heap: Global, call: &Call) -> Result<(), Refused>
+fn make<A: Allocator + Copy>(
+    world: &mut World<A>,
+    heap: Global,
+    call: &Call,
+) -> Result<(), NoMemory>
     ensures { OnOk result
         ((reply : Reply) × Happens (event_of call.now) world.old.plain world.new.plain reply) }
 {

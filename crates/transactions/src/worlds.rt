@@ -2,7 +2,7 @@
 
 ghost use Rattle.std.specs.Prelude.{◌≡◌, ◌≤◌, ◌<◌, ◌+◌, [], length, IfOk, IfErr, OnOk};
 ghost use Rattle.std.specs.Arc.{arc_value};
-ghost use Rattle.memory.specs.Refused.{refused};
+ghost use Rattle.memory.specs.NoMemory.{out_of_memory};
 ghost use Rattle.audit_trail.specs.Judging.{AreDistinct};
 ghost use Rattle.audit_trail.specs.Legal.{IsLegal, replay, subject_of};
 ghost use Rattle.node_arena.specs.Slots.{taken_count};
@@ -12,16 +12,16 @@ ghost use Rattle.plain_world.specs.Staging.{staged_in};
 ghost use Rattle.plain_world.specs.States.{IsSoundWorld, opened};
 ghost use Rattle.search_tree.specs.Calls.{found_in};
 ghost use Rattle.search_tree.specs.Trees.{IsFirst};
-ghost use Rattle.transactions.specs.Index.{Serves, frames, slots_of};
+ghost use Rattle.transactions.specs.Index.{IndexServes, frames, slots_of};
 ghost use Rattle.transactions.specs.Walks.{AreWalks};
 
 use crate::kept_slots::KeptSlots;
-use crate::walks::Walks;
+use crate::open_walks::Walks;
 use audit_trail::{RECORD_LIMIT, Trail};
 use decision::Decider;
 use features::{Change, FEATURE_LIMIT, Subject, Subjects};
 use frame_keys::Frames;
-use memory::Refused;
+use memory::NoMemory;
 use plain_world::{
     CHANGE_LIMIT, Fault, Limits, PlainWorld, ROLLED_LIMIT, SEAT_LIMIT, STEP_LIMIT, Search, Starts,
 };
@@ -51,11 +51,13 @@ impl<A: Allocator> Model for World<A> {
 
     ghost Value = { IndexedWorld };
 
-    ghost coded = { code_by StoredIndexed (Prim.hlevel codes) stored_indexed restored_indexed restored_indexed-stored_indexed };
+    ghost coded = { code_by StoredIndexed (Prim.hlevel codes) stored_indexed restored_indexed
+        restored_indexed-stored_indexed };
 
     ghost view = { λ w. record { plain = w.plain; index = w.index; walks = w.walks } };
 
-    ghost invariant = { λ w. IsTended (record { plain = w.plain; index = w.index; walks = w.walks }) w.kept };
+    ghost invariant = { λ w. IsTended (record { plain = w.plain; index = w.index; walks = w.walks })
+        w.kept };
 }
 
 impl<A: Allocator> World<A> {
@@ -162,25 +164,25 @@ impl<A: Allocator> World<A> {
     /// from any world on. Its trail is legal from its base, the state is the trail's replay, and at
     /// most `SEAT_LIMIT` seats were given. Its features are sorted by id, and no staged list names
     /// a feature twice. Its open searches and transactions are in order.
-    pub fn world_is_sound(&self)
+    pub fn fact_sound(&self)
         ensures sound { IsSoundWorld self.now.plain }
         ensures ordered { IsOrdered self.now.plain }
         ensures under_way { IsUnderWay self.now.plain }
     {
-        self.plain.world_is_sound();
+        self.plain.fact_sound();
     }
 
     /// A fact for callers, without effect: the index has each feature's id and shape, and each
     /// shape that an open transaction has placed; it runs the open searches, as ready as they are.
-    pub fn index_serves_the_world(&self)
-        ensures { Serves self.now.plain self.now.index }
+    pub fn fact_index_serves(&self)
+        ensures { IndexServes self.now.plain self.now.index }
     {
         let _index = &self.index;
     }
 
     /// A fact for callers, without effect: each open transaction has its place among the walks, in
     /// the same order, and a walk that has begun is for the next shape that its transaction places.
-    pub fn walks_serve_the_world(&self)
+    pub fn fact_walks_serve(&self)
         ensures { AreWalks self.now.plain.transactions self.now.walks }
     {
         let _walks = &self.walks;
@@ -216,7 +218,7 @@ impl<A: Allocator + Copy> World<A> {
             { steps = STEP_LIMIT; records = RECORD_LIMIT; features = FEATURE_LIMIT })) }
         ensures index { IfOk result (λ w. IsFirst frames 0 0 1 STEP_LIMIT w.index) }
         ensures walks { IfOk result (λ w. w.walks ≡ []) }
-        ensures err { IfErr result (λ e. e ≡ (document, Fault.Memory refused)) }
+        ensures err { IfErr result (λ e. e ≡ (document, Fault.Memory out_of_memory)) }
     {
         World::open_at(
             alloc,
@@ -250,7 +252,7 @@ impl<A: Allocator + Copy> World<A> {
             (λ w. IsFirst frames starts.generation starts.counter starts.search limits.steps
             w.index) }
         ensures walks { IfOk result (λ w. w.walks ≡ []) }
-        ensures err { IfErr result (λ e. e ≡ (document, Fault.Memory refused)) }
+        ensures err { IfErr result (λ e. e ≡ (document, Fault.Memory out_of_memory)) }
     {
         let index = match first_index(alloc, starts, limits) {
             Ok(index) => index,
@@ -275,7 +277,7 @@ fn first_index<A: Allocator + Copy>(
     alloc: A,
     starts: Starts,
     limits: Limits,
-) -> Result<Tree<Frames, A>, Refused>
+) -> Result<Tree<Frames, A>, NoMemory>
     requires { limits.steps ≤ STEP_LIMIT }
     ensures { IfOk result
         (IsFirst frames starts.generation starts.counter starts.search limits.steps) }

@@ -44,5 +44,5 @@ returns-clause-listed g c =
     let features = c.args.store.now in
     let ids = c.args.ids.now in
     let told = rw (drop_all c.loop-id.id-index ids c.loop-id-test.false) at c.loop-id.invariant.told in
-    found_listed window document subject features ids c.loop-id.rows.items c.stand_in_order.ensures c.requires.rise c.requires.all
+    found_listed window document subject features ids c.loop-id.rows.items c.fact_sorted_by_id.ensures c.requires.rise c.requires.all
     (lists_end document subject window (looked_up features ids) c.loop-id.rows.items told)

@@ -8,4 +8,4 @@ pub returns : goal.returns
 returns g c =
     subst (λ (d : ChronicleData). IsSoundChronicle d) c.self.view_is
     (sound_seen c.self.inside.first (records_in (map arc_value c.self.inside.pieces.items)) c.self.inside.world.plain c.self.invariant
-    c.world_is_sound.ensures.sound)
+    c.fact_sound.ensures.sound)

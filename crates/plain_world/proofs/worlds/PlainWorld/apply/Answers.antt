@@ -18,12 +18,12 @@ returns-then-len_after-self g c =
 pub apply-requires : goal.apply-requires
 apply-requires g c =
     let accepted = rw (← c.self.view_is) at c.requires.accepted in
-    rw (c.as_slice-3.ensures.value) (can_apply (arc_value c.self.inside.decider).document c.self.inside.store c.args.subject c.args.changes.items c.requires.distinct accepted)
+    rw (c.changes_in.ensures, c.deref.ensures, c.in_ok-entry.ensures.entry, c.applied-told.ensures) (can_apply (arc_value c.self.inside.decider).document c.self.inside.store c.args.subject c.args.changes.items c.requires.distinct accepted)
 
 pub invariant_of-self-2 : goal.invariant_of-self-2
 invariant_of-self-2 g c =
     let seated = rw (← c.self.view_is) at c.requires.seated in
     let accepted = rw (← c.self.view_is) at c.requires.accepted in
     let below = rw (← c.self.view_is) at c.requires.below in
-    rw (c.put.ensures.records, c.in_ok-entry.ensures.records, c.in_ok-entry.ensures.entry, c.in_ok-told.ensures, c.as_slice-2.ensures.value, c.in_ok-apply.ensures.ok, c.as_slice-3.ensures.value)
+    rw (c.put.ensures.records, c.in_ok-entry.ensures.records, c.in_ok-apply.ensures.ok, c.changes_in.ensures, c.deref.ensures, c.in_ok-entry.ensures.entry, c.applied-told.ensures)
     (keeps_added _ _ _ _ _ _ c.self.invariant below (seated, accepted, refl))

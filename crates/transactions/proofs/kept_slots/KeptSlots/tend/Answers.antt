@@ -2,7 +2,7 @@ use Rattle.std.proofs.Common.{◌≡◌, ℕ, Bool, true, Ok, IsTrue, List, refl
 use Rattle.plane.specs.declared.point.Point.{Point}
 use Rattle.tree_answers.specs.declared.answers.Tending.TheVariants.{Idle}
 use Rattle.transactions.specs.Kept.{TendsBy, is_noted}
-use Rattle.transactions.specs.Stepping.{Keeps}
+use Rattle.transactions.specs.Stepping.{KeepsPair}
 use Rattle.transactions.proofs.KeptSlotLemmas.{idle_answer, kept_noted, kept_tended, tends_by_all, tends_when}
 use Rattle.transactions.proofs.kept_slots.KeptSlots.tend.Goals as goal
 
@@ -23,13 +23,13 @@ pub returns-clause-kept : goal.returns-clause-kept
 returns-clause-kept g c =
     let made = c.tend-tended.ensures in
     let w = c.args.world.now in
-    let tends : TendsBy (Keeps w) c.args.slot c.args.index.now c.tend-tended.new.self c.tend-tended.result = record { tended = made.tended; contents = made.contents; first = made.first; step = made.step; refused = made.err; nobody = made.nobody; untouched = made.untouched } in
+    let tends : TendsBy (KeepsPair w) c.args.slot c.args.index.now c.tend-tended.new.self c.tend-tended.result = record { tended = made.tended; contents = made.contents; first = made.first; step = made.step; refused = made.err; nobody = made.nobody; untouched = made.untouched } in
     let idle : c.tend-tended.result ≡ Ok Idle = idle_answer c.tend-tended.result (sym c.is_idle.ensures ∙ c.if-not-is_idle.false) in
-    kept_noted w c.args.slot c.args.index.now c.tend-tended.new.self (tends_when idle tends) c.args.self.now c.note.new.self c.note.ensures (kept_tended (Keeps w) c.args.slot c.args.index.now c.tend-tended.new.self w c.args.self.now c.tend-tended.result tends c.requires)
+    kept_noted w c.args.slot c.args.index.now c.tend-tended.new.self (tends_when idle tends) c.args.self.now c.note.new.self c.note.ensures (kept_tended (KeepsPair w) c.args.slot c.args.index.now c.tend-tended.new.self w c.args.self.now c.tend-tended.result tends c.requires)
 
 pub returns-then-not-is_idle : goal.returns-then-not-is_idle
 returns-then-not-is_idle g c =
     let made = c.tend-tended.ensures in
     let w = c.args.world.now in
-    let tends : TendsBy (Keeps w) c.args.slot c.args.index.now c.tend-tended.new.self c.tend-tended.result = record { tended = made.tended; contents = made.contents; first = made.first; step = made.step; refused = made.err; nobody = made.nobody; untouched = made.untouched } in
-    record { tends = tends; kept = kept_tended (Keeps w) c.args.slot c.args.index.now c.tend-tended.new.self w c.args.self.now c.tend-tended.result tends c.requires; spent = made.spent }
+    let tends : TendsBy (KeepsPair w) c.args.slot c.args.index.now c.tend-tended.new.self c.tend-tended.result = record { tended = made.tended; contents = made.contents; first = made.first; step = made.step; refused = made.err; nobody = made.nobody; untouched = made.untouched } in
+    record { tends = tends; kept = kept_tended (KeepsPair w) c.args.slot c.args.index.now c.tend-tended.new.self w c.args.self.now c.tend-tended.result tends c.requires; spent = made.spent }

@@ -1,4 +1,4 @@
-use Rattle.transactions.specs.Walks.{ended}
+use Rattle.transactions.specs.Walks.{walk_ended}
 use Rattle.transactions.proofs.TendedLemmas.{tended_anew, tended_abort_refused}
 use Rattle.transactions.proofs.WorldLemmas.{world_aborted}
 use Rattle.transactions.proofs.worlds.World.abort.Goals as goal
@@ -7,4 +7,4 @@ pub invariant_of-self : goal.invariant_of-self
 invariant_of-self g c = tended_abort_refused c.self.inside.plain c.abort.new.self c.self.inside.index c.self.inside.walks c.self.inside.kept c.self.invariant c.args.seat c.args.number _ c.in_err-abort.ensures
 
 pub invariant_of-self-2 : goal.invariant_of-self-2
-invariant_of-self-2 g c = rw c.end.ensures (tended_anew c.abort.new.self c.self.inside.index (ended c.args.number c.self.inside.walks) c.none-self-inside.result (world_aborted c.args.seat c.args.number c.self.inside.plain c.abort.new.self c.self.inside.index c.self.inside.walks c.in_ok-abort.ensures c.self.invariant.world) c.none-self-inside.ensures)
+invariant_of-self-2 g c = rw c.end.ensures (tended_anew c.abort.new.self c.self.inside.index (walk_ended c.args.number c.self.inside.walks) c.none-self-inside.result (world_aborted c.args.seat c.args.number c.self.inside.plain c.abort.new.self c.self.inside.index c.self.inside.walks c.in_ok-abort.ensures c.self.invariant.world) c.none-self-inside.ensures)

@@ -1,14 +1,14 @@
 use Rattle.std.proofs.Common.{◌≡◌, ℕ, List, Some, Ok, Err, refl, sym, ap, subst, ◌∙◌}
 use Rattle.plane.specs.declared.point.Point.{Point}
 use Rattle.plain_world.specs.Admitting.{map_ok, may_step}
-use Rattle.plain_world.specs.Events.{AdvanceWalk, Refused}
+use Rattle.plain_world.specs.Events.{AdvanceWalk, Failed}
 use Rattle.plain_world.specs.Staging.{next_placement}
 use Rattle.plain_world.specs.declared.faults.Fault.{Fault}
-use Rattle.plain_world.specs.declared.steps.Advance.TheVariants as advances
+use Rattle.plain_world.specs.declared.advances.Advance.TheVariants as advances
 use Rattle.transactions.specs.Index.{Index}
-use Rattle.transactions.specs.Refusing.{RefusesGrowth, told}
+use Rattle.transactions.specs.Refusing.{RefusesGrowth, world_fault}
 use Rattle.transactions.specs.Walking.{told_step}
-use Rattle.transactions.specs.Walks.{ended, with_walk}
+use Rattle.transactions.specs.Walks.{walk_ended, with_walk}
 use Rattle.transactions.proofs.AdvanceLemmas.{makes, placed_world, placed_event, placed_walks, moved_world, moved_event, moved_walks, ended_world, ended_event, ended_growth, ended_walks, refused_world, refused_event, refused_growth, refused_walks, walks_on_as}
 use Rattle.transactions.proofs.TendedLemmas.{tended_anew}
 use Rattle.transactions.proofs.WorldLemmas.{happens_as, index_of, indexed, plain_of}
@@ -49,7 +49,7 @@ invariant_of-self-then-is_overrun g c =
     let walk = c.next_walk-walk.result in
     let after = c.advance.new.walk in
     let next : map_ok next_placement (may_step c.args.seat c.args.number w) ≡ Ok (Some placement) = c.next_to_place.ensures.value ∙ (c.in_ok-placement.was ∙ ap Ok c.in-Some.is) in
-    tended_anew c.end_transaction.new.self u c.end.new.self c.none-self-inside.result (ended_world c.args.seat c.args.number w t u js placement walk after c.advance.result next c.self.invariant.world c.next_walk-walk.ensures.walk c.advance.ensures.step c.in-Err.fault c.in-Err.is (sym c.is_overrun.ensures ∙ c.if-is_overrun.true) c.end_transaction.new.self c.end.new.self c.end_transaction.ensures (c.end.ensures ∙ ap (ended c.args.number) c.next_walk-walk.ensures.left)) c.none-self-inside.ensures
+    tended_anew c.end_transaction.new.self u c.end.new.self c.none-self-inside.result (ended_world c.args.seat c.args.number w t u js placement walk after c.advance.result next c.self.invariant.world c.next_walk-walk.ensures.walk c.advance.ensures.step c.in-Err.fault c.in-Err.is (sym c.is_overrun.ensures ∙ c.if-is_overrun.true) c.end_transaction.new.self c.end.new.self c.end_transaction.ensures (c.end.ensures ∙ ap (walk_ended c.args.number) c.next_walk-walk.ensures.left)) c.none-self-inside.ensures
 
 pub invariant_of-self-else-is_overrun : goal.invariant_of-self-else-is_overrun
 invariant_of-self-else-is_overrun g c =
@@ -101,12 +101,12 @@ returns-after-is_overrun-clause-happens g c =
     let next : map_ok next_placement (may_step c.args.seat c.args.number w) ≡ Ok (Some placement) = c.next_to_place.ensures.value ∙ (c.in_ok-placement.was ∙ ap Ok c.in-Some.is) in
     elim c.if-is_overrun.branch [
       | then-is_overrun x ↦
-          happens_as (AdvanceWalk c.args.seat c.args.number) w c.args.self.now.plain x.end_transaction.new.self c.if-is_overrun.self.plain (Refused (told c.in-Err.fault)) (Refused c.fault_of.result)
-          (plain_of _ _ c.self.view_is) (sym (plain_of _ _ x.self-is)) (ap Refused (sym c.fault_of.ensures))
+          happens_as (AdvanceWalk c.args.seat c.args.number) w c.args.self.now.plain x.end_transaction.new.self c.if-is_overrun.self.plain (Failed (world_fault c.in-Err.fault)) (Failed c.fault_of.result)
+          (plain_of _ _ c.self.view_is) (sym (plain_of _ _ x.self-is)) (ap Failed (sym c.fault_of.ensures))
           (ended_event c.args.seat c.args.number w t u js placement walk after c.advance.result next c.self.invariant.world c.next_walk-walk.ensures.walk c.advance.ensures.step c.in-Err.fault c.in-Err.is (sym c.is_overrun.ensures ∙ x.if-is_overrun.true) x.end_transaction.new.self x.end_transaction.ensures)
       | else-is_overrun x ↦
-          happens_as (AdvanceWalk c.args.seat c.args.number) w c.args.self.now.plain w c.if-is_overrun.self.plain (Refused (told c.in-Err.fault)) (Refused c.fault_of.result)
-          (plain_of _ _ c.self.view_is) (sym (plain_of _ _ x.self-is)) (ap Refused (sym c.fault_of.ensures))
+          happens_as (AdvanceWalk c.args.seat c.args.number) w c.args.self.now.plain w c.if-is_overrun.self.plain (Failed (world_fault c.in-Err.fault)) (Failed c.fault_of.result)
+          (plain_of _ _ c.self.view_is) (sym (plain_of _ _ x.self-is)) (ap Failed (sym c.fault_of.ensures))
           (refused_event c.args.seat c.args.number w t u js placement walk after c.advance.result next c.self.invariant.world c.next_walk-walk.ensures.walk c.advance.ensures.step c.in-Err.fault c.in-Err.is (sym c.is_overrun.ensures ∙ x.if-is_overrun.false))
     ]
 
@@ -120,11 +120,11 @@ returns-after-is_overrun-clause-refused g c =
     let walk = c.next_walk-walk.result in
     let after = c.advance.new.walk in
     let next : map_ok next_placement (may_step c.args.seat c.args.number w) ≡ Ok (Some placement) = c.next_to_place.ensures.value ∙ (c.in_ok-placement.was ∙ ap Ok c.in-Some.is) in
-    let why : RefusesGrowth t (told c.in-Err.fault) = elim c.if-is_overrun.branch [
+    let why : RefusesGrowth t (world_fault c.in-Err.fault) = elim c.if-is_overrun.branch [
       | then-is_overrun x ↦ ended_growth c.args.seat c.args.number w t u js placement walk after c.advance.result next c.self.invariant.world c.next_walk-walk.ensures.walk c.advance.ensures.step c.in-Err.fault c.in-Err.is (sym c.is_overrun.ensures ∙ x.if-is_overrun.true)
       | else-is_overrun x ↦ refused_growth c.args.seat c.args.number w t u js placement walk after c.advance.result next c.self.invariant.world c.next_walk-walk.ensures.walk c.advance.ensures.step c.in-Err.fault c.in-Err.is (sym c.is_overrun.ensures ∙ x.if-is_overrun.false)
     ] in
-    subst (λ (f : Fault). RefusesGrowth c.args.self.now.index f) (sym c.fault_of.ensures) (subst (λ (i : Index). RefusesGrowth i (told c.in-Err.fault)) (index_of _ _ c.self.view_is) why)
+    subst (λ (f : Fault). RefusesGrowth c.args.self.now.index f) (sym c.fault_of.ensures) (subst (λ (i : Index). RefusesGrowth i (world_fault c.in-Err.fault)) (index_of _ _ c.self.view_is) why)
 
 pub returns-then-placed-clause-walked : goal.returns-then-placed-clause-walked
 returns-then-placed-clause-walked g c =
@@ -169,7 +169,7 @@ returns-after-is_overrun-clause-walked g c =
       | then-is_overrun x ↦
           walks_on_as c.args.seat c.args.number (indexed w t js) c.args.self.now _ c.if-is_overrun.self _ _ c.self.view_is (sym x.self-is) refl
           (makes c.args.seat c.args.number w t u js placement walk after c.advance.result next c.self.invariant.world c.next_walk-walk.ensures.walk c.advance.ensures.step c.advance.ensures.first x.end_transaction.new.self x.end.new.self (Err c.fault_of.result) is_told
-          (ended_walks c.args.seat c.args.number w t u js placement walk after c.advance.result next c.self.invariant.world c.next_walk-walk.ensures.walk c.advance.ensures.step c.in-Err.fault c.in-Err.is (sym c.is_overrun.ensures ∙ x.if-is_overrun.true) x.end.new.self (x.end.ensures ∙ ap (ended c.args.number) c.next_walk-walk.ensures.left)))
+          (ended_walks c.args.seat c.args.number w t u js placement walk after c.advance.result next c.self.invariant.world c.next_walk-walk.ensures.walk c.advance.ensures.step c.in-Err.fault c.in-Err.is (sym c.is_overrun.ensures ∙ x.if-is_overrun.true) x.end.new.self (x.end.ensures ∙ ap (walk_ended c.args.number) c.next_walk-walk.ensures.left)))
       | else-is_overrun x ↦
           walks_on_as c.args.seat c.args.number (indexed w t js) c.args.self.now _ c.if-is_overrun.self _ _ c.self.view_is (sym x.self-is) refl
           (makes c.args.seat c.args.number w t u js placement walk after c.advance.result next c.self.invariant.world c.next_walk-walk.ensures.walk c.advance.ensures.step c.advance.ensures.first w x.keep-else-is_overrun.new.self (Err c.fault_of.result) is_told

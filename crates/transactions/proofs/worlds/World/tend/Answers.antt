@@ -3,7 +3,7 @@ use Rattle.predicate_locks.specs.Searches.{last_number}
 use Rattle.plain_world.specs.declared.faults.Fault.{Fault}
 use Rattle.tree_answers.specs.declared.answers.Tending.{Tending}
 use Rattle.tree_answers.specs.declared.fault.TreeFault.{TreeFault}
-use Rattle.transactions.specs.Stepping.{told_as}
+use Rattle.transactions.specs.Stepping.{in_world_faults}
 use Rattle.transactions.proofs.ServeLemmas.{serves_after_tending}
 use Rattle.transactions.proofs.TendedLemmas.{tended_by}
 use Rattle.transactions.proofs.TendLemmas.{tends_as, told_spent}
@@ -19,8 +19,8 @@ invariant_of-self g c =
 
 pub returns-clause-index : goal.returns-clause-index
 returns-clause-index g c =
-    let told : ◌≡◌ {A = Result Tending Fault} c.match-tend.result (told_as c.tend.result) = elim c.match-tend.branch [
-      | in-Ok x ↦ x.result-is ∙ sym (ap (λ (r : Result Tending TreeFault). told_as r) x.in-Ok.is)
+    let told : ◌≡◌ {A = Result Tending Fault} c.match-tend.result (in_world_faults c.tend.result) = elim c.match-tend.branch [
+      | in-Ok x ↦ x.result-is ∙ sym (ap (λ (r : Result Tending TreeFault). in_world_faults r) x.in-Ok.is)
       | in-Err x ↦ x.result-is ∙ told_spent (λ f. c.self.inside.index.counter ≡ last_number) c.tend.result x.in-Err.fault x.in-Err.is c.tend.ensures.spent
     ] in
     tends_as c.self.inside.plain _ c.args.slot c.self.inside.index _ c.tend.new.index _ (plain_of _ _ c.self.view_is) (index_of _ _ c.self.view_is) (record {

@@ -1,10 +1,10 @@
 use Rattle.std.proofs.Common.{Ok, Err, refl, sym, ap, ◌∙◌}
-use Rattle.plain_world.specs.Events.{VisitNext, Visited, Refused, with_ready, without_search}
+use Rattle.plain_world.specs.Events.{VisitNext, Visited, Failed, with_ready, without_search}
 use Rattle.plain_world.specs.declared.faults.Fault.TheVariants as faults
 use Rattle.tree_answers.specs.declared.answers.Visit.TheVariants as visits
 use Rattle.tree_answers.specs.declared.fault.TreeFault.{TreeFault}
 use Rattle.tree_answers.specs.declared.fault.TreeFault.TheVariants as tree
-use Rattle.transactions.specs.Refusing.{told}
+use Rattle.transactions.specs.Refusing.{world_fault}
 use Rattle.transactions.proofs.SearchLemmas.{has_number}
 use Rattle.transactions.proofs.StepLemmas.{visited_as, visit_ends, visit_wants, ready_happens, overrun_happens, want_happens}
 use Rattle.transactions.proofs.TendedLemmas.{fewer_visited, keeps_same, kept_on, tended_by}
@@ -53,7 +53,7 @@ invariant_of-self-then-is_overrun g c =
     let after = visited_as c.self.inside.plain c.self.inside.index c.visit.new.self c.args.number s _ (Err c.in-Err.fault) c.self.invariant.world.serves c.self.invariant.world.under_way is c.in-Err.is c.visit.ensures in
     let ends = visit_ends c.self.inside.plain c.self.inside.index c.visit.new.self c.args.number s c.in-Err.fault (sym c.is_overrun.ensures ∙ c.if-is_overrun.true) after in
     let kept = kept_on c.self.inside.plain (without_search c.args.number c.self.inside.plain) c.self.inside.index c.visit.new.self c.self.inside.kept (keeps_same c.self.inside.plain (without_search c.args.number c.self.inside.plain) (refl, refl)) (fewer_visited c.self.inside.index c.visit.new.self c.args.number _ c.visit.ensures) c.self.invariant.kept in
-    rw c.forget_search.ensures (tended_by kept (world_by (VisitNext c.args.seat c.args.number) c.self.inside.plain _ c.self.inside.index c.visit.new.self c.self.inside.walks c.self.inside.walks (Refused (faults.Tree tree.Overrun))
+    rw c.forget_search.ensures (tended_by kept (world_by (VisitNext c.args.seat c.args.number) c.self.inside.plain _ c.self.inside.index c.visit.new.self c.self.inside.walks c.self.inside.walks (Failed (faults.Tree tree.Overrun))
     (overrun_happens c.args.seat c.args.number c.self.inside.plain _ s may (has_number c.args.number c.self.inside.plain.searches s is) ends.1 refl) c.self.invariant.world ends.2 c.self.invariant.world.walks))
 
 pub invariant_of-self-else-is_overrun : goal.invariant_of-self-else-is_overrun
@@ -85,12 +85,12 @@ returns-after-is_overrun-clause-happens g c =
     elim c.if-is_overrun.branch [
       | then-is_overrun x ↦
           let ends = visit_ends w c.self.inside.index c.visit.new.self c.args.number s c.in-Err.fault (sym c.is_overrun.ensures ∙ x.if-is_overrun.true) after in
-          happens_as (VisitNext c.args.seat c.args.number) w c.args.self.now.plain x.forget_search.new.self c.if-is_overrun.self.plain (Refused (faults.Tree tree.Overrun)) (Refused c.fault_of.result)
-          (plain_of _ _ c.self.view_is) (sym (plain_of _ _ x.self-is)) (ap (λ (f : TreeFault). Refused (told f)) (sym ends.0) ∙ ap Refused (sym c.fault_of.ensures))
+          happens_as (VisitNext c.args.seat c.args.number) w c.args.self.now.plain x.forget_search.new.self c.if-is_overrun.self.plain (Failed (faults.Tree tree.Overrun)) (Failed c.fault_of.result)
+          (plain_of _ _ c.self.view_is) (sym (plain_of _ _ x.self-is)) (ap (λ (f : TreeFault). Failed (world_fault f)) (sym ends.0) ∙ ap Failed (sym c.fault_of.ensures))
           (overrun_happens c.args.seat c.args.number w x.forget_search.new.self s may (has_number c.args.number w.searches s is) ends.1 x.forget_search.ensures)
       | else-is_overrun x ↦
           let wants = visit_wants w c.self.inside.index c.visit.new.self c.args.number s c.in-Err.fault (sym c.is_overrun.ensures ∙ x.if-is_overrun.false) after in
-          happens_as (VisitNext c.args.seat c.args.number) w c.args.self.now.plain w c.if-is_overrun.self.plain (Refused (told c.in-Err.fault)) (Refused c.fault_of.result)
-          (plain_of _ _ c.self.view_is) (sym (plain_of _ _ x.self-is)) (ap Refused (sym c.fault_of.ensures))
+          happens_as (VisitNext c.args.seat c.args.number) w c.args.self.now.plain w c.if-is_overrun.self.plain (Failed (world_fault c.in-Err.fault)) (Failed c.fault_of.result)
+          (plain_of _ _ c.self.view_is) (sym (plain_of _ _ x.self-is)) (ap Failed (sym c.fault_of.ensures))
           (want_happens c.args.seat c.args.number w s c.in-Err.fault wants.2.0 may wants.0 wants.2.1)
     ]

@@ -1,0 +1,6 @@
+use Rattle.std.proofs.Common.{rules, ◌==◌, not}
+use Rattle.std.proofs.lemmas.Fn.{filter_same}
+use Rattle.plain_world.proofs.open_transactions.end.Goals as goal
+
+pub returns : goal.returns
+returns g c = filter_same _ (λ t. not (t.number == c.args.number)) _ (λ x b f' k. search rules) _ _ c.retain.ensures.filtered

@@ -1,5 +1,0 @@
-use Rattle.std.proofs.Common.{length}
-use Rattle.plain_world.proofs.searches.+make_ready.Given as goal
-
-abbrev pub decreases-make_ready : goal.decreases-make_ready
-decreases-make_ready l = length l.searches.now

@@ -1,0 +1,24 @@
+//! Taking the trail out.
+
+ghost use Rattle.std.specs.Prelude.{◌≡◌};
+ghost use Rattle.std.specs.Arc.{arc_value};
+ghost use Rattle.plain_world.specs.Events.{Happens, Roll, TakenOut, reply_of};
+
+use crate::worlds::World;
+use plain_world::{Fault, Rolled};
+use std::alloc::{Allocator, Global};
+use std::sync::Arc;
+
+impl<A: Allocator + Copy> World<A> {
+    /// Takes out the whole trail, with its lines. The new trail begins at the present state, with
+    /// the next number. X1 where the seat was not given, X7 where its subject is no steward, X8
+    /// where the numbers of the new trail would not fit, X12 where an allocation is refused.
+    pub fn roll(&mut self, heap: Global, seat: u32) -> Result<Arc<Rolled<A>, A>, Fault>
+        ensures happens { Happens (Roll seat) self.old.plain self.new.plain
+            (reply_of (λ piece. TakenOut (arc_value piece)) result) }
+        ensures index { self.new.index ≡ self.old.index }
+        ensures walks { self.new.walks ≡ self.old.walks }
+    {
+        self.plain.roll(heap, seat)
+    }
+}
