@@ -9,12 +9,12 @@ use Rattle.session_lines.specs.declared.commands.Asking.{Asking}
 use Rattle.session_lines.specs.declared.commands.Command.{Command}
 use Rattle.session_lines.specs.declared.commands.Command.TheVariants as commands
 use Rattle.session_lines.specs.declared.commands.Verb.{Verb}
-use Rattle.session_lines.specs.declared.faults.Fault.{Fault}
-use Rattle.session_lines.specs.declared.faults.Fault.TheVariants.{BeforeHello, NothingStaged}
+use Rattle.session_lines.specs.declared.faults.LineFault.{LineFault}
+use Rattle.session_lines.specs.declared.faults.LineFault.TheVariants.{BeforeHello, NothingStaged}
 use Rattle.session_lines.specs.declared.replies.Reply.{Reply}
 use Rattle.session_lines.specs.declared.replies.Reply.TheVariants.{Error, Memory}
 use Rattle.session_lines.specs.Commands.{verb_for, arguments_at}
-use Rattle.session_lines.specs.Desks.{OnlySays, Governs, Obeys, Does, Answers, is_policy, left_of, question_of, Desk, desk}
+use Rattle.session_lines.specs.Desks.{OnlySays, GovernsLine, Obeys, Does, Answers, is_policy, left_of, question_of, Desk, desk}
 use Rattle.session_lines.specs.Replies.{SaidData, policy_reply}
 use Rattle.session_lines.specs.Services.{Call, Hello, Search, Commit, Govern, Explain, Roll, Leave}
 
@@ -35,7 +35,7 @@ module _ {S : Type 0} (subject_of : S → Option Subject) (serves : Call → S �
   asked asking old new said None h = only_said (Error BeforeHello) old new said h
   asked asking old new said (Some subject) h = each (Explain (question_of subject asking)) old.service new.service said h.1
 
-  governed : (text : List ℕ) (old new : Desk S) (said : SaidData) → Governs serves text old new said → Kept old.service new.service
+  governed : (text : List ℕ) (old new : Desk S) (said : SaidData) → GovernsLine serves text old new said → Kept old.service new.service
   governed text old new said (inl h) = subst (λ (d : Desk S). Kept old.service d.service) (sym h.2.0) (same old.service)
   governed text old new said (inr h) = go (document_of_bytes text) h
     where
@@ -56,7 +56,7 @@ module _ {S : Type 0} (subject_of : S → Option Subject) (serves : Call → S �
   done : (verb : Verb) (text : List ℕ) (old new : Desk S) (said : SaidData) → Does subject_of serves verb text old new said → Kept old.service new.service
   done verb text old new said h = go (is_policy verb) (arguments_at verb text) h
     where
-      go : (b : Bool) (r : Result Command Fault) → MatchBool b (Governs serves text old new said) (MatchResult r (λ command. Obeys subject_of serves command old new said) (λ fault. OnlySays (Error fault) old new said)) → Kept old.service new.service
+      go : (b : Bool) (r : Result Command LineFault) → MatchBool b (GovernsLine serves text old new said) (MatchResult r (λ command. Obeys subject_of serves command old new said) (λ fault. OnlySays (Error fault) old new said)) → Kept old.service new.service
       go true r h = governed text old new said h
       go false (Ok command) h = obeyed command old new said h
       go false (Err fault) h = only_said (Error fault) old new said h
@@ -64,7 +64,7 @@ module _ {S : Type 0} (subject_of : S → Option Subject) (serves : Call → S �
   pub line_keeps : (text : List ℕ) (old new : Desk S) (said : SaidData) → Answers subject_of serves text old new said → Kept old.service new.service
   line_keeps text old new said h = go (verb_for (is_some (subject_of old.service)) text) h
     where
-      go : (r : Result (Verb × List ℕ) Fault) → MatchResult r (λ verb. Does subject_of serves verb.0 verb.1 old new said) (λ fault. OnlySays (Error fault) old new said) → Kept old.service new.service
+      go : (r : Result (Verb × List ℕ) LineFault) → MatchResult r (λ verb. Does subject_of serves verb.0 verb.1 old new said) (λ fault. OnlySays (Error fault) old new said) → Kept old.service new.service
       go (Ok verb) h = done verb.0 verb.1 old new said h
       go (Err fault) h = only_said (Error fault) old new said h
 
@@ -90,7 +90,7 @@ module _ {S T : Type 0} (see : S → T) (subject_of : T → Option Subject) (ser
   asked_seen asking old new said None h = only_seen (Error BeforeHello) old new said h
   asked_seen asking old new said (Some subject) h = (h.0, each (Explain (question_of subject asking)) old.service new.service said h.1)
 
-  governed_seen : (text : List ℕ) (old new : Desk S) (said : SaidData) → Governs serves text old new said → Governs shown text (seen old) (seen new) said
+  governed_seen : (text : List ℕ) (old new : Desk S) (said : SaidData) → GovernsLine serves text old new said → GovernsLine shown text (seen old) (seen new) said
   governed_seen text old new said (inl h) = inl (h.0, h.1, only_seen (Memory h.1) old new said h.2)
   governed_seen text old new said (inr h) = inr (go (document_of_bytes text) h)
     where
@@ -112,8 +112,8 @@ module _ {S T : Type 0} (see : S → T) (subject_of : T → Option Subject) (ser
   done_seen : (verb : Verb) (text : List ℕ) (old new : Desk S) (said : SaidData) → Does (λ s. subject_of (see s)) serves verb text old new said → Does subject_of shown verb text (seen old) (seen new) said
   done_seen verb text old new said h = go (is_policy verb) (arguments_at verb text) h
     where
-      go : (b : Bool) (r : Result Command Fault) → MatchBool b (Governs serves text old new said) (MatchResult r (λ command. Obeys (λ s. subject_of (see s)) serves command old new said) (λ fault. OnlySays (Error fault) old new said))
-          → MatchBool b (Governs shown text (seen old) (seen new) said) (MatchResult r (λ command. Obeys subject_of shown command (seen old) (seen new) said) (λ fault. OnlySays (Error fault) (seen old) (seen new) said))
+      go : (b : Bool) (r : Result Command LineFault) → MatchBool b (GovernsLine serves text old new said) (MatchResult r (λ command. Obeys (λ s. subject_of (see s)) serves command old new said) (λ fault. OnlySays (Error fault) old new said))
+          → MatchBool b (GovernsLine shown text (seen old) (seen new) said) (MatchResult r (λ command. Obeys subject_of shown command (seen old) (seen new) said) (λ fault. OnlySays (Error fault) (seen old) (seen new) said))
       go true r h = governed_seen text old new said h
       go false (Ok command) h = obeyed_seen command old new said h
       go false (Err fault) h = only_seen (Error fault) old new said h
@@ -121,7 +121,7 @@ module _ {S T : Type 0} (see : S → T) (subject_of : T → Option Subject) (ser
   pub line_seen : (text : List ℕ) (old new : Desk S) (said : SaidData) → Answers (λ s. subject_of (see s)) serves text old new said → Answers subject_of shown text (seen old) (seen new) said
   line_seen text old new said h = go (verb_for (is_some (subject_of (see old.service))) text) h
     where
-      go : (r : Result (Verb × List ℕ) Fault) → MatchResult r (λ verb. Does (λ s. subject_of (see s)) serves verb.0 verb.1 old new said) (λ fault. OnlySays (Error fault) old new said)
+      go : (r : Result (Verb × List ℕ) LineFault) → MatchResult r (λ verb. Does (λ s. subject_of (see s)) serves verb.0 verb.1 old new said) (λ fault. OnlySays (Error fault) old new said)
           → MatchResult r (λ verb. Does subject_of shown verb.0 verb.1 (seen old) (seen new) said) (λ fault. OnlySays (Error fault) (seen old) (seen new) said)
       go (Ok verb) h = done_seen verb.0 verb.1 old new said h
       go (Err fault) h = only_seen (Error fault) old new said h

@@ -38,7 +38,7 @@ module _ {S : Type 0} (subject_of : S → Option Subject) (serves : Call → S �
   called_none : (s : S) → Called s s
   called_none s = ([], refl)
 
-  served_line : (text : List ℕ) (old new : Desk S) (said : List ℕ) (next : Next) → serving.LineTells subject_of serves text old new said next → Called old.service new.service
+  served_line : (text : List ℕ) (old new : Desk S) (said : List ℕ) (next : Next) → serving.DeskTells subject_of serves text old new said next → Called old.service new.service
   served_line text old new said next told = go (is_too_long text) told
     where
       go : (b : Bool) → MatchBool b (serving.IsPassedOver old new said next) (serving.Replies subject_of serves text old new said next) → Called old.service new.service
@@ -46,9 +46,9 @@ module _ {S : Type 0} (subject_of : S → Option Subject) (serves : Call → S �
       go false h = line_keeps subject_of serves Called called_none called_once text old new h.reply h.answers
 
   -- a run over a service is a sequence of its calls
-  pub run_calls : {T : Type 0} (r : Result T ServeFault) (old new : Desk S) (input left a b : Option (List ℕ)) → Ran (serving.LineTells subject_of serves) r old new input left a b → Called old.service new.service
+  pub run_calls : {T : Type 0} (r : Result T ServeFault) (old new : Desk S) (input left a b : Option (List ℕ)) → Ran (serving.DeskTells subject_of serves) r old new input left a b → Called old.service new.service
   run_calls r old new input left a b run =
-      run_keeps (serving.LineTells subject_of serves) (λ (x y : Desk S). Called x.service y.service) (λ d. called_none d.service)
+      run_keeps (serving.DeskTells subject_of serves) (λ (x y : Desk S). Called x.service y.service) (λ d. called_none d.service)
       (λ x y z first more. called_then x.service y.service z.service first more) served_line r old new input left a b run
 
   -- what each call keeps, a sequence of calls keeps
@@ -62,11 +62,11 @@ module _ {S : Type 0} (subject_of : S → Option Subject) (serves : Call → S �
 
 -- a run that ended well has written the text of all its known input
 module _ {S : Type 0} (subject_of : S → Option Subject) (serves : Call → S → S → SaidData → Type 0) where
-  pub served_text_of : {T : Type 0} (r : Result T ServeFault) (service end : S) (staged : List Change) (input left a b : Option (List ℕ)) → Ran (serving.LineTells subject_of serves) r (desk [] service) (desk staged end) input left a b
+  pub served_text_of : {T : Type 0} (r : Result T ServeFault) (service end : S) (staged : List Change) (input left a b : Option (List ℕ)) → Ran (serving.DeskTells subject_of serves) r (desk [] service) (desk staged end) input left a b
       → OnOk r (IfSome input (λ text. (said : List ℕ) × Appends a b said × IsServedText subject_of serves service text end said))
   served_text_of (Err e) service end staged input left a b run = tt
   served_text_of (Ok done) service end staged None left a b run = tt
   served_text_of {T = T} (Ok done) service end staged (Some text) left a b run =
       let ended : Result T ServeFault = Ok done in
-      let told = stream_told (serving.LineTells subject_of serves) ended (desk [] service) (desk staged end) (Some text) left a b run in
+      let told = stream_told (serving.DeskTells subject_of serves) ended (desk [] service) (desk staged end) (Some text) left a b run in
       (told.0, told.1, record { staged = staged; tells = told.2 })

@@ -19,8 +19,8 @@ use Rattle.plain_world.specs.declared.faults.Fault.{Fault as WorldFault}
 use Rattle.plain_world.specs.declared.faults.Fault.TheVariants as faults
 use Rattle.tree_answers.specs.declared.fault.TreeFault.{TreeFault}
 use Rattle.tree_answers.specs.declared.fault.TreeFault.TheVariants as tree
-use Rattle.session_lines.specs.declared.faults.Fault.{Fault}
-use Rattle.session_lines.specs.declared.faults.Fault.TheVariants.{Shape}
+use Rattle.session_lines.specs.declared.faults.LineFault.{LineFault}
+use Rattle.session_lines.specs.declared.faults.LineFault.TheVariants.{Shape}
 use Rattle.session_lines.specs.Faults.{code_of}
 use Rattle.session_lines.specs.Printed.{led, texts_text}
 use Rattle.std.specs.Result.{IsErr}
@@ -72,7 +72,7 @@ policy_code_short unread.TooDeep = lit≤ tt
 policy_code_short unread.TooMany = lit≤ tt
 policy_code_short (unread.Memory refused) = lit≤ tt
 
-pub code_short : (fault : Fault) → length (code_of fault) ≤ 3
+pub code_short : (fault : LineFault) → length (code_of fault) ≤ 3
 code_short (Shape fault) = wkt_code_short fault
 code_short _ = lit≤ tt
 

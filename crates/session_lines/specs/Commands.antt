@@ -10,22 +10,23 @@ use Rattle.session_lines.specs.declared.commands.Command.{Command}
 use Rattle.session_lines.specs.declared.commands.Command.TheVariants as commands
 use Rattle.session_lines.specs.declared.commands.Verb.{Verb}
 use Rattle.session_lines.specs.declared.commands.Verb.TheVariants as verbs
-use Rattle.session_lines.specs.declared.faults.Fault.{Fault}
-use Rattle.session_lines.specs.declared.faults.Fault.TheVariants.{Command as CommandFault, Number, Name, BeforeHello, HelloAgain, Shape}
+use Rattle.session_lines.specs.declared.faults.LineFault.{LineFault}
+use Rattle.session_lines.specs.declared.faults.LineFault.TheVariants.{Command as CommandFault, Number, Name, BeforeHello, HelloAgain, Shape}
 use Rattle.session_lines.specs.Words.{action_of, next_word, number_of}
 
 infixl 10 ◌>>=◌
-abbrev pub ◌>>=◌ : {A B : Type 0} → Result A Fault → (A → Result B Fault) → Result B Fault
+abbrev pub ◌>>=◌ : {A B : Type 0} → Result A LineFault → (A → Result B LineFault)
+    → Result B LineFault
 (Ok x) >>= f = f x
 (Err e) >>= f = Err e
 
 -- a returned value, seen by `view`, is what the reading gives
-abbrev pub Gives : {X Y : Type 0} → (X → Y) → Result X Fault → Result Y Fault → Type 0
+abbrev pub Gives : {X Y : Type 0} → (X → Y) → Result X LineFault → Result Y LineFault → Type 0
 Gives view (Ok x) reading = reading ≡ Ok (view x)
 Gives view (Err e) reading = reading ≡ Err e
 
 -- the value of an option, or this fault
-abbrev pub or_fault : {X : Type 0} → Fault → Option X → Result X Fault
+abbrev pub or_fault : {X : Type 0} → LineFault → Option X → Result X LineFault
 or_fault fault None = Err fault
 or_fault fault (Some x) = Ok x
 
@@ -46,18 +47,18 @@ verb_of word =
     else None
 
 -- the next word; E2 where there is none
-abbrev pub word_at : List ℕ → Result (List ℕ × List ℕ) Fault
+abbrev pub word_at : List ℕ → Result (List ℕ × List ℕ) LineFault
 word_at text = or_fault CommandFault (next_word text)
 
 -- the command that the first word names, and the rest of the line
-unfoldable pub verb_at : List ℕ → Result (Verb × List ℕ) Fault
+unfoldable pub verb_at : List ℕ → Result (Verb × List ℕ) LineFault
 verb_at text = do
   word ← word_at text
   verb ← or_fault CommandFault (verb_of word.0)
   Ok (verb, word.1)
 
 -- HELLO comes once, and every other command but BYE comes after it
-abbrev pub allowed : Bool → Verb → Result (Unit {0}) Fault
+abbrev pub allowed : Bool → Verb → Result (Unit {0}) LineFault
 allowed begun verbs.Bye = Ok tt
 allowed begun verbs.Hello = if begun then Err HelloAgain else Ok tt
 allowed begun verbs.Search = if begun then Ok tt else Err BeforeHello
@@ -71,41 +72,41 @@ allowed begun verbs.Explain = if begun then Ok tt else Err BeforeHello
 allowed begun verbs.Roll = if begun then Ok tt else Err BeforeHello
 
 -- the command of a line, if it may come now, and the rest of the line
-unfoldable pub verb_for : Bool → List ℕ → Result (Verb × List ℕ) Fault
+unfoldable pub verb_for : Bool → List ℕ → Result (Verb × List ℕ) LineFault
 verb_for begun text = do
   verb ← verb_at text
   _ ← allowed begun verb.0
   Ok (verb.0, verb.1)
 
 -- a shape, or the fault of its text
-abbrev pub shape_or_fault : Result (List Point) WktFault → Result (List Point) Fault
+abbrev pub shape_or_fault : Result (List Point) WktFault → Result (List Point) LineFault
 shape_or_fault (Ok corners) = Ok corners
 shape_or_fault (Err fault) = Err (Shape fault)
 
 -- a shape's text is the rest of the line, with its spaces
-unfoldable pub shape_at : List ℕ → Result (List Point) Fault
+unfoldable pub shape_at : List ℕ → Result (List Point) LineFault
 shape_at text = shape_or_fault (shape_of text)
 
-abbrev pub nothing_left : Option (List ℕ × List ℕ) → Result (Unit {0}) Fault
+abbrev pub nothing_left : Option (List ℕ × List ℕ) → Result (Unit {0}) LineFault
 nothing_left None = Ok tt
 nothing_left (Some word) = Err CommandFault
 
 -- nothing but spaces is left
-unfoldable pub end_at : List ℕ → Result (Unit {0}) Fault
+unfoldable pub end_at : List ℕ → Result (Unit {0}) LineFault
 end_at text = nothing_left (next_word text)
 
 -- a command that has no words
-unfoldable pub alone_at : Command → List ℕ → Result Command Fault
+unfoldable pub alone_at : Command → List ℕ → Result Command LineFault
 alone_at command text = end_at text >>= λ _. Ok command
 
-unfoldable pub hello_at : List ℕ → Result Command Fault
+unfoldable pub hello_at : List ℕ → Result Command LineFault
 hello_at text = do
   word ← word_at text
   name ← or_fault Name (name_of word.0)
   _ ← end_at word.1
   Ok (commands.Hello name)
 
-unfoldable pub add_at : List ℕ → Result Command Fault
+unfoldable pub add_at : List ℕ → Result Command LineFault
 add_at text = do
   first ← word_at text
   id ← or_fault Number (number_of first.0)
@@ -114,7 +115,7 @@ add_at text = do
   shape ← shape_at second.1
   Ok (commands.Stage (changes.Add id class shape))
 
-unfoldable pub reshape_at : List ℕ → Result Command Fault
+unfoldable pub reshape_at : List ℕ → Result Command LineFault
 reshape_at text = do
   first ← word_at text
   id ← or_fault Number (number_of first.0)
@@ -123,7 +124,7 @@ reshape_at text = do
   shape ← shape_at second.1
   Ok (commands.Stage (changes.Reshape id version shape))
 
-unfoldable pub delete_at : List ℕ → Result Command Fault
+unfoldable pub delete_at : List ℕ → Result Command LineFault
 delete_at text = do
   first ← word_at text
   id ← or_fault Number (number_of first.0)
@@ -132,7 +133,7 @@ delete_at text = do
   _ ← end_at second.1
   Ok (commands.Stage (changes.Delete id version))
 
-unfoldable pub explain_at : List ℕ → Result Command Fault
+unfoldable pub explain_at : List ℕ → Result Command LineFault
 explain_at text = do
   first ← word_at text
   action ← or_fault Name (action_of first.0)
@@ -144,7 +145,7 @@ explain_at text = do
   Ok (commands.Explain (record { action = action; owner = owner; class = class; shape = shape }))
 
 -- a command with its words, read from left to right; the text after POLICY has no words
-unfoldable pub arguments_at : Verb → List ℕ → Result Command Fault
+unfoldable pub arguments_at : Verb → List ℕ → Result Command LineFault
 arguments_at verbs.Hello text = hello_at text
 arguments_at verbs.Search text = shape_at text >>= λ shape. Ok (commands.Search shape)
 arguments_at verbs.Add text = add_at text

@@ -1,10 +1,10 @@
 -- The codes of a line's faults.
 use Rattle.std.specs.Prelude.{ℕ, List, codes}
 use Rattle.wkt.specs.FaultCodes.{code_of as wkt_code_of}
-use Rattle.session_lines.specs.declared.faults.Fault.{Fault}
-use Rattle.session_lines.specs.declared.faults.Fault.TheVariants.{LineTooLong, Command, Number, Name, BeforeHello, HelloAgain, NothingStaged, OutOfTurn, NoLabel, NoSubject, NoPlace, Closed, NotRead, Shape}
+use Rattle.session_lines.specs.declared.faults.LineFault.{LineFault}
+use Rattle.session_lines.specs.declared.faults.LineFault.TheVariants.{LineTooLong, Command, Number, Name, BeforeHello, HelloAgain, NothingStaged, OutOfTurn, NoLabel, NoSubject, NoPlace, Closed, NotRead, Shape}
 
-abbrev pub code_of : Fault → List ℕ
+abbrev pub code_of : LineFault → List ℕ
 code_of LineTooLong = codes "E1"
 code_of Command = codes "E2"
 code_of Number = codes "E3"

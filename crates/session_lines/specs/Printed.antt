@@ -5,7 +5,7 @@ use Rattle.wkt.specs.Printing.{printed}
 use Rattle.features.specs.declared.rows.Feature.{Feature}
 use Rattle.audit_trail.specs.JsonLines.{lines_from}
 use Rattle.session_lines.specs.declared.replies.Reply.{Reply}
-use Rattle.session_lines.specs.declared.replies.Reply.TheVariants.{Hello, Staged, Applied, Denied, Absent, Exists, Stale, Held, Opened, More, Ready, Aborted, Edition, Permitted, Forbidden, Bye, Memory, Error, Unread, Refused}
+use Rattle.session_lines.specs.declared.replies.Reply.TheVariants.{Hello, Staged, Applied, Denied, Absent, Exists, Stale, Held, Opened, More, Ready, Aborted, Edition, Permitted, Forbidden, Bye, Memory, Error, Unread, Failed}
 use Rattle.policy_text.specs.FaultCodes.{code_of as policy_code_of}
 use Rattle.plain_world.specs.FaultCodes.{fault_code}
 use Rattle.session_lines.specs.Faults.{code_of}
@@ -30,23 +30,27 @@ abbrev pub reply_text : Reply → List ℕ
 reply_text (Hello name) = codes "hello " ++ name
 reply_text Staged = codes "staged"
 reply_text (Applied version) = codes "applied " ++ decimal version
-reply_text (Denied rule change) = codes "denied" ++ rule_text rule ++ codes " change " ++ decimal change
+reply_text (Denied rule change) =
+    codes "denied" ++ rule_text rule ++ codes " change " ++ decimal change
 reply_text (Absent change) = codes "absent change " ++ decimal change
 reply_text (Exists change) = codes "exists change " ++ decimal change
-reply_text (Stale current change) = codes "stale " ++ decimal current ++ codes " change " ++ decimal change
+reply_text (Stale current change) =
+    codes "stale " ++ decimal current ++ codes " change " ++ decimal change
 reply_text Held = codes "held"
 reply_text Opened = codes "opened"
 reply_text More = codes "more"
 reply_text Ready = codes "ready"
 reply_text Aborted = codes "aborted"
 reply_text (Edition edition) = codes "edition " ++ decimal edition
-reply_text (Permitted rule edition) = codes "permit" ++ rule_text rule ++ codes " edition " ++ decimal edition
-reply_text (Forbidden rule edition) = codes "denied" ++ rule_text rule ++ codes " edition " ++ decimal edition
+reply_text (Permitted rule edition) =
+    codes "permit" ++ rule_text rule ++ codes " edition " ++ decimal edition
+reply_text (Forbidden rule edition) =
+    codes "denied" ++ rule_text rule ++ codes " edition " ++ decimal edition
 reply_text Bye = codes "bye"
 reply_text (Memory refused) = codes "memory"
 reply_text (Error fault) = codes "error " ++ code_of fault
 reply_text (Unread fault) = codes "error " ++ policy_code_of fault
-reply_text (Refused fault) = codes "error " ++ fault_code fault
+reply_text (Failed fault) = codes "error " ++ fault_code fault
 
 -- the first line of a listing
 abbrev pub rows_head : ℕ → List ℕ
@@ -55,15 +59,18 @@ rows_head count = codes "rows " ++ decimal count
 -- the line of a feature
 abbrev pub row_text : Feature → List ℕ
 row_text feature =
-    decimal feature.id ++ codes " " ++ decimal feature.version ++ codes " " ++ feature.office ++ codes " " ++ feature.class ++ codes " " ++ printed feature.shape
+    decimal feature.id ++ codes " " ++ decimal feature.version ++ codes " " ++ feature.office
+    ++ codes " " ++ feature.class ++ codes " " ++ printed feature.shape
 
 -- a whole listing
 abbrev pub rows_text : List ℕ → List Feature → List ℕ
-rows_text lead features = led lead (rows_head (length features)) ++ flat_map (λ feature. led lead (row_text feature)) features
+rows_text lead features = led lead (rows_head (length features)) ++ flat_map
+    (λ feature. led lead (row_text feature)) features
 
 -- a roll: the number of its lines, and then the lines
 abbrev pub texts_text : List ℕ → List (List ℕ) → List ℕ
-texts_text lead texts = led lead (codes "rolled " ++ decimal (length texts)) ++ flat_map (λ text. led lead text) texts
+texts_text lead texts = led lead (codes "rolled " ++ decimal (length texts)) ++ flat_map
+    (λ text. led lead text) texts
 
 -- the bytes of a reply
 abbrev pub said_text : List ℕ → SaidData → List ℕ

@@ -18,9 +18,9 @@ use Rattle.plain_world.specs.declared.outcomes.Outcome.{Outcome}
 use Rattle.plain_world.specs.declared.outcomes.Outcome.TheVariants as outcomes
 use Rattle.tree_answers.specs.declared.answers.Visit.{Visit}
 use Rattle.tree_answers.specs.declared.answers.Visit.TheVariants as visits
-use Rattle.session_lines.specs.declared.faults.Fault.TheVariants.{NoSubject, NoPlace}
+use Rattle.session_lines.specs.declared.faults.LineFault.TheVariants.{NoSubject, NoPlace}
 use Rattle.session_lines.specs.declared.replies.Reply.{Reply}
-use Rattle.session_lines.specs.declared.replies.Reply.TheVariants.{Applied, Denied, Absent, Exists, Stale, Held, More, Ready, Permitted, Forbidden, Memory, Error, Unread, Refused}
+use Rattle.session_lines.specs.declared.replies.Reply.TheVariants.{Applied, Denied, Absent, Exists, Stale, Held, More, Ready, Permitted, Forbidden, Memory, Error, Unread, Failed}
 use Rattle.session_lines.specs.declared.replies.Said.{Said}
 use Rattle.session_lines.specs.declared.replies.Said.TheVariants as code
 
@@ -52,7 +52,7 @@ fault_reply (refusals.Tree (tree.Memory refused)) = Memory refused
 fault_reply (refusals.Tree (tree.Held search)) = Held
 fault_reply refusals.NoSubject = Error NoSubject
 fault_reply refusals.NoPlace = Error NoPlace
-fault_reply other = Refused other
+fault_reply other = Failed other
 
 -- the reply to a text that is no document
 abbrev pub policy_reply : TextFault → Reply
@@ -83,7 +83,8 @@ outcome_reply (outcomes.Refused refusal denial) = refusal_reply refusal.cause re
 -- the reply to EXPLAIN
 abbrev pub ruling_reply : DeciderData → Ruling → Reply
 ruling_reply decider (rulings.Permit rule) = Permitted (name_of_rule decider rule) decider.edition
-ruling_reply decider (rulings.DeniedBy rule) = Forbidden (name_of_rule decider (Some rule)) decider.edition
+ruling_reply decider (rulings.DeniedBy rule) =
+    Forbidden (name_of_rule decider (Some rule)) decider.edition
 ruling_reply decider rulings.NoneApplied = Forbidden None decider.edition
 
 -- the reply to STEP

@@ -5,7 +5,7 @@ ghost use Rattle.features.specs.Names.{name_of};
 ghost use Rattle.session_lines.specs.Words.{action_of, number_of};
 ghost use Rattle.session_lines.specs.Commands.{Gives, verb_of, verb_at, verb_for, allowed, or_fault, word_at, shape_at, end_at, hello_at, add_at, reshape_at, delete_at, explain_at, alone_at, arguments_at};
 
-use crate::faults::Fault;
+use crate::faults::LineFault;
 use crate::words::{action_named, next_word, read_number};
 use features::{Action, Change, Name};
 use plane::Shape;
@@ -66,7 +66,7 @@ pub(crate) enum Verb {
 /// with the rest of the line. Faults in this order: `Command` for an unknown command, then
 /// `BeforeHello` or `HelloAgain`.
 #[tactic(auto, unfolding(crate::specs::Commands::verb_for))]
-pub(crate) fn read_verb(begun: bool, text: &[u8]) -> Result<(Verb, &[u8]), Fault>
+pub(crate) fn read_verb(begun: bool, text: &[u8]) -> Result<(Verb, &[u8]), LineFault>
     ensures { Gives (λ r. (r.0, r.1.now)) result (verb_for begun text.now) }
 {
     let (verb, rest) = first_verb(text)?;
@@ -107,31 +107,31 @@ fn verb_named(word: &[u8]) -> Option<Verb>
 
 /// The command that the first word names, and the rest of the line.
 #[tactic(auto, unfolding(crate::specs::Commands::verb_at))]
-fn first_verb(text: &[u8]) -> Result<(Verb, &[u8]), Fault>
+fn first_verb(text: &[u8]) -> Result<(Verb, &[u8]), LineFault>
     ensures { Gives (λ r. (r.0, r.1.now)) result (verb_at text.now) }
 {
     let (word, rest) = due_word(text)?;
-    let verb = verb_named(word).ok_or(Fault::Command)?;
+    let verb = verb_named(word).ok_or(LineFault::Command)?;
     Ok((verb, rest))
 }
 
 /// `HelloAgain` or `BeforeHello` where the command may not come now.
-fn allow(begun: bool, verb: Verb) -> Result<(), Fault>
+fn allow(begun: bool, verb: Verb) -> Result<(), LineFault>
     ensures { result ≡ allowed begun verb }
 {
     match verb {
         Verb::Bye => Ok(()),
-        Verb::Hello if begun => Err(Fault::HelloAgain),
+        Verb::Hello if begun => Err(LineFault::HelloAgain),
         Verb::Hello => Ok(()),
         _ if begun => Ok(()),
-        _ => Err(Fault::BeforeHello),
+        _ => Err(LineFault::BeforeHello),
     }
 }
 
 /// Reads the words of a command. Faults of the words from left to right: `Command` for a missing
 /// one, `Number`, `Name`; then those of the shape's text; then `Command` for something left over.
 #[tactic(auto, unfolding(crate::specs::Commands::arguments_at))]
-pub(crate) fn read_arguments(verb: Verb, rest: &[u8]) -> Result<Command, Fault>
+pub(crate) fn read_arguments(verb: Verb, rest: &[u8]) -> Result<Command, LineFault>
     ensures { result ≡ arguments_at verb rest.now }
 {
     match verb {
@@ -143,7 +143,7 @@ pub(crate) fn read_arguments(verb: Verb, rest: &[u8]) -> Result<Command, Fault>
         Verb::Commit => alone(Command::Commit, rest),
         Verb::Abort => alone(Command::Abort, rest),
         // No line comes here: `take_command` reads a policy's text before.
-        Verb::Policy => Err(Fault::Command),
+        Verb::Policy => Err(LineFault::Command),
         Verb::Explain => explain(rest),
         Verb::Roll => alone(Command::Roll, rest),
         Verb::Bye => alone(Command::Bye, rest),
@@ -152,7 +152,7 @@ pub(crate) fn read_arguments(verb: Verb, rest: &[u8]) -> Result<Command, Fault>
 
 /// A command that has no words.
 #[tactic(auto, unfolding(crate::specs::Commands::alone_at))]
-fn alone(command: Command, rest: &[u8]) -> Result<Command, Fault>
+fn alone(command: Command, rest: &[u8]) -> Result<Command, LineFault>
     ensures { result ≡ alone_at command rest.now }
 {
     end(rest)?;
@@ -161,7 +161,7 @@ fn alone(command: Command, rest: &[u8]) -> Result<Command, Fault>
 
 /// The words of HELLO: a name.
 #[tactic(auto, unfolding(crate::specs::Commands::hello_at))]
-fn hello(rest: &[u8]) -> Result<Command, Fault>
+fn hello(rest: &[u8]) -> Result<Command, LineFault>
     ensures { result ≡ hello_at rest.now }
 {
     let (word, rest) = due_word(rest)?;
@@ -172,7 +172,7 @@ fn hello(rest: &[u8]) -> Result<Command, Fault>
 
 /// The words of ADD: the id, the class, and the shape.
 #[tactic(auto, unfolding(crate::specs::Commands::add_at))]
-fn add(rest: &[u8]) -> Result<Command, Fault>
+fn add(rest: &[u8]) -> Result<Command, LineFault>
     ensures { result ≡ add_at rest.now }
 {
     let (word, rest) = due_word(rest)?;
@@ -185,7 +185,7 @@ fn add(rest: &[u8]) -> Result<Command, Fault>
 
 /// The words of RESHAPE: the id, the version that the editor has seen, and the shape.
 #[tactic(auto, unfolding(crate::specs::Commands::reshape_at))]
-fn reshape(rest: &[u8]) -> Result<Command, Fault>
+fn reshape(rest: &[u8]) -> Result<Command, LineFault>
     ensures { result ≡ reshape_at rest.now }
 {
     let (word, rest) = due_word(rest)?;
@@ -198,7 +198,7 @@ fn reshape(rest: &[u8]) -> Result<Command, Fault>
 
 /// The words of DELETE: the id, and the version that the editor has seen.
 #[tactic(auto, unfolding(crate::specs::Commands::delete_at))]
-fn delete(rest: &[u8]) -> Result<Command, Fault>
+fn delete(rest: &[u8]) -> Result<Command, LineFault>
     ensures { result ≡ delete_at rest.now }
 {
     let (word, rest) = due_word(rest)?;
@@ -211,7 +211,7 @@ fn delete(rest: &[u8]) -> Result<Command, Fault>
 
 /// The words of EXPLAIN: the action, the office, the class, and the shape.
 #[tactic(auto, unfolding(crate::specs::Commands::explain_at))]
-fn explain(rest: &[u8]) -> Result<Command, Fault>
+fn explain(rest: &[u8]) -> Result<Command, LineFault>
     ensures { result ≡ explain_at rest.now }
 {
     let (word, rest) = due_word(rest)?;
@@ -230,48 +230,48 @@ fn explain(rest: &[u8]) -> Result<Command, Fault>
 }
 
 /// The action that a word names, or `Name`.
-fn as_action(word: &[u8]) -> Result<Action, Fault>
-    ensures { result ≡ or_fault Fault.Name (action_of word.now) }
+fn as_action(word: &[u8]) -> Result<Action, LineFault>
+    ensures { result ≡ or_fault LineFault.Name (action_of word.now) }
 {
-    action_named(word).ok_or(Fault::Name)
+    action_named(word).ok_or(LineFault::Name)
 }
 
 /// The next word, and the rest of the text. `Command` where no word is left.
-pub fn due_word(text: &[u8]) -> Result<(&[u8], &[u8]), Fault>
+pub fn due_word(text: &[u8]) -> Result<(&[u8], &[u8]), LineFault>
     ensures { Gives (λ r. (r.0.now, r.1.now)) result (word_at text.now) }
 {
-    next_word(text).ok_or(Fault::Command)
+    next_word(text).ok_or(LineFault::Command)
 }
 
 /// The number that a word spells, or `Number`.
-pub fn as_number(word: &[u8]) -> Result<u64, Fault>
-    ensures { result ≡ or_fault Fault.Number (number_of word.now) }
+pub fn as_number(word: &[u8]) -> Result<u64, LineFault>
+    ensures { result ≡ or_fault LineFault.Number (number_of word.now) }
 {
-    read_number(word).ok_or(Fault::Number)
+    read_number(word).ok_or(LineFault::Number)
 }
 
 /// The name that a word is, or `Name`.
-fn as_name(word: &[u8]) -> Result<Name, Fault>
-    ensures { result ≡ or_fault Fault.Name (name_of word.now) }
+fn as_name(word: &[u8]) -> Result<Name, LineFault>
+    ensures { result ≡ or_fault LineFault.Name (name_of word.now) }
 {
-    Name::new(word).ok_or(Fault::Name)
+    Name::new(word).ok_or(LineFault::Name)
 }
 
 /// The shape that the rest of a line spells, or the fault of its text.
 #[tactic(auto, unfolding(crate::specs::Commands::shape_at))]
-pub fn as_shape(text: &[u8]) -> Result<Shape, Fault>
+pub fn as_shape(text: &[u8]) -> Result<Shape, LineFault>
     ensures { result ≡ shape_at text.now }
 {
-    read_shape(text).map_err(Fault::Shape)
+    read_shape(text).map_err(LineFault::Shape)
 }
 
 /// `Command` unless nothing but spaces is left.
 #[tactic(auto, unfolding(crate::specs::Commands::end_at))]
-pub fn end(text: &[u8]) -> Result<(), Fault>
+pub fn end(text: &[u8]) -> Result<(), LineFault>
     ensures { result ≡ end_at text.now }
 {
     match next_word(text) {
         None => Ok(()),
-        Some(_) => Err(Fault::Command),
+        Some(_) => Err(LineFault::Command),
     }
 }

@@ -3,11 +3,11 @@
 ghost use Rattle.std.specs.Prelude.{◌≡◌, List, []};
 ghost use Rattle.features.specs.declared.rows.Change.{Change};
 ghost use Rattle.plain_world.specs.Staging.{names};
-ghost use Rattle.session_lines.specs.Desks.{Answers, Asks, Closes, Does, Governs, Obeys, is_policy, staged_with, desk};
+ghost use Rattle.session_lines.specs.Desks.{Answers, Asks, Closes, Does, GovernsLine, Obeys, is_policy, staged_with, desk};
 ghost use Rattle.session_lines.specs.Replies.{line, said_view};
 
 use crate::commands::{Asking, Command, Verb, read_arguments, read_verb};
-use crate::faults::Fault;
+use crate::faults::LineFault;
 use crate::lists::ChangeList;
 use crate::replies::{Reply, Said, policy_reply};
 use crate::services::Service;
@@ -52,10 +52,10 @@ impl Staged {
         ensures { (self.new, result) ≡ staged_with change self.old }
     {
         if self.changes.len() >= CHANGE_LIMIT {
-            return Reply::Refused(WorldFault::TooManyChanges);
+            return Reply::Failed(WorldFault::TooManyChanges);
         }
         if is_named(self.changes.as_slice(), change.id()) {
-            return Reply::Refused(WorldFault::NamedTwice);
+            return Reply::Failed(WorldFault::NamedTwice);
         }
         self.changes.push(change);
         Reply::Staged
@@ -74,7 +74,7 @@ impl Staged {
             (line result) }
     {
         if self.changes.len() == 0 {
-            return Reply::Error(Fault::NothingStaged);
+            return Reply::Error(LineFault::NothingStaged);
         }
         let reply = service.commit(self.changes.as_slice());
         if reply.ends_list() {
@@ -137,7 +137,7 @@ fn take_command<S: Service>(
 /// Puts in force the document that a text spells. The staged list stays.
 fn govern<S: Service>(service: &mut S, heap: Global, text: &[u8]) -> Reply
     ensures { (staged : List Change)
-        → Governs S.serves text.now (desk staged service.old) (desk staged service.new)
+        → GovernsLine S.serves text.now (desk staged service.old) (desk staged service.new)
         (line result) }
 {
     match read_document(heap, heap, text) {
@@ -153,7 +153,7 @@ fn explain<S: Service>(service: &mut S, asking: &Asking) -> Reply
         (line result) }
 {
     match service.subject() {
-        None => Reply::Error(Fault::BeforeHello),
+        None => Reply::Error(LineFault::BeforeHello),
         Some(subject) => service.explain(&Question {
             subject,
             action: asking.action,

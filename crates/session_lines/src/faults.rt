@@ -8,7 +8,7 @@ use wkt::WktFault;
 /// Why a line is answered `error`: its syntax, its label or its turn is wrong, or the session gets
 /// no seat or has no policy to read.
 #[derive(Clone, Copy, Debug, PartialEq, Eq)]
-pub enum Fault {
+pub enum LineFault {
     /// E1: the line is longer than 65,536 bytes.
     LineTooLong,
     /// E2: the command is unknown, a word is missing, or something is left over.
@@ -40,7 +40,7 @@ pub enum Fault {
     Shape(WktFault),
 }
 
-impl Fault {
+impl LineFault {
     ghost use Rattle.session_lines.specs.Faults.{code_of};
 
     /// The code that the reply shows.
@@ -48,25 +48,25 @@ impl Fault {
         ensures { result.now ≡ code_of self }
     {
         match self {
-            Fault::LineTooLong => "E1",
-            Fault::Command => "E2",
-            Fault::Number => "E3",
-            Fault::Name => "E4",
-            Fault::BeforeHello => "E5",
-            Fault::HelloAgain => "E6",
-            Fault::NothingStaged => "E7",
-            Fault::OutOfTurn => "E8",
-            Fault::NoLabel => "E9",
-            Fault::NoSubject => "H1",
-            Fault::NoPlace => "H2",
-            Fault::Closed => "H3",
-            Fault::NotRead => "H7",
-            Fault::Shape(fault) => fault.code(),
+            LineFault::LineTooLong => "E1",
+            LineFault::Command => "E2",
+            LineFault::Number => "E3",
+            LineFault::Name => "E4",
+            LineFault::BeforeHello => "E5",
+            LineFault::HelloAgain => "E6",
+            LineFault::NothingStaged => "E7",
+            LineFault::OutOfTurn => "E8",
+            LineFault::NoLabel => "E9",
+            LineFault::NoSubject => "H1",
+            LineFault::NoPlace => "H2",
+            LineFault::Closed => "H3",
+            LineFault::NotRead => "H7",
+            LineFault::Shape(fault) => fault.code(),
         }
     }
 }
 
-impl fmt::Display for Fault {
+impl fmt::Display for LineFault {
     ghost use Rattle.std.specs.Prelude.{Some};
     ghost use Rattle.session_lines.specs.Faults.{code_of};
 

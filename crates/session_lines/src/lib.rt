@@ -13,7 +13,7 @@ mod writing;
 
 pub use commands::{as_number, as_shape, due_word, end};
 pub use desks::{Staged, answer};
-pub use faults::Fault;
+pub use faults::LineFault;
 pub use replies::{Reply, Said, fault_reply, outcome_reply, visit_reply};
 pub use services::Service;
 pub use serving::serve;

@@ -3,10 +3,10 @@
 ghost use Rattle.std.specs.Prelude.{◌≡◌};
 ghost use Rattle.session_lines.specs.Replies.{denial_rule, ends_list as reply_ends_list, fault_reply, outcome_reply, policy_reply, refusal_reply, visit_reply};
 
-use crate::faults::Fault;
+use crate::faults::LineFault;
 use audit_trail::{Cause, Refusal};
 use features::Name;
-use memory::Refused;
+use memory::NoMemory;
 use plain_world::{Answer, Denial, Fault as WorldFault, Outcome, Rolled};
 use policy_text::TextFault;
 use std::alloc::Allocator;
@@ -52,15 +52,15 @@ pub enum Reply {
     /// `bye`
     Bye,
     /// `memory`: an allocation was refused.
-    Memory(Refused),
-    /// `error CODE`, an E, an H or the code of a shape's text: see `Fault`.
-    Error(Fault),
+    Memory(NoMemory),
+    /// `error CODE`, an E, an H or the code of a shape's text: see `LineFault`.
+    Error(LineFault),
     /// `error CODE`, D1 to D8: the text is no policy document.
     Unread(TextFault),
     /// `error CODE`, an X or an S: the world refuses the call. X9 is shown as the code of the
     /// index. Out of memory, an unknown subject, no seat left and a list that is held have replies
     /// of their own.
-    Refused(WorldFault),
+    Failed(WorldFault),
 }
 
 impl Reply {
@@ -98,9 +98,9 @@ pub fn fault_reply(fault: WorldFault) -> Reply
         WorldFault::Memory(refusal) => Reply::Memory(refusal),
         WorldFault::Tree(TreeFault::Memory(refusal)) => Reply::Memory(refusal),
         WorldFault::Tree(TreeFault::Held(_)) => Reply::Held,
-        WorldFault::NoSubject => Reply::Error(Fault::NoSubject),
-        WorldFault::NoPlace => Reply::Error(Fault::NoPlace),
-        other => Reply::Refused(other),
+        WorldFault::NoSubject => Reply::Error(LineFault::NoSubject),
+        WorldFault::NoPlace => Reply::Error(LineFault::NoPlace),
+        other => Reply::Failed(other),
     }
 }
 

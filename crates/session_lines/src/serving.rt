@@ -5,12 +5,12 @@ ghost use Rattle.std.specs.Io.KnownBytes.{Appends};
 ghost use Rattle.features.specs.declared.rows.Change.{Change};
 ghost use Rattle.session_lines.specs.Replies.{SaidData, said_view};
 ghost use Rattle.session_lines.specs.Services.{Call};
-ghost use Rattle.session_lines.specs.Serving.{Calls, IsServedText, LineTells, next_behind};
+ghost use Rattle.session_lines.specs.Serving.{Calls, IsServedText, DeskTells, next_behind};
 ghost use Rattle.session_lines.specs.Desks.{desk};
 ghost use Rattle.line_streams.specs.Streams.{OnMemory, Ran};
 
 use crate::desks::{Staged, answer};
-use crate::faults::Fault;
+use crate::faults::LineFault;
 use crate::replies::{Reply, Said};
 use crate::services::Service;
 use crate::writing::{write_line, write_said};
@@ -41,13 +41,14 @@ struct Alone<S: Service> {
 }
 
 impl<S: Service> LineDesk for Alone<S> {
-    ghost use Rattle.session_lines.specs.Serving.{LineTells};
+    ghost use Rattle.session_lines.specs.Serving.{DeskTells};
     ghost use Rattle.session_lines.specs.Desks.{desk};
     ghost use Rattle.std.proofs.Common.{rules};
 
     type World = S;
 
-    ghost tells = { λ line old new said next. LineTells S.subject_of S.serves line (desk old.1.staged old.0) (desk new.1.staged new.0) said next };
+    ghost tells = { λ line old new said next. DeskTells S.subject_of S.serves line
+        (desk old.1.staged old.0) (desk new.1.staged new.0) said next };
 
     fn take_line<W: Write>(
         &mut self,
@@ -56,7 +57,7 @@ impl<S: Service> LineDesk for Alone<S> {
         writer: &mut W,
     ) -> Result<Next, WriteFailed> {
         if line.len() > LINE_LIMIT {
-            let too_long = Reply::Error(Fault::LineTooLong);
+            let too_long = Reply::Error(LineFault::LineTooLong);
             return Next::Line.behind(write_line(b"", &too_long, writer));
         }
         let said = answer(service, self.heap, &mut self.staged, line);
@@ -83,7 +84,7 @@ pub fn serve<S: Service, A: Allocator, R: Read, W: Write>(
         (λ input. (said : List ℕ) × Appends (W.contents writer.old) (W.contents writer.new) said
         × IsServedText S.subject_of S.serves service.old input service.new said)) }
     ensures ran { (staged : List Change)
-        × Ran (LineTells S.subject_of S.serves) result (desk [] service.old)
+        × Ran (DeskTells S.subject_of S.serves) result (desk [] service.old)
         (desk staged service.new) (R.remaining reader.old) (R.remaining reader.new)
         (W.contents writer.old) (W.contents writer.new) }
     ensures calls { (calls : List (Call × SaidData))

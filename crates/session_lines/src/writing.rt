@@ -173,7 +173,7 @@ fn push_reply(line: &mut Line, reply: &Reply)
         Reply::Memory(_) => push_bytes(line, b"memory"),
         Reply::Error(fault) => push_error(line, fault.code()),
         Reply::Unread(fault) => push_error(line, fault.code()),
-        Reply::Refused(fault) => push_error(line, fault.code()),
+        Reply::Failed(fault) => push_error(line, fault.code()),
     }
 }
 

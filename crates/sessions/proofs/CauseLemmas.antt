@@ -15,10 +15,10 @@ use Rattle.plain_world.specs.declared.faults.Fault.TheVariants as faults
 use Rattle.plain_world.specs.declared.outcomes.Outcome.{Outcome}
 use Rattle.plain_world.specs.declared.outcomes.Outcome.TheVariants as outcomes
 use Rattle.plain_world.specs.declared.settings.TheConstants.{CHANGE_LIMIT, STEP_LIMIT}
-use Rattle.plain_world.specs.declared.steps.Advance.TheVariants.{Walked}
+use Rattle.plain_world.specs.declared.advances.Advance.TheVariants.{Walked}
 use Rattle.plain_world.specs.Admitting.{LAST, and_then, given, subject_at, may_record, may_go_on, transaction_owned, own_transaction, may_step, may_stage, all_placed, may_commit}
 use Rattle.plain_world.specs.Answers.{AnswerData}
-use Rattle.plain_world.specs.Events.{Stage, Commit, Happens, Reply, Refused, Rows, Ended, Applies, CommitsAs, is_want, recorded, reply_of, without_transaction}
+use Rattle.plain_world.specs.Events.{Stage, Commit, Happens, Reply, Failed, Rows, Ended, Applies, CommitsAs, is_want, recorded, reply_of, without_transaction}
 use Rattle.plain_world.specs.Staging.{names, placements, staged_in, transaction_with}
 use Rattle.plain_world.specs.States.{WorldData}
 use Rattle.plain_world.proofs.AdmittedLemmas.{by_if, by_unless}
@@ -27,13 +27,13 @@ use Rattle.tree_answers.specs.declared.answers.Visit.TheVariants as visits
 use Rattle.tree_answers.specs.declared.fault.TreeFault.TheVariants as tree
 use Rattle.transactions.specs.Index.{Index, IndexedWorld}
 use Rattle.transactions.specs.Stepping.{EndsInIndex, VisitsIndex}
-use Rattle.transactions.specs.Walks.{JourneyData, begun as with_place, ended, if_done}
-use Rattle.session_lines.specs.declared.faults.Fault.TheVariants.{BeforeHello}
+use Rattle.transactions.specs.Walks.{JourneyData, walk_begun as with_place, walk_ended, if_done}
+use Rattle.session_lines.specs.declared.faults.LineFault.TheVariants.{BeforeHello}
 use Rattle.session_lines.specs.declared.replies.Reply.TheVariants.{Error}
 use Rattle.sessions.specs.Causes.{AdvancesIn, Causes, CommitsIn, ConcludesIn, IsOwn, LetsGo, SearchesIn, SeeksIn, StayBeside, WalksMore}
 use Rattle.session_lines.specs.Replies.{SaidData, line, outcome_reply, rows, told}
 use Rattle.session_lines.specs.Services.{Commit as CommitList, Search as SearchFor}
-use Rattle.sessions.specs.Services.{Commits, Searches, Serves}
+use Rattle.sessions.specs.Services.{CommitsCall, SearchesCall, ServesCall}
 use Rattle.sessions.specs.States.{SoloState, WhereAtRest, IsAtRest, begun}
 use Rattle.sessions.specs.Stepping.{SeesMore}
 use Rattle.sessions.proofs.SearchLemmas.{want_is}
@@ -69,7 +69,7 @@ module _ (Fits : Fault → Type 0) where
 
   -- if the reply is a refusal, its fault fits
   abbrev pub Answered : Reply → Type 0
-  Answered (Refused fault) = Fits fault
+  Answered (Failed fault) = Fits fault
   Answered _ = ⊤
 
   want_fits : ((refusal : _) → Fits (faults.Memory refusal)) → (fault : Fault) → is_want fault ≡ true → Fits fault
@@ -116,7 +116,7 @@ applies_own seat number subject changes old new reply h =
     Applied : Type 0
     Applied = (reply ≡ Ended (outcomes.Applied (old.state.version + 1))) × (new ≡ without_transaction number (recorded seat (applied subject (old.state.version + 1) changes) old))
 
-    last : (l o : Bool) → MatchBool l ((new ≡ old) × (reply ≡ Refused faults.Spent)) (MatchBool o ((new ≡ old) × (reply ≡ Refused faults.StoreFull)) Applied) → Answered IsOwn reply
+    last : (l o : Bool) → MatchBool l ((new ≡ old) × (reply ≡ Failed faults.Spent)) (MatchBool o ((new ≡ old) × (reply ≡ Failed faults.StoreFull)) Applied) → Answered IsOwn reply
     last true o d = subst (Answered IsOwn) (sym d.1) refl
     last false true d = subst (Answered IsOwn) (sym d.1) refl
     last false false d = subst (Answered IsOwn) (sym d.0) tt
@@ -170,8 +170,8 @@ module _ (seat number count : ℕ) (first old : IndexedWorld) (walks : WalksMore
       subst (λ (n : ℕ). WalksMore seat number n first new) next (old, step, walks, h)
 
 -- a transaction's place may be removed once more
-pub lets_go : {T : Type 0} (number : ℕ) (start old new : List JourneyData) (r : Result T Fault) → LetsGo number start old → new ≡ if_done r old (λ _. ended number old) → LetsGo number start new
-lets_go number start old new (Ok x) gone is = (suc gone.0, is ∙ ap (ended number) gone.1)
+pub lets_go : {T : Type 0} (number : ℕ) (start old new : List JourneyData) (r : Result T Fault) → LetsGo number start old → new ≡ if_done r old (λ _. walk_ended number old) → LetsGo number start new
+lets_go number start old new (Ok x) gone is = (suc gone.0, is ∙ ap (walk_ended number) gone.1)
 lets_go number start old new (Err fault) gone is = (gone.0, is ∙ gone.1)
 
 -- a list that is staged in its transaction, from the transaction's beginning on
@@ -193,10 +193,10 @@ commits_in seat number changes old mid new result is index walks h =
 
 -- a search, by its result
 module _ (seat : ℕ) (window : List Point) (end : Result AnswerData Fault) (said : SaidData) (shown : said ≡ told rows end) where
-  pub search_so : (old new : SoloState) → old.seat ≡ Some seat → new.seat ≡ old.seat → WhereAtRest old.world new.world (Searches seat window old.world new.world (reply_of Rows end)) → Serves (SearchFor window) old new said
+  pub search_so : (old new : SoloState) → old.seat ≡ Some seat → new.seat ≡ old.seat → WhereAtRest old.world new.world (SearchesCall seat window old.world new.world (reply_of Rows end)) → ServesCall (SearchFor window) old new said
   search_so old new is same ends =
       subst (λ (s : Option ℕ). MatchOption s ((new ≡ old) × (said ≡ line (Error BeforeHello))) (λ seat. (new.seat ≡ old.seat)
-      × WhereAtRest old.world new.world ((end : Result AnswerData Fault) × Searches seat window old.world new.world (reply_of Rows end) × (said ≡ told rows end)))) (sym is)
+      × WhereAtRest old.world new.world ((end : Result AnswerData Fault) × SearchesCall seat window old.world new.world (reply_of Rows end) × (said ≡ told rows end)))) (sym is)
       (same, λ still. let all = ends still in (all.0, (end, all.1, shown)))
 
   pub search_there : (at : Option ℕ) (old new : IndexedWorld) → at ≡ Some seat → SearchesIn seat window old new end → Causes (SearchFor window) at old new said
@@ -205,10 +205,10 @@ module _ (seat : ℕ) (window : List Point) (end : Result AnswerData Fault) (sai
 
 -- a commit, by its result
 module _ (seat : ℕ) (changes : List Change) (end : Result Outcome Fault) (said : SaidData) (shown : said ≡ told (λ outcome. line (outcome_reply outcome)) end) where
-  pub commit_so : (old new : SoloState) → old.seat ≡ Some seat → new.seat ≡ old.seat → WhereAtRest old.world new.world (Commits seat changes old.world new.world (reply_of Ended end)) → Serves (CommitList changes) old new said
+  pub commit_so : (old new : SoloState) → old.seat ≡ Some seat → new.seat ≡ old.seat → WhereAtRest old.world new.world (CommitsCall seat changes old.world new.world (reply_of Ended end)) → ServesCall (CommitList changes) old new said
   commit_so old new is same ends =
       subst (λ (s : Option ℕ). MatchOption s ((new ≡ old) × (said ≡ line (Error BeforeHello))) (λ seat. (new.seat ≡ old.seat)
-      × WhereAtRest old.world new.world ((end : Result Outcome Fault) × Commits seat changes old.world new.world (reply_of Ended end) × (said ≡ told (λ outcome. line (outcome_reply outcome)) end)))) (sym is)
+      × WhereAtRest old.world new.world ((end : Result Outcome Fault) × CommitsCall seat changes old.world new.world (reply_of Ended end) × (said ≡ told (λ outcome. line (outcome_reply outcome)) end)))) (sym is)
       (same, λ still. let all = ends still in (all.0, (end, all.1, shown)))
 
   pub commit_there : (at : Option ℕ) (old new : IndexedWorld) → at ≡ Some seat → (IsAtRest old.plain → CommitsIn seat changes old new end) → Causes (CommitList changes) at old new said

@@ -4,7 +4,7 @@ use Rattle.std.specs.Bool.{MatchBool}
 use Rattle.std.proofs.lemmas.Bool.{cases_eq, ne_eqb}
 use Rattle.std.proofs.lemmas.Bool.Decides.{nat_tests}
 use Rattle.plane.specs.declared.point.Point.{Point}
-use Rattle.memory.specs.declared.refused.Refused.{Refused as Refusal}
+use Rattle.memory.specs.declared.no_memory.NoMemory.{NoMemory}
 use Rattle.features.specs.declared.actors.Subject.{Subject}
 use Rattle.features.specs.declared.rows.Change.{Change}
 use Rattle.features.specs.Changes.{after, change_id, IsUnnamed}
@@ -18,14 +18,14 @@ use Rattle.tree_answers.specs.declared.fault.TreeFault.TheVariants as tree
 use Rattle.plain_world.specs.declared.outcomes.Outcome.{Outcome}
 use Rattle.plain_world.specs.declared.outcomes.Outcome.TheVariants as outcomes
 use Rattle.plain_world.specs.declared.settings.TheConstants.{CHANGE_LIMIT}
-use Rattle.plain_world.specs.declared.steps.Advance.TheVariants as advances
+use Rattle.plain_world.specs.declared.advances.Advance.TheVariants as advances
 use Rattle.tree_answers.specs.declared.answers.Step.TheVariants as steps
 use Rattle.plain_world.specs.Admitting.{LAST, and_then, given, transaction_owned, subject_at, own_transaction, may_step, may_add, all_placed, may_record, may_commit, next_transaction}
 use Rattle.plain_world.specs.Answers.{denial_of}
-use Rattle.plain_world.specs.Events.{Begin, Stage, AdvanceWalk, Commit, Abort, Happens, Reply, Number, Done, Advanced, Ended, Refused, UnlessMemory, NoReadySeeks, Walks, Advances, Applies, CommitsAs, Commits as CommitsEvent, is_memory, is_want, recorded, reply_of, without_transaction}
+use Rattle.plain_world.specs.Events.{Begin, Stage, AdvanceWalk, Commit, Abort, Happens, Reply, Number, Done, Advanced, Ended, Failed, UnlessMemory, NoReadySeeks, Walks, Advances, Applies, CommitsAs, Commits as CommitsEvent, is_memory, is_want, recorded, reply_of, without_transaction}
 use Rattle.plain_world.specs.Staging.{TransactionData, placements, with_step, staged, one_placed, ended, names}
 use Rattle.plain_world.specs.States.{WorldData}
-use Rattle.sessions.specs.Services.{Brings, Commits, EndsAs, HoldsList, NoReadySeeksAny, holder, is_full, is_unplaced, may_conclude}
+use Rattle.sessions.specs.Services.{Brings, CommitsCall, EndsCallAs, HoldsList, NoReadySeeksAny, holder, is_full, is_unplaced, may_conclude}
 use Rattle.sessions.specs.States.{IsAtRest, begun}
 use Rattle.sessions.specs.UnderWay.{Concludes, ConcludesAll, IsStuck, NoReadySeeksFirst, Stands, closed, under}
 use Rattle.sessions.proofs.SearchLemmas.{IsFree, same_number, want_is, does, refuses, done, turned, rests_same}
@@ -149,7 +149,7 @@ module _ (number seat : ℕ) (w : WorldData) (subject : Subject) (seated : subje
   abbrev pub Advancing : List Change → ℕ → WorldData → Reply → Type 0
   Advancing changes placed new (Advanced advances.AllPlaced) = (new ≡ under number seat changes placed w) × (slice_get (placements changes) placed ≡ None) × NoReadySeeksAny changes w
   Advancing changes placed new (Advanced (advances.Walked step)) = (further : ℕ) × (new ≡ under number seat changes further w) × NoReadySeeksFirst further changes w × Brings changes
-  Advancing changes placed new (Refused fault) = IsStuck changes w fault × Stands seat number changes w new
+  Advancing changes placed new (Failed fault) = IsStuck changes w fault × Stands seat number changes w new
   Advancing changes placed new _ = ⊥
 
   walks : (changes : List Change) (placed : ℕ) (placement : ℕ × List Point) (is : slice_get (placements changes) placed ≡ Some placement) (before : NoReadySeeksFirst placed changes w) (new : WorldData) (reply : Reply)
@@ -160,12 +160,12 @@ module _ (number seat : ℕ) (w : WorldData) (subject : Subject) (seated : subje
   walks changes placed placement is before new (Advanced (advances.Walked steps.Restarted)) d = (placed, d, before, brings changes placed placement is)
   walks changes placed placement is before new (Advanced (advances.Walked steps.Placed)) d =
       (placed + 1, d.1 ∙ ap (λ (ts : List TransactionData). record w { transactions = ts }) (next_step one_placed (one changes placed) refl), one_further changes w placed placement is d.0 before, brings changes placed placement is)
-  walks changes placed placement is before new (Refused (faults.Memory refusal)) d = (tt, inl (placed, d))
-  walks changes placed placement is before new (Refused (faults.Tree (tree.Held search))) d = ((placed, placement, is, d.0), inl (placed, d.1))
-  walks changes placed placement is before new (Refused (faults.Tree tree.Full)) d = (brings changes placed placement is, inl (placed, d))
-  walks changes placed placement is before new (Refused (faults.Tree tree.TooHigh)) d = (brings changes placed placement is, inl (placed, d))
-  walks changes placed placement is before new (Refused (faults.Tree tree.Spent)) d = (brings changes placed placement is, inl (placed, d))
-  walks changes placed placement is before new (Refused (faults.Tree tree.Overrun)) d =
+  walks changes placed placement is before new (Failed (faults.Memory refusal)) d = (tt, inl (placed, d))
+  walks changes placed placement is before new (Failed (faults.Tree (tree.Held search))) d = ((placed, placement, is, d.0), inl (placed, d.1))
+  walks changes placed placement is before new (Failed (faults.Tree tree.Full)) d = (brings changes placed placement is, inl (placed, d))
+  walks changes placed placement is before new (Failed (faults.Tree tree.TooHigh)) d = (brings changes placed placement is, inl (placed, d))
+  walks changes placed placement is before new (Failed (faults.Tree tree.Spent)) d = (brings changes placed placement is, inl (placed, d))
+  walks changes placed placement is before new (Failed (faults.Tree tree.Overrun)) d =
       (brings changes placed placement is, inr (d ∙ ap (λ (ts : List TransactionData). record w { transactions = ts }) (gone changes placed)))
   walks changes placed placement is before new _ d = absurd d
 
@@ -198,8 +198,8 @@ module _ (number seat : ℕ) (w : WorldData) (subject : Subject) (seated : subje
   -- the end of a list that was judged
   abbrev pub EndsSo : List Change → ℕ → Judgement → WorldData → Reply → Type 0
   EndsSo changes placed judgements.Accepted new reply =
-      MatchBool (w.state.version == LAST) ((reply ≡ Refused faults.Spent) × (new ≡ under number seat changes placed w))
-      (MatchBool (nat_lt w.limits.features (length (after version subject.office changes w.state.features))) ((reply ≡ Refused faults.StoreFull) × (new ≡ under number seat changes placed w))
+      MatchBool (w.state.version == LAST) ((reply ≡ Failed faults.Spent) × (new ≡ under number seat changes placed w))
+      (MatchBool (nat_lt w.limits.features (length (after version subject.office changes w.state.features))) ((reply ≡ Failed faults.StoreFull) × (new ≡ under number seat changes placed w))
       ((reply ≡ Ended (outcomes.Applied version)) × (new ≡ closed (recorded seat (applied subject version changes) w))))
   EndsSo changes placed (judgements.Refused refusal question) new reply =
       (reply ≡ Ended (outcomes.Refused refusal (denial_of w.state.decider refusal.cause question)))
@@ -207,8 +207,8 @@ module _ (number seat : ℕ) (w : WorldData) (subject : Subject) (seated : subje
 
   abbrev pub Committed : List Change → ℕ → WorldData → Reply → Type 0
   Committed changes placed new reply =
-      ((refusal : Refusal) × (reply ≡ Refused (faults.Memory refusal)) × (new ≡ under number seat changes placed w))
-      ⊎ (((is_full w ≡ true) × (reply ≡ Refused faults.TrailFull) × (new ≡ under number seat changes placed w))
+      ((refusal : NoMemory) × (reply ≡ Failed (faults.Memory refusal)) × (new ≡ under number seat changes placed w))
+      ⊎ (((is_full w ≡ true) × (reply ≡ Failed faults.TrailFull) × (new ≡ under number seat changes placed w))
       ⊎ ((is_full w ≡ false) × ((judgement : Judgement) × Judged w.state subject changes judgement × EndsSo changes placed judgement new reply)))
 
   module _ (changes : List Change) (placed : ℕ) (new : WorldData) where
@@ -221,9 +221,9 @@ module _ (number seat : ℕ) (w : WorldData) (subject : Subject) (seated : subje
     applies : (reply : Reply) → Applies seat number subject changes there new reply → EndsSo changes placed judgements.Accepted new reply
     applies reply d = go (w.state.version == LAST) (nat_lt w.limits.features (length (after version subject.office changes w.state.features))) d
       where
-        go : (last over : Bool) → MatchBool last ((new ≡ there) × (reply ≡ Refused faults.Spent)) (MatchBool over ((new ≡ there) × (reply ≡ Refused faults.StoreFull))
+        go : (last over : Bool) → MatchBool last ((new ≡ there) × (reply ≡ Failed faults.Spent)) (MatchBool over ((new ≡ there) × (reply ≡ Failed faults.StoreFull))
             ((reply ≡ Ended (outcomes.Applied version)) × (new ≡ without_transaction number (recorded seat (applied subject version changes) there))))
-            → MatchBool last ((reply ≡ Refused faults.Spent) × (new ≡ there)) (MatchBool over ((reply ≡ Refused faults.StoreFull) × (new ≡ there))
+            → MatchBool last ((reply ≡ Failed faults.Spent) × (new ≡ there)) (MatchBool over ((reply ≡ Failed faults.StoreFull) × (new ≡ there))
             ((reply ≡ Ended (outcomes.Applied version)) × (new ≡ closed (recorded seat (applied subject version changes) w))))
         go true over d = (d.1, d.0)
         go false true d = (d.1, d.0)
@@ -258,7 +258,7 @@ module _ (number seat : ℕ) (w : WorldData) (subject : Subject) (seated : subje
         ends room true e d = wants reply e d
           where
             wants : (reply : Reply) → is_memory reply ≡ true → new ≡ there → Committed changes placed new reply
-            wants (Refused fault) e d = let is = want_is fault e in inl (is.0, ap Refused is.1, d)
+            wants (Failed fault) e d = let is = want_is fault e in inl (is.0, ap Failed is.1, d)
             wants _ e d = absurd cc
         ends room false e d = judged room d
 
@@ -273,46 +273,46 @@ module _ (number seat : ℕ) (w : WorldData) (subject : Subject) (seated : subje
 -- ---- whole commits
 
 -- a transaction that is not opened
-pub begin_refused : (seat : ℕ) (changes : List Change) (old new : WorldData) (fault : Fault) → IsAtRest old → Happens (Begin seat) old new (Refused fault)
-    → IsAtRest new × Commits seat changes old new (Refused fault)
+pub begin_refused : (seat : ℕ) (changes : List Change) (old new : WorldData) (fault : Fault) → IsAtRest old → Happens (Begin seat) old new (Failed fault)
+    → IsAtRest new × CommitsCall seat changes old new (Failed fault)
 begin_refused seat changes old new fault still h =
-    let ends = go (subject_at seat old) (old.next_transaction == LAST) refl refl (subst (λ (o : WorldData). Happens (Begin seat) o new (Refused fault)) (closed_same old still.transactions) h) in
-    (rests_same old new still (ends.0 ∙ sym (closed_same old still.transactions)), subst (λ (o : WorldData). Commits seat changes o new (Refused fault)) (sym (closed_same old still.transactions)) ends.1)
+    let ends = go (subject_at seat old) (old.next_transaction == LAST) refl refl (subst (λ (o : WorldData). Happens (Begin seat) o new (Failed fault)) (closed_same old still.transactions) h) in
+    (rests_same old new still (ends.0 ∙ sym (closed_same old still.transactions)), subst (λ (o : WorldData). CommitsCall seat changes o new (Failed fault)) (sym (closed_same old still.transactions)) ends.1)
   where
     Does : Subject → Type 0
     Does subject =
         MatchBool (is_want fault) ((new ≡ closed old) ⊎ (new ≡ begun (closed old)))
-        (MatchBool (is_unplaced (Refused fault)) (Brings changes × (new ≡ begun (closed old)))
-        (MatchOption (holder (Refused fault))
+        (MatchBool (is_unplaced (Failed fault)) (Brings changes × (new ≡ begun (closed old)))
+        (MatchOption (holder (Failed fault))
         (NoReadySeeksAny changes (closed old)
-        × MatchBool (is_full (closed old)) ((Refused fault ≡ Refused faults.TrailFull) × (new ≡ begun (closed old)))
-        ((judgement : Judgement) × Judged old.state subject changes judgement × EndsAs judgement seat subject changes (closed old) new (Refused fault)))
+        × MatchBool (is_full (closed old)) ((Failed fault ≡ Failed faults.TrailFull) × (new ≡ begun (closed old)))
+        ((judgement : Judgement) × Judged old.state subject changes judgement × EndsCallAs judgement seat subject changes (closed old) new (Failed fault)))
         (λ search. (new ≡ begun (closed old)) × HoldsList search changes (closed old))))
 
-    wants : (subject : Subject) (b : Bool) → is_want fault ≡ b → MatchBool b (new ≡ closed old) ((new ≡ under old.next_transaction seat [] 0 (begun old)) × (Refused fault ≡ Number old.next_transaction)) → (new ≡ closed old) × Does subject
+    wants : (subject : Subject) (b : Bool) → is_want fault ≡ b → MatchBool b (new ≡ closed old) ((new ≡ under old.next_transaction seat [] 0 (begun old)) × (Failed fault ≡ Number old.next_transaction)) → (new ≡ closed old) × Does subject
     wants subject true e d = (
       d,
       subst (λ (b : Bool). MatchBool b ((new ≡ closed old) ⊎ (new ≡ begun (closed old)))
-          (MatchBool (is_unplaced (Refused fault)) (Brings changes × (new ≡ begun (closed old)))
-          (MatchOption (holder (Refused fault))
+          (MatchBool (is_unplaced (Failed fault)) (Brings changes × (new ≡ begun (closed old)))
+          (MatchOption (holder (Failed fault))
           (NoReadySeeksAny changes (closed old)
-          × MatchBool (is_full (closed old)) ((Refused fault ≡ Refused faults.TrailFull) × (new ≡ begun (closed old)))
-          ((judgement : Judgement) × Judged old.state subject changes judgement × EndsAs judgement seat subject changes (closed old) new (Refused fault)))
+          × MatchBool (is_full (closed old)) ((Failed fault ≡ Failed faults.TrailFull) × (new ≡ begun (closed old)))
+          ((judgement : Judgement) × Judged old.state subject changes judgement × EndsCallAs judgement seat subject changes (closed old) new (Failed fault)))
           (λ search. (new ≡ begun (closed old)) × HoldsList search changes (closed old))))) (sym e) (inl d),
     )
     wants subject false e d = (let wrong = d.1 in absurd cc)
 
-    go : (who : Result Subject Fault) (last : Bool) → subject_at seat old ≡ who → (old.next_transaction == LAST) ≡ last → Happens (Begin seat) (closed old) new (Refused fault) → (new ≡ closed old) × Commits seat changes (closed old) new (Refused fault)
+    go : (who : Result Subject Fault) (last : Bool) → subject_at seat old ≡ who → (old.next_transaction == LAST) ≡ last → Happens (Begin seat) (closed old) new (Failed fault) → (new ≡ closed old) × CommitsCall seat changes (closed old) new (Failed fault)
     go (Err f) last e l h =
-        let left = refuses _ f (closed old) new (Refused fault) _ (ap (λ (r : Result Subject Fault). and_then r (λ _. next_transaction (closed old))) e) h in
-        (left.0, turned _ f (closed old) new (Refused fault) Does (ap (λ (r : Result Subject Fault). and_then r (λ subject. if old.next_transaction == LAST then Err faults.Spent else Ok subject)) e) left)
+        let left = refuses _ f (closed old) new (Failed fault) _ (ap (λ (r : Result Subject Fault). and_then r (λ _. next_transaction (closed old))) e) h in
+        (left.0, turned _ f (closed old) new (Failed fault) Does (ap (λ (r : Result Subject Fault). and_then r (λ subject. if old.next_transaction == LAST then Err faults.Spent else Ok subject)) e) left)
     go (Ok subject) true e l h =
-        let left = refuses _ faults.Spent (closed old) new (Refused fault) _ (ap (λ (r : Result Subject Fault). and_then r (λ _. next_transaction (closed old))) e ∙ ap (λ (b : Bool). if b then Err faults.Spent else Ok old.next_transaction) l) h in
-        (left.0, turned _ faults.Spent (closed old) new (Refused fault) Does (ap (λ (r : Result Subject Fault). and_then r (λ subject. if old.next_transaction == LAST then Err faults.Spent else Ok subject)) e ∙ ap (λ (b : Bool). if b then Err faults.Spent else Ok subject) l) left)
+        let left = refuses _ faults.Spent (closed old) new (Failed fault) _ (ap (λ (r : Result Subject Fault). and_then r (λ _. next_transaction (closed old))) e ∙ ap (λ (b : Bool). if b then Err faults.Spent else Ok old.next_transaction) l) h in
+        (left.0, turned _ faults.Spent (closed old) new (Failed fault) Does (ap (λ (r : Result Subject Fault). and_then r (λ subject. if old.next_transaction == LAST then Err faults.Spent else Ok subject)) e ∙ ap (λ (b : Bool). if b then Err faults.Spent else Ok subject) l) left)
     go (Ok subject) false e l h =
-        let d = does _ old.next_transaction (closed old) new (Refused fault) _ (ap (λ (r : Result Subject Fault). and_then r (λ _. next_transaction (closed old))) e ∙ ap (λ (b : Bool). if b then Err faults.Spent else Ok old.next_transaction) l) h in
+        let d = does _ old.next_transaction (closed old) new (Failed fault) _ (ap (λ (r : Result Subject Fault). and_then r (λ _. next_transaction (closed old))) e ∙ ap (λ (b : Bool). if b then Err faults.Spent else Ok old.next_transaction) l) h in
         let ends = wants subject (is_want fault) refl d in
-        (ends.0, done _ subject (closed old) new (Refused fault) Does (ap (λ (r : Result Subject Fault). and_then r (λ subject. if old.next_transaction == LAST then Err faults.Spent else Ok subject)) e ∙ ap (λ (b : Bool). if b then Err faults.Spent else Ok subject) l) ends.1)
+        (ends.0, done _ subject (closed old) new (Failed fault) Does (ap (λ (r : Result Subject Fault). and_then r (λ subject. if old.next_transaction == LAST then Err faults.Spent else Ok subject)) e ∙ ap (λ (b : Bool). if b then Err faults.Spent else Ok subject) l) ends.1)
 
 -- a transaction that is opened
 pub record Begun (seat : ℕ) (old new : WorldData) (number : ℕ) : Type 0 where
@@ -350,36 +350,36 @@ module _ (seat : ℕ) (changes : List Change) (old mid : WorldData) (number : �
       (MatchBool (is_unplaced reply) (Brings changes × (new ≡ begun (closed old)))
       (MatchOption (holder reply)
       (NoReadySeeksAny changes (closed old)
-      × MatchBool (is_full (closed old)) ((reply ≡ Refused faults.TrailFull) × (new ≡ begun (closed old)))
-      ((judgement : Judgement) × Judged old.state subject changes judgement × EndsAs judgement seat subject changes (closed old) new reply))
+      × MatchBool (is_full (closed old)) ((reply ≡ Failed faults.TrailFull) × (new ≡ begun (closed old)))
+      ((judgement : Judgement) × Judged old.state subject changes judgement × EndsCallAs judgement seat subject changes (closed old) new reply))
       (λ search. (new ≡ begun (closed old)) × HoldsList search changes (closed old))))
 
-  whole : (new : WorldData) (reply : Reply) → Does new reply started.subject → Commits seat changes old new reply
+  whole : (new : WorldData) (reply : Reply) → Does new reply started.subject → CommitsCall seat changes old new reply
   whole new reply d =
-      subst (λ (o : WorldData). Commits seat changes o new reply) (sym (closed_same old still.transactions)) (done _ started.subject (closed old) new reply (Does new reply) admits d)
+      subst (λ (o : WorldData). CommitsCall seat changes o new reply) (sym (closed_same old still.transactions)) (done _ started.subject (closed old) new reply (Does new reply) admits d)
 
   -- the trail takes a record
   judged : (new : WorldData) (reply : Reply) → is_full old ≡ false → NoReadySeeksAny changes (closed old)
-      → ((judgement : Judgement) × Judged old.state started.subject changes judgement × EndsAs judgement seat started.subject changes (closed old) new reply)
-      → NoReadySeeksAny changes (closed old) × MatchBool (is_full (closed old)) ((reply ≡ Refused faults.TrailFull) × (new ≡ begun (closed old)))
-      ((judgement : Judgement) × Judged old.state started.subject changes judgement × EndsAs judgement seat started.subject changes (closed old) new reply)
+      → ((judgement : Judgement) × Judged old.state started.subject changes judgement × EndsCallAs judgement seat started.subject changes (closed old) new reply)
+      → NoReadySeeksAny changes (closed old) × MatchBool (is_full (closed old)) ((reply ≡ Failed faults.TrailFull) × (new ≡ begun (closed old)))
+      ((judgement : Judgement) × Judged old.state started.subject changes judgement × EndsCallAs judgement seat started.subject changes (closed old) new reply)
   judged new reply room none d = (
     none,
-    subst (λ (b : Bool). MatchBool b ((reply ≡ Refused faults.TrailFull) × (new ≡ begun (closed old)))
-        ((judgement : Judgement) × Judged old.state started.subject changes judgement × EndsAs judgement seat started.subject changes (closed old) new reply)) (sym room) d,
+    subst (λ (b : Bool). MatchBool b ((reply ≡ Failed faults.TrailFull) × (new ≡ begun (closed old)))
+        ((judgement : Judgement) × Judged old.state started.subject changes judgement × EndsCallAs judgement seat started.subject changes (closed old) new reply)) (sym room) d,
   )
 
   concluded : (stopped : WorldData) (reply : Reply) → Concludes seat number changes mid stopped reply → ConcludesAll seat number changes (begun old) stopped reply
   concluded stopped reply all = all (begun old) started.subject started.seated started.stands
 
   -- a commit that fails, and is aborted
-  pub commit_refused : (stopped new : WorldData) (fault : Fault) (reply : Reply) → Concludes seat number changes mid stopped (Refused fault) → Happens (Abort seat number) stopped new reply → IsAtRest new × Commits seat changes old new (Refused fault)
-  commit_refused stopped new fault reply all drops = go (concluded stopped (Refused fault) all)
+  pub commit_refused : (stopped new : WorldData) (fault : Fault) (reply : Reply) → Concludes seat number changes mid stopped (Failed fault) → Happens (Abort seat number) stopped new reply → IsAtRest new × CommitsCall seat changes old new (Failed fault)
+  commit_refused stopped new fault reply all drops = go (concluded stopped (Failed fault) all)
     where
       leaves : Stands seat number changes (begun old) stopped → new ≡ begun (closed old)
       leaves stands = aborted number seat (begun old) started.subject started.seated changes stopped new reply stands drops
 
-      stuck : (fault : Fault) → IsStuck changes (begun old) fault → new ≡ begun (closed old) → Does new (Refused fault) started.subject
+      stuck : (fault : Fault) → IsStuck changes (begun old) fault → new ≡ begun (closed old) → Does new (Failed fault) started.subject
       stuck (faults.Memory refusal) s e = inr e
       stuck (faults.Tree (tree.Held search)) s e = (e, s)
       stuck (faults.Tree tree.Full) s e = (s, e)
@@ -390,42 +390,42 @@ module _ (seat : ℕ) (changes : List Change) (old mid : WorldData) (number : �
 
       AppliesSo : Bool → Bool → Reply → Type 0
       AppliesSo last over said =
-          MatchBool last ((said ≡ Refused faults.Spent) × (new ≡ begun (closed old)))
-          (MatchBool over ((said ≡ Refused faults.StoreFull) × (new ≡ begun (closed old)))
+          MatchBool last ((said ≡ Failed faults.Spent) × (new ≡ begun (closed old)))
+          (MatchBool over ((said ≡ Failed faults.StoreFull) × (new ≡ begun (closed old)))
           ((said ≡ Ended (outcomes.Applied (old.state.version + 1))) × (new ≡ begun (recorded seat (applied started.subject (old.state.version + 1) changes) (closed old)))))
 
       refused_so : (fault : Fault) (placed : ℕ) (judgement : Judgement) → is_full old ≡ false → NoReadySeeksAny changes (closed old) → Judged old.state started.subject changes judgement
-          → EndsSo number seat (begun old) started.subject started.seated changes placed judgement stopped (Refused fault)
+          → EndsSo number seat (begun old) started.subject started.seated changes placed judgement stopped (Failed fault)
           → (stopped ≡ under number seat changes placed (begun old) → new ≡ begun (closed old))
-          → IsAtRest new × Does new (Refused fault) started.subject
+          → IsAtRest new × Does new (Failed fault) started.subject
       refused_so fault placed judgements.Accepted room none accepted d last_of =
           decide (old.state.version == LAST) (nat_lt old.limits.features (length (after (old.state.version + 1) started.subject.office changes old.state.features))) refl refl d
         where
           decide : (last over : Bool) → (old.state.version == LAST) ≡ last → nat_lt old.limits.features (length (after (old.state.version + 1) started.subject.office changes old.state.features)) ≡ over
-              → MatchBool last ((Refused fault ≡ Refused faults.Spent) × (stopped ≡ under number seat changes placed (begun old)))
-              (MatchBool over ((Refused fault ≡ Refused faults.StoreFull) × (stopped ≡ under number seat changes placed (begun old)))
-              ((Refused fault ≡ Ended (outcomes.Applied (old.state.version + 1))) × (stopped ≡ closed (recorded seat (applied started.subject (old.state.version + 1) changes) (begun old)))))
-              → IsAtRest new × Does new (Refused fault) started.subject
+              → MatchBool last ((Failed fault ≡ Failed faults.Spent) × (stopped ≡ under number seat changes placed (begun old)))
+              (MatchBool over ((Failed fault ≡ Failed faults.StoreFull) × (stopped ≡ under number seat changes placed (begun old)))
+              ((Failed fault ≡ Ended (outcomes.Applied (old.state.version + 1))) × (stopped ≡ closed (recorded seat (applied started.subject (old.state.version + 1) changes) (begun old)))))
+              → IsAtRest new × Does new (Failed fault) started.subject
           decide true over e f d =
               let left = last_of d.1 in (
                 is_rest (begun old) new still.searches left,
                 subst (λ (r : Reply). Does new r started.subject) (sym d.0)
-                    (judged new (Refused faults.Spent) room none (judgements.Accepted, accepted, subst (λ (b : Bool). AppliesSo b (nat_lt old.limits.features (length (after (old.state.version + 1) started.subject.office changes old.state.features))) (Refused faults.Spent)) (sym e) (refl, left))),
+                    (judged new (Failed faults.Spent) room none (judgements.Accepted, accepted, subst (λ (b : Bool). AppliesSo b (nat_lt old.limits.features (length (after (old.state.version + 1) started.subject.office changes old.state.features))) (Failed faults.Spent)) (sym e) (refl, left))),
               )
           decide false true e f d =
               let left = last_of d.1 in (
                 is_rest (begun old) new still.searches left,
                 subst (λ (r : Reply). Does new r started.subject) (sym d.0)
-                    (judged new (Refused faults.StoreFull) room none (
+                    (judged new (Failed faults.StoreFull) room none (
                       judgements.Accepted,
                       accepted,
-                      subst (λ (b : Bool). AppliesSo b (nat_lt old.limits.features (length (after (old.state.version + 1) started.subject.office changes old.state.features))) (Refused faults.StoreFull)) (sym e) (subst (λ (b : Bool). AppliesSo false b (Refused faults.StoreFull)) (sym f) (refl, left)),
+                      subst (λ (b : Bool). AppliesSo b (nat_lt old.limits.features (length (after (old.state.version + 1) started.subject.office changes old.state.features))) (Failed faults.StoreFull)) (sym e) (subst (λ (b : Bool). AppliesSo false b (Failed faults.StoreFull)) (sym f) (refl, left)),
                     )),
               )
           decide false false e f d = (let wrong = d.0 in absurd cc)
       refused_so fault placed (judgements.Refused refusal question) room none accepted d last_of = (let wrong = d.0 in absurd cc)
 
-      ended_so : (placed : ℕ) → NoReadySeeksAny changes (closed old) → Committed number seat (begun old) started.subject started.seated changes placed stopped (Refused fault) → IsAtRest new × Does new (Refused fault) started.subject
+      ended_so : (placed : ℕ) → NoReadySeeksAny changes (closed old) → Committed number seat (begun old) started.subject started.seated changes placed stopped (Failed fault) → IsAtRest new × Does new (Failed fault) started.subject
       ended_so placed none (inl (refusal, e, stands)) =
           let left = leaves (inl (placed, stands)) in
           (is_rest (begun old) new still.searches left, subst (λ (r : Reply). Does new r started.subject) (sym e) (inr left))
@@ -434,36 +434,36 @@ module _ (seat : ℕ) (changes : List Change) (old mid : WorldData) (number : �
             is_rest (begun old) new still.searches left,
             subst (λ (r : Reply). Does new r started.subject) (sym e) (
               none,
-              subst (λ (b : Bool). MatchBool b ((Refused faults.TrailFull ≡ Refused faults.TrailFull) × (new ≡ begun (closed old)))
-                  ((judgement : Judgement) × Judged old.state started.subject changes judgement × EndsAs judgement seat started.subject changes (closed old) new (Refused faults.TrailFull))) (sym full) (refl, left),
+              subst (λ (b : Bool). MatchBool b ((Failed faults.TrailFull ≡ Failed faults.TrailFull) × (new ≡ begun (closed old)))
+                  ((judgement : Judgement) × Judged old.state started.subject changes judgement × EndsCallAs judgement seat started.subject changes (closed old) new (Failed faults.TrailFull))) (sym full) (refl, left),
             ),
           )
       ended_so placed none (inr (inr (room, (judgement, is_judged, d)))) = refused_so fault placed judgement room none is_judged d (λ stands. leaves (inl (placed, stands)))
 
-      go : ConcludesAll seat number changes (begun old) stopped (Refused fault) → IsAtRest new × Commits seat changes old new (Refused fault)
+      go : ConcludesAll seat number changes (begun old) stopped (Failed fault) → IsAtRest new × CommitsCall seat changes old new (Failed fault)
       go (inl (f, is_stuck, stands, e)) =
           let left = leaves stands in
-          (is_rest (begun old) new still.searches left, whole new (Refused fault) (subst (λ (r : Reply). Does new r started.subject) (sym e) (stuck f is_stuck left)))
+          (is_rest (begun old) new still.searches left, whole new (Failed fault) (subst (λ (r : Reply). Does new r started.subject) (sym e) (stuck f is_stuck left)))
       go (inr (placed, all, none, happens)) =
-          let ends = ended_so placed none (committed number seat (begun old) started.subject started.seated changes placed stopped (Refused fault) all happens) in
-          (ends.0, whole new (Refused fault) ends.1)
+          let ends = ended_so placed none (committed number seat (begun old) started.subject started.seated changes placed stopped (Failed fault) all happens) in
+          (ends.0, whole new (Failed fault) ends.1)
 
   -- a list that is judged
-  pub commit_ended : (new : WorldData) (outcome : Outcome) → Concludes seat number changes mid new (Ended outcome) → IsAtRest new × Commits seat changes old new (Ended outcome)
+  pub commit_ended : (new : WorldData) (outcome : Outcome) → Concludes seat number changes mid new (Ended outcome) → IsAtRest new × CommitsCall seat changes old new (Ended outcome)
   commit_ended new outcome all = go (concluded new (Ended outcome) all)
     where
       ends : (placed : ℕ) (judgement : Judgement) → EndsSo number seat (begun old) started.subject started.seated changes placed judgement new (Ended outcome)
-          → IsAtRest new × EndsAs judgement seat started.subject changes (closed old) new (Ended outcome)
+          → IsAtRest new × EndsCallAs judgement seat started.subject changes (closed old) new (Ended outcome)
       ends placed judgements.Accepted d =
           decide (old.state.version == LAST) (nat_lt old.limits.features (length (after (old.state.version + 1) started.subject.office changes old.state.features))) d
         where
           decide : (last over : Bool)
-              → MatchBool last ((Ended outcome ≡ Refused faults.Spent) × (new ≡ under number seat changes placed (begun old)))
-              (MatchBool over ((Ended outcome ≡ Refused faults.StoreFull) × (new ≡ under number seat changes placed (begun old)))
+              → MatchBool last ((Ended outcome ≡ Failed faults.Spent) × (new ≡ under number seat changes placed (begun old)))
+              (MatchBool over ((Ended outcome ≡ Failed faults.StoreFull) × (new ≡ under number seat changes placed (begun old)))
               ((Ended outcome ≡ Ended (outcomes.Applied (old.state.version + 1))) × (new ≡ closed (recorded seat (applied started.subject (old.state.version + 1) changes) (begun old)))))
               → IsAtRest new
-              × MatchBool last ((Ended outcome ≡ Refused faults.Spent) × (new ≡ begun (closed old)))
-              (MatchBool over ((Ended outcome ≡ Refused faults.StoreFull) × (new ≡ begun (closed old)))
+              × MatchBool last ((Ended outcome ≡ Failed faults.Spent) × (new ≡ begun (closed old)))
+              (MatchBool over ((Ended outcome ≡ Failed faults.StoreFull) × (new ≡ begun (closed old)))
               ((Ended outcome ≡ Ended (outcomes.Applied (old.state.version + 1))) × (new ≡ begun (recorded seat (applied started.subject (old.state.version + 1) changes) (closed old)))))
           decide true over d = (let wrong = d.0 in absurd cc)
           decide false true d = (let wrong = d.0 in absurd cc)
@@ -477,7 +477,7 @@ module _ (seat : ℕ) (changes : List Change) (old mid : WorldData) (number : �
           let end = ends placed judgement d in
           (end.0, judged new (Ended outcome) room none (judgement, is_judged, end.1))
 
-      go : ConcludesAll seat number changes (begun old) new (Ended outcome) → IsAtRest new × Commits seat changes old new (Ended outcome)
+      go : ConcludesAll seat number changes (begun old) new (Ended outcome) → IsAtRest new × CommitsCall seat changes old new (Ended outcome)
       go (inl (f, is_stuck, stands, e)) = absurd cc
       go (inr (placed, all, none, happens)) =
           let end = ended_so placed none (committed number seat (begun old) started.subject started.seated changes placed new (Ended outcome) all happens) in

@@ -8,11 +8,11 @@ use Rattle.audit_trail.specs.Legal.{subject_of}
 use Rattle.audit_trail.proofs.LegalLemmas.{subject_of-append}
 use Rattle.plain_world.specs.declared.faults.Fault.TheVariants as faults
 use Rattle.tree_answers.specs.declared.fault.TreeFault.TheVariants as tree
-use Rattle.plain_world.specs.declared.searches.Search.{Search}
+use Rattle.plain_world.specs.declared.open_searches.Search.{Search}
 use Rattle.tree_answers.specs.declared.answers.Visit.TheVariants as visits
 use Rattle.plain_world.specs.Admitting.{and_then, given, owned, search_with, may_go_on, may_finish}
 use Rattle.plain_world.specs.Answers.{AnswerData}
-use Rattle.plain_world.specs.Events.{Event, VisitNext, Finish, DropSearch, Happens, Reply, Visited, Rows, Refused, is_memory, Sees, Finishes, with_ready, without_search}
+use Rattle.plain_world.specs.Events.{Event, VisitNext, Finish, DropSearch, Happens, Reply, Visited, Rows, Failed, is_memory, Sees, Finishes, with_ready, without_search}
 use Rattle.plain_world.specs.Laws.{AreGiven, AreWithin, IsBelowEach, IsUnderWay}
 use Rattle.plain_world.specs.Staging.{TransactionData}
 use Rattle.plain_world.specs.States.{WorldData}
@@ -190,7 +190,7 @@ sees_goes : (number : ℕ) (old new : WorldData) (reply : Reply) → Sees number
 sees_goes number old new (Visited visits.More) d = goes_same old new d
 sees_goes number old new (Visited visits.Ready) d =
     goes_by old new (record old { searches = with_ready number old.searches }) d (record { transactions = refl; seats = refl; held = λ seats xs h. held_ready number seats xs old.searches h })
-sees_goes number old new (Refused (faults.Tree tree.Overrun)) d =
+sees_goes number old new (Failed (faults.Tree tree.Overrun)) d =
     goes_by old new (without_search number old) d (record { transactions = refl; seats = refl; held = λ seats xs h. held_filter (λ (s : Search). not (s.number == number)) seats xs old.searches h })
 sees_goes number old new _ d = absurd d
 
@@ -283,7 +283,7 @@ finish_gone at seat number old new answer h =
     (subst (λ (n : ℕ). AreGone at (Some number) (filter (λ (s : Search). not (s.number == n)) old.searches)) (sym is) (gone_left at number old.searches))
 
 -- a search that ends with S7 is gone
-pub overrun_gone : (at : Option ℕ) (seat number : ℕ) (old new : WorldData) → Happens (VisitNext seat number) old new (Refused (faults.Tree tree.Overrun)) → AreGone at (Some number) new.searches
+pub overrun_gone : (at : Option ℕ) (seat number : ℕ) (old new : WorldData) → Happens (VisitNext seat number) old new (Failed (faults.Tree tree.Overrun)) → AreGone at (Some number) new.searches
 overrun_gone at seat number old new h =
     subst (λ (w : WorldData). AreGone at (Some number) w.searches) (sym (leaves (VisitNext seat number) old new (faults.Tree tree.Overrun) h)) (gone_left at number old.searches)
 

@@ -12,17 +12,17 @@ use Rattle.audit_trail.specs.Judging.{Judged}
 use Rattle.audit_trail.specs.Records.{applied}
 use Rattle.plain_world.specs.declared.faults.Fault.TheVariants as faults
 use Rattle.plain_world.specs.declared.outcomes.Outcome.TheVariants as outcomes
-use Rattle.plain_world.specs.declared.searches.Search.{Search}
+use Rattle.plain_world.specs.declared.open_searches.Search.{Search}
 use Rattle.plain_world.specs.Admitting.{LAST, may_govern, may_roll, may_sit}
-use Rattle.plain_world.specs.Events.{TakeSeat, Govern as GovernEvent, Roll as RollEvent, Happens, Reply as EventReply, Number, Rows, Ended, TakenOut, Refused, is_memory, recorded, reply_of}
+use Rattle.plain_world.specs.Events.{TakeSeat, Govern as GovernEvent, Roll as RollEvent, Happens, Reply as EventReply, Number, Rows, Ended, TakenOut, Failed, is_memory, recorded, reply_of}
 use Rattle.plain_world.specs.Laws.{AreGiven}
 use Rattle.plain_world.specs.States.{WorldData}
 use Rattle.plain_world.proofs.AdmittedLemmas.{by_if, by_unless}
-use Rattle.session_lines.specs.declared.faults.Fault.TheVariants.{BeforeHello}
+use Rattle.session_lines.specs.declared.faults.LineFault.TheVariants.{BeforeHello}
 use Rattle.session_lines.specs.declared.replies.Reply.TheVariants.{Error}
 use Rattle.session_lines.specs.Replies.{SaidData, line}
 use Rattle.session_lines.specs.Services.{Call, Hello, Search as SearchCall, Commit, Govern, Explain, Roll, Leave}
-use Rattle.sessions.specs.Services.{Serves, Searches, Commits, Brings, EndsAs, HoldsList, ListsRows, NoReadySeeksAny, holder, is_full, is_overrun, is_unplaced, may_conclude, may_search}
+use Rattle.sessions.specs.Services.{ServesCall, SearchesCall, CommitsCall, Brings, EndsCallAs, HoldsList, ListsRows, NoReadySeeksAny, holder, is_full, is_overrun_reply, is_unplaced, may_conclude, may_search}
 use Rattle.sessions.specs.States.{IsAtRest, IsIdle, SoloState, begun, searched}
 use Rattle.sessions.proofs.PolicyLemmas.{govern_rests, roll_rests, seat_rests}
 
@@ -57,59 +57,59 @@ rolls seat old new reply h =
     by_if (may_roll seat old) old new reply _ (λ _. Leaves old new) (λ fault may same. leaves_same old new same)
     (λ u may d. by_unless old new reply _ (λ _. Leaves old new) (λ fault want same. leaves_same old new same) (λ d. leaves_as old new _ d.1 refl refl) d) h
 
-searches_leave : (seat : ℕ) (window : List Point) (old new : WorldData) (reply : EventReply) → Searches seat window old new reply → Leaves old new
+searches_leave : (seat : ℕ) (window : List Point) (old new : WorldData) (reply : EventReply) → SearchesCall seat window old new reply → Leaves old new
 searches_leave seat window old new reply h =
     by_if (may_search seat old) old new reply _ (λ _. Leaves old new) (λ fault may same. leaves_same old new same) (λ subject may d. wants subject (is_memory reply) d) h
   where
-    full : (subject : Subject) (b : Bool) → MatchBool b ((reply ≡ Refused faults.TrailFull) × (new ≡ searched old)) (ListsRows seat subject window old new reply) → Leaves old new
+    full : (subject : Subject) (b : Bool) → MatchBool b ((reply ≡ Failed faults.TrailFull) × (new ≡ searched old)) (ListsRows seat subject window old new reply) → Leaves old new
     full subject true d = leaves_as old new (searched old) d.1 refl refl
     full subject false d = leaves_as old new _ d.3 refl refl
 
-    overrun : (subject : Subject) (b : Bool) → MatchBool b (new ≡ searched old) (MatchBool (is_full old) ((reply ≡ Refused faults.TrailFull) × (new ≡ searched old)) (ListsRows seat subject window old new reply)) → Leaves old new
+    overrun : (subject : Subject) (b : Bool) → MatchBool b (new ≡ searched old) (MatchBool (is_full old) ((reply ≡ Failed faults.TrailFull) × (new ≡ searched old)) (ListsRows seat subject window old new reply)) → Leaves old new
     overrun subject true d = leaves_as old new (searched old) d refl refl
     overrun subject false d = full subject (is_full old) d
 
     wants : (subject : Subject) (b : Bool) → MatchBool b ((new ≡ old) ⊎ (new ≡ searched old))
-        (MatchBool (is_overrun reply) (new ≡ searched old) (MatchBool (is_full old) ((reply ≡ Refused faults.TrailFull) × (new ≡ searched old)) (ListsRows seat subject window old new reply))) → Leaves old new
+        (MatchBool (is_overrun_reply reply) (new ≡ searched old) (MatchBool (is_full old) ((reply ≡ Failed faults.TrailFull) × (new ≡ searched old)) (ListsRows seat subject window old new reply))) → Leaves old new
     wants subject true (inl d) = leaves_same old new d
     wants subject true (inr d) = leaves_as old new (searched old) d refl refl
-    wants subject false d = overrun subject (is_overrun reply) d
+    wants subject false d = overrun subject (is_overrun_reply reply) d
 
-commits_leave : (seat : ℕ) (changes : List Change) (old new : WorldData) (reply : EventReply) → Commits seat changes old new reply → Leaves old new
+commits_leave : (seat : ℕ) (changes : List Change) (old new : WorldData) (reply : EventReply) → CommitsCall seat changes old new reply → Leaves old new
 commits_leave seat changes old new reply h =
     by_if (may_conclude seat old) old new reply _ (λ _. Leaves old new) (λ fault may same. leaves_same old new same) (λ subject may d. wants subject (is_memory reply) d) h
   where
-    applies : (subject : Subject) (last over : Bool) → MatchBool last ((reply ≡ Refused faults.Spent) × (new ≡ begun old))
-        (MatchBool over ((reply ≡ Refused faults.StoreFull) × (new ≡ begun old))
+    applies : (subject : Subject) (last over : Bool) → MatchBool last ((reply ≡ Failed faults.Spent) × (new ≡ begun old))
+        (MatchBool over ((reply ≡ Failed faults.StoreFull) × (new ≡ begun old))
         ((reply ≡ Ended (outcomes.Applied (old.state.version + 1))) × (new ≡ begun (recorded seat (applied subject (old.state.version + 1) changes) old)))) → Leaves old new
     applies subject true over d = leaves_as old new (begun old) d.1 refl refl
     applies subject false true d = leaves_as old new (begun old) d.1 refl refl
     applies subject false false d = leaves_as old new _ d.1 refl refl
 
-    ends : (subject : Subject) (judgement : Judgement) → EndsAs judgement seat subject changes old new reply → Leaves old new
+    ends : (subject : Subject) (judgement : Judgement) → EndsCallAs judgement seat subject changes old new reply → Leaves old new
     ends subject judgements.Accepted d =
         applies subject (old.state.version == LAST) (nat_lt old.limits.features (length (after (old.state.version + 1) subject.office changes old.state.features))) d
     ends subject (judgements.Refused refusal question) d = leaves_as old new _ d.1 refl refl
 
     Judges : Subject → Type 0
-    Judges subject = (judgement : Judgement) × Judged old.state subject changes judgement × EndsAs judgement seat subject changes old new reply
+    Judges subject = (judgement : Judgement) × Judged old.state subject changes judgement × EndsCallAs judgement seat subject changes old new reply
 
-    full : (subject : Subject) (b : Bool) → MatchBool b ((reply ≡ Refused faults.TrailFull) × (new ≡ begun old)) (Judges subject) → Leaves old new
+    full : (subject : Subject) (b : Bool) → MatchBool b ((reply ≡ Failed faults.TrailFull) × (new ≡ begun old)) (Judges subject) → Leaves old new
     full subject true d = leaves_as old new (begun old) d.1 refl refl
     full subject false d = ends subject d.0 d.2
 
-    held : (subject : Subject) (o : Option ℕ) → MatchOption o (NoReadySeeksAny changes old × MatchBool (is_full old) ((reply ≡ Refused faults.TrailFull) × (new ≡ begun old)) (Judges subject)) (λ search. (new ≡ begun old) × HoldsList search changes old) → Leaves old new
+    held : (subject : Subject) (o : Option ℕ) → MatchOption o (NoReadySeeksAny changes old × MatchBool (is_full old) ((reply ≡ Failed faults.TrailFull) × (new ≡ begun old)) (Judges subject)) (λ search. (new ≡ begun old) × HoldsList search changes old) → Leaves old new
     held subject None d = full subject (is_full old) d.1
     held subject (Some search) d = leaves_as old new (begun old) d.0 refl refl
 
     unplaced : (subject : Subject) (b : Bool) → MatchBool b (Brings changes × (new ≡ begun old))
-        (MatchOption (holder reply) (NoReadySeeksAny changes old × MatchBool (is_full old) ((reply ≡ Refused faults.TrailFull) × (new ≡ begun old)) (Judges subject)) (λ search. (new ≡ begun old) × HoldsList search changes old)) → Leaves old new
+        (MatchOption (holder reply) (NoReadySeeksAny changes old × MatchBool (is_full old) ((reply ≡ Failed faults.TrailFull) × (new ≡ begun old)) (Judges subject)) (λ search. (new ≡ begun old) × HoldsList search changes old)) → Leaves old new
     unplaced subject true d = leaves_as old new (begun old) d.1 refl refl
     unplaced subject false d = held subject (holder reply) d
 
     wants : (subject : Subject) (b : Bool) → MatchBool b ((new ≡ old) ⊎ (new ≡ begun old))
         (MatchBool (is_unplaced reply) (Brings changes × (new ≡ begun old))
-        (MatchOption (holder reply) (NoReadySeeksAny changes old × MatchBool (is_full old) ((reply ≡ Refused faults.TrailFull) × (new ≡ begun old)) (Judges subject)) (λ search. (new ≡ begun old) × HoldsList search changes old))) → Leaves old new
+        (MatchOption (holder reply) (NoReadySeeksAny changes old × MatchBool (is_full old) ((reply ≡ Failed faults.TrailFull) × (new ≡ begun old)) (Judges subject)) (λ search. (new ≡ begun old) × HoldsList search changes old))) → Leaves old new
     wants subject true (inl d) = leaves_same old new d
     wants subject true (inr d) = leaves_as old new (begun old) d refl refl
     wants subject false d = unplaced subject (is_unplaced reply) d
@@ -142,7 +142,7 @@ seated_rests : (at : Option ℕ) (old new : SoloState) (said : SaidData) (Does :
 seated_rests None old new said Does h each = rests_as old.world new.world (ap (λ (s : SoloState). s.world) h.0)
 seated_rests (Some seat) old new said Does h each = each seat h.1
 
-pub call_rests : (call : Call) (old new : SoloState) (said : SaidData) → Serves call old new said → Rests old.world new.world
+pub call_rests : (call : Call) (old new : SoloState) (said : SaidData) → ServesCall call old new said → Rests old.world new.world
 call_rests (Hello name) old new said h = λ still. (
   seat_rests name old.world new.world (reply_of Number h.0) h.1 still,
   sits name old.world new.world (reply_of Number h.0) h.1,
@@ -168,7 +168,7 @@ idle_rests w idle =
 abbrev pub StaysIdle : SoloState → SoloState → Type 0
 StaysIdle old new = IsIdle old.world → IsIdle new.world
 
-pub call_idle : (call : Call) (old new : SoloState) (said : SaidData) → Serves call old new said → StaysIdle old new
+pub call_idle : (call : Call) (old new : SoloState) (said : SaidData) → ServesCall call old new said → StaysIdle old new
 call_idle call old new said h idle =
     let ends = call_rests call old new said h (idle_rests old.world idle) in
     record { searches = ends.1.searches ∙ idle.searches; transactions = ends.0.transactions }

@@ -9,8 +9,8 @@ use Rattle.session_lines.specs.Desks.{Answers, Desk, desk}
 use Rattle.line_streams.specs.Lines.{is_too_long}
 use Rattle.session_lines.specs.Replies.{SaidData}
 use Rattle.session_lines.specs.Services.{Call}
-use Rattle.sessions.specs.Services.{Serves, solo_subject}
-use Rattle.session_lines.specs.Serving.{Calls, IsPassedOver, LineTells, Replies}
+use Rattle.sessions.specs.Services.{ServesCall, solo_subject}
+use Rattle.session_lines.specs.Serving.{Calls, IsPassedOver, DeskTells, Replies}
 use Rattle.sessions.specs.States.{IsIdle, SoloState}
 use Rattle.line_streams.specs.Streams.{Ran}
 use Rattle.line_streams.specs.declared.streams.Next.{Next}
@@ -43,7 +43,7 @@ module _ {S T N : Type 0} (see : S → T) (name : S → N) (subject_of : T → O
   abbrev seen : Desk S → Desk T
   seen d = desk d.staged (see d.service)
 
-  line_told : (text : List ℕ) (old new : Desk S) (said : List ℕ) (next : Next) → LineTells asks lent text old new said next → LineTells subject_of shown text (seen old) (seen new) said next
+  line_told : (text : List ℕ) (old new : Desk S) (said : List ℕ) (next : Next) → DeskTells asks lent text old new said next → DeskTells subject_of shown text (seen old) (seen new) said next
   line_told text old new said next h = go (is_too_long text) h
     where
       go : (b : Bool) → MatchBool b (IsPassedOver old new said next) (Replies asks lent text old new said next)
@@ -51,9 +51,9 @@ module _ {S T N : Type 0} (see : S → T) (name : S → N) (subject_of : T → O
       go true h = (ap seen h.0, h.1, h.2)
       go false h = record { reply = h.reply; answers = line_seen see subject_of lent shown shows text old new h.reply h.answers; shows = h.shows; ends = h.ends }
 
-  run_seen : {O : Type 0} (r : Result O ServeFault) (old new : Desk S) (input left a b : Option (List ℕ)) → Ran (LineTells asks lent) r old new input left a b
-      → Ran (LineTells subject_of shown) r (seen old) (seen new) input left a b
-  run_seen r old new input left a b run = ran_as seen (LineTells asks lent) (LineTells subject_of shown) line_told r old new input left a b run
+  run_seen : {O : Type 0} (r : Result O ServeFault) (old new : Desk S) (input left a b : Option (List ℕ)) → Ran (DeskTells asks lent) r old new input left a b
+      → Ran (DeskTells subject_of shown) r (seen old) (seen new) input left a b
+  run_seen r old new input left a b run = ran_as seen (DeskTells asks lent) (DeskTells subject_of shown) line_told r old new input left a b run
 
   calls_name : (calls : List (Call × SaidData)) (old new : S) → Calls lent calls old new → name new ≡ name old
   calls_name calls old new h = calls_keep asks lent (λ (a b : S). name b ≡ name a) (λ s. refl) (λ a b c first more. more ∙ first) named calls old new h
@@ -61,11 +61,11 @@ module _ {S T N : Type 0} (see : S → T) (name : S → N) (subject_of : T → O
   -- a run; afterwards the world is as the loan leaves it
   pub run_shown : {O : Type 0} (r : Result O ServeFault) (old new : S) (staged : List Change) (begins ends : T) (input left a b : Option (List ℕ))
       → ((calls : List (Call × SaidData)) × Calls lent calls old new) → see old ≡ begins → (name new ≡ name old → see new ≡ ends)
-      → Ran (LineTells asks lent) r (desk [] old) (desk staged new) input left a b
-      → Ran (LineTells subject_of shown) r (desk [] begins) (desk staged ends) input left a b
+      → Ran (DeskTells asks lent) r (desk [] old) (desk staged new) input left a b
+      → Ran (DeskTells subject_of shown) r (desk [] begins) (desk staged ends) input left a b
   run_shown r old new staged begins ends input left a b called stands lent_ends run =
-      subst (λ (s : T). Ran (LineTells subject_of shown) r (desk [] begins) (desk staged s) input left a b) (lent_ends (calls_name called.0 old new called.1))
-      (subst (λ (s : T). Ran (LineTells subject_of shown) r (desk [] s) (desk staged (see new)) input left a b) stands
+      subst (λ (s : T). Ran (DeskTells subject_of shown) r (desk [] begins) (desk staged s) input left a b) (lent_ends (calls_name called.0 old new called.1))
+      (subst (λ (s : T). Ran (DeskTells subject_of shown) r (desk [] s) (desk staged (see new)) input left a b) stands
       (run_seen r (desk [] old) (desk staged new) input left a b run))
 
   -- what each call keeps, a run keeps
@@ -81,8 +81,8 @@ module _ {S T N : Type 0} (see : S → T) (name : S → N) (subject_of : T → O
 -- a run leaves no search and no transaction open, if none was open before it
 pub run_idles : {S N : Type 0} (see : S → SoloState) (name : S → N) (lent : Call → S → S → SaidData → Type 0)
     → ((call : Call) (old new : S) (said : SaidData) → lent call old new said → name new ≡ name old)
-    → ((call : Call) (old new : S) (said : SaidData) → lent call old new said → Serves call (see old) (see new) said) → (old new : S) (begins ends : SoloState)
+    → ((call : Call) (old new : S) (said : SaidData) → lent call old new said → ServesCall call (see old) (see new) said) → (old new : S) (begins ends : SoloState)
     → ((calls : List (Call × SaidData)) × Calls lent calls old new) → see old ≡ begins → (name new ≡ name old → see new ≡ ends) → IsIdle begins.world → IsIdle ends.world
 run_idles see name lent named shows old new begins ends called stands lent_ends =
-    run_keeps see name solo_subject lent Serves named shows StaysIdle (λ s still. still) (λ a b c first more still. more (first still)) (λ call a b said h. call_idle call a b said h)
+    run_keeps see name solo_subject lent ServesCall named shows StaysIdle (λ s still. still) (λ a b c first more still. more (first still)) (λ call a b said h. call_idle call a b said h)
     old new begins ends called stands lent_ends

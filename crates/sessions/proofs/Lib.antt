@@ -7,5 +7,6 @@ pub mod KeepLemmas
 pub mod CauseLemmas
 pub mod HeldLemmas
 pub mod LineLemmas
+pub mod IndexLemmas
 pub mod ScriptLemmas
 pub mod LentLemmas

@@ -11,16 +11,16 @@ use Rattle.audit_trail.specs.Legal.{subject_of}
 use Rattle.plain_world.specs.declared.faults.Fault.{Fault as WorldFault}
 use Rattle.plain_world.specs.declared.faults.Fault.TheVariants as refusals
 use Rattle.tree_answers.specs.declared.fault.TreeFault.TheVariants as tree
-use Rattle.plain_world.specs.declared.searches.Search.{Search}
+use Rattle.plain_world.specs.declared.open_searches.Search.{Search}
 use Rattle.tree_answers.specs.declared.answers.Visit.{Visit}
 use Rattle.tree_answers.specs.declared.answers.Visit.TheVariants as visits
 use Rattle.plain_world.specs.Answers.{AnswerData}
-use Rattle.plain_world.specs.Events.{OpenSearch, VisitNext, DropSearch, Happens, Reply as EventReply, Number, Visited, Rows, Refused, reply_of}
+use Rattle.plain_world.specs.Events.{OpenSearch, VisitNext, DropSearch, Happens, Reply as EventReply, Number, Visited, Rows, Failed, reply_of}
 use Rattle.plain_world.specs.States.{WorldData}
 use Rattle.plain_world.proofs.RefusalLemmas.{leaves}
 use Rattle.plain_world.proofs.RunLemmas.{given_ok}
-use Rattle.session_lines.specs.declared.faults.Fault.{Fault}
-use Rattle.session_lines.specs.declared.faults.Fault.TheVariants.{BeforeHello, LineTooLong, NoLabel}
+use Rattle.session_lines.specs.declared.faults.LineFault.{LineFault}
+use Rattle.session_lines.specs.declared.faults.LineFault.TheVariants.{BeforeHello, LineTooLong, NoLabel}
 use Rattle.session_lines.specs.declared.replies.Reply.{Reply}
 use Rattle.session_lines.specs.declared.replies.Reply.TheVariants.{Error}
 use Rattle.sessions.specs.declared.scripts.TheConstants.{LABEL_LIMIT}
@@ -31,14 +31,14 @@ use Rattle.sessions.specs.declared.stepping.StepVerb.TheVariants as verbs
 use Rattle.session_lines.specs.Commands.{◌>>=◌, end_at, shape_at}
 use Rattle.line_streams.specs.declared.streams.ServeFault.{ServeFault}
 use Rattle.line_streams.specs.Lines.{is_too_long}
-use Rattle.session_lines.specs.Printed.{led, reply_text}
+use Rattle.session_lines.specs.Printed.{reply_text}
 use Rattle.session_lines.specs.Replies.{SaidData}
-use Rattle.sessions.specs.Scripts.{Script, Ends, IsRefused, LabelTells, LineTells, ObeysStep, OnlyTells, Opens, SessionAnswers, SessionTells, Steps, TakesPlain, TakesStep, desk_of, fresh, is_skipped, keeps_seat, parts_of, place, script, with_label}
-use Rattle.sessions.specs.Services.{Serves, is_overrun, solo_subject}
-use Rattle.session_lines.specs.Serving.{IsPassedOver, LineTells as AloneTells, Replies}
-use Rattle.session_lines.specs.Desks.{Desk, desk}
-use Rattle.sessions.specs.States.{IsAtRest, IsIdle, SessionState, SoloState, solo}
-use Rattle.sessions.specs.Stepping.{AllDrop, Drops, FindsMore, Finishes, GoesOn, Seeks, count_at, finished_as, left_open, opened_as, step_command_at, step_verb_at, stepped_as}
+use Rattle.sessions.specs.Scripts.{Script, Ends, IsRefused, LabelTells, LineTells, ObeysStep, OnlyTells, Opens, SessionAnswers, SessionTells, Steps, TakesPlain, TakesStep, desk_of, fresh, is_skipped, keeps_seat, parts_of, place, plainly, script, with_label}
+use Rattle.sessions.specs.Services.{ServesCall, is_overrun_reply, solo_subject}
+use Rattle.session_lines.specs.Serving.{IsPassedOver, DeskTells as AloneTells, Replies}
+use Rattle.session_lines.specs.Desks.{Desk}
+use Rattle.sessions.specs.States.{IsAtRest, IsIdle, SessionIn, SessionState, SoloState, session_in}
+use Rattle.sessions.specs.Stepping.{AllDrop, Drops, FindsMore, FinishesLine, GoesOn, Seeks, count_at, finished_as, left_open, opened_as, step_command_at, step_verb_at, stepped_as}
 use Rattle.line_streams.specs.Streams.{NeverEnds, Ran}
 use Rattle.line_streams.specs.declared.streams.Next.{Next}
 use Rattle.session_lines.proofs.DeskLemmas.{line_keeps}
@@ -72,9 +72,10 @@ moves_none : (before after : SessionState) (old new : WorldData) → after.seat 
 moves_none before after old new seat search e =
     moves_goes before after old new (λ still. subst (λ (w : WorldData). IsAtRest w) (sym e) still) (goes_same old new e) (λ xs still h. stay_same before after new.searches seat search)
 
-tells_moves : (due : Reply) (old new : SessionState) (old_world new_world : WorldData) (said : SaidData) → OnlyTells due old old_world new new_world said → Moves old new old_world new_world
-tells_moves due old new old_world new_world said h =
-    moves_none old new old_world new_world (ap (λ (x : SessionState). x.seat) h.0) (ap (λ (x : SessionState). x.search) h.0) h.1
+tells_moves : (due : Reply) (old new : SessionIn WorldData) (said : SaidData) → OnlyTells due old new said → Moves old.session new.session old.world new.world
+tells_moves due old new said h =
+    moves_none old.session new.session old.world new.world (ap (λ (x : SessionIn WorldData). x.session.seat) h.0) (ap (λ (x : SessionIn WorldData). x.session.search) h.0)
+    (ap (λ (x : SessionIn WorldData). x.world) h.0)
 
 -- ---- lines other than OPEN, STEP and FINISH
 
@@ -83,7 +84,7 @@ seat_kept (Some a) (Some b) e = let same : b ≡ a = grind (arith, nat_tests, e)
 seat_kept (Some a) None e = absurd cc
 seat_kept None b e = absurd cc
 
-plain_moves : (text : List ℕ) (old new : SessionState) (old_world new_world : WorldData) (said : SaidData) → TakesPlain text old old_world new new_world said → Moves old new old_world new_world
+plain_moves : (text : List ℕ) (old new : SessionState) (old_world new_world : WorldData) (said : SaidData) → TakesPlain plainly text (session_in old old_world) (session_in new new_world) said → Moves old new old_world new_world
 plain_moves text old new old_world new_world said h = go (keeps_seat old.seat new.seat) refl h.2
   where
     mid : WorldData
@@ -91,7 +92,7 @@ plain_moves text old new old_world new_world said h = go (keeps_seat old.seat ne
 
     served : Rests old_world mid
     served =
-        line_keeps solo_subject Serves (λ a b. Rests a.world b.world) (λ s. rests_none s.world) call_rests text (desk_of old_world old) (desk new.staged (solo mid new.seat)) said h.1
+        line_keeps solo_subject ServesCall (λ a b. Rests a.world b.world) (λ s. rests_none s.world) call_rests text (desk_of (session_in old old_world)) (desk_of (session_in new mid)) said h.1
 
     held_mid : (xs : List SessionState) → IsAtRest old_world → AreHeld old_world.seats xs old_world.searches → AreHeld mid.seats xs mid.searches
     held_mid xs still held =
@@ -126,12 +127,12 @@ IsOfOpen search (commands.Open window) = search ≡ None
 IsOfOpen search (commands.Step number count) = search ≡ Some number
 IsOfOpen search (commands.Finish number) = search ≡ Some number
 
-abbrev AsksOpen : Option ℕ → Result StepCommand Fault → Type 0
+abbrev AsksOpen : Option ℕ → Result StepCommand LineFault → Type 0
 AsksOpen search (Ok command) = IsOfOpen search command
 AsksOpen search (Err fault) = Unit {0}
 
 -- words that are read first may have a fault of their own
-read_first : {A : Type 0} (search : Option ℕ) (r : Result A Fault) (f : A → Result StepCommand Fault) → ((x : A) → AsksOpen search (f x)) → AsksOpen search (r >>= f)
+read_first : {A : Type 0} (search : Option ℕ) (r : Result A LineFault) (f : A → Result StepCommand LineFault) → ((x : A) → AsksOpen search (f x)) → AsksOpen search (r >>= f)
 read_first search (Ok x) f h = h x
 read_first search (Err fault) f h = tt
 
@@ -146,7 +147,7 @@ asks_open (Some search) verbs.Step text = read_first (Some search) (count_at tex
 asks_open (Some search) verbs.Finish text = read_first (Some search) (end_at text) (λ u. Ok (commands.Finish search)) (λ u. refl)
 
 module _ (seat : ℕ) (old new : SessionState) (old_world new_world : WorldData) (seated : old.seat ≡ Some seat) where
-  open_moves : (window : List Point) (said : SaidData) → old.search ≡ None → Opens seat window old old_world new new_world said → Moves old new old_world new_world
+  open_moves : (window : List Point) (said : SaidData) → old.search ≡ None → Opens plainly seat window (session_in old old_world) (session_in new new_world) said → Moves old new old_world new_world
   open_moves window said none h = go h.0 h.1 h.2
     where
       go : (end : Result ℕ WorldFault) → Happens (OpenSearch seat window) old_world new_world (reply_of Number end) → new ≡ record old { search = opened_as end } → Moves old new old_world new_world
@@ -185,22 +186,22 @@ module _ (seat : ℕ) (old new : SessionState) (old_world new_world : WorldData)
     visit_moves reply h stay =
         moves_goes old new old_world new_world (visit_rests seat number old_world new_world reply h) (visit_goes seat number old_world new_world reply h) (λ xs still held. stay)
 
-    step_moves : (count : ℕ) (said : SaidData) → Steps seat number count old old_world new new_world said → Moves old new old_world new_world
+    step_moves : (count : ℕ) (said : SaidData) → Steps plainly seat number count (session_in old old_world) (session_in new new_world) said → Moves old new old_world new_world
     step_moves count said h = go h.0 h.1 h.2
       where
         from_here : (reply : EventReply) (before : ℕ) (mid : WorldData) → FindsMore seat number before old_world mid → Happens (VisitNext seat number) mid new_world reply → Happens (VisitNext seat number) old_world new_world reply
         from_here reply before mid more h = subst (λ (w : WorldData). Happens (VisitNext seat number) w new_world reply) (finds_same seat number before old_world mid more) h
 
-        refused : (fault : WorldFault) → Happens (VisitNext seat number) old_world new_world (Refused fault) → new ≡ record old { search = left_open fault number } → Moves old new old_world new_world
+        refused : (fault : WorldFault) → Happens (VisitNext seat number) old_world new_world (Failed fault) → new ≡ record old { search = left_open fault number } → Moves old new old_world new_world
         refused fault h e = cases (left_cases fault number)
           where
             cases : (left_open fault number ≡ Some number) ⊎ (fault ≡ refusals.Tree tree.Overrun) → Moves old new old_world new_world
             cases (inl stays) =
-                visit_moves (Refused fault) h
+                visit_moves (Failed fault) h
                 (stay_same old new new_world.searches (ap (λ (x : SessionState). x.seat) e) (ap (λ (x : SessionState). x.search) e ∙ stays ∙ sym opened_it))
             cases (inr over) =
-                visit_moves (Refused fault) h
-                (gone_here (overrun_gone (Some seat) seat number old_world new_world (subst (λ (f : WorldFault). Happens (VisitNext seat number) old_world new_world (Refused f)) over h)))
+                visit_moves (Failed fault) h
+                (gone_here (overrun_gone (Some seat) seat number old_world new_world (subst (λ (f : WorldFault). Happens (VisitNext seat number) old_world new_world (Failed f)) over h)))
 
         go : (end : Result Visit WorldFault) → GoesOn seat number count old_world new_world end → new ≡ record old { search = stepped_as end number } → Moves old new old_world new_world
         go (Ok visits.More) h e =
@@ -208,11 +209,11 @@ module _ (seat : ℕ) (old new : SessionState) (old_world new_world : WorldData)
         go (Ok visits.Ready) h e =
             visit_moves (Visited visits.Ready) (from_here (Visited visits.Ready) h.0 h.1 h.3 h.4)
             (stay_same old new new_world.searches (ap (λ (x : SessionState). x.seat) e) (ap (λ (x : SessionState). x.search) e ∙ sym opened_it))
-        go (Err fault) h e = refused fault (from_here (Refused fault) h.0 h.1 h.3 h.4) e
+        go (Err fault) h e = refused fault (from_here (Failed fault) h.0 h.1 h.3 h.4) e
 
     -- the search goes on towards its end
     seeks_goes : (mid : WorldData) (reply : EventReply) → Seeks seat number old_world mid reply → Goes old_world mid × (IsAtRest old_world → IsAtRest mid)
-    seeks_goes mid reply (inl (fault, h, e)) = (visit_goes seat number old_world mid (Refused fault) h, visit_rests seat number old_world mid (Refused fault) h)
+    seeks_goes mid reply (inl (fault, h, e)) = (visit_goes seat number old_world mid (Failed fault) h, visit_rests seat number old_world mid (Failed fault) h)
     seeks_goes mid reply (inr (inl (ready, h, f))) = (
       goes_then old_world ready mid (visit_goes seat number old_world ready (Visited visits.Ready) h) (finish_goes seat number ready mid reply f),
       λ still. finish_rests seat number ready mid reply f (visit_rests seat number old_world ready (Visited visits.Ready) h still),
@@ -224,26 +225,26 @@ module _ (seat : ℕ) (old new : SessionState) (old_world new_world : WorldData)
     seeks_gone mid answer (inr (inl (ready, h, f))) = finish_gone (Some seat) seat number ready mid answer f
     seeks_gone mid answer (inr (inr (more, e, r))) = absurd cc
 
-    end_moves : (said : SaidData) → Ends seat number old old_world new new_world said → Moves old new old_world new_world
+    end_moves : (said : SaidData) → Ends plainly seat number (session_in old old_world) (session_in new new_world) said → Moves old new old_world new_world
     end_moves said h = go h.0 h.1 h.2
       where
-        answered : (answer : AnswerData) → Finishes seat number old_world new_world (Rows answer) → Moves old new old_world new_world
+        answered : (answer : AnswerData) → FinishesLine seat number old_world new_world (Rows answer) → Moves old new old_world new_world
         answered answer (mid, seeks, same) =
             let goes = seeks_goes mid (Rows answer) seeks in
             moves_goes old new old_world new_world (λ still. subst (λ (w : WorldData). IsAtRest w) (sym same) (goes.1 still)) (goes_then old_world mid new_world goes.0 (goes_same mid new_world same))
             (λ xs still held. gone_here (subst (λ (w : WorldData). AreGone (Some seat) (Some number) w.searches) (sym same) (seeks_gone mid answer seeks)))
 
-        given_up : (mid : WorldData) → Seeks seat number old_world mid (Refused (refusals.Tree tree.Overrun)) → (said : EventReply) → Happens (DropSearch seat number) mid new_world said → Moves old new old_world new_world
+        given_up : (mid : WorldData) → Seeks seat number old_world mid (Failed (refusals.Tree tree.Overrun)) → (said : EventReply) → Happens (DropSearch seat number) mid new_world said → Moves old new old_world new_world
         given_up mid seeks said d =
-            let goes = seeks_goes mid (Refused (refusals.Tree tree.Overrun)) seeks in
+            let goes = seeks_goes mid (Failed (refusals.Tree tree.Overrun)) seeks in
             moves_goes old new old_world new_world (λ still. drop_rests seat number mid new_world said d (goes.1 still)) (goes_then old_world mid new_world goes.0 (drop_goes seat number mid new_world said d))
             (λ xs still held. gone_here (drop_gone seat number xs mid new_world said d (goes.1 still)
             (subst (λ (seats : List Subject). AreHeld seats xs mid.searches) (sym goes.0.seats) (goes.0.held old_world.seats xs held))))
 
-        stays_open : (fault : WorldFault) → Finishes seat number old_world new_world (Refused fault) → left_open fault number ≡ Some number → new ≡ record old { search = left_open fault number } → Moves old new old_world new_world
+        stays_open : (fault : WorldFault) → FinishesLine seat number old_world new_world (Failed fault) → left_open fault number ≡ Some number → new ≡ record old { search = left_open fault number } → Moves old new old_world new_world
         stays_open fault (mid, seeks, rest) stays e =
-            let goes = seeks_goes mid (Refused fault) seeks in
-            let later = ends (is_overrun (Refused fault)) rest in
+            let goes = seeks_goes mid (Failed fault) seeks in
+            let later = ends (is_overrun_reply (Failed fault)) rest in
             moves_goes old new old_world new_world (λ still. later.1 (goes.1 still)) (goes_then old_world mid new_world goes.0 later.0)
             (λ xs still held. stay_same old new new_world.searches (ap (λ (x : SessionState). x.seat) e) (ap (λ (x : SessionState). x.search) e ∙ stays ∙ sym opened_it))
           where
@@ -251,97 +252,98 @@ module _ (seat : ℕ) (old new : SessionState) (old_world new_world : WorldData)
             ends true d = (drop_goes seat number mid new_world d.0 d.1, drop_rests seat number mid new_world d.0 d.1)
             ends false d = (goes_same mid new_world d, λ still. subst (λ (w : WorldData). IsAtRest w) (sym d) still)
 
-        go : (end : Result AnswerData WorldFault) → Finishes seat number old_world new_world (reply_of Rows end) → new ≡ record old { search = finished_as end number } → Moves old new old_world new_world
+        go : (end : Result AnswerData WorldFault) → FinishesLine seat number old_world new_world (reply_of Rows end) → new ≡ record old { search = finished_as end number } → Moves old new old_world new_world
         go (Ok answer) h e = answered answer h
         go (Err fault) h e = cases (left_cases fault number)
           where
-            over_so : Finishes seat number old_world new_world (Refused (refusals.Tree tree.Overrun)) → Moves old new old_world new_world
+            over_so : FinishesLine seat number old_world new_world (Failed (refusals.Tree tree.Overrun)) → Moves old new old_world new_world
             over_so (mid, seeks, d) = given_up mid seeks d.0 d.1
 
             cases : (left_open fault number ≡ Some number) ⊎ (fault ≡ refusals.Tree tree.Overrun) → Moves old new old_world new_world
             cases (inl stays) = stays_open fault h stays e
-            cases (inr over) = over_so (subst (λ (f : WorldFault). Finishes seat number old_world new_world (Refused f)) over h)
+            cases (inr over) = over_so (subst (λ (f : WorldFault). FinishesLine seat number old_world new_world (Failed f)) over h)
 
-  obeys_moves : (command : StepCommand) (said : SaidData) → IsOfOpen old.search command → ObeysStep seat command old old_world new new_world said → Moves old new old_world new_world
+  obeys_moves : (command : StepCommand) (said : SaidData) → IsOfOpen old.search command → ObeysStep plainly seat command (session_in old old_world) (session_in new new_world) said → Moves old new old_world new_world
   obeys_moves (commands.Open window) said is h = open_moves window said is h
   obeys_moves (commands.Step search count) said is h = step_moves search is count said h
   obeys_moves (commands.Finish search) said is h = end_moves search is said h
 
-takes_moves : (verb : StepVerb) (text : List ℕ) (old new : SessionState) (old_world new_world : WorldData) (said : SaidData) → TakesStep verb text old old_world new new_world said → Moves old new old_world new_world
-takes_moves verb text old new old_world new_world said h = go old.seat refl h
+takes_moves : (verb : StepVerb) (text : List ℕ) (old new : SessionIn WorldData) (said : SaidData) → TakesStep plainly verb text old new said → Moves old.session new.session old.world new.world
+takes_moves verb text old new said h = go old.session.seat refl h
   where
-    read : (seat : ℕ) → old.seat ≡ Some seat → (r : Result StepCommand Fault) → AsksOpen old.search r
-        → MatchResult r (λ command. ObeysStep seat command old old_world new new_world said) (λ fault. OnlyTells (Error fault) old old_world new new_world said) → Moves old new old_world new_world
-    read seat seated (Ok command) is h = obeys_moves seat old new old_world new_world seated command said is h
-    read seat seated (Err fault) is h = tells_moves (Error fault) old new old_world new_world said h
+    read : (seat : ℕ) → old.session.seat ≡ Some seat → (r : Result StepCommand LineFault) → AsksOpen old.session.search r
+        → MatchResult r (λ command. ObeysStep plainly seat command old new said) (λ fault. OnlyTells (Error fault) old new said) → Moves old.session new.session old.world new.world
+    read seat seated (Ok command) is h = obeys_moves seat old.session new.session old.world new.world seated command said is h
+    read seat seated (Err fault) is h = tells_moves (Error fault) old new said h
 
-    go : (o : Option ℕ) → old.seat ≡ o → MatchOption o (OnlyTells (Error BeforeHello) old old_world new new_world said)
-        (λ seat. MatchResult (step_command_at old.search verb text) (λ command. ObeysStep seat command old old_world new new_world said) (λ fault. OnlyTells (Error fault) old old_world new new_world said))
-        → Moves old new old_world new_world
-    go None e h = tells_moves (Error BeforeHello) old new old_world new_world said h
-    go (Some seat) e h = read seat e (step_command_at old.search verb text) (asks_open old.search verb text) h
+    go : (o : Option ℕ) → old.session.seat ≡ o → MatchOption o (OnlyTells (Error BeforeHello) old new said)
+        (λ seat. MatchResult (step_command_at old.session.search verb text) (λ command. ObeysStep plainly seat command old new said) (λ fault. OnlyTells (Error fault) old new said))
+        → Moves old.session new.session old.world new.world
+    go None e h = tells_moves (Error BeforeHello) old new said h
+    go (Some seat) e h = read seat e (step_command_at old.session.search verb text) (asks_open old.session.search verb text) h
 
-session_moves : (text : List ℕ) (old new : SessionState) (old_world new_world : WorldData) (said : SaidData) → SessionAnswers text old old_world new new_world said → Moves old new old_world new_world
-session_moves text old new old_world new_world said h = go (step_verb_at text) h.1
+session_moves : (text : List ℕ) (old new : SessionIn WorldData) (said : SaidData) → SessionAnswers plainly text old new said → Moves old.session new.session old.world new.world
+session_moves text old new said h = go (step_verb_at text) h.1
   where
-    go : (o : Option (StepVerb × List ℕ)) → MatchOption o (TakesPlain text old old_world new new_world said) (λ verb. TakesStep verb.0 verb.1 old old_world new new_world said) → Moves old new old_world new_world
-    go None h = plain_moves text old new old_world new_world said h
-    go (Some verb) h = takes_moves verb.0 verb.1 old new old_world new_world said h
+    go : (o : Option (StepVerb × List ℕ)) → MatchOption o (TakesPlain plainly text old new said) (λ verb. TakesStep plainly verb.0 verb.1 old new said) → Moves old.session new.session old.world new.world
+    go None h = plain_moves text old.session new.session old.world new.world said h
+    go (Some verb) h = takes_moves verb.0 verb.1 old new said h
 
 -- ---- lines of a script
 
 -- a line is answered by a session, or leaves the script unchanged
-module _ (P : Script → Script → Type 0) (same : (s : Script) → P s s) (tells : (label text : List ℕ) (old new : Script) (said : List ℕ) → SessionTells label text old new said → P old new) where
-  refused_by : (text : List ℕ) (old new : Script) (said : List ℕ) → IsRefused text old new said → P old new
-  refused_by text old new said h = subst (λ (s : Script). P old s) (sym h.0) (same old)
+module _ (P : Script WorldData → Script WorldData → Type 0) (same : (s : Script WorldData) → P s s)
+    (tells : (label text : List ℕ) (old new : Script WorldData) (said : List ℕ) → SessionTells plainly label text old new said → P old new) where
+  refused_by : (text : List ℕ) (old new : Script WorldData) (said : List ℕ) → IsRefused text old new said → P old new
+  refused_by text old new said h = subst (λ (s : Script WorldData). P old s) (sym h.0) (same old)
 
-  label_by : (label text : List ℕ) (old new : Script) (said : List ℕ) → LabelTells label text old new said → P old new
+  label_by : (label text : List ℕ) (old new : Script WorldData) (said : List ℕ) → LabelTells plainly label text old new said → P old new
   label_by label text old new said h = go (nat_lt (place label old.sessions) LABEL_LIMIT) h
     where
-      go : (b : Bool) → MatchBool b (SessionTells label text old new said) (IsRefused (reply_text (Error NoLabel)) old new said) → P old new
+      go : (b : Bool) → MatchBool b (SessionTells plainly label text old new said) (IsRefused (reply_text (Error NoLabel)) old new said) → P old new
       go true h = tells label text old new said h
       go false h = refused_by (reply_text (Error NoLabel)) old new said h
 
-  line_by : (text : List ℕ) (old new : Script) (said : List ℕ) → LineTells text old new said → P old new
+  line_by : (text : List ℕ) (old new : Script WorldData) (said : List ℕ) → LineTells text old new said → P old new
   line_by text old new said h = long (is_too_long text) h
     where
-      named : (n : Option (List ℕ)) (rest : List ℕ) → MatchOption n (IsRefused (reply_text (Error NoLabel)) old new said) (λ label. LabelTells label rest old new said) → P old new
+      named : (n : Option (List ℕ)) (rest : List ℕ) → MatchOption n (IsRefused (reply_text (Error NoLabel)) old new said) (λ label. LabelTells plainly label rest old new said) → P old new
       named None rest h = refused_by (reply_text (Error NoLabel)) old new said h
       named (Some label) rest h = label_by label rest old new said h
 
       parted : (p : Option (List ℕ × List ℕ)) → MatchOption p (IsRefused (reply_text (Error NoLabel)) old new said)
-          (λ parts. MatchOption (name_of parts.0) (IsRefused (reply_text (Error NoLabel)) old new said) (λ label. LabelTells label parts.1 old new said)) → P old new
+          (λ parts. MatchOption (name_of parts.0) (IsRefused (reply_text (Error NoLabel)) old new said) (λ label. LabelTells plainly label parts.1 old new said)) → P old new
       parted None h = refused_by (reply_text (Error NoLabel)) old new said h
       parted (Some parts) h = named (name_of parts.0) parts.1 h
 
       skipped : (b : Bool) → MatchBool b ((new ≡ old) × (said ≡ [])) (MatchOption (parts_of text) (IsRefused (reply_text (Error NoLabel)) old new said)
-          (λ parts. MatchOption (name_of parts.0) (IsRefused (reply_text (Error NoLabel)) old new said) (λ label. LabelTells label parts.1 old new said))) → P old new
-      skipped true h = subst (λ (s : Script). P old s) (sym h.0) (same old)
+          (λ parts. MatchOption (name_of parts.0) (IsRefused (reply_text (Error NoLabel)) old new said) (λ label. LabelTells plainly label parts.1 old new said))) → P old new
+      skipped true h = subst (λ (s : Script WorldData). P old s) (sym h.0) (same old)
       skipped false h = parted (parts_of text) h
 
       long : (b : Bool) → MatchBool b (IsRefused (reply_text (Error LineTooLong)) old new said) (MatchBool (is_skipped text) ((new ≡ old) × (said ≡ []))
           (MatchOption (parts_of text) (IsRefused (reply_text (Error NoLabel)) old new said)
-          (λ parts. MatchOption (name_of parts.0) (IsRefused (reply_text (Error NoLabel)) old new said) (λ label. LabelTells label parts.1 old new said)))) → P old new
+          (λ parts. MatchOption (name_of parts.0) (IsRefused (reply_text (Error NoLabel)) old new said) (λ label. LabelTells plainly label parts.1 old new said)))) → P old new
       long true h = refused_by (reply_text (Error LineTooLong)) old new said h
       long false h = skipped (is_skipped text) h
 
 -- a world at rest stays at rest after a line
-pub line_rests : (text : List ℕ) (old new : Script) (said : List ℕ) → LineTells text old new said → IsAtRest old.world → IsAtRest new.world
+pub line_rests : (text : List ℕ) (old new : Script WorldData) (said : List ℕ) → LineTells text old new said → IsAtRest old.world → IsAtRest new.world
 line_rests =
     line_by (λ old new. IsAtRest old.world → IsAtRest new.world) (λ s still. still)
-    (λ label text old new said h. (session_moves text (slice_index_or (with_label label old.sessions) (place label old.sessions) (fresh label)) h.session old.world new.world h.reply h.answers).rests)
+    (λ label text old new said h. (session_moves text (session_in (slice_index_or (with_label label old.sessions) (place label old.sessions) (fresh label)) old.world) (session_in h.session new.world) h.reply h.answers).rests)
 
 -- the same for a session by itself
-pub alone_rests : (text : List ℕ) (old new : Desk SoloState) (said : List ℕ) (next : Next) → AloneTells solo_subject Serves text old new said next → IsAtRest old.service.world → IsAtRest new.service.world
+pub alone_rests : (text : List ℕ) (old new : Desk SoloState) (said : List ℕ) (next : Next) → AloneTells solo_subject ServesCall text old new said next → IsAtRest old.service.world → IsAtRest new.service.world
 alone_rests text old new said next h still = go (is_too_long text) h
   where
-    go : (b : Bool) → MatchBool b (IsPassedOver old new said next) (Replies solo_subject Serves text old new said next) → IsAtRest new.service.world
+    go : (b : Bool) → MatchBool b (IsPassedOver old new said next) (Replies solo_subject ServesCall text old new said next) → IsAtRest new.service.world
     go true d = subst (λ (d : Desk SoloState). IsAtRest d.service.world) (sym d.0) still
     go false d =
-        (line_keeps solo_subject Serves (λ a b. Rests a.world b.world) (λ s. rests_none s.world) call_rests text old new d.reply d.answers still).0
+        (line_keeps solo_subject ServesCall (λ a b. Rests a.world b.world) (λ s. rests_none s.world) call_rests text old new d.reply d.answers still).0
 
 -- a world at rest, whose searches the sessions have open
-pub record IsKept (s : Script) : Type 0 where
+pub record IsKept (s : Script WorldData) : Type 0 where
   pub rests : IsAtRest s.world
   pub held : AreHeld s.world.seats s.sessions s.world.searches
 
@@ -367,18 +369,18 @@ labelled label seats xs ss h = go (place label xs == length xs)
     go true = held_pushed seats xs (fresh label) ss h
     go false = h
 
-session_kept : (label text : List ℕ) (old new : Script) (said : List ℕ) → SessionTells label text old new said → IsKept old → IsKept new
+session_kept : (label text : List ℕ) (old new : Script WorldData) (said : List ℕ) → SessionTells plainly label text old new said → IsKept old → IsKept new
 session_kept label text old new said h kept =
     let xs = with_label label old.sessions in
     let at = place label old.sessions in
-    let moves = session_moves text (slice_index_or xs at (fresh label)) h.session old.world new.world h.reply h.answers in
+    let moves = session_moves text (session_in (slice_index_or xs at (fresh label)) old.world) (session_in h.session new.world) h.reply h.answers in
     record {
       rests = moves.rests kept.rests;
       held = subst (λ (ys : List SessionState). AreHeld new.world.seats ys new.world.searches) (sym h.stays)
           (moves.held xs at (fresh label) refl (place_within label old.sessions) kept.rests (labelled label old.world.seats old.sessions old.world.searches kept.held));
     }
 
-line_kept : (text : List ℕ) (old new : Script) (said : List ℕ) → LineTells text old new said → IsKept old → IsKept new
+line_kept : (text : List ℕ) (old new : Script WorldData) (said : List ℕ) → LineTells text old new said → IsKept old → IsKept new
 line_kept = line_by (λ old new. IsKept old → IsKept new) (λ s kept. kept) session_kept
 
 -- no search and no transaction is open after a run, if none was before it

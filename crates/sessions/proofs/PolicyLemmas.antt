@@ -10,9 +10,9 @@ use Rattle.policy_text.specs.declared.faults.TextFault.{TextFault}
 use Rattle.policy_text.specs.declared.faults.TextFault.TheVariants as unread
 use Rattle.plain_world.specs.declared.faults.Fault.{Fault}
 use Rattle.plain_world.specs.Admitting.{may_govern, may_roll, may_sit}
-use Rattle.plain_world.specs.Events.{TakeSeat, Govern as GovernEvent, Roll, Happens, If, Reply as EventReply, Number, Refused, UnlessMemory, Governs as PutsInForce, Rolls, is_memory}
+use Rattle.plain_world.specs.Events.{TakeSeat, Govern as GovernEvent, Roll, Happens, If, Reply as EventReply, Number, Failed, UnlessMemory, Governs as PutsInForce, Rolls, is_memory}
 use Rattle.plain_world.specs.States.{WorldData}
-use Rattle.session_lines.specs.Desks.{Governs, OnlySays, desk}
+use Rattle.session_lines.specs.Desks.{GovernsLine, OnlySays, desk}
 use Rattle.session_lines.specs.Replies.{SaidData, line, policy_reply}
 use Rattle.session_lines.specs.Services.{Call, Govern}
 use Rattle.sessions.specs.States.{IsAtRest}
@@ -59,10 +59,10 @@ module _ {S : Type 0} (serves : Call → S → S → SaidData → Type 0) (stage
   Read reading old new said =
       MatchResult reading (λ document. (staged ≡ staged) × serves (Govern document) old new said) (λ fault. OnlySays (policy_reply fault) (desk staged old) (desk staged new) said)
 
-  unread_so : (s : S) (fault : TextFault) → document_of_bytes text ≡ Err fault → Governs serves text (desk staged s) (desk staged s) (line (policy_reply fault))
+  unread_so : (s : S) (fault : TextFault) → document_of_bytes text ≡ Err fault → GovernsLine serves text (desk staged s) (desk staged s) (line (policy_reply fault))
   unread_so s fault e = inr (subst (λ r. Read r s s (line (policy_reply fault))) (sym e) (refl, refl))
 
-  pub governs_unread : (s : S) (fault : TextFault) → (text ≡ [] → fault ≡ unread.NotJson) → Fails fault (document_of_bytes text) → Governs serves text (desk staged s) (desk staged s) (line (policy_reply fault))
+  pub governs_unread : (s : S) (fault : TextFault) → (text ≡ [] → fault ≡ unread.NotJson) → Fails fault (document_of_bytes text) → GovernsLine serves text (desk staged s) (desk staged s) (line (policy_reply fault))
   governs_unread s (unread.Memory refused) empty e = inl ((λ none. (let wrong = empty none in absurd cc)), refused, (refl, refl))
   governs_unread s unread.NotJson empty e = unread_so s unread.NotJson e
   governs_unread s (unread.Form path) empty e = unread_so s (unread.Form path) e
@@ -74,5 +74,5 @@ module _ {S : Type 0} (serves : Call → S → S → SaidData → Type 0) (stage
   governs_unread s unread.TooMany empty e = unread_so s unread.TooMany e
 
   -- a document that was read
-  pub governs_read : (document : DocumentData) (old new : S) (said : SaidData) → document_of_bytes text ≡ Ok document → serves (Govern document) old new said → Governs serves text (desk staged old) (desk staged new) said
+  pub governs_read : (document : DocumentData) (old new : S) (said : SaidData) → document_of_bytes text ≡ Ok document → serves (Govern document) old new said → GovernsLine serves text (desk staged old) (desk staged new) said
   governs_read document old new said e h = inr (subst (λ r. Read r old new said) (sym e) (refl, h))

@@ -1,5 +1,5 @@
 -- Lines of a script, one at a time.
-use Rattle.std.proofs.Common.{◌≡◌, ℕ, zero, suc, ◌+◌, ◌<◌, ◌++◌, List, [], ◌∷◌, length, take, Option, None, Some, Result, Ok, Err, OnOk, IfErr, slice_set, slice_index_or, refl, ap, subst, ◌∙◌, arith}
+use Rattle.std.proofs.Common.{◌≡◌, ℕ, zero, suc, ◌+◌, ◌<◌, List, [], ◌∷◌, length, take, Option, None, Some, Result, Ok, Err, OnOk, IfErr, slice_set, slice_index_or, refl, ap, subst, ◌∙◌, arith}
 use Rattle.std.specs.Io.KnownBytes.{Appends}
 use Rattle.std.specs.Option.{IfSome}
 use Rattle.std.proofs.lemmas.Bool.{lt-ltb}
@@ -7,10 +7,9 @@ use Rattle.sessions.specs.declared.scripts.TheConstants.{LABEL_LIMIT}
 use Rattle.session_lines.specs.Printed.{said_text}
 use Rattle.session_lines.specs.Replies.{SaidData}
 use Rattle.plain_world.specs.States.{WorldData}
-use Rattle.transactions.specs.Index.{IndexedWorld}
-use Rattle.sessions.specs.Indexed.{IndexedScript, LabelThere, LineRuns, SessionThere}
-use Rattle.sessions.specs.Scripts.{SessionAnswers, fresh, script, place, with_label, IsScriptText, LabelTells, LineTells}
-use Rattle.sessions.specs.States.{SessionState}
+use Rattle.sessions.specs.Indexed.{IndexedScript, LineRuns}
+use Rattle.sessions.specs.Scripts.{Manner, Script, SessionAnswers, fresh, script, place, with_label, IsScriptText, LabelTells, LineTells}
+use Rattle.sessions.specs.States.{SessionState, session_in}
 use Rattle.sessions.specs.Stepping.{AllDrop, AllEnd}
 use Rattle.byte_streams.specs.Written.{Took}
 use Rattle.line_streams.specs.Streams.{NeverEnds, OnMemory, Ran}
@@ -18,26 +17,25 @@ use Rattle.line_streams.specs.declared.streams.Next.{Next}
 use Rattle.line_streams.specs.declared.streams.ServeFault.{ServeFault}
 use Rattle.line_streams.specs.declared.streams.ServeFault.TheVariants.{Memory}
 use Rattle.line_streams.proofs.StreamLemmas.{lines_told, ran_as}
+use Rattle.sessions.proofs.IndexLemmas.{runs_plainly}
 
 -- what a session answered and wrote is the reply to its label's line
-pub label_told : {E : Type 0} (r : Result (Unit {0}) E) (label text : List ℕ) (old : IndexedScript) (world : IndexedWorld) (sessions : List SessionState) (reply : SaidData) (a b : Option (List ℕ))
+pub label_told : {E W : Type 0} (how : Manner W) (r : Result (Unit {0}) E) (label text : List ℕ) (old : Script W) (world : W) (sessions : List SessionState) (reply : SaidData) (a b : Option (List ℕ))
     → place label old.sessions < LABEL_LIMIT
     → ((session : SessionState) × (sessions ≡ slice_set (with_label label old.sessions) (place label old.sessions) session)
-    × ((d : SessionState) → SessionAnswers text (slice_index_or (with_label label old.sessions) (place label old.sessions) d) old.world.plain session world.plain reply)
-    × ((d : SessionState) → SessionThere text (slice_index_or (with_label label old.sessions) (place label old.sessions) d) old.world session world reply))
+    × ((d : SessionState) → SessionAnswers how text (session_in (slice_index_or (with_label label old.sessions) (place label old.sessions) d) old.world) (session_in session world) reply))
     → Took r a b (said_text label reply)
-    → ((said : List ℕ) × Took r a b said × LabelTells label text (script old.world.plain old.sessions) (script world.plain sessions) said × LabelThere label text old sessions world said)
-label_told r label text old world sessions reply a b room answered written = (
+    → ((said : List ℕ) × Took r a b said × LabelTells how label text old (script world sessions) said)
+label_told how r label text old world sessions reply a b room answered written = (
   said_text label reply,
   written,
   rw (lt-ltb _ _ room) (record { session = answered.0; reply = reply; answers = answered.2 (fresh label); stays = answered.1; shows = refl }),
-  rw (lt-ltb _ _ room) (answered.0, reply, answered.3 (fresh label), answered.1, refl),
 )
 
 -- a run over a world with its index is a run over its plain part
 pub ran_plainly : {T : Type 0} (r : Result T ServeFault) (old new : IndexedScript) (input left a b : Option (List ℕ)) → Ran (NeverEnds LineRuns) r old new input left a b
     → Ran (NeverEnds LineTells) r (script old.world.plain old.sessions) (script new.world.plain new.sessions) input left a b
-ran_plainly r old new input left a b run = ran_as (λ (s : IndexedScript). script s.world.plain s.sessions) (NeverEnds LineRuns) (NeverEnds LineTells) (λ line x y said next h. (h.0.0, h.1)) r old new input left a b run
+ran_plainly r old new input left a b run = ran_as (λ (s : IndexedScript). script s.world.plain s.sessions) (NeverEnds LineRuns) (NeverEnds LineTells) (λ line x y said next h. (runs_plainly line x y said h.0, h.1)) r old new input left a b run
 
 -- a run that ends well has written the script text of all its known input
 pub script_text_of : {T : Type 0} (r : Result T ServeFault) (world last end : WorldData) (sessions : List SessionState) (input left a b : Option (List ℕ)) → Ran (NeverEnds LineTells) r (script world []) (script last sessions) input left a b

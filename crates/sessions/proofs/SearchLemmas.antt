@@ -3,7 +3,7 @@ use Rattle.std.proofs.Common.{◌≡◌, ◌⊎◌, ℕ, ◌+◌, ◌<◌, ◌==
 use Rattle.std.specs.Bool.{MatchBool}
 use Rattle.std.proofs.lemmas.Bool.Decides.{nat_tests}
 use Rattle.plane.specs.declared.point.Point.{Point}
-use Rattle.memory.specs.declared.refused.Refused.{Refused as Refusal}
+use Rattle.memory.specs.declared.no_memory.NoMemory.{NoMemory}
 use Rattle.features.specs.declared.actors.Subject.{Subject}
 use Rattle.features.specs.declared.rows.Feature.{Feature}
 use Rattle.audit_trail.specs.Listing.{Listed}
@@ -11,15 +11,15 @@ use Rattle.audit_trail.specs.Records.{PlainState, RecordData, answered}
 use Rattle.plain_world.specs.declared.faults.Fault.{Fault}
 use Rattle.plain_world.specs.declared.faults.Fault.TheVariants as faults
 use Rattle.tree_answers.specs.declared.fault.TreeFault.TheVariants as tree
-use Rattle.plain_world.specs.declared.searches.Search.{Search}
+use Rattle.plain_world.specs.declared.open_searches.Search.{Search}
 use Rattle.plain_world.specs.declared.settings.TheConstants.{SEARCH_LIMIT}
 use Rattle.tree_answers.specs.declared.answers.Visit.TheVariants as visits
 use Rattle.plain_world.specs.Admitting.{LAST, and_then, given, map_ok, owned, search_with, subject_at, own_search, has_answered_ready, may_record, may_go_on, may_finish, may_open, next_search}
 use Rattle.plain_world.specs.Answers.{AnswerData}
-use Rattle.plain_world.specs.Events.{Event, OpenSearch, VisitNext, Finish, DropSearch, Happens, If, Reply, Number, Visited, Rows, Refused, UnlessMemory, Sees, Visits, Finishes, is_memory, is_want, recorded, with_ready, without_search}
+use Rattle.plain_world.specs.Events.{Event, OpenSearch, VisitNext, Finish, DropSearch, Happens, If, Reply, Number, Visited, Rows, Failed, UnlessMemory, Sees, Visits, Finishes, is_memory, is_want, recorded, with_ready, without_search}
 use Rattle.plain_world.specs.Laws.{AreGiven}
 use Rattle.plain_world.specs.States.{WorldData}
-use Rattle.sessions.specs.Services.{Searches, ListsRows, is_full, is_overrun, may_search}
+use Rattle.sessions.specs.Services.{SearchesCall, ListsRows, is_full, is_overrun_reply, may_search}
 use Rattle.sessions.specs.States.{IsAtRest, searched}
 use Rattle.sessions.specs.Stepping.{Seeks}
 use Rattle.sessions.specs.UnderWay.{searching}
@@ -28,7 +28,7 @@ pub same_number : (n : ℕ) → (n == n) ≡ true
 same_number n = eq-eqb n n refl
 
 -- a fault that means out of memory carries a refusal
-pub want_is : (fault : Fault) → is_want fault ≡ true → (refusal : Refusal) × (fault ≡ faults.Memory refusal)
+pub want_is : (fault : Fault) → is_want fault ≡ true → (refusal : NoMemory) × (fault ≡ faults.Memory refusal)
 want_is (faults.Memory refusal) e = (refusal, refl)
 want_is _ e = absurd cc
 
@@ -37,14 +37,14 @@ pub does : {T : Type 0} (may : Result T Fault) (x : T) (old new : WorldData) (re
 does may x old new reply Does e h = subst (λ (r : Result _ Fault). If r old new reply Does) e h
 
 -- a refused event changes nothing
-pub refuses : {T : Type 0} (may : Result T Fault) (fault : Fault) (old new : WorldData) (reply : Reply) (Does : T → Type 0) → may ≡ Err fault → If may old new reply Does → (new ≡ old) × (reply ≡ Refused fault)
+pub refuses : {T : Type 0} (may : Result T Fault) (fault : Fault) (old new : WorldData) (reply : Reply) (Does : T → Type 0) → may ≡ Err fault → If may old new reply Does → (new ≡ old) × (reply ≡ Failed fault)
 refuses may fault old new reply Does e h = subst (λ (r : Result _ Fault). If r old new reply Does) e h
 
 -- an admitted event, from what it does
 pub done : {T : Type 0} (may : Result T Fault) (x : T) (old new : WorldData) (reply : Reply) (Does : T → Type 0) → may ≡ Ok x → Does x → If may old new reply Does
 done may x old new reply Does e h = subst (λ (r : Result _ Fault). If r old new reply Does) (sym e) h
 
-pub turned : {T : Type 0} (may : Result T Fault) (fault : Fault) (old new : WorldData) (reply : Reply) (Does : T → Type 0) → may ≡ Err fault → (new ≡ old) × (reply ≡ Refused fault) → If may old new reply Does
+pub turned : {T : Type 0} (may : Result T Fault) (fault : Fault) (old new : WorldData) (reply : Reply) (Does : T → Type 0) → may ≡ Err fault → (new ≡ old) × (reply ≡ Failed fault) → If may old new reply Does
 turned may fault old new reply Does e h = subst (λ (r : Result _ Fault). If r old new reply Does) (sym e) h
 
 -- an event of a world is an event of an equal world
@@ -106,16 +106,16 @@ module _ (number seat : ℕ) (window : List Point) (w : WorldData) (subject : Su
   -- what a visit leaves
   abbrev Visiting : WorldData → Reply → Type 0
   Visiting mid (Visited visits.Ready) = mid ≡ searching number seat window true w
-  Visiting mid (Refused (faults.Memory refusal)) = mid ≡ searching number seat window false w
-  Visiting mid (Refused (faults.Tree tree.Overrun)) = mid ≡ w
-  Visiting mid (Refused fault) = ⊥
+  Visiting mid (Failed (faults.Memory refusal)) = mid ≡ searching number seat window false w
+  Visiting mid (Failed (faults.Tree tree.Overrun)) = mid ≡ w
+  Visiting mid (Failed fault) = ⊥
   Visiting mid _ = Unit {0}
 
   sees : (mid : WorldData) (reply : Reply) → UnlessMemory (searching number seat window false w) mid reply (Sees number (searching number seat window false w) mid reply) → Visiting mid reply
   sees mid (Visited visits.More) d = tt
   sees mid (Visited visits.Ready) d = d ∙ ap (λ (ss : List Search). record w { searches = ss }) (last_ready number (one false) refl w.searches free)
-  sees mid (Refused (faults.Memory refusal)) d = d
-  sees mid (Refused (faults.Tree tree.Overrun)) d = d ∙ ap (λ (ss : List Search). record w { searches = ss }) (gone false)
+  sees mid (Failed (faults.Memory refusal)) d = d
+  sees mid (Failed (faults.Tree tree.Overrun)) d = d ∙ ap (λ (ss : List Search). record w { searches = ss }) (gone false)
   sees mid _ d = absurd d
 
   visiting : (mid : WorldData) (reply : Reply) → Happens (VisitNext seat number) (searching number seat window false w) mid reply → Visiting mid reply
@@ -124,7 +124,7 @@ module _ (number seat : ℕ) (window : List Point) (w : WorldData) (subject : Su
 
   -- why a search fails
   abbrev pub Fails : Fault → Type 0
-  Fails fault = ((refusal : Refusal) × (fault ≡ faults.Memory refusal)) ⊎ ((fault ≡ faults.Tree tree.Overrun) ⊎ ((is_full w ≡ true) × (fault ≡ faults.TrailFull)))
+  Fails fault = ((refusal : NoMemory) × (fault ≡ faults.Memory refusal)) ⊎ ((fault ≡ faults.Tree tree.Overrun) ⊎ ((is_full w ≡ true) × (fault ≡ faults.TrailFull)))
 
   -- the search after a visit: open, or gone
   abbrev pub Stays : WorldData → Type 0
@@ -135,7 +135,7 @@ module _ (number seat : ℕ) (window : List Point) (w : WorldData) (subject : Su
       (is_full w ≡ false) × ((rows : List Feature) × Listed w.state subject window rows
       × (Rows answer ≡ Rows (record { subject = subject; window = window; decider = w.state.decider; rows = rows }))
       × (mid ≡ recorded seat (answered subject window (map (λ row. row.id) rows) (map (λ row. row.version) rows)) w))
-  Sought mid (Refused fault) = Fails fault × Stays mid
+  Sought mid (Failed fault) = Fails fault × Stays mid
   Sought mid _ = ⊥
 
   finishes : (mid new : WorldData) (reply : Reply) → mid ≡ searching number seat window true w → Happens (Finish seat number) mid new reply → Sought new reply
@@ -150,9 +150,9 @@ module _ (number seat : ℕ) (window : List Point) (w : WorldData) (subject : Su
           ∙ ap (λ (r : Result Search Fault). and_then r (λ s. and_then (has_answered_ready s) (λ _. and_then (may_record there) (λ _. Ok (subject, s))))) (own true)
 
       ends : is_full w ≡ false → (reply : Reply) → UnlessMemory there new reply (Finishes seat (subject, one true) there new reply) → Sought new reply
-      ends room (Refused fault) d = wants (is_want fault) refl d
+      ends room (Failed fault) d = wants (is_want fault) refl d
         where
-          wants : (b : Bool) → is_want fault ≡ b → MatchBool b (new ≡ there) (Finishes seat (subject, one true) there new (Refused fault)) → Sought new (Refused fault)
+          wants : (b : Bool) → is_want fault ≡ b → MatchBool b (new ≡ there) (Finishes seat (subject, one true) there new (Failed fault)) → Sought new (Failed fault)
           wants true e d = (inl (want_is fault e), inl (true, d))
           wants false e d = (let wrong = d.2 in absurd cc)
       ends room (Rows answer) d = (room, (d.0, d.1, d.2, d.3 ∙ ap (λ (ss : List Search). record (recorded seat (answered subject window (map (λ row. row.id) d.0) (map (λ row. row.version) d.0)) w) { searches = ss }) (gone true)))
@@ -167,9 +167,9 @@ module _ (number seat : ℕ) (window : List Point) (w : WorldData) (subject : Su
           ends e reply does_so
 
   pub sought : (new : WorldData) (reply : Reply) → Seeks seat number (searching number seat window false w) new reply → Sought new reply
-  sought new reply (inl (fault, h, e)) = subst (λ (r : Reply). Sought new r) (sym e) (unseen fault (visiting new (Refused fault) h))
+  sought new reply (inl (fault, h, e)) = subst (λ (r : Reply). Sought new r) (sym e) (unseen fault (visiting new (Failed fault) h))
     where
-      unseen : (fault : Fault) → Visiting new (Refused fault) → Sought new (Refused fault)
+      unseen : (fault : Fault) → Visiting new (Failed fault) → Sought new (Failed fault)
       unseen (faults.Memory refusal) d = (inl (refusal, refl), inl (false, d))
       unseen (faults.Tree tree.Overrun) d = (inr (inl refl), inr d)
       unseen _ d = absurd d
@@ -227,36 +227,36 @@ module _ (seat : ℕ) (window : List Point) (old new : WorldData) where
       ap (λ (r : Result Subject Fault). and_then r (λ subject. map_ok (λ _. subject) (next_search old))) e ∙ ap (λ (r : Result ℕ Fault). map_ok (λ _. subject) r) l
 
   -- a search that is not opened
-  pub open_refused : (fault : Fault) → IsAtRest old → Happens (OpenSearch seat window) old new (Refused fault) → IsAtRest new × Searches seat window old new (Refused fault)
+  pub open_refused : (fault : Fault) → IsAtRest old → Happens (OpenSearch seat window) old new (Failed fault) → IsAtRest new × SearchesCall seat window old new (Failed fault)
   open_refused fault still h = let ends = go (subject_at seat old) (next_search old) refl refl in (rests_same old new still ends.0, ends.1)
     where
       Does : Subject → Type 0
       Does subject =
           MatchBool (is_want fault) ((new ≡ old) ⊎ (new ≡ searched old))
-          (MatchBool (is_overrun (Refused fault)) (new ≡ searched old)
-          (MatchBool (is_full old) ((Refused fault ≡ Refused faults.TrailFull) × (new ≡ searched old))
-          (ListsRows seat subject window old new (Refused fault))))
+          (MatchBool (is_overrun_reply (Failed fault)) (new ≡ searched old)
+          (MatchBool (is_full old) ((Failed fault ≡ Failed faults.TrailFull) × (new ≡ searched old))
+          (ListsRows seat subject window old new (Failed fault))))
 
-      wants : (subject : Subject) (number : ℕ) (b : Bool) → is_want fault ≡ b → MatchBool b (new ≡ old) ((new ≡ opening number) × (Refused fault ≡ Number number)) → (new ≡ old) × Does subject
+      wants : (subject : Subject) (number : ℕ) (b : Bool) → is_want fault ≡ b → MatchBool b (new ≡ old) ((new ≡ opening number) × (Failed fault ≡ Number number)) → (new ≡ old) × Does subject
       wants subject number true e d = (
         d,
         subst (λ (b : Bool). MatchBool b ((new ≡ old) ⊎ (new ≡ searched old))
-            (MatchBool (is_overrun (Refused fault)) (new ≡ searched old)
-            (MatchBool (is_full old) ((Refused fault ≡ Refused faults.TrailFull) × (new ≡ searched old)) (ListsRows seat subject window old new (Refused fault))))) (sym e) (inl d),
+            (MatchBool (is_overrun_reply (Failed fault)) (new ≡ searched old)
+            (MatchBool (is_full old) ((Failed fault ≡ Failed faults.TrailFull) × (new ≡ searched old)) (ListsRows seat subject window old new (Failed fault))))) (sym e) (inl d),
       )
       wants subject number false e d = (let wrong = d.1 in absurd cc)
 
-      go : (who : Result Subject Fault) (room : Result ℕ Fault) → subject_at seat old ≡ who → next_search old ≡ room → (new ≡ old) × Searches seat window old new (Refused fault)
+      go : (who : Result Subject Fault) (room : Result ℕ Fault) → subject_at seat old ≡ who → next_search old ≡ room → (new ≡ old) × SearchesCall seat window old new (Failed fault)
       go (Err f) room e l =
-          let left = refuses _ f old new (Refused fault) _ (ap (λ (r : Result Subject Fault). and_then r (λ _. next_search old)) e) h in
-          (left.0, turned _ f old new (Refused fault) Does (ap (λ (r : Result Subject Fault). and_then r (λ subject. map_ok (λ _. subject) (next_search old))) e) left)
+          let left = refuses _ f old new (Failed fault) _ (ap (λ (r : Result Subject Fault). and_then r (λ _. next_search old)) e) h in
+          (left.0, turned _ f old new (Failed fault) Does (ap (λ (r : Result Subject Fault). and_then r (λ subject. map_ok (λ _. subject) (next_search old))) e) left)
       go (Ok subject) (Err f) e l =
-          let left = refuses _ f old new (Refused fault) _ (may_open_as subject (Err f) e l) h in
-          (left.0, turned _ f old new (Refused fault) Does (may_search_as subject (Err f) e l) left)
+          let left = refuses _ f old new (Failed fault) _ (may_open_as subject (Err f) e l) h in
+          (left.0, turned _ f old new (Failed fault) Does (may_search_as subject (Err f) e l) left)
       go (Ok subject) (Ok number) e l =
-          let d = does _ number old new (Refused fault) _ (may_open_as subject (Ok number) e l) h in
+          let d = does _ number old new (Failed fault) _ (may_open_as subject (Ok number) e l) h in
           let ends = wants subject number (is_want fault) refl d in
-          (ends.0, done _ subject old new (Refused fault) Does (may_search_as subject (Ok number) e l) ends.1)
+          (ends.0, done _ subject old new (Failed fault) Does (may_search_as subject (Ok number) e l) ends.1)
 
 -- a search that is opened
 pub record Opened (seat : ℕ) (window : List Point) (old new : WorldData) (number : ℕ) : Type 0 where
@@ -303,35 +303,35 @@ module _ (seat : ℕ) (window : List Point) (old mid : WorldData) (number : ℕ)
   abbrev Does : WorldData → Reply → Subject → Type 0
   Does new reply subject =
       MatchBool (is_memory reply) ((new ≡ old) ⊎ (new ≡ searched old))
-      (MatchBool (is_overrun reply) (new ≡ searched old)
-      (MatchBool (is_full old) ((reply ≡ Refused faults.TrailFull) × (new ≡ searched old))
+      (MatchBool (is_overrun_reply reply) (new ≡ searched old)
+      (MatchBool (is_full old) ((reply ≡ Failed faults.TrailFull) × (new ≡ searched old))
       (ListsRows seat subject window old new reply)))
 
-  whole : (new : WorldData) (reply : Reply) → Does new reply started.subject → Searches seat window old new reply
+  whole : (new : WorldData) (reply : Reply) → Does new reply started.subject → SearchesCall seat window old new reply
   whole new reply d = done _ started.subject old new reply (Does new reply) admits d
 
   -- a search that fails, and is dropped
-  pub search_refused : (stopped new : WorldData) (fault : Fault) (reply : Reply) → Seeks seat number mid stopped (Refused fault) → Happens (DropSearch seat number) stopped new reply → IsAtRest new × Searches seat window old new (Refused fault)
+  pub search_refused : (stopped new : WorldData) (fault : Fault) (reply : Reply) → Seeks seat number mid stopped (Failed fault) → Happens (DropSearch seat number) stopped new reply → IsAtRest new × SearchesCall seat window old new (Failed fault)
   search_refused stopped new fault reply seeks drops =
-      let end = found stopped (Refused fault) seeks in
+      let end = found stopped (Failed fault) seeks in
       let left = dropped number seat window (searched old) started.subject started.seated free stopped new reply end.1 drops in
-      (rests_searched old new old.state old.trail still left, whole new (Refused fault) (why fault left end.0))
+      (rests_searched old new old.state old.trail still left, whole new (Failed fault) (why fault left end.0))
     where
-      why : (fault : Fault) → new ≡ searched old → Fails number seat window (searched old) started.subject started.seated free fault → Does new (Refused fault) started.subject
-      why fault left (inl (refusal, e)) = subst (λ (f : Fault). Does new (Refused f) started.subject) (sym e) (inr left)
-      why fault left (inr (inl e)) = subst (λ (f : Fault). Does new (Refused f) started.subject) (sym e) left
+      why : (fault : Fault) → new ≡ searched old → Fails number seat window (searched old) started.subject started.seated free fault → Does new (Failed fault) started.subject
+      why fault left (inl (refusal, e)) = subst (λ (f : Fault). Does new (Failed f) started.subject) (sym e) (inr left)
+      why fault left (inr (inl e)) = subst (λ (f : Fault). Does new (Failed f) started.subject) (sym e) left
       why fault left (inr (inr (full, e))) =
-          subst (λ (f : Fault). Does new (Refused f) started.subject) (sym e)
-          (subst (λ (b : Bool). MatchBool b ((Refused faults.TrailFull ≡ Refused faults.TrailFull) × (new ≡ searched old)) (ListsRows seat started.subject window old new (Refused faults.TrailFull))) (sym full) (refl, left))
+          subst (λ (f : Fault). Does new (Failed f) started.subject) (sym e)
+          (subst (λ (b : Bool). MatchBool b ((Failed faults.TrailFull ≡ Failed faults.TrailFull) × (new ≡ searched old)) (ListsRows seat started.subject window old new (Failed faults.TrailFull))) (sym full) (refl, left))
 
   -- a search that is answered
-  pub search_answered : (new : WorldData) (answer : AnswerData) → Seeks seat number mid new (Rows answer) → IsAtRest new × Searches seat window old new (Rows answer)
+  pub search_answered : (new : WorldData) (answer : AnswerData) → Seeks seat number mid new (Rows answer) → IsAtRest new × SearchesCall seat window old new (Rows answer)
   search_answered new answer seeks =
       let end = found new (Rows answer) seeks in
       let rows = end.1 in (
         rests_searched old new _ _ still rows.3,
         whole new (Rows answer)
-            (subst (λ (b : Bool). MatchBool b ((Rows answer ≡ Refused faults.TrailFull) × (new ≡ searched old)) (ListsRows seat started.subject window old new (Rows answer))) (sym end.0) rows),
+            (subst (λ (b : Bool). MatchBool b ((Rows answer ≡ Failed faults.TrailFull) × (new ≡ searched old)) (ListsRows seat started.subject window old new (Rows answer))) (sym end.0) rows),
       )
 
 -- ---- visits, one after another
@@ -349,8 +349,8 @@ more_same seat number old new h = go (may_go_on seat number old) h
     go (Ok s) d = ready s s.ready d
 
 module _ (seat number : ℕ) (start old : WorldData) (same : old ≡ start) where
-  pub seeks_refused : (new : WorldData) (fault : Fault) → Happens (VisitNext seat number) old new (Refused fault) → Seeks seat number start new (Refused fault)
-  seeks_refused new fault h = inl (fault, subst (λ (x : WorldData). Happens (VisitNext seat number) x new (Refused fault)) same h, refl)
+  pub seeks_refused : (new : WorldData) (fault : Fault) → Happens (VisitNext seat number) old new (Failed fault) → Seeks seat number start new (Failed fault)
+  seeks_refused new fault h = inl (fault, subst (λ (x : WorldData). Happens (VisitNext seat number) x new (Failed fault)) same h, refl)
 
   pub seeks_ready : (mid new : WorldData) (reply : Reply) → Happens (VisitNext seat number) old mid (Visited visits.Ready) → Happens (Finish seat number) mid new reply → Seeks seat number start new reply
   seeks_ready mid new reply h f = inr (inl (mid, subst (λ (x : WorldData). Happens (VisitNext seat number) x mid (Visited visits.Ready)) same h, f))
@@ -361,5 +361,5 @@ module _ (seat number : ℕ) (start old : WorldData) (same : old ≡ start) wher
       let stays : new ≡ start = more_same seat number old new h ∙ same in
       (stays, subst (λ (x : WorldData). Happens (VisitNext seat number) start x (Visited visits.More)) stays (subst (λ (x : WorldData). Happens (VisitNext seat number) x new (Visited visits.More)) same h))
 
-  pub seeks_none : Happens (VisitNext seat number) start start (Visited visits.More) → Seeks seat number start old (Refused (faults.Tree tree.Overrun))
+  pub seeks_none : Happens (VisitNext seat number) start start (Visited visits.More) → Seeks seat number start old (Failed (faults.Tree tree.Overrun))
   seeks_none more = inr (inr (more, same, refl))

@@ -6,49 +6,31 @@ use Rattle.plain_world.specs.declared.faults.Fault.{Fault}
 use Rattle.tree_answers.specs.declared.answers.Visit.{Visit}
 use Rattle.tree_answers.specs.declared.answers.Visit.TheVariants as visits
 use Rattle.plain_world.specs.Admitting.{may_go_on}
-use Rattle.plain_world.specs.Events.{VisitNext, Happens, Visited, Refused}
+use Rattle.plain_world.specs.Events.{VisitNext, Happens, Visited, Failed}
 use Rattle.plain_world.specs.States.{WorldData}
 use Rattle.session_lines.specs.Desks.{Answers, desk}
 use Rattle.session_lines.specs.Replies.{SaidData}
-use Rattle.sessions.specs.Scripts.{TakesPlain, desk_of, keeps_seat}
-use Rattle.sessions.specs.Services.{Serves, solo_subject}
-use Rattle.sessions.specs.States.{SessionState, solo}
-use Rattle.sessions.specs.Stepping.{Drops, FindsMore, GoesOn, SeesMore, VisitsOn}
+use Rattle.sessions.specs.Scripts.{Manner, TakesPlain, desk_of, keeps_seat}
+use Rattle.sessions.specs.States.{SessionIn, SessionState, solo}
+use Rattle.sessions.specs.Stepping.{FindsMore, GoesOn, SeesMore, VisitsOn}
 use Rattle.sessions.proofs.SearchLemmas.{more_same}
-use Rattle.sessions.specs.Indexed.{ServesThere, Shuts, TakesThere, asks_for, server}
-use Rattle.transactions.specs.Index.{Index, IndexedWorld}
+use Rattle.transactions.specs.Index.{Index}
 use Rattle.transactions.specs.Stepping.{VisitsIndex}
 
 -- a session is served, and its open search stays or is dropped
-pub plain_so : (text : List ℕ) (old mid new : SessionState) (before : Option ℕ) (old_world mid_world new_world : WorldData) (said : SaidData) → Answers solo_subject Serves text (desk_of old_world old) (desk_of mid_world mid) said
-    → mid.search ≡ old.search → new ≡ record mid { search = new.search } → before ≡ old.seat
-    → MatchBool (keeps_seat before mid.seat) ((new.search ≡ mid.search) × (new_world ≡ mid_world)) ((new.search ≡ None) × Drops before mid.search mid_world new_world)
-    → TakesPlain text old old_world new new_world said
-plain_so text old mid new before old_world mid_world new_world said answers search kept was settles =
-    let seat : new.seat ≡ mid.seat = ap (λ (x : SessionState). x.seat) kept in
-    let staged : new.staged ≡ mid.staged = ap (λ (x : SessionState). x.staged) kept in (
-      mid_world,
-      subst (λ (at : Option ℕ). Answers solo_subject Serves text (desk_of old_world old) (desk new.staged (solo mid_world at)) said) (sym seat)
-          (subst (λ (xs : List Change). Answers solo_subject Serves text (desk_of old_world old) (desk xs (solo mid_world mid.seat)) said) (sym staged) answers),
-      subst (λ (at : Option ℕ). MatchBool (keeps_seat old.seat at) ((new.search ≡ old.search) × (new_world ≡ mid_world)) ((new.search ≡ None) × Drops old.seat old.search mid_world new_world)) (sym seat)
-          (subst (λ (o : Option ℕ). MatchBool (keeps_seat old.seat mid.seat) ((new.search ≡ o) × (new_world ≡ mid_world)) ((new.search ≡ None) × Drops old.seat o mid_world new_world)) search
-          (subst (λ (at : Option ℕ). MatchBool (keeps_seat at mid.seat) ((new.search ≡ mid.search) × (new_world ≡ mid_world)) ((new.search ≡ None) × Drops at mid.search mid_world new_world)) was settles)),
-    )
-
--- the same, with the index of the world
-pub there_so : (text : List ℕ) (old mid new : SessionState) (before : Option ℕ) (old_world mid_world new_world : IndexedWorld) (said : SaidData)
-    → Answers asks_for ServesThere text (desk old.staged (server old_world old.seat)) (desk mid.staged (server mid_world mid.seat)) said → mid.search ≡ old.search → new ≡ record mid { search = new.search } → before ≡ old.seat
-    → MatchBool (keeps_seat before mid.seat) (new_world ≡ mid_world) (Shuts before mid.search mid_world new_world)
-    → TakesThere text old old_world new new_world said
-there_so text old mid new before old_world mid_world new_world said answers search kept was settles =
-    let seat : new.seat ≡ mid.seat = ap (λ (x : SessionState). x.seat) kept in
-    let staged : new.staged ≡ mid.staged = ap (λ (x : SessionState). x.staged) kept in (
-      mid_world,
-      subst (λ (at : Option ℕ). Answers asks_for ServesThere text (desk old.staged (server old_world old.seat)) (desk new.staged (server mid_world at)) said) (sym seat)
-          (subst (λ (xs : List Change). Answers asks_for ServesThere text (desk old.staged (server old_world old.seat)) (desk xs (server mid_world mid.seat)) said) (sym staged) answers),
-      subst (λ (at : Option ℕ). MatchBool (keeps_seat old.seat at) (new_world ≡ mid_world) (Shuts old.seat old.search mid_world new_world)) (sym seat)
-          (subst (λ (o : Option ℕ). MatchBool (keeps_seat old.seat mid.seat) (new_world ≡ mid_world) (Shuts old.seat o mid_world new_world)) search
-          (subst (λ (at : Option ℕ). MatchBool (keeps_seat at mid.seat) (new_world ≡ mid_world) (Shuts at mid.search mid_world new_world)) was settles)),
+pub plain_so : {W : Type 0} (how : Manner W) (text : List ℕ) (old mid new : SessionIn W) (before : Option ℕ) (said : SaidData) → Answers how.subject_of how.serves text (desk_of old) (desk_of mid) said
+    → mid.session.search ≡ old.session.search → new.session ≡ record mid.session { search = new.session.search } → before ≡ old.session.seat
+    → MatchBool (keeps_seat before mid.session.seat) ((new.session.search ≡ mid.session.search) × (new.world ≡ mid.world)) ((new.session.search ≡ None) × how.drops before mid.session.search mid.world new.world)
+    → TakesPlain how text old new said
+plain_so how text old mid new before said answers search kept was settles =
+    let seat : new.session.seat ≡ mid.session.seat = ap (λ (x : SessionState). x.seat) kept in
+    let staged : new.session.staged ≡ mid.session.staged = ap (λ (x : SessionState). x.staged) kept in (
+      mid.world,
+      subst (λ (at : Option ℕ). Answers how.subject_of how.serves text (desk_of old) (desk new.session.staged (solo mid.world at)) said) (sym seat)
+          (subst (λ (xs : List Change). Answers how.subject_of how.serves text (desk_of old) (desk xs (solo mid.world mid.session.seat)) said) (sym staged) answers),
+      subst (λ (at : Option ℕ). MatchBool (keeps_seat old.session.seat at) ((new.session.search ≡ old.session.search) × (new.world ≡ mid.world)) ((new.session.search ≡ None) × how.drops old.session.seat old.session.search mid.world new.world)) (sym seat)
+          (subst (λ (o : Option ℕ). MatchBool (keeps_seat old.session.seat mid.session.seat) ((new.session.search ≡ o) × (new.world ≡ mid.world)) ((new.session.search ≡ None) × how.drops old.session.seat o mid.world new.world)) search
+          (subst (λ (at : Option ℕ). MatchBool (keeps_seat at mid.session.seat) ((new.session.search ≡ mid.session.search) × (new.world ≡ mid.world)) ((new.session.search ≡ None) × how.drops at mid.session.search mid.world new.world)) was settles)),
     )
 
 module _ (seat number count : ℕ) (start old new : WorldData) (more : FindsMore seat number count start old) where
@@ -58,7 +40,7 @@ module _ (seat number count : ℕ) (start old new : WorldData) (more : FindsMore
   pub goes_ready : (most : ℕ) → count < most → Happens (VisitNext seat number) old new (Visited visits.Ready) → GoesOn seat number most start new (Ok visits.Ready)
   goes_ready most lt h = (count, old, lt, more, h)
 
-  pub goes_refused : (most : ℕ) (fault : Fault) → count < most → Happens (VisitNext seat number) old new (Refused fault) → GoesOn seat number most start new (Err fault)
+  pub goes_refused : (most : ℕ) (fault : Fault) → count < most → Happens (VisitNext seat number) old new (Failed fault) → GoesOn seat number most start new (Err fault)
   goes_refused most fault lt h = (count, old, lt, more, h)
 
 -- visits that find more to see leave the world unchanged

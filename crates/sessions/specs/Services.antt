@@ -22,11 +22,11 @@ use Rattle.plain_world.specs.declared.outcomes.Outcome.{Outcome}
 use Rattle.plain_world.specs.declared.outcomes.Outcome.TheVariants as outcomes
 use Rattle.plain_world.specs.Admitting.{LAST, and_then, map_ok, next_search, subject_at}
 use Rattle.plain_world.specs.Answers.{AnswerData, denial_of}
-use Rattle.plain_world.specs.Events.{Reply as EventReply, Number, Rows, Ended, TakenOut, Refused, TakeSeat, Govern as GovernEvent, Roll as RollEvent, Happens, HoldsBack, NoReadySeeks, If, is_memory, recorded, reply_of}
+use Rattle.plain_world.specs.Events.{Reply as EventReply, Number, Rows, Ended, TakenOut, Failed, TakeSeat, Govern as GovernEvent, Roll as RollEvent, Happens, HoldsBack, NoReadySeeks, If, is_memory, recorded, reply_of}
 use Rattle.plain_world.specs.Rolls.{RolledData}
 use Rattle.plain_world.specs.Staging.{placements}
 use Rattle.plain_world.specs.States.{WorldData}
-use Rattle.session_lines.specs.declared.faults.Fault.TheVariants.{BeforeHello}
+use Rattle.session_lines.specs.declared.faults.LineFault.TheVariants.{BeforeHello}
 use Rattle.session_lines.specs.declared.replies.Reply.TheVariants.{Hello as Greets, Edition, Bye, Error}
 use Rattle.session_lines.specs.Replies.{SaidData, line, rows, rolled, told, outcome_reply, ruling_reply}
 use Rattle.session_lines.specs.Services.{Call, Hello, Search, Commit, Govern, Explain, Roll, Leave}
@@ -39,9 +39,9 @@ abbrev pub may_search : ℕ → WorldData → Result Subject Fault
 may_search seat w = and_then (subject_at seat w) (λ subject. map_ok (λ _. subject) (next_search w))
 
 -- the reply is S7
-abbrev pub is_overrun : EventReply → Bool
-is_overrun (Refused (faults.Tree tree.Overrun)) = true
-is_overrun _ = false
+abbrev pub is_overrun_reply : EventReply → Bool
+is_overrun_reply (Failed (faults.Tree tree.Overrun)) = true
+is_overrun_reply _ = false
 
 -- the trail takes no more records
 abbrev pub is_full : WorldData → Bool
@@ -51,24 +51,31 @@ is_full w = nat_le w.limits.records (length w.trail)
 abbrev pub ListsRows : ℕ → Subject → List Point → WorldData → WorldData → EventReply → Type 0
 ListsRows seat subject window old new reply =
     (rows : List Feature) × Listed old.state subject window rows
-    × (reply ≡ Rows (record { subject = subject; window = window; decider = old.state.decider; rows = rows }))
-    × (new ≡ searched (recorded seat (answered subject window (map (λ row. row.id) rows) (map (λ row. row.version) rows)) old))
+    × (reply ≡ Rows (record {
+      subject = subject;
+      window = window;
+      decider = old.state.decider;
+      rows = rows;
+    }))
+    × (new ≡ searched (recorded seat
+    (answered subject window (map (λ row. row.id) rows) (map (λ row. row.version) rows)) old))
 
 -- A whole search. One that ends with a fault changes nothing, but may use up a number; other open
 -- searches are unchanged. Only the index knows whether it gives a search up (S7).
-abbrev pub Searches : ℕ → List Point → WorldData → WorldData → EventReply → Type 0
-Searches seat window old new reply =
+abbrev pub SearchesCall : ℕ → List Point → WorldData → WorldData → EventReply → Type 0
+SearchesCall seat window old new reply =
     If (may_search seat old) old new reply (λ subject.
     MatchBool (is_memory reply) ((new ≡ old) ⊎ (new ≡ searched old))
-    (MatchBool (is_overrun reply) (new ≡ searched old)
-    (MatchBool (is_full old) ((reply ≡ Refused faults.TrailFull) × (new ≡ searched old))
+    (MatchBool (is_overrun_reply reply) (new ≡ searched old)
+    (MatchBool (is_full old) ((reply ≡ Failed faults.TrailFull) × (new ≡ searched old))
     (ListsRows seat subject window old new reply))))
 
 -- Commits.
 
 -- the subject that commits, if there is a number for one more transaction
 abbrev pub may_conclude : ℕ → WorldData → Result Subject Fault
-may_conclude seat w = and_then (subject_at seat w) (λ subject. if w.next_transaction == LAST then Err faults.Spent else Ok subject)
+may_conclude seat w = and_then (subject_at seat w) (λ subject. if w.next_transaction == LAST then
+    Err faults.Spent else Ok subject)
 
 -- the list adds or reshapes something
 abbrev pub Brings : List Change → Type 0
@@ -76,10 +83,10 @@ Brings changes = placements changes ≢ []
 
 -- the reply is S4 to S7: the index does not place a shape
 abbrev pub is_unplaced : EventReply → Bool
-is_unplaced (Refused (faults.Tree tree.Full)) = true
-is_unplaced (Refused (faults.Tree tree.TooHigh)) = true
-is_unplaced (Refused (faults.Tree tree.Spent)) = true
-is_unplaced (Refused (faults.Tree tree.Overrun)) = true
+is_unplaced (Failed (faults.Tree tree.Full)) = true
+is_unplaced (Failed (faults.Tree tree.TooHigh)) = true
+is_unplaced (Failed (faults.Tree tree.Spent)) = true
+is_unplaced (Failed (faults.Tree tree.Overrun)) = true
 is_unplaced _ = false
 
 -- an accepted list is applied under the next version; X8 if there is none, X11 if the features
@@ -87,43 +94,51 @@ is_unplaced _ = false
 abbrev pub AppliesAll : ℕ → Subject → List Change → WorldData → WorldData → EventReply → Type 0
 AppliesAll seat subject changes old new reply =
     let version = old.state.version + 1 in
-    MatchBool (old.state.version == LAST) ((reply ≡ Refused faults.Spent) × (new ≡ begun old))
-    (MatchBool (nat_lt old.limits.features (length (after version subject.office changes old.state.features))) ((reply ≡ Refused faults.StoreFull) × (new ≡ begun old))
-    ((reply ≡ Ended (outcomes.Applied version)) × (new ≡ begun (recorded seat (applied subject version changes) old))))
+    MatchBool (old.state.version == LAST) ((reply ≡ Failed faults.Spent) × (new ≡ begun old))
+    (MatchBool (nat_lt old.limits.features
+    (length (after version subject.office changes old.state.features)))
+    ((reply ≡ Failed faults.StoreFull) × (new ≡ begun old))
+    ((reply ≡ Ended (outcomes.Applied version))
+    × (new ≡ begun (recorded seat (applied subject version changes) old))))
 
 -- the end of a list by its judgement: applied, or rejected and recorded
-abbrev pub EndsAs : Judgement → ℕ → Subject → List Change → WorldData → WorldData → EventReply → Type 0
-EndsAs judgements.Accepted seat subject changes old new reply = AppliesAll seat subject changes old new reply
-EndsAs (judgements.Refused refusal question) seat subject changes old new reply =
+abbrev pub EndsCallAs : Judgement → ℕ → Subject → List Change → WorldData → WorldData → EventReply
+    → Type 0
+EndsCallAs judgements.Accepted seat subject changes old new reply =
+    AppliesAll seat subject changes old new reply
+EndsCallAs (judgements.Refused refusal question) seat subject changes old new reply =
     (reply ≡ Ended (outcomes.Refused refusal (denial_of old.state.decider refusal.cause question)))
     × (new ≡ begun (recorded seat (turned_away subject changes refusal) old))
 
 -- the search for which a commit is held
 abbrev pub holder : EventReply → Option ℕ
-holder (Refused (faults.Tree (tree.Held search))) = Some search
+holder (Failed (faults.Tree (tree.Held search))) = Some search
 holder _ = None
 
 -- the search is open, and looks for a shape that the list brings
 abbrev pub HoldsList : ℕ → List Change → WorldData → Type 0
-HoldsList search changes w = (at : ℕ) × (placement : ℕ × List Point) × (slice_get (placements changes) at ≡ Some placement) × HoldsBack search placement.1 w
+HoldsList search changes w = (at : ℕ) × (placement : ℕ × List Point)
+    × (slice_get (placements changes) at ≡ Some placement) × HoldsBack search placement.1 w
 
 -- no search that has answered Ready looks for a shape that the list brings
 abbrev pub NoReadySeeksAny : List Change → WorldData → Type 0
-NoReadySeeksAny changes w = (at : ℕ) (placement : ℕ × List Point) → slice_get (placements changes) at ≡ Some placement → NoReadySeeks placement.1 w
+NoReadySeeksAny changes w = (at : ℕ) (placement : ℕ × List Point)
+    → slice_get (placements changes) at ≡ Some placement → NoReadySeeks placement.1 w
 
 -- A whole commit, of all changes of the list or none. One that ends with a fault changes nothing,
 -- but may use up a number; open searches are unchanged. Only the index knows whether it places a
 -- shape, and whether it holds one back for a search that looks for it and is not ready; for a ready
 -- one it always does.
-abbrev pub Commits : ℕ → List Change → WorldData → WorldData → EventReply → Type 0
-Commits seat changes old new reply =
+abbrev pub CommitsCall : ℕ → List Change → WorldData → WorldData → EventReply → Type 0
+CommitsCall seat changes old new reply =
     If (may_conclude seat old) old new reply (λ subject.
     MatchBool (is_memory reply) ((new ≡ old) ⊎ (new ≡ begun old))
     (MatchBool (is_unplaced reply) (Brings changes × (new ≡ begun old))
     (MatchOption (holder reply)
     (NoReadySeeksAny changes old
-    × MatchBool (is_full old) ((reply ≡ Refused faults.TrailFull) × (new ≡ begun old))
-    ((judgement : Judgement) × Judged old.state subject changes judgement × EndsAs judgement seat subject changes old new reply))
+    × MatchBool (is_full old) ((reply ≡ Failed faults.TrailFull) × (new ≡ begun old))
+    ((judgement : Judgement) × Judged old.state subject changes judgement
+    × EndsCallAs judgement seat subject changes old new reply))
     (λ search. (new ≡ begun old) × HoldsList search changes old))))
 
 -- A world that serves one session.
@@ -139,39 +154,47 @@ solo_subject s = seated s.seat s.world
 -- before HELLO nothing is done; no line of a session leads here, since E5 comes before the call
 abbrev pub WhereSeated : SoloState → SoloState → SaidData → (ℕ → Type 0) → Type 0
 WhereSeated old new said Does =
-    MatchOption old.seat ((new ≡ old) × (said ≡ line (Error BeforeHello))) (λ seat. (new.seat ≡ old.seat) × Does seat)
+    MatchOption old.seat ((new ≡ old) × (said ≡ line (Error BeforeHello)))
+    (λ seat. (new.seat ≡ old.seat) × Does seat)
 
 -- the session's seat after HELLO: the new one, or after a fault the one before
 abbrev pub seat_after : Result ℕ Fault → Option ℕ → Option ℕ
 seat_after (Ok seat) before = Some seat
 seat_after (Err fault) before = before
 
-abbrev pub Begins : List ℕ → SoloState → SoloState → SaidData → Type 0
-Begins name old new said =
+abbrev pub BeginsCall : List ℕ → SoloState → SoloState → SaidData → Type 0
+BeginsCall name old new said =
     (end : Result ℕ Fault) × Happens (TakeSeat name) old.world new.world (reply_of Number end)
     × (new.seat ≡ seat_after end old.seat) × (said ≡ told (λ seat. line (Greets name)) end)
 
 -- the ruling of the policy in force
-abbrev pub Explains : Question → SoloState → SaidData → Type 0
-Explains question s said =
+abbrev pub ExplainsCall : Question → SoloState → SaidData → Type 0
+ExplainsCall question s said =
     let decider = s.world.state.decider in
-    (ruling : Ruling) × Rules decider.document question ruling × (said ≡ line (ruling_reply decider ruling))
+    (ruling : Ruling) × Rules decider.document question ruling
+    × (said ≡ line (ruling_reply decider ruling))
 
 -- What a call makes of a world and the session's seat, and what is said. A search and a commit are
 -- several events, so their clauses are for a world at rest; any other call is one event or none, in
 -- any world.
-abbrev pub Serves : Call → SoloState → SoloState → SaidData → Type 0
-Serves (Hello name) old new said = Begins name old new said
-Serves (Search window) old new said =
-    WhereSeated old new said (λ seat. WhereAtRest old.world new.world ((end : Result AnswerData Fault) × Searches seat window old.world new.world (reply_of Rows end) × (said ≡ told rows end)))
-Serves (Commit changes) old new said =
-    WhereSeated old new said (λ seat. WhereAtRest old.world new.world ((end : Result Outcome Fault) × Commits seat changes old.world new.world (reply_of Ended end)
+abbrev pub ServesCall : Call → SoloState → SoloState → SaidData → Type 0
+ServesCall (Hello name) old new said = BeginsCall name old new said
+ServesCall (Search window) old new said =
+    WhereSeated old new said (λ seat. WhereAtRest old.world new.world
+    ((end : Result AnswerData Fault)
+    × SearchesCall seat window old.world new.world (reply_of Rows end)
+    × (said ≡ told rows end)))
+ServesCall (Commit changes) old new said =
+    WhereSeated old new said (λ seat. WhereAtRest old.world new.world ((end : Result Outcome Fault)
+    × CommitsCall seat changes old.world new.world (reply_of Ended end)
     × (said ≡ told (λ outcome. line (outcome_reply outcome)) end)))
-Serves (Govern document) old new said =
-    WhereSeated old new said (λ seat. (end : Result ℕ Fault) × Happens (GovernEvent seat document) old.world new.world (reply_of Number end)
+ServesCall (Govern document) old new said =
+    WhereSeated old new said (λ seat. (end : Result ℕ Fault)
+    × Happens (GovernEvent seat document) old.world new.world (reply_of Number end)
     × (said ≡ told (λ edition. line (Edition edition)) end))
-Serves (Explain question) old new said = (new ≡ old) × Explains question old said
-Serves Roll old new said =
-    WhereSeated old new said (λ seat. (end : Result RolledData Fault) × Happens (RollEvent seat) old.world new.world (reply_of TakenOut end)
+ServesCall (Explain question) old new said = (new ≡ old) × ExplainsCall question old said
+ServesCall Roll old new said =
+    WhereSeated old new said (λ seat. (end : Result RolledData Fault)
+    × Happens (RollEvent seat) old.world new.world (reply_of TakenOut end)
     × (said ≡ told rolled end))
-Serves Leave old new said = (new ≡ record old { seat = None }) × (said ≡ line Bye)
+ServesCall Leave old new said = (new ≡ record old { seat = None }) × (said ≡ line Bye)

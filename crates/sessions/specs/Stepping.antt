@@ -8,19 +8,19 @@ use Rattle.tree_answers.specs.declared.fault.TreeFault.TheVariants as tree
 use Rattle.plain_world.specs.declared.settings.TheConstants.{STEP_LIMIT}
 use Rattle.tree_answers.specs.declared.answers.Visit.{Visit}
 use Rattle.tree_answers.specs.declared.answers.Visit.TheVariants as visits
-use Rattle.plain_world.specs.Events.{VisitNext, Finish, DropSearch, Happens, Reply as EventReply, Visited, Refused, reply_of}
+use Rattle.plain_world.specs.Events.{VisitNext, Finish, DropSearch, Happens, Reply as EventReply, Visited, Failed, reply_of}
 use Rattle.plain_world.specs.States.{WorldData}
-use Rattle.plain_world.specs.declared.searches.Search.{Search}
+use Rattle.plain_world.specs.declared.open_searches.Search.{Search}
 use Rattle.transactions.specs.Index.{Index}
 use Rattle.transactions.specs.Stepping.{VisitsIndex}
-use Rattle.session_lines.specs.declared.faults.Fault.{Fault}
-use Rattle.session_lines.specs.declared.faults.Fault.TheVariants.{Number, OutOfTurn}
+use Rattle.session_lines.specs.declared.faults.LineFault.{LineFault}
+use Rattle.session_lines.specs.declared.faults.LineFault.TheVariants.{Number, OutOfTurn}
 use Rattle.sessions.specs.declared.stepping.StepCommand.{StepCommand}
 use Rattle.sessions.specs.declared.stepping.StepCommand.TheVariants as commands
 use Rattle.sessions.specs.declared.stepping.StepVerb.{StepVerb}
 use Rattle.sessions.specs.declared.stepping.StepVerb.TheVariants as verbs
 use Rattle.session_lines.specs.Commands.{◌>>=◌, end_at, or_fault, shape_at, word_at}
-use Rattle.sessions.specs.Services.{is_overrun}
+use Rattle.sessions.specs.Services.{is_overrun_reply}
 use Rattle.sessions.specs.States.{SessionState}
 use Rattle.session_lines.specs.Words.{next_word, number_of}
 
@@ -47,11 +47,11 @@ unfoldable pub step_verb_at : List ℕ → Option (StepVerb × List ℕ)
 step_verb_at text = of_word (next_word text)
 
 -- a number of steps: 1 to 1,000,000
-abbrev pub step_count : ℕ → Result ℕ Fault
+abbrev pub step_count : ℕ → Result ℕ LineFault
 step_count number = if nat_le 1 number && nat_le number STEP_LIMIT then Ok number else Err Number
 
 -- the words of STEP
-unfoldable pub count_at : List ℕ → Result ℕ Fault
+unfoldable pub count_at : List ℕ → Result ℕ LineFault
 count_at text = do
   word ← word_at text
   number ← or_fault Number (number_of word.0)
@@ -61,9 +61,10 @@ count_at text = do
 
 -- the command, for a session with this open search or with none: OPEN where none is open, STEP and
 -- FINISH where one is
-unfoldable pub step_command_at : Option ℕ → StepVerb → List ℕ → Result StepCommand Fault
+unfoldable pub step_command_at : Option ℕ → StepVerb → List ℕ → Result StepCommand LineFault
 step_command_at None verbs.Open text = shape_at text >>= λ window. Ok (commands.Open window)
-step_command_at (Some search) verbs.Step text = count_at text >>= λ count. Ok (commands.Step search count)
+step_command_at (Some search) verbs.Step text =
+    count_at text >>= λ count. Ok (commands.Step search count)
 step_command_at (Some search) verbs.Finish text = end_at text >>= λ _. Ok (commands.Finish search)
 step_command_at search verb text = Err OutOfTurn
 
@@ -73,51 +74,64 @@ step_command_at search verb text = Err OutOfTurn
 abbrev pub FindsMore : ℕ → ℕ → ℕ → WorldData → WorldData → Type 0
 FindsMore seat number zero old new = new ≡ old
 FindsMore seat number (suc count) old new =
-    (mid : WorldData) × FindsMore seat number count old mid × Happens (VisitNext seat number) mid new (Visited visits.More)
+    (mid : WorldData) × FindsMore seat number count old mid
+    × Happens (VisitNext seat number) mid new (Visited visits.More)
 
 -- At most `most` visits of a search. All of them find more to see; or the first that does not is
 -- the last, and then the search is ready or the visit is refused.
 abbrev pub GoesOn : ℕ → ℕ → ℕ → WorldData → WorldData → Result Visit WorldFault → Type 0
 GoesOn seat number most old new (Ok visits.More) = FindsMore seat number most old new
 GoesOn seat number most old new end =
-    (before : ℕ) × (mid : WorldData) × (before < most) × FindsMore seat number before old mid × Happens (VisitNext seat number) mid new (reply_of Visited end)
+    (before : ℕ) × (mid : WorldData) × (before < most) × FindsMore seat number before old mid
+    × Happens (VisitNext seat number) mid new (reply_of Visited end)
 
 -- the same in the index; `may` says whether the search may go on
 abbrev pub SeesMore : Result Search WorldFault → ℕ → ℕ → Index → Index → Type 0
 SeesMore may number zero old new = new ≡ old
-SeesMore may number (suc count) old new = (mid : Index) × SeesMore may number count old mid × VisitsIndex may number mid new (Ok visits.More)
+SeesMore may number (suc count) old new =
+    (mid : Index) × SeesMore may number count old mid
+    × VisitsIndex may number mid new (Ok visits.More)
 
-abbrev pub VisitsOn : Result Search WorldFault → ℕ → ℕ → Index → Index → Result Visit WorldFault → Type 0
+abbrev pub VisitsOn : Result Search WorldFault → ℕ → ℕ → Index → Index → Result Visit WorldFault
+    → Type 0
 VisitsOn may number most old new (Ok visits.More) = SeesMore may number most old new
 VisitsOn may number most old new end =
-    (before : ℕ) × (mid : Index) × (before < most) × SeesMore may number before old mid × VisitsIndex may number mid new end
+    (before : ℕ) × (mid : Index) × (before < most) × SeesMore may number before old mid
+    × VisitsIndex may number mid new end
 
 -- A search goes on until it is ready, and is finished; or a visit is refused before. (Visits that
 -- find more to see leave the world unchanged.) Or visits find more to see without end, and then the
 -- reply is S7.
 abbrev pub Seeks : ℕ → ℕ → WorldData → WorldData → EventReply → Type 0
 Seeks seat number old new reply =
-    ((fault : WorldFault) × Happens (VisitNext seat number) old new (Refused fault) × (reply ≡ Refused fault))
-    ⊎ (((mid : WorldData) × Happens (VisitNext seat number) old mid (Visited visits.Ready) × Happens (Finish seat number) mid new reply)
-    ⊎ (Happens (VisitNext seat number) old old (Visited visits.More) × (new ≡ old) × (reply ≡ Refused (refusals.Tree tree.Overrun))))
+    ((fault : WorldFault) × Happens (VisitNext seat number) old new (Failed fault)
+    × (reply ≡ Failed fault))
+    ⊎ (((mid : WorldData) × Happens (VisitNext seat number) old mid (Visited visits.Ready)
+    × Happens (Finish seat number) mid new reply)
+    ⊎ (Happens (VisitNext seat number) old old (Visited visits.More) × (new ≡ old)
+    × (reply ≡ Failed (refusals.Tree tree.Overrun))))
 
 -- an open search goes on until it is finished or refused; after S7 it is dropped, after any other
 -- fault it stays open
-abbrev pub Finishes : ℕ → ℕ → WorldData → WorldData → EventReply → Type 0
-Finishes seat number old new reply =
+abbrev pub FinishesLine : ℕ → ℕ → WorldData → WorldData → EventReply → Type 0
+FinishesLine seat number old new reply =
     (mid : WorldData) × Seeks seat number old mid reply
-    × MatchBool (is_overrun reply) ((end : EventReply) × Happens (DropSearch seat number) mid new end) (new ≡ mid)
+    × MatchBool (is_overrun_reply reply) ((end : EventReply)
+    × Happens (DropSearch seat number) mid new end) (new ≡ mid)
 
 -- the open search of a session with this seat is dropped; nothing is done if it lacks either
 abbrev pub Drops : Option ℕ → Option ℕ → WorldData → WorldData → Type 0
 Drops at number_open old new =
     MatchOption at (new ≡ old) (λ seat.
-    MatchOption number_open (new ≡ old) (λ number. (end : EventReply) × Happens (DropSearch seat number) old new end))
+    MatchOption number_open (new ≡ old) (λ number. (end : EventReply)
+    × Happens (DropSearch seat number) old new end))
 
 -- `Ends` holds for each of these sessions, one after another
-abbrev pub AllEnd : {W : Type 0} → (Option ℕ → Option ℕ → W → W → Type 0) → List SessionState → W → W → Type 0
+abbrev pub AllEnd : {W : Type 0} → (Option ℕ → Option ℕ → W → W → Type 0) → List SessionState → W
+    → W → Type 0
 AllEnd Ends [] old new = new ≡ old
-AllEnd {W = W} Ends (session ∷ sessions) old new = (mid : W) × Ends session.seat session.search old mid × AllEnd Ends sessions mid new
+AllEnd {W = W} Ends (session ∷ sessions) old new = (mid : W)
+    × Ends session.seat session.search old mid × AllEnd Ends sessions mid new
 
 -- the open searches of all these sessions are dropped, one after another
 abbrev pub AllDrop : List SessionState → WorldData → WorldData → Type 0

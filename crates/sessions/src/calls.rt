@@ -10,7 +10,7 @@ ghost use Rattle.features.specs.declared.actors.Subject.{Subject};
 ghost use Rattle.plain_world.specs.Admitting.{may_go_on, subject_at};
 ghost use Rattle.plain_world.specs.States.{WorldData};
 ghost use Rattle.sessions.specs.Causes.{CommitsIn, ConcludesIn, IsOwn, PlacesIn, SearchesIn, SeeksIn, StayBeside};
-ghost use Rattle.sessions.specs.Services.{Searches, Commits};
+ghost use Rattle.sessions.specs.Services.{SearchesCall, CommitsCall};
 ghost use Rattle.sessions.specs.States.{IsAtRest, WhereAtRest};
 ghost use Rattle.sessions.specs.Stepping.{Seeks};
 ghost use Rattle.sessions.specs.UnderWay.{Concludes, Places, Stages, under};
@@ -40,7 +40,7 @@ pub(crate) fn search<A: Allocator + Copy>(
     window: Shape,
 ) -> Result<Answer<A>, Fault>
     ensures searches { WhereAtRest world.old.plain world.new.plain
-        (Searches seat window world.old.plain world.new.plain (reply_of Rows result)) }
+        (SearchesCall seat window world.old.plain world.new.plain (reply_of Rows result)) }
     ensures index { SearchesIn seat window world.old world.new result }
 {
     let number = world.open_search(seat, window)?;
@@ -89,7 +89,7 @@ pub(crate) fn commit<A: Allocator + Copy>(
     requires distinct { AreDistinct changes.now }
     requires few { length changes.now ≤ CHANGE_LIMIT }
     ensures commits { WhereAtRest world.old.plain world.new.plain
-        (Commits seat changes.now world.old.plain world.new.plain (reply_of Ended result)) }
+        (CommitsCall seat changes.now world.old.plain world.new.plain (reply_of Ended result)) }
     ensures index { IsAtRest world.old.plain
         → CommitsIn seat changes.now world.old world.new result }
 {
@@ -169,10 +169,7 @@ pub(crate) fn govern<A: Allocator + Copy>(
         (reply_of Number result) }
     ensures beside { StayBeside world.old world.new }
 {
-    match world.govern(heap, seat, document) {
-        Ok(edition) => Ok(edition),
-        Err((_, fault)) => Err(fault),
-    }
+    world.govern_or_drop(heap, seat, document)
 }
 
 /// Takes the trail out. X1 where the seat was not given, X7 where its subject is no steward, X8

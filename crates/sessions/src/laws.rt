@@ -4,8 +4,8 @@ ghost use Rattle.std.specs.Prelude.{◌≡◌, List, ℕ};
 ghost use Rattle.audit_trail.specs.declared.trails.TheConstants.{FIRST_LIMIT};
 ghost use Rattle.decision.specs.Deciders.{DeciderData};
 ghost use Rattle.sessions.specs.Scripts.{LineTells, Script};
-ghost use Rattle.sessions.specs.Services.{Serves, solo_subject};
-ghost use Rattle.session_lines.specs.Serving.{LineTells as AloneTells};
+ghost use Rattle.sessions.specs.Services.{ServesCall, solo_subject};
+ghost use Rattle.session_lines.specs.Serving.{DeskTells as AloneTells};
 ghost use Rattle.session_lines.specs.Desks.{Desk};
 ghost use Rattle.sessions.specs.States.{IsAtRest, IsIdle, SoloState};
 ghost use Rattle.sessions.specs.declared.scripts.TheConstants.{LABEL_LIMIT};
@@ -28,10 +28,10 @@ pub fn opened_world_is_idle()
 /// worlds at rest holds at each line of a run.
 pub fn lines_leave_worlds_at_rest()
     ensures idle { (world : WorldData) → IsIdle world → IsAtRest world }
-    ensures line { (text : List ℕ) (old new : Script) (said : List ℕ) → LineTells text old new said
-        → IsAtRest old.world → IsAtRest new.world }
+    ensures line { (text : List ℕ) (old new : Script WorldData) (said : List ℕ)
+        → LineTells text old new said → IsAtRest old.world → IsAtRest new.world }
     ensures alone { (text : List ℕ) (old new : Desk SoloState) (said : List ℕ) (next : Next)
-        → AloneTells solo_subject Serves text old new said next → IsAtRest old.service.world
+        → AloneTells solo_subject ServesCall text old new said next → IsAtRest old.service.world
         → IsAtRest new.service.world }
 {}
 

@@ -15,5 +15,5 @@ pub use laws::{limits_in_numbers, lines_leave_worlds_at_rest, opened_world_is_id
 pub use line_streams::{LINE_LIMIT, READ_LIMIT, ServeFault};
 pub use scripts::{LABEL_LIMIT, run_script};
 pub use serving::serve_world;
-pub use session_lines::{Fault, Reply, Said, Service, serve};
+pub use session_lines::{LineFault, Reply, Said, Service, serve};
 pub use solos::Solo;

@@ -2,12 +2,11 @@
 
 ghost use Rattle.std.specs.Bool.{MatchBool};
 ghost use Rattle.std.specs.Prelude.{◌≡◌, None};
-ghost use Rattle.session_lines.specs.Desks.{Answers, desk};
-ghost use Rattle.sessions.specs.Indexed.{ServesThere, SessionThere, Shuts, StepsThere, TakesStepThere, TakesThere, asks_for, server};
+ghost use Rattle.session_lines.specs.Desks.{Answers};
+ghost use Rattle.sessions.specs.Indexed.{ServesThere, Shuts, asks_for, with_index};
 ghost use Rattle.session_lines.specs.Replies.{line as said_in_line, said_view};
 ghost use Rattle.sessions.specs.Scripts.{Ends, ObeysStep, Opens, SessionAnswers, Steps, TakesPlain, TakesStep, desk_of, fresh, keeps_seat};
-ghost use Rattle.sessions.specs.Services.{Serves, solo_subject};
-ghost use Rattle.sessions.specs.Stepping.{Drops};
+ghost use Rattle.sessions.specs.States.{session_in};
 
 use crate::solos::Solo;
 use crate::stepping::{
@@ -15,7 +14,7 @@ use crate::stepping::{
 };
 use features::Name;
 use plane::Shape;
-use session_lines::{Fault, Reply, Said, Staged, answer, fault_reply, visit_reply};
+use session_lines::{LineFault, Reply, Said, Staged, answer, fault_reply, visit_reply};
 use std::alloc::{Allocator, Global};
 use std::marker::Model;
 use transactions::World;
@@ -35,7 +34,12 @@ impl Model for Session {
 
     ghost Value = { SessionState };
 
-    ghost view = { λ s. record { label = s.label; seat = s.seat; search = s.search; staged = s.staged } };
+    ghost view = { λ s. record {
+      label = s.label;
+      seat = s.seat;
+      search = s.search;
+      staged = s.staged;
+    } };
 }
 
 impl Session {
@@ -65,10 +69,8 @@ impl Session {
         heap: Global,
         text: &[u8],
     ) -> Said<A>
-        ensures answers { SessionAnswers text.now self.old world.old.plain self.new world.new.plain
-            (said_view result) }
-        ensures there { SessionThere text.now self.old world.old self.new world.new
-            (said_view result) }
+        ensures { SessionAnswers with_index text.now (session_in self.old world.old)
+            (session_in self.new world.new) (said_view result) }
     {
         match read_step_verb(text) {
             None => self.take_plain(world, heap, text),
@@ -85,10 +87,8 @@ impl Session {
         text: &[u8],
     ) -> Said<A>
         ensures label { self.new.label ≡ self.old.label }
-        ensures takes { TakesPlain text.now self.old world.old.plain self.new world.new.plain
-            (said_view result) }
-        ensures there { TakesThere text.now self.old world.old self.new world.new
-            (said_view result) }
+        ensures takes { TakesPlain with_index text.now (session_in self.old world.old)
+            (session_in self.new world.new) (said_view result) }
     {
         let seat = self.seat;
         let said = self.be_served(world, heap, text);
@@ -100,11 +100,8 @@ impl Session {
     fn settle<A: Allocator + Copy>(&mut self, world: &mut World<A>, before: Option<u32>)
         ensures kept { self.new ≡ record self.old { search = self.new.search } }
         ensures settles { MatchBool (keeps_seat before self.old.seat)
-            ((self.new.search ≡ self.old.search) × (world.new.plain ≡ world.old.plain))
-            ((self.new.search ≡ None)
-            × Drops before self.old.search world.old.plain world.new.plain) }
-        ensures shuts { MatchBool (keeps_seat before self.old.seat) (world.new ≡ world.old)
-            (Shuts before self.old.search world.old world.new) }
+            ((self.new.search ≡ self.old.search) × (world.new ≡ world.old))
+            ((self.new.search ≡ None) × Shuts before self.old.search world.old world.new) }
     {
         if keeps_seat(before, self.seat) {
             return;
@@ -122,11 +119,9 @@ impl Session {
     ) -> Said<A>
         ensures label { self.new.label ≡ self.old.label }
         ensures search { self.new.search ≡ self.old.search }
-        ensures answers { Answers solo_subject Serves text.now (desk_of world.old.plain self.old)
-            (desk_of world.new.plain self.new) (said_view result) }
-        ensures there { Answers asks_for ServesThere text.now
-            (desk self.old.staged (server world.old self.old.seat))
-            (desk self.new.staged (server world.new self.new.seat)) (said_view result) }
+        ensures answers { Answers asks_for ServesThere text.now
+            (desk_of (session_in self.old world.old)) (desk_of (session_in self.new world.new))
+            (said_view result) }
     {
         let mut solo = Solo::at(world, heap, self.seat);
         let said = answer(&mut solo, heap, &mut self.staged, text);
@@ -143,13 +138,11 @@ impl Session {
         rest: &[u8],
     ) -> Said<A>
         ensures label { self.new.label ≡ self.old.label }
-        ensures takes { TakesStep verb rest.now self.old world.old.plain self.new world.new.plain
-            (said_view result) }
-        ensures there { TakesStepThere verb rest.now self.old world.old world.new
-            (said_view result) }
+        ensures takes { TakesStep with_index verb rest.now (session_in self.old world.old)
+            (session_in self.new world.new) (said_view result) }
     {
         let Some(seat) = self.seat else {
-            return Said::Line(Reply::Error(Fault::BeforeHello));
+            return Said::Line(Reply::Error(LineFault::BeforeHello));
         };
         match read_step_command(self.search, verb, rest) {
             Err(fault) => Said::Line(Reply::Error(fault)),
@@ -165,9 +158,8 @@ impl Session {
         command: StepCommand,
     ) -> Said<A>
         ensures label { self.new.label ≡ self.old.label }
-        ensures obeys { ObeysStep seat command self.old world.old.plain self.new world.new.plain
-            (said_view result) }
-        ensures there { StepsThere seat command world.old world.new (said_view result) }
+        ensures obeys { ObeysStep with_index seat command (session_in self.old world.old)
+            (session_in self.new world.new) (said_view result) }
     {
         match command {
             StepCommand::Open(window) => Said::Line(self.open_search(world, seat, window)),
@@ -186,10 +178,8 @@ impl Session {
         window: Shape,
     ) -> Reply
         ensures label { self.new.label ≡ self.old.label }
-        ensures opens { Opens seat window self.old world.old.plain self.new world.new.plain
-            (said_in_line result) }
-        ensures there { StepsThere seat (StepCommand.Open window) world.old world.new
-            (said_in_line result) }
+        ensures opens { Opens with_index seat window (session_in self.old world.old)
+            (session_in self.new world.new) (said_in_line result) }
     {
         match world.open_search(seat, window) {
             Ok(number) => {
@@ -212,10 +202,8 @@ impl Session {
         count: u32,
     ) -> Reply
         ensures label { self.new.label ≡ self.old.label }
-        ensures steps { Steps seat search count self.old world.old.plain self.new world.new.plain
-            (said_in_line result) }
-        ensures there { StepsThere seat (StepCommand.Step search count) world.old world.new
-            (said_in_line result) }
+        ensures steps { Steps with_index seat search count (session_in self.old world.old)
+            (session_in self.new world.new) (said_in_line result) }
     {
         match go_on(world, seat, search, count) {
             Ok(visit) => {
@@ -237,10 +225,8 @@ impl Session {
         search: u64,
     ) -> Said<A>
         ensures label { self.new.label ≡ self.old.label }
-        ensures ends { Ends seat search self.old world.old.plain self.new world.new.plain
-            (said_view result) }
-        ensures there { StepsThere seat (StepCommand.Finish search) world.old world.new
-            (said_view result) }
+        ensures ends { Ends with_index seat search (session_in self.old world.old)
+            (session_in self.new world.new) (said_view result) }
     {
         match finish_open(world, seat, search) {
             Ok(answer) => {
@@ -256,8 +242,7 @@ impl Session {
 
     /// Drops the open search, if there is one.
     pub(crate) fn drop_search<A: Allocator + Copy>(&self, world: &mut World<A>)
-        ensures drops { Drops self.now.seat self.now.search world.old.plain world.new.plain }
-        ensures shuts { Shuts self.now.seat self.now.search world.old world.new }
+        ensures { Shuts self.now.seat self.now.search world.old world.new }
     {
         drop_open(world, self.seat, self.search);
     }
@@ -275,8 +260,7 @@ fn keeps_seat(before: Option<u32>, after: Option<u32>) -> bool
 
 /// Drops the open search of a session with this seat. Does nothing if it lacks either.
 fn drop_open<A: Allocator + Copy>(world: &mut World<A>, seat: Option<u32>, search: Option<u64>)
-    ensures drops { Drops seat search world.old.plain world.new.plain }
-    ensures shuts { Shuts seat search world.old world.new }
+    ensures { Shuts seat search world.old world.new }
 {
     if let Some(seat) = seat {
         if let Some(number) = search {

@@ -2,8 +2,8 @@
 ghost use Rattle.std.specs.Prelude.{◌≡◌, ◌≤◌, ◌<◌, ◌+◌, ◌++◌, [], List, None, OnOk, IfOk, IfErr, IfSome, codes, length, option_map, slice_set, slice_index_or, vec_len, vec_capacity, ℕ, Result};
 ghost use Rattle.std.specs.Io.KnownBytes.{Appends};
 ghost use Rattle.std.specs.List.{prefix_len};
-ghost use Rattle.sessions.specs.Indexed.{AllShut, LabelThere, LineRuns, LineThere, SessionThere, indexed};
-ghost use Rattle.sessions.specs.Scripts.{IsScriptText, LabelTells, LineTells, SessionAnswers, is_not_colon, is_skipped, parts_of, place, script, with_label};
+ghost use Rattle.sessions.specs.Indexed.{AllShut, LineRuns, indexed, with_index};
+ghost use Rattle.sessions.specs.Scripts.{IsScriptText, LabelTells, LineTells, LineTellsIn, SessionAnswers, is_not_colon, is_skipped, parts_of, place, script, with_label};
 ghost use Rattle.session_lines.specs.Printed.{led, reply_text};
 ghost use Rattle.session_lines.specs.Replies.{said_view};
 ghost use Rattle.plain_world.specs.Events.{Happens, Tend, Tended, reply_of};
@@ -16,7 +16,7 @@ ghost use Rattle.transactions.specs.Stepping.{TendsIndex};
 ghost use Rattle.transactions.specs.Turns.{behind};
 ghost use Rattle.byte_streams.specs.Written.{Took};
 ghost use Rattle.line_streams.specs.Streams.{NeverEnds, OnMemory, Ran};
-ghost use Rattle.sessions.specs.States.{IsIdle, SessionState};
+ghost use Rattle.sessions.specs.States.{IsIdle, SessionState, session_in};
 ghost use Rattle.plain_world.specs.States.{WorldData};
 ghost use Rattle.sessions.specs.declared.scripts.TheConstants.{LABEL_LIMIT};
 
@@ -24,8 +24,8 @@ use crate::script_sessions::Session;
 use byte_streams::{Flushed, WriteFailed};
 use features::Name;
 use line_streams::{LINE_LIMIT, LineDesk, Next, ServeFault, run_lines};
-use memory::{Refused, vec_with_room};
-use session_lines::{Fault, Reply, Said, write_line, write_said};
+use memory::{NoMemory, vec_with_room};
+use session_lines::{LineFault, Reply, Said, write_line, write_said};
 use std::alloc::{Allocator, Global};
 use std::io::{Read, Write};
 use transactions::World;
@@ -93,7 +93,7 @@ fn place_of(sessions: &[Session], label: &Name) -> usize
 
 impl<A: Allocator + Copy> Table<A> {
     /// No sessions, and room for `LABEL_LIMIT` of them.
-    fn new(alloc: A, heap: Global) -> Result<Self, Refused>
+    fn new(alloc: A, heap: Global) -> Result<Self, NoMemory>
         ensures sessions { IfOk result (λ table. table.sessions.items ≡ []) }
         ensures turn { IfOk result (λ table. table.next_slot ≡ 0) }
     {
@@ -124,11 +124,9 @@ impl<A: Allocator + Copy> Table<A> {
         ensures answers { (session : SessionState)
             × (self.new.sessions.items ≡ slice_set self.old.sessions.items at session)
             × ((d : SessionState)
-            → SessionAnswers text.now (slice_index_or self.old.sessions.items at d) world.old.plain
-            session world.new.plain (said_view result))
-            × ((d : SessionState)
-            → SessionThere text.now (slice_index_or self.old.sessions.items at d) world.old session
-            world.new (said_view result)) }
+            → SessionAnswers with_index text.now
+            (session_in (slice_index_or self.old.sessions.items at d) world.old)
+            (session_in session world.new) (said_view result)) }
     {
         let heap = self.heap;
         let session = &mut self.sessions[at];
@@ -160,23 +158,21 @@ impl<A: Allocator + Copy> Table<A> {
         ensures turn { self.new.next_slot ≡ self.old.next_slot }
         ensures takes { (said : List ℕ)
             × Took result (W.contents writer.old) (W.contents writer.new) said
-            × LineTells line.now (script world.old.plain self.old.sessions.items)
-            (script world.new.plain self.new.sessions.items) said
-            × LineThere line.now (indexed world.old self.old.sessions.items self.old.next_slot)
-            self.new.sessions.items world.new said }
+            × LineTellsIn with_index line.now (script world.old self.old.sessions.items)
+            (script world.new self.new.sessions.items) said }
     {
         if line.len() > LINE_LIMIT {
-            return refuse(Fault::LineTooLong, writer);
+            return refuse(LineFault::LineTooLong, writer);
         }
         if is_to_skip(line) {
             return Ok(());
         }
         let Some((label, text)) = split_label(line) else {
-            return refuse(Fault::NoLabel, writer);
+            return refuse(LineFault::NoLabel, writer);
         };
         match Name::new(label) {
             Some(label) => self.take_labelled(world, label, text, writer),
-            None => refuse(Fault::NoLabel, writer),
+            None => refuse(LineFault::NoLabel, writer),
         }
     }
 
@@ -191,15 +187,12 @@ impl<A: Allocator + Copy> Table<A> {
         ensures turn { self.new.next_slot ≡ self.old.next_slot }
         ensures takes { (said : List ℕ)
             × Took result (W.contents writer.old) (W.contents writer.new) said
-            × LabelTells label text.now (script world.old.plain self.old.sessions.items)
-            (script world.new.plain self.new.sessions.items) said
-            × LabelThere label text.now
-            (indexed world.old self.old.sessions.items self.old.next_slot) self.new.sessions.items
-            world.new said }
+            × LabelTells with_index label text.now (script world.old self.old.sessions.items)
+            (script world.new self.new.sessions.items) said }
     {
         let at = place_of(&self.sessions, &label);
         if at >= LABEL_LIMIT {
-            return refuse(Fault::NoLabel, writer);
+            return refuse(LineFault::NoLabel, writer);
         }
         self.begin_session(label, at);
         let said = self.answer_at(world, at, text);
@@ -208,7 +201,7 @@ impl<A: Allocator + Copy> Table<A> {
 }
 
 /// Writes a fault of a line that belongs to no session, with `?` for a label.
-fn refuse<W: Write>(fault: Fault, writer: &mut W) -> Result<(), WriteFailed>
+fn refuse<W: Write>(fault: LineFault, writer: &mut W) -> Result<(), WriteFailed>
     ensures { Took result (W.contents writer.old) (W.contents writer.new)
         (led (codes "?") (reply_text (Reply.Error fault))) }
 {
@@ -222,7 +215,9 @@ impl<A: Allocator + Copy> LineDesk for Table<A> {
 
     type World = World<A>;
 
-    ghost tells = { λ line old new said next. NeverEnds LineRuns line (indexed old.0 old.1.sessions.items old.1.next_slot) (indexed new.0 new.1.sessions.items new.1.next_slot) said next };
+    ghost tells = { λ line old new said next. NeverEnds LineRuns line
+        (indexed old.0 old.1.sessions.items old.1.next_slot)
+        (indexed new.0 new.1.sessions.items new.1.next_slot) said next };
 
     fn take_line<W: Write>(
         &mut self,
@@ -277,7 +272,6 @@ pub fn run_script<A: Allocator + Copy, R: Read, W: Write>(
 
 /// Drops the open search of each session.
 fn drop_all<A: Allocator + Copy>(sessions: &[Session], world: &mut World<A>)
-    ensures drops { AllDrop sessions.now world.old.plain world.new.plain }
     ensures shuts { AllShut sessions.now world.old world.new }
     ensures none { sessions.now ≡ [] → world.new ≡ world.old }
 {

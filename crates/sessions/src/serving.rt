@@ -3,9 +3,9 @@
 ghost use Rattle.std.specs.Prelude.{◌≡◌, [], List, Option, None, ℕ, OnOk, IfErr, IfSome};
 ghost use Rattle.std.specs.Io.KnownBytes.{Appends};
 ghost use Rattle.features.specs.declared.rows.Change.{Change};
-ghost use Rattle.sessions.specs.Indexed.{ServesThere, asks_for, server};
-ghost use Rattle.sessions.specs.Services.{Serves, solo_subject};
-ghost use Rattle.session_lines.specs.Serving.{IsServedText, LineTells};
+ghost use Rattle.sessions.specs.Indexed.{ServesThere, asks_for};
+ghost use Rattle.sessions.specs.Services.{ServesCall, solo_subject};
+ghost use Rattle.session_lines.specs.Serving.{IsServedText, DeskTells};
 ghost use Rattle.sessions.specs.States.{IsIdle, solo};
 ghost use Rattle.session_lines.specs.Desks.{desk};
 ghost use Rattle.line_streams.specs.Streams.{OnMemory, Ran};
@@ -31,15 +31,15 @@ pub fn serve_world<A: Allocator + Copy, R: Read, W: Write>(
     ensures served_text { (seat : Option ℕ)
         × OnOk result (IfSome (R.remaining reader.old)
         (λ input. (said : List ℕ) × Appends (W.contents writer.old) (W.contents writer.new) said
-        × IsServedText solo_subject Serves (solo world.old.plain None) input
+        × IsServedText solo_subject ServesCall (solo world.old.plain None) input
         (solo world.new.plain seat) said)) }
     ensures ran { (staged : List Change) × (seat : Option ℕ)
-        × Ran (LineTells solo_subject Serves) result (desk [] (solo world.old.plain None))
+        × Ran (DeskTells solo_subject ServesCall) result (desk [] (solo world.old.plain None))
         (desk staged (solo world.new.plain seat)) (R.remaining reader.old) (R.remaining reader.new)
         (W.contents writer.old) (W.contents writer.new) }
     ensures runs { (staged : List Change) × (seat : Option ℕ)
-        × Ran (LineTells asks_for ServesThere) result (desk [] (server world.old None))
-        (desk staged (server world.new seat)) (R.remaining reader.old) (R.remaining reader.new)
+        × Ran (DeskTells asks_for ServesThere) result (desk [] (solo world.old None))
+        (desk staged (solo world.new seat)) (R.remaining reader.old) (R.remaining reader.new)
         (W.contents writer.old) (W.contents writer.new) }
     ensures idle { IsIdle world.old.plain → IsIdle world.new.plain }
     ensures untouched { IfErr result

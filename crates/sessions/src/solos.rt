@@ -10,7 +10,7 @@ use decision::{Decider, Ruling};
 use features::{Change, Name, Subject};
 use plane::Shape;
 use policy_documents::Document;
-use session_lines::{Fault, Reply, Said, Service, fault_reply, outcome_reply};
+use session_lines::{LineFault, Reply, Said, Service, fault_reply, outcome_reply};
 use std::alloc::{Allocator, Global};
 use transactions::World;
 
@@ -53,14 +53,16 @@ impl<'a, A: Allocator + Copy> Solo<'a, A> {
 impl<'a, A: Allocator + Copy> Service for Solo<'a, A> {
     ghost use Rattle.std.specs.Prelude.{◌≡◌};
     ghost use Rattle.sessions.specs.Causes.{Causes};
-    ghost use Rattle.sessions.specs.Services.{Serves, solo_subject};
+    ghost use Rattle.sessions.specs.Services.{ServesCall, solo_subject};
     ghost use Rattle.sessions.specs.States.{solo};
 
     type Memory = A;
 
     ghost subject_of = { λ s. solo_subject (solo s.world.now.plain s.seat) };
 
-    ghost serves = { λ call old new said. (new.world.ghost_name ≡ old.world.ghost_name) × Serves call (solo old.world.now.plain old.seat) (solo new.world.now.plain new.seat) said
+    ghost serves = { λ call old new said. (new.world.ghost_name ≡ old.world.ghost_name)
+        × ServesCall call (solo old.world.now.plain old.seat) (solo new.world.now.plain new.seat)
+        said
         × Causes call old.seat old.world.now new.world.now said };
 
     fn subject(&self) -> Option<Subject> {
@@ -79,7 +81,7 @@ impl<'a, A: Allocator + Copy> Service for Solo<'a, A> {
 
     fn search(&mut self, window: Shape) -> Said<A> {
         let Some(seat) = self.seat else {
-            return Said::Line(Reply::Error(Fault::BeforeHello));
+            return Said::Line(Reply::Error(LineFault::BeforeHello));
         };
         match search(self.world, seat, window) {
             Ok(answer) => Said::Rows(answer),
@@ -89,7 +91,7 @@ impl<'a, A: Allocator + Copy> Service for Solo<'a, A> {
 
     fn commit(&mut self, changes: &[Change]) -> Reply {
         let Some(seat) = self.seat else {
-            return Reply::Error(Fault::BeforeHello);
+            return Reply::Error(LineFault::BeforeHello);
         };
         match commit(self.world, seat, changes) {
             Ok(outcome) => outcome_reply(&outcome),
@@ -99,7 +101,7 @@ impl<'a, A: Allocator + Copy> Service for Solo<'a, A> {
 
     fn govern(&mut self, document: Document<Global>) -> Reply {
         let Some(seat) = self.seat else {
-            return Reply::Error(Fault::BeforeHello);
+            return Reply::Error(LineFault::BeforeHello);
         };
         match govern(self.world, self.heap, seat, document) {
             Ok(edition) => Reply::Edition(edition),
@@ -114,7 +116,7 @@ impl<'a, A: Allocator + Copy> Service for Solo<'a, A> {
 
     fn roll(&mut self) -> Said<A> {
         let Some(seat) = self.seat else {
-            return Said::Line(Reply::Error(Fault::BeforeHello));
+            return Said::Line(Reply::Error(LineFault::BeforeHello));
         };
         match roll(self.world, self.heap, seat) {
             Ok(piece) => Said::Rolled(piece),

@@ -2,14 +2,14 @@
 
 ghost use Rattle.std.specs.Prelude.{◌≡◌, option_map};
 ghost use Rattle.plain_world.specs.Admitting.{may_go_on};
-ghost use Rattle.plain_world.specs.Events.{Refused, Rows, reply_of};
+ghost use Rattle.plain_world.specs.Events.{Failed, Rows, reply_of};
 ghost use Rattle.sessions.specs.Indexed.{FinishesIn};
-ghost use Rattle.sessions.specs.Services.{is_overrun};
-ghost use Rattle.sessions.specs.Stepping.{Finishes, GoesOn, VisitsOn, count_at, left_open, step_command_at, step_count, step_verb_at, step_verb_of};
+ghost use Rattle.sessions.specs.Services.{is_overrun_reply};
+ghost use Rattle.sessions.specs.Stepping.{FinishesLine, GoesOn, VisitsOn, count_at, left_open, step_command_at, step_count, step_verb_at, step_verb_of};
 
 use crate::calls::seek;
 use plane::Shape;
-use session_lines::{Fault, as_number, as_shape, due_word, end, next_word};
+use session_lines::{LineFault, as_number, as_shape, due_word, end, next_word};
 use std::alloc::Allocator;
 use transactions::{Answer, Fault as WorldFault, STEP_LIMIT, TreeFault, Visit, World};
 
@@ -66,7 +66,7 @@ pub(crate) fn read_step_command(
     search: Option<u64>,
     verb: StepVerb,
     rest: &[u8],
-) -> Result<StepCommand, Fault>
+) -> Result<StepCommand, LineFault>
     ensures { result ≡ step_command_at search verb rest.now }
 {
     match (verb, search) {
@@ -79,13 +79,13 @@ pub(crate) fn read_step_command(
             end(rest)?;
             Ok(StepCommand::Finish { search })
         }
-        _ => Err(Fault::OutOfTurn),
+        _ => Err(LineFault::OutOfTurn),
     }
 }
 
 /// The words of STEP: how many steps.
 #[tactic(auto, unfolding(crate::specs::Stepping::count_at))]
-fn step_words(rest: &[u8]) -> Result<u32, Fault>
+fn step_words(rest: &[u8]) -> Result<u32, LineFault>
     ensures { result ≡ count_at rest.now }
 {
     let (word, rest) = due_word(rest)?;
@@ -96,11 +96,11 @@ fn step_words(rest: &[u8]) -> Result<u32, Fault>
 }
 
 /// The number of steps; `Number` unless it is from 1 to 1,000,000.
-fn as_count(number: u64) -> Result<u32, Fault>
+fn as_count(number: u64) -> Result<u32, LineFault>
     ensures { result ≡ step_count number }
 {
     if number < 1 || number > STEP_LIMIT as u64 {
-        return Err(Fault::Number);
+        return Err(LineFault::Number);
     }
     Ok(number as u32)
 }
@@ -136,7 +136,8 @@ pub(crate) fn finish_open<A: Allocator + Copy>(
     seat: u32,
     number: u64,
 ) -> Result<Answer<A>, WorldFault>
-    ensures finishes { Finishes seat number world.old.plain world.new.plain (reply_of Rows result) }
+    ensures finishes { FinishesLine seat number world.old.plain world.new.plain
+        (reply_of Rows result) }
     ensures index { FinishesIn seat number world.old world.new result }
     ensures walks { world.new.walks ≡ world.old.walks }
 {
@@ -153,7 +154,7 @@ pub(crate) fn finish_open<A: Allocator + Copy>(
 
 /// Whether the fault is S7, which ends a search.
 fn is_overrun(fault: &WorldFault) -> bool
-    ensures { result ≡ is_overrun (Refused fault.now) }
+    ensures { result ≡ is_overrun_reply (Failed fault.now) }
 {
     matches!(fault, WorldFault::Tree(TreeFault::Overrun))
 }

@@ -1,6 +1,6 @@
 use Rattle.std.proofs.Common.{refl, inl, inr, arith}
-use Rattle.plain_world.specs.declared.steps.Advance.TheVariants as advances
-use Rattle.plain_world.specs.Events.{AdvanceWalk, Advanced, Refused}
+use Rattle.plain_world.specs.declared.advances.Advance.TheVariants as advances
+use Rattle.plain_world.specs.Events.{AdvanceWalk, Advanced, Failed}
 use Rattle.sessions.specs.Causes.{PlacesIn}
 use Rattle.sessions.proofs.CauseLemmas.{walks_further}
 use Rattle.line_streams.proofs.LeavingLemmas.{left_by}
@@ -22,7 +22,7 @@ returns-in_err-advance-clause-places g c w subject changes seated start =
     let fault = c.in_err-advance.field-0.0 in
     let so_far = c.loop.invariant.0 w subject changes seated start in
     left_by c.from_residual.result fault (PlacesAll c.args.seat c.args.number changes w c.advance.new.self.plain) c.from_residual.ensures.1
-    (advancing c.args.number c.args.seat w subject seated changes so_far.0 so_far.2 c.advance.new.self.plain (Refused fault) (from_same (AdvanceWalk c.args.seat c.args.number) _ _ _ _ so_far.1 c.in_err-advance.ensures.happens))
+    (advancing c.args.number c.args.seat w subject seated changes so_far.0 so_far.2 c.advance.new.self.plain (Failed fault) (from_same (AdvanceWalk c.args.seat c.args.number) _ _ _ _ so_far.1 c.in_err-advance.ensures.happens))
 
 pub loop-preserved : goal.loop-preserved
 loop-preserved g c =

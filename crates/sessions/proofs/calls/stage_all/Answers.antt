@@ -1,5 +1,5 @@
 use Rattle.std.proofs.Common.{take, Err, IfErr}
-use Rattle.plain_world.specs.Events.{Stage, Refused}
+use Rattle.plain_world.specs.Events.{Stage, Failed}
 use Rattle.sessions.specs.Causes.{IsOwn}
 use Rattle.sessions.proofs.CauseLemmas.{stage_own}
 use Rattle.line_streams.proofs.LeavingLemmas.{left_by}
@@ -21,4 +21,4 @@ pub returns-in_err-stage-clause-own : goal.returns-in_err-stage-clause-own
 returns-in_err-stage-clause-own g c =
     let fault = c.in_err-stage.field-0.0 in
     left_by c.from_residual.result fault (λ r. IfErr r IsOwn) c.from_residual.ensures.1
-    (stage_own c.args.seat c.args.number c.change-item.result c.loop-change.world.plain c.stage.new.self.plain (Refused fault) c.in_err-stage.ensures.happens)
+    (stage_own c.args.seat c.args.number c.change-item.result c.loop-change.world.plain c.stage.new.self.plain (Failed fault) c.in_err-stage.ensures.happens)

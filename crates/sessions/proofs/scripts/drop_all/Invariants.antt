@@ -1,11 +1,9 @@
 use Rattle.std.proofs.Common.{◌≡◌, [], take}
 use Rattle.sessions.specs.Indexed.{AllShut}
-use Rattle.sessions.specs.Stepping.{AllDrop}
 use Rattle.sessions.proofs.scripts.drop_all.Given as goal
 
 abbrev pub invariant-loop-session : goal.invariant-loop-session
 invariant-loop-session g l = record {
-  drops : AllDrop (take l.session-index l.sessions) l.fn.world.plain l.world.plain;
   shuts : AllShut (take l.session-index l.sessions) l.fn.world l.world;
   none : l.sessions ≡ [] → l.world ≡ l.fn.world;
 }

@@ -2,6 +2,7 @@ use Rattle.std.proofs.Common.{[], refl}
 use Rattle.sessions.specs.Indexed.{LineRuns, indexed}
 use Rattle.line_streams.specs.Streams.{NeverEnds, Ran}
 use Rattle.line_streams.proofs.LeavingLemmas.{left_by}
+use Rattle.sessions.proofs.IndexLemmas.{all_drop_plainly}
 use Rattle.sessions.proofs.LineLemmas.{run_idle}
 use Rattle.sessions.proofs.ScriptLemmas.{ran_plainly, script_text_of, untouched_so}
 use Rattle.line_streams.proofs.StreamLemmas.{ran_along}
@@ -11,14 +12,16 @@ pub returns-clause-script_text : goal.returns-clause-script_text
 returns-clause-script_text g c =
     let runs = ran_along (λ s. indexed s.0 s.1.sessions.items s.1.next_slot) (NeverEnds LineRuns) c.run_lines-end.result _ _ _ _ _ _ c.run_lines-end.ensures.ran in
     let ran = rw c.in_ok-table.ensures.sessions at (ran_plainly c.run_lines-end.result _ _ _ _ _ _ runs) in
-    let drops = rw c.deref.ensures.value at c.drop_all.ensures.drops in
+    let shuts = rw c.deref.ensures.value at c.drop_all.ensures.shuts in
+    let drops = all_drop_plainly _ _ _ shuts in
     script_text_of c.run_lines-end.result _ _ _ _ _ _ _ _ ran drops
 
 pub returns-clause-ran : goal.returns-clause-ran
 returns-clause-ran g c =
     let runs = ran_along (λ s. indexed s.0 s.1.sessions.items s.1.next_slot) (NeverEnds LineRuns) c.run_lines-end.result _ _ _ _ _ _ c.run_lines-end.ensures.ran in
     let ran = rw c.in_ok-table.ensures.sessions at (ran_plainly c.run_lines-end.result _ _ _ _ _ _ runs) in
-    let drops = rw c.deref.ensures.value at c.drop_all.ensures.drops in
+    let shuts = rw c.deref.ensures.value at c.drop_all.ensures.shuts in
+    let drops = all_drop_plainly _ _ _ shuts in
     (c.run_lines-end.new.desk.sessions.items, c.run_lines-end.new.world.plain, ran, drops)
 
 pub returns-in_err-table-clause-runs : goal.returns-in_err-table-clause-runs
@@ -43,7 +46,8 @@ pub returns-clause-idle : goal.returns-clause-idle
 returns-clause-idle g c idle =
     let runs = ran_along (λ s. indexed s.0 s.1.sessions.items s.1.next_slot) (NeverEnds LineRuns) c.run_lines-end.result _ _ _ _ _ _ c.run_lines-end.ensures.ran in
     let ran = rw c.in_ok-table.ensures.sessions at (ran_plainly c.run_lines-end.result _ _ _ _ _ _ runs) in
-    let drops = rw c.deref.ensures.value at c.drop_all.ensures.drops in
+    let shuts = rw c.deref.ensures.value at c.drop_all.ensures.shuts in
+    let drops = all_drop_plainly _ _ _ shuts in
     run_idle c.run_lines-end.result _ _ _ _ _ _ _ _ ran drops idle
 
 pub returns-clause-untouched : goal.returns-clause-untouched

@@ -1,7 +1,7 @@
 use Rattle.std.proofs.Common.{◌≡◌, ◌<◌, ◌∙◌, ap, arith}
 use Rattle.session_lines.specs.Replies.{said_view}
-use Rattle.sessions.specs.Indexed.{indexed}
-use Rattle.sessions.specs.Scripts.{place}
+use Rattle.sessions.specs.Indexed.{with_index}
+use Rattle.sessions.specs.Scripts.{place, script}
 use Rattle.sessions.specs.declared.scripts.TheConstants.{LABEL_LIMIT}
 use Rattle.sessions.proofs.ScriptLemmas.{label_told}
 use Rattle.sessions.proofs.scripts.Table.take_labelled.Goals as goal
@@ -12,4 +12,4 @@ returns-clause-takes g c =
     let room : place c.args.label c.args.self.now.sessions.items < LABEL_LIMIT = rw (← here) (omega arith) in
     let answered = rw (c.begin_session.ensures.sessions, here) at c.answer_at-said.ensures.answers in
     let written = rw c.as_bytes.ensures.value at c.write_said.ensures in
-    label_told c.write_said.result c.args.label c.args.text.now (indexed c.args.world.now c.args.self.now.sessions.items c.args.self.now.next_slot) c.answer_at-said.new.world _ (said_view c.answer_at-said.result) _ _ room answered written
+    label_told with_index c.write_said.result c.args.label c.args.text.now (script c.args.world.now c.args.self.now.sessions.items) c.answer_at-said.new.world _ (said_view c.answer_at-said.result) _ _ room answered written
