@@ -35,7 +35,8 @@ abbrev pub restored_deed-stored_deed : (deed : DeedData) → restored_deed (stor
 restored_deed-stored_deed (answered subject window ids versions) = refl
 restored_deed-stored_deed (applied subject version changes) = refl
 restored_deed-stored_deed (turned_away subject changes refusal) = refl
-restored_deed-stored_deed (governed edition decider) = ap (governed edition) (deciders.restored-stored decider)
+restored_deed-stored_deed (governed edition decider) =
+    ap (governed edition) (deciders.restored-stored decider)
 
 abbrev pub stored : RecordData → StoredRecord
 stored r = (r.seat, stored_deed r.deed)
@@ -44,7 +45,10 @@ abbrev pub restored : StoredRecord → RecordData
 restored s = record { seat = s.0; deed = restored_deed s.1 }
 
 abbrev pub restored-stored : (r : RecordData) → restored (stored r) ≡ r
-restored-stored r = ap (λ (deed : DeedData). let e : RecordData = record { seat = r.seat; deed = deed } in e) (restored_deed-stored_deed r.deed)
+restored-stored r = ap (λ (deed : DeedData). let e : RecordData = record {
+  seat = r.seat;
+  deed = deed;
+} in e) (restored_deed-stored_deed r.deed)
 
 -- the same of trails
 abbrev pub StoredTrail : Type 0
@@ -56,9 +60,17 @@ stored_trail t = (t.first, map stored t.records, t.room)
 abbrev pub restored_trail : StoredTrail → TrailData
 restored_trail s = record { first = s.0; records = map restored s.1; room = s.2 }
 
-abbrev pub restored_all-stored_all : (records : List RecordData) → map restored (map stored records) ≡ records
+abbrev pub restored_all-stored_all : (records : List RecordData)
+    → map restored (map stored records) ≡ records
 restored_all-stored_all [] = refl
-restored_all-stored_all (r ∷ rs) = ap (λ (first : RecordData). first ∷ map restored (map stored rs)) (restored-stored r) ∙ ap (λ (rest : List RecordData). r ∷ rest) (restored_all-stored_all rs)
+restored_all-stored_all (r ∷ rs) =
+    ap (λ (first : RecordData). first ∷ map restored (map stored rs)) (restored-stored r) ∙ ap
+    (λ (rest : List RecordData). r ∷ rest) (restored_all-stored_all rs)
 
 abbrev pub restored_trail-stored_trail : (t : TrailData) → restored_trail (stored_trail t) ≡ t
-restored_trail-stored_trail t = ap (λ (records : List RecordData). let e : TrailData = record { first = t.first; records = records; room = t.room } in e) (restored_all-stored_all t.records)
+restored_trail-stored_trail t =
+    ap (λ (records : List RecordData). let e : TrailData = record {
+      first = t.first;
+      records = records;
+      room = t.room;
+    } in e) (restored_all-stored_all t.records)

@@ -33,11 +33,14 @@ numeral n = number (unsigned n)
 -- a change has what it does, its id, and, if it has them, class, shape and the version seen
 abbrev pub change_fields : Change → Fields
 change_fields (Add id class shape) =
-    (codes "what", string (codes "add")) ∷ (codes "id", numeral id) ∷ (codes "class", string class) ∷ (codes "shape", string (printed shape)) ∷ []
+    (codes "what", string (codes "add")) ∷ (codes "id", numeral id) ∷ (codes "class", string class)
+    ∷ (codes "shape", string (printed shape)) ∷ []
 change_fields (Reshape id seen shape) =
-    (codes "what", string (codes "reshape")) ∷ (codes "id", numeral id) ∷ (codes "version", numeral seen) ∷ (codes "shape", string (printed shape)) ∷ []
+    (codes "what", string (codes "reshape")) ∷ (codes "id", numeral id)
+    ∷ (codes "version", numeral seen) ∷ (codes "shape", string (printed shape)) ∷ []
 change_fields (Delete id seen) =
-    (codes "what", string (codes "delete")) ∷ (codes "id", numeral id) ∷ (codes "version", numeral seen) ∷ []
+    (codes "what", string (codes "delete")) ∷ (codes "id", numeral id)
+    ∷ (codes "version", numeral seen) ∷ []
 
 abbrev pub change_data : Change → Data
 change_data change = object_of (change_fields change)
@@ -55,24 +58,31 @@ rule_data (Some rule) = numeral rule
 
 -- a denial has its rule, and a stale change the present version
 abbrev pub cause_fields : Cause → Fields
-cause_fields (Denied rule) = (codes "cause", string (codes "denied")) ∷ (codes "rule", rule_data rule) ∷ []
+cause_fields (Denied rule) = (codes "cause", string (codes "denied"))
+    ∷ (codes "rule", rule_data rule) ∷ []
 cause_fields Exists = (codes "cause", string (codes "exists")) ∷ []
 cause_fields Absent = (codes "cause", string (codes "absent")) ∷ []
-cause_fields (Stale current) = (codes "cause", string (codes "stale")) ∷ (codes "current", numeral current) ∷ []
+cause_fields (Stale current) =
+    (codes "cause", string (codes "stale")) ∷ (codes "current", numeral current) ∷ []
 
 -- an answer has no versions of its rows
 abbrev pub answer_fields : Subject → List Point → List ℕ → Fields
 answer_fields subject window ids =
-    (codes "kind", string (codes "answered")) ∷ (codes "subject", string subject.name) ∷ (codes "window", string (printed window)) ∷ (codes "ids", numbers_data ids) ∷ []
+    (codes "kind", string (codes "answered")) ∷ (codes "subject", string subject.name)
+    ∷ (codes "window", string (printed window)) ∷ (codes "ids", numbers_data ids) ∷ []
 
 abbrev pub deed_fields : DeedData → Fields
 deed_fields (answered subject window ids versions) = answer_fields subject window ids
 deed_fields (applied subject version changes) =
-    (codes "kind", string (codes "applied")) ∷ (codes "subject", string subject.name) ∷ (codes "version", numeral version) ∷ (codes "changes", changes_data changes) ∷ []
+    (codes "kind", string (codes "applied")) ∷ (codes "subject", string subject.name)
+    ∷ (codes "version", numeral version) ∷ (codes "changes", changes_data changes) ∷ []
 deed_fields (turned_away subject changes refusal) =
-    (codes "kind", string (codes "refused")) ∷ (codes "subject", string subject.name) ∷ (codes "changes", changes_data changes) ∷ (codes "change", numeral refusal.change) ∷ cause_fields refusal.cause
+    (codes "kind", string (codes "refused")) ∷ (codes "subject", string subject.name)
+    ∷ (codes "changes", changes_data changes) ∷ (codes "change", numeral refusal.change)
+    ∷ cause_fields refusal.cause
 deed_fields (governed edition decider) =
-    (codes "kind", string (codes "governed")) ∷ (codes "edition", numeral edition) ∷ (codes "document", document_data decider.document) ∷ []
+    (codes "kind", string (codes "governed")) ∷ (codes "edition", numeral edition)
+    ∷ (codes "document", document_data decider.document) ∷ []
 
 -- a record with its number
 abbrev pub line_fields : ℕ → RecordData → Fields

@@ -24,17 +24,26 @@ use Rattle.audit_trail.specs.Listing.{question_on}
 
 -- may the subject add a feature of this class at this shape? The subject's office would own it.
 abbrev pub question_on_new : Subject → List ℕ → List Point → Question
-question_on_new subject class shape = record { subject = subject; action = actions.Add; owner = subject.office; class = class; shape = shape }
+question_on_new subject class shape =
+    record {
+      subject = subject;
+      action = actions.Add;
+      owner = subject.office;
+      class = class;
+      shape = shape;
+    }
 
 -- the objection that follows from a ruling on a question
 abbrev pub denial : Question → Ruling → Option Objection
 denial question (Permit rule) = None
-denial question (DeniedBy rule) = Some (record { cause = Denied (Some rule); question = Some question })
+denial question (DeniedBy rule) =
+    Some (record { cause = Denied (Some rule); question = Some question })
 denial question NoneApplied = Some (record { cause = Denied None; question = Some question })
 
 -- the objection that follows from the document's ruling on a question
 abbrev pub DenialOf : DocumentData → Question → Option Objection → Type 0
-DenialOf document question objection = (ruling : Ruling) × Rules document question ruling × (objection ≡ denial question ruling)
+DenialOf document question objection =
+    (ruling : Ruling) × Rules document question ruling × (objection ≡ denial question ruling)
 
 -- the objection to adding a feature whose id is in use
 abbrev pub in_use : Option Feature → Option Objection
@@ -43,7 +52,8 @@ in_use (Some feature) = Some (record { cause = Exists; question = None })
 
 -- the objection that the editor has seen another version than the present one
 abbrev pub stale : ℕ → Feature → Option Objection
-stale seen feature = if seen == feature.version then None else Some (record { cause = Stale feature.version; question = None })
+stale seen feature = if seen == feature.version then None
+    else Some (record { cause = Stale feature.version; question = None })
 
 -- the objection that there is no such feature
 abbrev pub absent : Option Objection
@@ -64,7 +74,8 @@ Objects document subject (Reshape id seen shape) (Some feature) objection =
     × (objection ≡ option_or denied (option_or denied_new (stale seen feature)))
 Objects document subject (Delete id seen) None objection = objection ≡ absent
 Objects document subject (Delete id seen) (Some feature) objection =
-    (denied : Option Objection) × DenialOf document (question_on subject actions.Delete feature feature.shape) denied
+    (denied : Option Objection)
+    × DenialOf document (question_on subject actions.Delete feature feature.shape) denied
     × (objection ≡ option_or denied (stale seen feature))
 
 -- the list is rejected for the objection to its change of this number
@@ -76,13 +87,16 @@ refused_for number o = Refused (record { change = number; cause = o.cause }) o.q
 abbrev pub JudgedFrom : ℕ → DocumentData → List Feature → Subject → List Change → Judgement → Type 0
 JudgedFrom number document features subject [] judgement = judgement ≡ Accepted
 JudgedFrom number document features subject (change ∷ changes) judgement =
-    (objection : Option Objection) × Objects document subject change (feature_with (change_id change) features) objection
-    × MatchOption objection (JudgedFrom (number + 1) document features subject changes judgement) (λ o. judgement ≡ refused_for number o)
+    (objection : Option Objection)
+    × Objects document subject change (feature_with (change_id change) features) objection
+    × MatchOption objection (JudgedFrom (number + 1) document features subject changes judgement)
+    (λ o. judgement ≡ refused_for number o)
 
 -- a list of changes is accepted, or rejected for its first failing change, counted from 1, with
 -- that change's first cause
 abbrev pub Judged : PlainState → Subject → List Change → Judgement → Type 0
-Judged state subject changes judgement = JudgedFrom 1 state.decider.document state.features subject changes judgement
+Judged state subject changes judgement =
+    JudgedFrom 1 state.decider.document state.features subject changes judgement
 
 -- a denial comes with a question that the document denies, by that rule or without one; no other
 -- cause has a question

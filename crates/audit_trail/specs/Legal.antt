@@ -13,9 +13,13 @@ use Rattle.audit_trail.specs.Records.{PlainState, DeedData, answered, applied, t
 abbrev pub after_deed : DeedData → PlainState → PlainState
 after_deed (answered subject window ids versions) state = state
 after_deed (applied subject version changes) state =
-    record state { features = after version subject.office changes state.features; version = version }
+    record state {
+      features = after version subject.office changes state.features;
+      version = version;
+    }
 after_deed (turned_away subject changes refusal) state = state
-after_deed (governed edition decider) state = record state { decider = record { document = decider.document; edition = edition } }
+after_deed (governed edition decider) state =
+    record state { decider = record { document = decider.document; edition = edition } }
 
 -- the state that these records lead to from a base
 abbrev pub replay : PlainState → List RecordData → PlainState
@@ -34,11 +38,14 @@ IsSeated seat seats subject = subject_of seat seats ≡ Some subject
 abbrev pub IsLegalDeed : List Subject → PlainState → ℕ → DeedData → Type 0
 IsLegalDeed seats state seat (answered subject window ids versions) =
     IsSeated seat seats subject
-    × ((rows : List Feature) × Listed state subject window rows × (ids ≡ map (λ row. row.id) rows) × (versions ≡ map (λ row. row.version) rows))
+    × ((rows : List Feature) × Listed state subject window rows × (ids ≡ map (λ row. row.id) rows)
+    × (versions ≡ map (λ row. row.version) rows))
 IsLegalDeed seats state seat (applied subject version changes) =
-    IsSeated seat seats subject × Judged state subject changes Accepted × (version ≡ state.version + 1)
+    IsSeated seat seats subject × Judged state subject changes Accepted
+    × (version ≡ state.version + 1)
 IsLegalDeed seats state seat (turned_away subject changes refusal) =
-    IsSeated seat seats subject × ((question : Option Question) × Judged state subject changes (Refused refusal question))
+    IsSeated seat seats subject
+    × ((question : Option Question) × Judged state subject changes (Refused refusal question))
 IsLegalDeed seats state seat (governed edition decider) =
     ((subject : Subject) × IsSeated seat seats subject × IsTrue subject.steward)
     × (edition ≡ state.decider.edition + 1) × (decider.edition ≡ edition)
@@ -46,4 +53,5 @@ IsLegalDeed seats state seat (governed edition decider) =
 -- each record is legal at the replay of the records before it
 abbrev pub IsLegal : List Subject → PlainState → List RecordData → Type 0
 IsLegal seats base [] = Unit {0}
-IsLegal seats base (r ∷ rs) = IsLegalDeed seats base r.seat r.deed × IsLegal seats (after_deed r.deed base) rs
+IsLegal seats base (r ∷ rs) = IsLegalDeed seats base r.seat r.deed
+    × IsLegal seats (after_deed r.deed base) rs

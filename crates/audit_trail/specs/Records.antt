@@ -33,4 +33,5 @@ pub record TrailData : Type 0 where
 
 -- the record with this number
 abbrev pub record_at : ℕ → TrailData → Option RecordData
-record_at number trail = if nat_lt number trail.first then None else slice_get trail.records (number - trail.first)
+record_at number trail = if nat_lt number trail.first then None else slice_get trail.records
+    (number - trail.first)

@@ -2,7 +2,7 @@
 
 ghost use Rattle.std.specs.Prelude.{◌≡◌, ◌≤◌, Err, IfOk, OnOk, MatchOption, MatchResult, length, map, string_bytes, codes};
 ghost use Rattle.std.specs.Arc.{arc_value};
-ghost use Rattle.memory.specs.Refused.{refused};
+ghost use Rattle.memory.specs.NoMemory.{out_of_memory};
 ghost use Rattle.serde_json.specs.Data.{string, put as with_member};
 ghost use Rattle.serde_json.specs.View.{view, members_view};
 ghost use Rattle.wkt.specs.Printing.{printed};
@@ -15,7 +15,7 @@ use crate::records::{Deed, Record};
 use crate::trails::{FIRST_LIMIT, RECORD_LIMIT, Trail, TrailFault};
 use decision::Decider;
 use features::{Change, Name, Subject};
-use memory::{GrowVec, Refused, json_string, json_text, put_member, text};
+use memory::{GrowVec, NoMemory, json_string, json_text, put_member, text};
 use plane::Shape;
 use policy_text::document_value;
 use serde_json::{Map, Value};
@@ -30,7 +30,8 @@ impl<A: Allocator> Trail<A> {
     pub fn json_line(&self, heap: Global, number: u32) -> Result<String, TrailFault>
         ensures { MatchOption (record_at number self.now)
             (result ≡ Err TrailFault.NoRecord)
-            (λ r. MatchResult result (λ text. string_bytes text ≡ line_text number r) (λ fault. fault ≡ TrailFault.Memory refused)) }
+            (λ r. MatchResult result (λ text. string_bytes text ≡ line_text number r)
+            (λ fault. fault ≡ TrailFault.Memory out_of_memory)) }
     {
         let Some(entry) = self.get(number) else {
             return Err(TrailFault::NoRecord);
@@ -42,7 +43,7 @@ impl<A: Allocator> Trail<A> {
 impl<A: Allocator + Copy> Trail<A> {
     /// All records as `json_line` gives them, by rising number. The trail's allocator holds the
     /// lines; `heap` holds the JSON values they are made from.
-    pub fn lines(&self, heap: Global) -> Result<Vec<String<A>, A>, Refused>
+    pub fn lines(&self, heap: Global) -> Result<Vec<String<A>, A>, NoMemory>
         ensures { IfOk result
             (λ lines. map string_bytes lines.items ≡ lines_from self.now.first self.now.records) }
     {
@@ -56,7 +57,7 @@ fn lines_of<A: Allocator + Copy>(
     heap: Global,
     first: u32,
     records: &[Arc<Record<A>, A>],
-) -> Result<Vec<String<A>, A>, Refused>
+) -> Result<Vec<String<A>, A>, NoMemory>
     requires first { first ≤ FIRST_LIMIT }
     requires records { length records.now ≤ RECORD_LIMIT }
     ensures { IfOk result
@@ -73,7 +74,7 @@ fn lines_of<A: Allocator + Copy>(
 }
 
 /// A record with its number, as JSON.
-fn line_text<A: Allocator>(heap: Global, number: u32, entry: &Record<A>) -> Result<String, Refused>
+fn line_text<A: Allocator>(heap: Global, number: u32, entry: &Record<A>) -> Result<String, NoMemory>
     ensures { IfOk result (λ text. string_bytes text ≡ line_text number entry.now) }
 {
     let value = line_value(heap, number, entry)?;
@@ -81,7 +82,7 @@ fn line_text<A: Allocator>(heap: Global, number: u32, entry: &Record<A>) -> Resu
 }
 
 /// A record with its number, as a JSON object.
-fn line_value<A: Allocator>(heap: Global, number: u32, entry: &Record<A>) -> Result<Value, Refused>
+fn line_value<A: Allocator>(heap: Global, number: u32, entry: &Record<A>) -> Result<Value, NoMemory>
     ensures value { IfOk result (λ v. view v ≡ line_of number entry.now) }
     ensures documented { OnOk result (IsDocumented entry.now.deed) }
 {
@@ -97,7 +98,7 @@ fn put_deed<A: Allocator>(
     members: &mut Map<String, Value>,
     heap: Global,
     deed: &Deed<A>,
-) -> Result<(), Refused>
+) -> Result<(), NoMemory>
     ensures fields { OnOk result
         (members_view members.new.entries
         ≡ with_fields (members_view members.old.entries) (deed_fields (deed_view deed.now))) }
@@ -131,7 +132,7 @@ fn put_answer(
     subject: &Subject,
     window: &Shape,
     ids: &[u64],
-) -> Result<(), Refused>
+) -> Result<(), NoMemory>
     ensures { OnOk result
         (members_view members.new.entries
         ≡ with_fields (members_view members.old.entries)
@@ -150,7 +151,7 @@ fn put_applied_list(
     subject: &Subject,
     version: u64,
     changes: &[Change],
-) -> Result<(), Refused>
+) -> Result<(), NoMemory>
     ensures { OnOk result
         (members_view members.new.entries
         ≡ with_fields (members_view members.old.entries)
@@ -169,7 +170,7 @@ fn put_refused_list(
     subject: &Subject,
     changes: &[Change],
     refusal: &Refusal,
-) -> Result<(), Refused>
+) -> Result<(), NoMemory>
     ensures { OnOk result
         (members_view members.new.entries
         ≡ with_fields (members_view members.old.entries)
@@ -187,7 +188,7 @@ fn put_governing(
     heap: Global,
     edition: u64,
     decider: &Decider,
-) -> Result<(), Refused>
+) -> Result<(), NoMemory>
     ensures fields { OnOk result
         (members_view members.new.entries
         ≡ with_fields (members_view members.old.entries)
@@ -205,7 +206,7 @@ fn put_refusal(
     members: &mut Map<String, Value>,
     heap: Global,
     refusal: &Refusal,
-) -> Result<(), Refused>
+) -> Result<(), NoMemory>
     ensures { OnOk result
         (members_view members.new.entries
         ≡ with_fields (with_member (codes "change") (numeral refusal.now.change)
@@ -216,7 +217,7 @@ fn put_refusal(
 }
 
 /// Puts the cause of a failing change.
-fn put_cause(members: &mut Map<String, Value>, heap: Global, cause: &Cause) -> Result<(), Refused>
+fn put_cause(members: &mut Map<String, Value>, heap: Global, cause: &Cause) -> Result<(), NoMemory>
     ensures { OnOk result
         (members_view members.new.entries
         ≡ with_fields (members_view members.old.entries) (cause_fields cause.now)) }
@@ -246,7 +247,7 @@ fn rule_value(rule: &Option<u32>) -> Value
 }
 
 /// Changes as an array.
-fn changes_value(heap: Global, changes: &[Change]) -> Result<Value, Refused>
+fn changes_value(heap: Global, changes: &[Change]) -> Result<Value, NoMemory>
     ensures { IfOk result (λ v. view v ≡ changes_data changes.now) }
 {
     let mut values = Vec::new(heap);
@@ -257,7 +258,7 @@ fn changes_value(heap: Global, changes: &[Change]) -> Result<Value, Refused>
 }
 
 /// A change as an object.
-fn change_value(heap: Global, change: &Change) -> Result<Value, Refused>
+fn change_value(heap: Global, change: &Change) -> Result<Value, NoMemory>
     ensures { IfOk result (λ v. view v ≡ change_data change.now) }
 {
     let mut members = Map::new(heap);
@@ -270,7 +271,7 @@ fn put_change(
     members: &mut Map<String, Value>,
     heap: Global,
     change: &Change,
-) -> Result<(), Refused>
+) -> Result<(), NoMemory>
     ensures { OnOk result
         (members_view members.new.entries
         ≡ with_fields (members_view members.old.entries) (change_fields change.now)) }
@@ -297,7 +298,7 @@ fn put_change(
 }
 
 /// Numbers as an array.
-fn numbers_value(heap: Global, numbers: &[u64]) -> Result<Value, Refused>
+fn numbers_value(heap: Global, numbers: &[u64]) -> Result<Value, NoMemory>
     ensures { IfOk result (λ v. view v ≡ numbers_data numbers.now) }
 {
     let mut values = Vec::new(heap);
@@ -313,7 +314,7 @@ fn put_text(
     heap: Global,
     key: &str,
     text: &str,
-) -> Result<(), Refused>
+) -> Result<(), NoMemory>
     ensures { OnOk result
         (members_view members.new.entries
         ≡ with_member key.now (string text.now) (members_view members.old.entries)) }
@@ -328,7 +329,7 @@ fn put_name(
     heap: Global,
     key: &str,
     name: &Name,
-) -> Result<(), Refused>
+) -> Result<(), NoMemory>
     ensures { OnOk result
         (members_view members.new.entries
         ≡ with_member key.now (string name.now) (members_view members.old.entries)) }
@@ -349,7 +350,7 @@ fn put_shape(
     heap: Global,
     key: &str,
     shape: &Shape,
-) -> Result<(), Refused>
+) -> Result<(), NoMemory>
     ensures { OnOk result
         (members_view members.new.entries
         ≡ with_member key.now (string (printed shape.now)) (members_view members.old.entries)) }

@@ -31,7 +31,8 @@ pub fn answers_are_one()
 /// in the whole are those in the first part followed by those in the rest.
 pub fn trails_join()
     ensures legal { (seats : List Subject) (base : PlainState) (first rest : List RecordData) →
-        IsLegal seats base (first ++ rest) ↔ (IsLegal seats base first × IsLegal seats (replay base first) rest) }
+        IsLegal seats base (first ++ rest) ↔ (IsLegal seats base first
+        × IsLegal seats (replay base first) rest) }
     ensures replayed { (base : PlainState) (first rest : List RecordData) →
         replay base (first ++ rest) ≡ replay (replay base first) rest }
     ensures calls { (seat : ℕ) (first rest : List RecordData) →

@@ -2,11 +2,11 @@
 
 ghost use Rattle.std.specs.Prelude.{◌≡◌, ◌+◌, ◌<◌, ◌≤◌, ◌↔◌, ◌++◌, [], ◌∷◌, length, Err, IsSome, IfOk, IfErr, OnOk, OnErr, IsTrue, option_map};
 ghost use Rattle.std.specs.Arc.{arc_value};
-ghost use Rattle.memory.specs.Refused.{refused};
+ghost use Rattle.memory.specs.NoMemory.{out_of_memory};
 ghost use Rattle.audit_trail.specs.Records.{record_at};
 
 use crate::records::Record;
-use memory::{GrowVec, Refused, shared};
+use memory::{GrowVec, NoMemory, shared};
 use std::alloc::Allocator;
 use std::fmt;
 use std::marker::Model;
@@ -25,7 +25,7 @@ pub enum TrailFault {
     /// The trail has `RECORD_LIMIT` records.
     Full,
     /// Out of memory.
-    Memory(Refused),
+    Memory(NoMemory),
     /// The trail has no record with this number.
     NoRecord,
 }
@@ -45,14 +45,14 @@ impl TrailFault {
     }
 }
 
-impl From<Refused> for TrailFault {
+impl From<NoMemory> for TrailFault {
     ghost use Rattle.std.specs.Prelude.{◌≡◌};
     ghost use Rattle.audit_trail.specs.declared.trails.TrailFault.TheVariants.{Memory};
 
-    ghost from_gives = { λ refused fault. fault ≡ Memory refused };
+    ghost from_gives = { λ no_memory fault. fault ≡ Memory no_memory };
 
-    fn from(refused: Refused) -> Self {
-        TrailFault::Memory(refused)
+    fn from(no_memory: NoMemory) -> Self {
+        TrailFault::Memory(no_memory)
     }
 }
 
@@ -86,9 +86,14 @@ impl<A: Allocator> Model for Trail<A> {
 
     ghost Value = { TrailData };
 
-    ghost coded = { code_by StoredTrail (Prim.hlevel codes) stored_trail restored_trail restored_trail-stored_trail };
+    ghost coded = { code_by StoredTrail (Prim.hlevel codes) stored_trail restored_trail
+        restored_trail-stored_trail };
 
-    ghost view = { λ t. record { first = t.first; records = map arc_value t.records.items; room = vec_capacity t.records - vec_len t.records } };
+    ghost view = { λ t. record {
+      first = t.first;
+      records = map arc_value t.records.items;
+      room = vec_capacity t.records - vec_len t.records;
+    } };
 
     ghost invariant = { λ t. (vec_len t.records ≤ RECORD_LIMIT) × (t.first ≤ FIRST_LIMIT) };
 }
@@ -154,14 +159,14 @@ impl<A: Allocator + Copy> Trail<A> {
 
     /// Prepares a record for `put` and makes room for it. On an error the record is dropped. The
     /// records of the trail are unchanged in both cases.
-    pub fn prepare(&mut self, entry: Record<A>) -> Result<Arc<Record<A>, A>, Refused>
+    pub fn prepare(&mut self, entry: Record<A>) -> Result<Arc<Record<A>, A>, NoMemory>
         requires { length self.old.records < RECORD_LIMIT }
         ensures first { self.new.first ≡ self.old.first }
         ensures records { self.new.records ≡ self.old.records }
         ensures room { OnOk result (1 ≤ self.new.room) }
         ensures entry { IfOk result (λ shared. arc_value shared ≡ entry) }
     {
-        self.records.make_place()?;
+        self.records.make_slot()?;
         Ok(shared(self.alloc, entry)?)
     }
 
@@ -187,14 +192,14 @@ impl<A: Allocator + Copy> Trail<A> {
         ensures full { IfErr result
             (λ e. (e.1 ≡ TrailFault.Full) ↔ (RECORD_LIMIT ≤ length self.old.records)) }
         ensures memory { IfErr result
-            (λ e. length self.old.records < RECORD_LIMIT → e.1 ≡ TrailFault.Memory refused) }
+            (λ e. length self.old.records < RECORD_LIMIT → e.1 ≡ TrailFault.Memory out_of_memory) }
         ensures below { OnOk result (length self.old.records < RECORD_LIMIT) }
     {
         let number = self.len();
         if number >= RECORD_LIMIT {
             return Err((entry, TrailFault::Full));
         }
-        if let Err(refusal) = self.records.make_place() {
+        if let Err(refusal) = self.records.make_slot() {
             return Err((entry, TrailFault::Memory(refusal)));
         }
         match shared(self.alloc, entry) {
@@ -202,7 +207,7 @@ impl<A: Allocator + Copy> Trail<A> {
                 self.records.push_reserved(made);
                 Ok(self.first + number)
             }
-            Err(failed) => Err((failed.value, TrailFault::Memory(failed.refusal))),
+            Err(failed) => Err((failed.value, TrailFault::Memory(failed.cause))),
         }
     }
 }

@@ -18,9 +18,15 @@ module _ (S A : RattleType) (alloc : Ghosts A.Denot) where
   -- the same of an element of a table
   abbrev pub lends_element : MutBor (Listed S.Denot A.Denot) → ℕ → MutBor S.Denot → Fml
   lends_element table i r =
-      Lends (Table.the_row S A alloc) S table r (λ value. record { heap = table.now.heap; items = slice_set table.now.items i value; places = table.now.places; room = table.now.room })
+      Lends (Table.the_row S A alloc) S table r (λ value. record {
+        heap = table.now.heap;
+        items = slice_set table.now.items i value;
+        places = table.now.places;
+        room = table.now.room;
+      })
 
   -- the same of an element of a list in chunks
   abbrev pub lends_item : MutBor (Chunks S.Denot) → ℕ → MutBor S.Denot → Fml
   lends_item list i r =
-      Lends (Chunked.the_row S A alloc) S list r (λ value. record { items = slice_set list.now.items i value; places = list.now.places })
+      Lends (Chunked.the_row S A alloc) S list r
+      (λ value. record { items = slice_set list.now.items i value; places = list.now.places })

@@ -29,7 +29,8 @@ module _ {S A : Type 0} where
   -- element i lies in chunk i / 256, at place i % 256
   abbrev pub value_at : List (Option (Held S A)) → ℕ → Option S
   value_at chunks i =
-      option_and_then (λ chunk. slice_index_or chunk.items (i % 256) None) (slice_index_or chunks (i / 256) None)
+      option_and_then (λ chunk. slice_index_or chunk.items (i % 256) None)
+      (slice_index_or chunks (i / 256) None)
 
   -- a chunk of this allocator, with 256 places
   abbrev pub IsChunk : A → Option (Held S A) → Type 0

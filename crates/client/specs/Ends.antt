@@ -70,21 +70,30 @@ IsCutOff {after = after} talk = Waits talk × IsUnfinished (talk.behind ++ after
 
 -- A talk ended without a fault: at the end of the input, or with the server's farewell.
 abbrev pub EndsWell : End → Sight → Sight → Type 0
-EndsWell AtEnd before after = (talk : Talk before after) × SentAll talk × WroteAll talk × IsAnswered talk × (after.asked ≡ []) × IsAtEnd after.input
-EndsWell Farewell before after = (talk : Talk before after) × SentAll talk × WroteAll talk × IsLeft talk.lines talk.replies
+EndsWell AtEnd before after = (talk : Talk before after) × SentAll talk × WroteAll talk
+    × IsAnswered talk × (after.asked ≡ []) × IsAtEnd after.input
+EndsWell Farewell before after = (talk : Talk before after) × SentAll talk × WroteAll talk
+    × IsLeft talk.lines talk.replies
 
 -- A talk ended with a fault.
 abbrev pub EndsBy : TalkFault → Sight → Sight → Type 0
-EndsBy (faults.Input failed) before after = (talk : Talk before after) × SentAll talk × WroteAll talk × IsAnswered talk × IsLine after.asked
-EndsBy (faults.Gone Ended) before after = (talk : Talk before after) × SentAll talk × WroteAll talk × IsCutOff talk × IsAtEnd after.peer
-EndsBy (faults.Gone (Unread failed)) before after = (talk : Talk before after) × SentAll talk × WroteAll talk × IsCutOff talk
-EndsBy (faults.Gone (Unsent failed)) before after = (talk : Talk before after) × SentInPart talk.lines talk.sent × WroteAll talk × Waits talk
+EndsBy (faults.Input failed) before after =
+    (talk : Talk before after) × SentAll talk × WroteAll talk × IsAnswered talk × IsLine after.asked
+EndsBy (faults.Gone Ended) before after = (talk : Talk before after) × SentAll talk × WroteAll talk
+    × IsCutOff talk × IsAtEnd after.peer
+EndsBy (faults.Gone (Unread failed)) before after =
+    (talk : Talk before after) × SentAll talk × WroteAll talk × IsCutOff talk
+EndsBy (faults.Gone (Unsent failed)) before after =
+    (talk : Talk before after) × SentInPart talk.lines talk.sent × WroteAll talk × Waits talk
 EndsBy (faults.Memory refused) before after =
-    (talk : Talk before after) × SentAll talk × WroteAll talk × ((IsAnswered talk × IsLine after.asked) ⊎ IsCutOff talk)
+    (talk : Talk before after) × SentAll talk × WroteAll talk
+    × ((IsAnswered talk × IsLine after.asked) ⊎ IsCutOff talk)
 EndsBy (faults.Output failed) before after =
-    (talk : Talk before after) × SentSome talk × (left : List ℕ) × (concat talk.replies ++ (talk.behind ++ after.told) ≡ talk.written ++ left)
+    (talk : Talk before after) × SentSome talk × (left : List ℕ)
+    × (concat talk.replies ++ (talk.behind ++ after.told) ≡ talk.written ++ left)
     × ((length talk.replies ≡ length talk.lines) ⊎ (length talk.lines ≡ length talk.replies + 1))
-EndsBy faults.TooManyLines before after = (talk : Talk before after) × SentAll talk × WroteAll talk × IsAnswered talk × (2 ^ 64 - 1 ≤ length talk.lines)
+EndsBy faults.TooManyLines before after = (talk : Talk before after) × SentAll talk × WroteAll talk
+    × IsAnswered talk × (2 ^ 64 - 1 ≤ length talk.lines)
 
 -- everything read from the server is written, unless the output failed
 abbrev pub IsWritten : TalkFault → List ℕ → Type 0
@@ -93,9 +102,13 @@ IsWritten _ told = told ≡ []
 
 -- The effect of a talk on the input, the server and the output, by how it ended. `ahead` was read
 -- from the input and not sent.
-abbrev pub Talks : Result Talked TalkFault → (input input_then peer peer_then sent sent_then written written_then : Option (List ℕ)) → Type 0
+abbrev pub Talks : Result Talked TalkFault
+    → (input input_then peer peer_then sent sent_then written written_then : Option (List ℕ))
+    → Type 0
 Talks (Ok talked) input input_then peer peer_then sent sent_then written written_then =
-    (ahead : List ℕ) × EndsWell talked.end (sight [] [] input peer sent written) (sight ahead [] input_then peer_then sent_then written_then)
+    (ahead : List ℕ) × EndsWell talked.end (sight [] [] input peer sent written)
+    (sight ahead [] input_then peer_then sent_then written_then)
 Talks (Err fault) input input_then peer peer_then sent sent_then written written_then =
     (ahead : List ℕ) × (told : List ℕ) × IsWritten fault told
-    × EndsBy fault (sight [] [] input peer sent written) (sight ahead told input_then peer_then sent_then written_then)
+    × EndsBy fault (sight [] [] input peer sent written)
+    (sight ahead told input_then peer_then sent_then written_then)

@@ -4,7 +4,7 @@ use Rattle.std.specs.Io.KnownBytes.{Consumes, IsAtEnd, Keeps}
 use Rattle.line_streams.specs.Streams.{IsLine, fed}
 use Rattle.client.specs.declared.ahead.Found.{Found}
 use Rattle.client.specs.declared.ahead.Found.TheVariants.{Whole, Open}
-use Rattle.client.specs.declared.ahead.LineFault.{LineFault}
+use Rattle.client.specs.declared.ahead.AheadFault.{AheadFault}
 
 -- The bytes begin with a line, which has `count` bytes with its line feed.
 pub record BeginsWithLine (bytes : List ℕ) (count : ℕ) : Type 0 where
@@ -24,14 +24,16 @@ abbrev pub Gains : List ℕ → List ℕ → Option (List ℕ) → Option (List 
 Gains old new left left_then = (more : List ℕ) × (new ≡ old ++ more) × Consumes left left_then more
 
 -- one read: `count` bytes are added, 0 only at the reader's end; or it failed
-abbrev pub Fills : {E : Type 0} → Result ℕ E → List ℕ → List ℕ → Option (List ℕ) → Option (List ℕ) → Type 0
+abbrev pub Fills : {E : Type 0} → Result ℕ E → List ℕ → List ℕ → Option (List ℕ) → Option (List ℕ)
+    → Type 0
 Fills (Ok count) old new left left_then =
-    (more : List ℕ) × (new ≡ old ++ more) × Consumes left left_then more × (count ≡ length more) × (count ≡ 0 → IsAtEnd left_then)
+    (more : List ℕ) × (new ≡ old ++ more) × Consumes left left_then more × (count ≡ length more)
+    × (count ≡ 0 → IsAtEnd left_then)
 Fills (Err e) old new left left_then = (new ≡ old) × Keeps left left_then
 
 -- the next line is held; or no line feed is, because the reader is at its end, a read failed, or
 -- memory ran out
-abbrev pub FindsLine : Result Found LineFault → List ℕ → Option (List ℕ) → Type 0
+abbrev pub FindsLine : Result Found AheadFault → List ℕ → Option (List ℕ) → Type 0
 FindsLine (Ok (Whole count)) bytes left = BeginsWithLine bytes count
 FindsLine (Ok Open) bytes left = IsLine bytes × IsAtEnd left
 FindsLine (Err fault) bytes left = IsLine bytes

@@ -7,7 +7,8 @@ use Rattle.line_streams.specs.Streams.{IsLine, fed}
 
 -- the number that digits spell; 0 if the text is not a number below 2 ^ 64
 abbrev pub number_of : List ℕ → ℕ
-number_of text = if all_ascii_digits text && nat_lt 0 (length text) && nat_lt (digits_value 10 text) (2 ^ 64) then digits_value 10 text else 0
+number_of text = if all_ascii_digits text && nat_lt 0 (length text) && nat_lt (digits_value 10 text)
+    (2 ^ 64) then digits_value 10 text else 0
 
 -- how many lines follow the first line of a reply: N after `rows N` and `rolled N`
 abbrev pub rows_behind : List ℕ → ℕ

@@ -16,16 +16,27 @@ pub record Sight : Type 0 where
   pub sent : Option (List ℕ)
   pub written : Option (List ℕ)
 
-abbrev pub sight : List ℕ → List ℕ → Option (List ℕ) → Option (List ℕ) → Option (List ℕ) → Option (List ℕ) → Sight
-sight asked told input peer sent written = record { asked = asked; told = told; input = input; peer = peer; sent = sent; written = written }
+abbrev pub sight : List ℕ → List ℕ → Option (List ℕ) → Option (List ℕ) → Option (List ℕ)
+    → Option (List ℕ) → Sight
+sight asked told input peer sent written =
+    record {
+      asked = asked;
+      told = told;
+      input = input;
+      peer = peer;
+      sent = sent;
+      written = written;
+    }
 
 -- bytes were used: the first ones of those held and of those read after them
 abbrev pub Moves : List ℕ → List ℕ → Option (List ℕ) → Option (List ℕ) → List ℕ → Type 0
-Moves held held_then left left_then passed = (more : List ℕ) × Consumes left left_then more × (held ++ more ≡ passed ++ held_then)
+Moves held held_then left left_then passed =
+    (more : List ℕ) × Consumes left left_then more × (held ++ more ≡ passed ++ held_then)
 
 -- these lines were taken from the input, each with its line feed
 abbrev pub TakesLines : List (List ℕ) → Sight → Sight → Type 0
-TakesLines lines before after = Moves before.asked after.asked before.input after.input (flat_map fed lines)
+TakesLines lines before after =
+    Moves before.asked after.asked before.input after.input (flat_map fed lines)
 
 -- these lines were taken from the input, which ended without a line feed after the last of them
 pub record TakesLast (lines : List (List ℕ)) (before after : Sight) : Type 0 where

@@ -4,7 +4,7 @@ ghost use Rattle.std.specs.Prelude.{◌≡◌, ◌≤◌, ◌++◌, ◌∷◌, [
 ghost use Rattle.client.specs.Lines.{Fills, FindsFeed, FindsLine, Gains};
 
 use byte_streams::{ReadFailed, read_some};
-use memory::{GrowVec, Refused, try_extend};
+use memory::{GrowVec, NoMemory, try_extend};
 use std::alloc::Allocator;
 use std::io::Read;
 
@@ -13,30 +13,30 @@ const CHUNK: usize = 4_096;
 
 /// Why the next line is not in memory whole.
 #[derive(Debug, Drop, PartialEq, Eq)]
-pub(crate) enum LineFault {
+pub(crate) enum AheadFault {
     /// A read failed.
     Read(ReadFailed),
     /// Out of memory.
-    Memory(Refused),
+    Memory(NoMemory),
 }
 
-impl From<ReadFailed> for LineFault {
-    ghost use Rattle.client.specs.declared.ahead.LineFault.TheVariants as reasons;
+impl From<ReadFailed> for AheadFault {
+    ghost use Rattle.client.specs.declared.ahead.AheadFault.TheVariants as reasons;
 
     ghost from_gives = { λ failed fault. fault ≡ reasons.Read failed };
 
-    fn from(failed: ReadFailed) -> LineFault {
-        LineFault::Read(failed)
+    fn from(failed: ReadFailed) -> AheadFault {
+        AheadFault::Read(failed)
     }
 }
 
-impl From<Refused> for LineFault {
-    ghost use Rattle.client.specs.declared.ahead.LineFault.TheVariants as reasons;
+impl From<NoMemory> for AheadFault {
+    ghost use Rattle.client.specs.declared.ahead.AheadFault.TheVariants as reasons;
 
-    ghost from_gives = { λ refused fault. fault ≡ reasons.Memory refused };
+    ghost from_gives = { λ no_memory fault. fault ≡ reasons.Memory no_memory };
 
-    fn from(refused: Refused) -> LineFault {
-        LineFault::Memory(refused)
+    fn from(no_memory: NoMemory) -> AheadFault {
+        AheadFault::Memory(no_memory)
     }
 }
 
@@ -98,7 +98,7 @@ impl<A: Allocator> Ahead<A> {
     }
 
     /// Appends a line feed to the held bytes. On an error they are unchanged.
-    pub(crate) fn end_line(&mut self) -> Result<(), Refused>
+    pub(crate) fn end_line(&mut self) -> Result<(), NoMemory>
         ensures { drop self.new.done self.new.bytes.items
             ≡ (if is_ok result then drop self.old.done self.old.bytes.items ++ 10
             ∷ [] else drop self.old.done self.old.bytes.items) }
@@ -118,7 +118,7 @@ impl<A: Allocator> Ahead<A> {
     }
 
     /// Reads once, and returns how many bytes were added: 0 only at the reader's end.
-    fn read_more<R: Read>(&mut self, reader: &mut R) -> Result<usize, LineFault>
+    fn read_more<R: Read>(&mut self, reader: &mut R) -> Result<usize, AheadFault>
         ensures { Fills result (drop self.old.done self.old.bytes.items)
             (drop self.new.done self.new.bytes.items) (R.remaining reader.old)
             (R.remaining reader.new) }
@@ -133,7 +133,7 @@ impl<A: Allocator> Ahead<A> {
 
     /// Reads until a whole line is held or the reader is at its end. Bytes already held stay in
     /// front.
-    pub(crate) fn read_line<R: Read>(&mut self, reader: &mut R) -> Result<Found, LineFault>
+    pub(crate) fn read_line<R: Read>(&mut self, reader: &mut R) -> Result<Found, AheadFault>
         ensures gains { Gains (drop self.old.done self.old.bytes.items)
             (drop self.new.done self.new.bytes.items) (R.remaining reader.old)
             (R.remaining reader.new) }

@@ -3,7 +3,7 @@
 ghost use Rattle.std.specs.Prelude.{◌≡◌};
 
 use byte_streams::{ReadFailed, WriteFailed};
-use memory::Refused;
+use memory::NoMemory;
 
 /// How it is known that the server is gone.
 #[derive(Debug, Drop, PartialEq, Eq)]
@@ -26,7 +26,7 @@ pub enum TalkFault {
     /// The server is gone.
     Gone(Gone),
     /// Out of memory for a line.
-    Memory(Refused),
+    Memory(NoMemory),
     /// The input has at least 2^64 - 1 lines, the most that are counted.
     TooManyLines,
 }

@@ -7,7 +7,7 @@ ghost use Rattle.client.specs.Held.{held};
 ghost use Rattle.client.specs.Steps.{PassesLine, PassesReply, SendsLast, SendsLine, TakesTurn, TakesTurns};
 ghost use Rattle.client.specs.Turns.{sight};
 
-use crate::ahead::{Ahead, Found, LineFault};
+use crate::ahead::{Ahead, AheadFault, Found};
 use crate::faults::{Gone, TalkFault};
 use crate::replies::{is_farewell, rows_of};
 use byte_streams::{Flushed, WriteFailed, flush, write_whole};
@@ -95,8 +95,8 @@ fn send_last<A: Allocator, Q: Write>(asked: &mut Ahead<A>, peer: &mut Q) -> Resu
     if asked.held().is_empty() {
         return Ok(Sent::Nothing);
     }
-    if let Err(refused) = asked.end_line() {
-        return Err(TalkFault::Memory(refused));
+    if let Err(no_memory) = asked.end_line() {
+        return Err(TalkFault::Memory(no_memory));
     }
     let count = asked.held().len();
     match send_held(asked, count, peer) {
@@ -117,8 +117,8 @@ fn send_line<A: Allocator, I: Read, Q: Write>(
     let count = match asked.read_line(input) {
         Ok(Found::Whole(count)) => count,
         Ok(Found::Open) => return send_last(asked, peer),
-        Err(LineFault::Read(failed)) => return Err(TalkFault::Input(failed)),
-        Err(LineFault::Memory(refused)) => return Err(TalkFault::Memory(refused)),
+        Err(AheadFault::Read(failed)) => return Err(TalkFault::Input(failed)),
+        Err(AheadFault::Memory(no_memory)) => return Err(TalkFault::Memory(no_memory)),
     };
     match send_held(asked, count, peer) {
         Ok(()) => Ok(Sent::Line),
@@ -138,8 +138,8 @@ fn pass_line<A: Allocator, P: Read, W: Write>(
     let count = match told.read_line(peer) {
         Ok(Found::Whole(count)) => count,
         Ok(Found::Open) => return Err(TalkFault::Gone(Gone::Ended)),
-        Err(LineFault::Read(failed)) => return Err(TalkFault::Gone(Gone::Unread(failed))),
-        Err(LineFault::Memory(refused)) => return Err(TalkFault::Memory(refused)),
+        Err(AheadFault::Read(failed)) => return Err(TalkFault::Gone(Gone::Unread(failed))),
+        Err(AheadFault::Memory(no_memory)) => return Err(TalkFault::Memory(no_memory)),
     };
     let (line, _) = told.held().split_at(count);
     let (head, _) = line.split_at(count - 1);
@@ -179,8 +179,10 @@ fn take_turn<A: Allocator, I: Read, P: Read, Q: Write, W: Write>(
     output: &mut W,
 ) -> Result<Turn, TalkFault>
     ensures { TakesTurn result
-        (sight (held asked.old) (held told.old) (I.remaining input.old) (P.remaining peer_in.old) (Q.contents peer_out.old) (W.contents output.old))
-        (sight (held asked.new) (held told.new) (I.remaining input.new) (P.remaining peer_in.new) (Q.contents peer_out.new) (W.contents output.new)) }
+        (sight (held asked.old) (held told.old) (I.remaining input.old) (P.remaining peer_in.old)
+        (Q.contents peer_out.old) (W.contents output.old))
+        (sight (held asked.new) (held told.new) (I.remaining input.new) (P.remaining peer_in.new)
+        (Q.contents peer_out.new) (W.contents output.new)) }
 {
     match send_line(asked, input, peer_out)? {
         Sent::Nothing => Ok(Turn::Closed(End::AtEnd)),
@@ -205,8 +207,10 @@ fn take_turns<A: Allocator, I: Read, P: Read, Q: Write, W: Write>(
     output: &mut W,
 ) -> Result<End, TalkFault>
     ensures { TakesTurns result
-        (sight (held asked.old) (held told.old) (I.remaining input.old) (P.remaining peer_in.old) (Q.contents peer_out.old) (W.contents output.old))
-        (sight (held asked.new) (held told.new) (I.remaining input.new) (P.remaining peer_in.new) (Q.contents peer_out.new) (W.contents output.new)) }
+        (sight (held asked.old) (held told.old) (I.remaining input.old) (P.remaining peer_in.old)
+        (Q.contents peer_out.old) (W.contents output.old))
+        (sight (held asked.new) (held told.new) (I.remaining input.new) (P.remaining peer_in.new)
+        (Q.contents peer_out.new) (W.contents output.new)) }
 {
     for _ in 0..u64::MAX {
         match take_turn(asked, told, input, peer_in, peer_out, output)? {

@@ -35,8 +35,10 @@ first_applicable (Deny ∷ rest) = Deny
 
 -- the decision of an algorithm over its children: XACML 3.0, C.2, C.4, C.6, C.7 and C.8
 abbrev pub combined : Algorithm → List Decision → Decision
-combined DenyOverrides ds = if list_any is_deny ds then Deny else if list_any is_permit ds then Permit else NotApplicable
-combined PermitOverrides ds = if list_any is_permit ds then Permit else if list_any is_deny ds then Deny else NotApplicable
+combined DenyOverrides ds = if list_any is_deny ds then Deny else if list_any is_permit ds then
+    Permit else NotApplicable
+combined PermitOverrides ds = if list_any is_permit ds then Permit else if list_any is_deny ds then
+    Deny else NotApplicable
 combined DenyUnlessPermit ds = if list_any is_permit ds then Permit else Deny
 combined PermitUnlessDeny ds = if list_any is_deny ds then Deny else Permit
 combined FirstApplicable ds = first_applicable ds
@@ -57,13 +59,18 @@ effect_decision effects.Deny = Deny
 module _ (q : Question) (met : List (List ℕ)) where
   -- a rule that applies decides its effect
   abbrev pub rule_decision : RuleData → Decision
-  rule_decision rule = if rule_applies q met rule then effect_decision rule.effect else NotApplicable
+  rule_decision rule = if rule_applies q met rule then effect_decision rule.effect
+      else NotApplicable
 
   -- a set or a policy combines its children if its target holds
   abbrev mutual
     pub decision_of : NodeData → Decision
-    decision_of (set head children) = if target_holds q met head.target then combined head.combine (decisions_of children) else NotApplicable
-    decision_of (policy head rules) = if target_holds q met head.target then combined head.combine (map rule_decision rules) else NotApplicable
+    decision_of (set head children) =
+        if target_holds q met head.target then combined head.combine (decisions_of children)
+        else NotApplicable
+    decision_of (policy head rules) =
+        if target_holds q met head.target then combined head.combine (map rule_decision rules)
+        else NotApplicable
 
     pub decisions_of : Children → List Decision
     decisions_of no_children = []

@@ -30,7 +30,8 @@ abbrev pub with_verdict : Algorithm → Gathered → Verdict → Gathered
 with_verdict a g v = record {
   tally = with_decision g.tally v.decision;
   counts = g.counts && stays_open a v.decision;
-  permitting = if g.counts && is_permit v.decision then option_or g.permitting v.rule else g.permitting;
+  permitting = if g.counts && is_permit v.decision then option_or g.permitting v.rule
+      else g.permitting;
   denying = if g.counts && is_deny v.decision then option_or g.denying v.rule else g.denying;
 }
 
@@ -51,17 +52,22 @@ module _ (q : Question) (met : List (List ℕ)) where
 
   -- the decision of a part and the first rule that made it, if the part's rules start at number `n`
   abbrev pub part_verdict : ℕ → Decision × List Placed → Verdict
-  part_verdict n part = record { decision = part.0; rule = position_from (is_deciding q met part.0) n part.1 }
+  part_verdict n part = record {
+    decision = part.0;
+    rule = position_from (is_deciding q met part.0) n part.1;
+  }
 
   -- the first rule of these parts that makes the decision d, in a node with that decision
   abbrev pub first_making : Algorithm → ℕ → List (Decision × List Placed) → Decision → Option ℕ
-  first_making a n parts d = position_from (is_deciding q met d) n (placed_within q met a d [] parts)
+  first_making a n parts d = position_from (is_deciding q met d) n
+      (placed_within q met a d [] parts)
 
   -- what is gathered of these parts, if their first rule has the number `n`
   abbrev pub gathered_of : Algorithm → ℕ → List (Decision × List Placed) → Gathered
   gathered_of a n parts = record {
     tally = tally_of (map (λ part. part.0) parts);
-    counts = if is_first_applicable a then list_all is_not_applicable (map (λ part. part.0) parts) else true;
+    counts = if is_first_applicable a then list_all is_not_applicable (map (λ part. part.0) parts)
+        else true;
     permitting = first_making a n parts Permit;
     denying = first_making a n parts Deny;
   }

@@ -20,8 +20,10 @@ use Rattle.combining.specs.declared.questions.Question.{Question}
 -- the names of the zones that the shape meets, in the order of the zones
 pub data AreMet (shape : List Point) : List Zone → List (List ℕ) → Type 0 where
   none : AreMet shape [] []
-  meets : (zone : Zone) → {zones : List Zone} → {names : List (List ℕ)} → Meet shape zone.shape → AreMet shape zones names → AreMet shape (zone ∷ zones) (zone.name ∷ names)
-  apart : (zone : Zone) → {zones : List Zone} → {names : List (List ℕ)} → (Meet shape zone.shape → ⊥) → AreMet shape zones names → AreMet shape (zone ∷ zones) names
+  meets : (zone : Zone) → {zones : List Zone} → {names : List (List ℕ)} → Meet shape zone.shape
+      → AreMet shape zones names → AreMet shape (zone ∷ zones) (zone.name ∷ names)
+  apart : (zone : Zone) → {zones : List Zone} → {names : List (List ℕ)}
+      → (Meet shape zone.shape → ⊥) → AreMet shape zones names → AreMet shape (zone ∷ zones) names
 
 -- role and office are the subject's, owner and class the question's
 abbrev pub match_holds : Question → List (List ℕ) → Match → Bool

@@ -10,7 +10,11 @@ use Rattle.combining.specs.declared.algorithms.Tally.{Tally}
 use Rattle.combining.specs.Decisions.{is_permit, is_deny, first_applicable}
 
 abbrev pub tally_of : List Decision → Tally
-tally_of ds = record { permits = list_any is_permit ds; denies = list_any is_deny ds; first = first_applicable ds }
+tally_of ds = record {
+  permits = list_any is_permit ds;
+  denies = list_any is_deny ds;
+  first = first_applicable ds;
+}
 
 -- the first of two decisions that is not NotApplicable
 abbrev pub or_else : Decision → Decision → Decision
@@ -19,7 +23,11 @@ or_else Permit d = Permit
 or_else Deny d = Deny
 
 abbrev pub with_decision : Tally → Decision → Tally
-with_decision t d = record { permits = t.permits || is_permit d; denies = t.denies || is_deny d; first = or_else t.first d }
+with_decision t d = record {
+  permits = t.permits || is_permit d;
+  denies = t.denies || is_deny d;
+  first = or_else t.first d;
+}
 
 -- what an algorithm makes of a tally
 abbrev pub settled : Algorithm → Tally → Decision

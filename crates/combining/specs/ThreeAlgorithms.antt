@@ -35,8 +35,10 @@ abbrev mutual
 -- the decision of one of the three over its children: XACML 3.0, C.2, C.4 and C.8. For the two
 -- others it is NotApplicable, only to make the function total; nothing uses that.
 abbrev pub older_combined : Algorithm → List Decision → Decision
-older_combined DenyOverrides ds = if list_any is_deny ds then Deny else if list_any is_permit ds then Permit else NotApplicable
-older_combined PermitOverrides ds = if list_any is_permit ds then Permit else if list_any is_deny ds then Deny else NotApplicable
+older_combined DenyOverrides ds =
+    if list_any is_deny ds then Deny else if list_any is_permit ds then Permit else NotApplicable
+older_combined PermitOverrides ds =
+    if list_any is_permit ds then Permit else if list_any is_deny ds then Deny else NotApplicable
 older_combined FirstApplicable ds = first_applicable ds
 older_combined DenyUnlessPermit ds = NotApplicable
 older_combined PermitUnlessDeny ds = NotApplicable
@@ -58,8 +60,12 @@ module _ (q : Question) (met : List (List ℕ)) where
   -- a set or a policy combines its children if its target holds
   abbrev mutual
     pub older_decision : NodeData → Decision
-    older_decision (set head children) = if target_holds q met head.target then older_combined head.combine (older_decisions children) else NotApplicable
-    older_decision (policy head rules) = if target_holds q met head.target then older_combined head.combine (map (rule_decision q met) rules) else NotApplicable
+    older_decision (set head children) =
+        if target_holds q met head.target then older_combined head.combine
+        (older_decisions children) else NotApplicable
+    older_decision (policy head rules) =
+        if target_holds q met head.target then older_combined head.combine
+        (map (rule_decision q met) rules) else NotApplicable
 
     pub older_decisions : Children → List Decision
     older_decisions no_children = []
@@ -68,8 +74,10 @@ module _ (q : Question) (met : List (List ℕ)) where
   -- the rules below a node in document order, with the decisions around them
   abbrev mutual
     pub older_rules : NodeData → List OlderPlaced
-    older_rules (set head children) = map (older_within (older_decision (set head children))) (older_rules_of_all children)
-    older_rules (policy head rules) = map (older_within (older_decision (policy head rules))) (map older_bare rules)
+    older_rules (set head children) =
+        map (older_within (older_decision (set head children))) (older_rules_of_all children)
+    older_rules (policy head rules) =
+        map (older_within (older_decision (policy head rules))) (map older_bare rules)
 
     pub older_rules_of_all : Children → List OlderPlaced
     older_rules_of_all no_children = []
@@ -78,8 +86,10 @@ module _ (q : Question) (met : List (List ℕ)) where
   -- the rule is one of those that made the decision d: it applies, has that effect, and every set
   -- and policy around it has that decision; the order of the children does not matter
   abbrev pub is_older_deciding : Decision → OlderPlaced → Bool
-  is_older_deciding d p = list_all (is_decision d) p.enclosing && (rule_applies q met p.rule && is_decision d (effect_decision p.rule.effect))
+  is_older_deciding d p = list_all (is_decision d) p.enclosing &&
+      (rule_applies q met p.rule && is_decision d (effect_decision p.rule.effect))
 
   -- the number of the first deciding rule, counted from 1 in document order
   abbrev pub older_first_deciding : NodeData → Option ℕ
-  older_first_deciding root = position_from (is_older_deciding (older_decision root)) 1 (older_rules root)
+  older_first_deciding root = position_from (is_older_deciding (older_decision root)) 1
+      (older_rules root)

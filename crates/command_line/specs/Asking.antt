@@ -14,12 +14,14 @@ use Rattle.command_line.specs.declared.words.ServeWords.{ServeWords}
 -- clap accepts the words, and has the rows of their subcommand; or it has a text for one of its
 -- reasons
 abbrev pub IsReading : List (List ℕ) → Reading → Type 0
-IsReading words (Given matches) = (refusals words ≡ []) × (subcommand_rows_of matches ≡ subcommand_of command_line words)
+IsReading words (Given matches) =
+    (refusals words ≡ []) × (subcommand_rows_of matches ≡ subcommand_of command_line words)
 IsReading words (Told text) = IsAmong (kind_of text) (refusals words)
 
 -- clap accepts some words that name this subcommand and give it these rows
 abbrev pub IsGiven : Text → List Row → Type 0
-IsGiven name rows = (words : List Text) × (refusals words ≡ []) × (subcommand_of command_line words ≡ Some (name, rows))
+IsGiven name rows = (words : List Text) × (refusals words ≡ [])
+    × (subcommand_of command_line words ≡ Some (name, rows))
 
 -- a number from 1 to `most`
 abbrev pub IsUpTo : ℕ → ℕ → Type 0
@@ -39,11 +41,13 @@ pub record HasOptions (given : Text → Option Text) (options : ServerOptions) :
 
 -- the files of a script
 abbrev pub HasFiles : (Text → Option Text) → ScriptWords → Type 0
-HasFiles given files = (given (codes "FILE") ≡ Some files.script.now) × (given (codes "config") ≡ option_map (λ name. name.now) files.config)
+HasFiles given files = (given (codes "FILE") ≡ Some files.script.now)
+    × (given (codes "config") ≡ option_map (λ name. name.now) files.config)
 
 -- the options of a server and its configuration's file
 abbrev pub HasServer : (Text → Option Text) → ServeWords → Type 0
-HasServer given server = HasOptions given server.options × (given (codes "config") ≡ option_map (λ name. name.now) server.config)
+HasServer given server = HasOptions given server.options
+    × (given (codes "config") ≡ option_map (λ name. name.now) server.config)
 
 -- completions for the shell that is given, or nothing, since there are none for it
 abbrev pub IsAskedShell : Option Text → Asked → Type 0
@@ -52,15 +56,19 @@ IsAskedShell given (Mistake text) = option_and_then shell_named given ≡ None
 IsAskedShell given _ = ⊥
 
 -- a script of these files; this server; a talk with the server at this path; a look at the
--- configuration in this file; a drawing of the script in this file; the manual page; completions for
--- this shell; help; or nothing, since the words are wrong
+-- configuration in this file; a drawing of the script in this file; the manual page; completions
+-- for this shell; help; or nothing, since the words are wrong
 abbrev pub IsAsked : List (List ℕ) → Asked → Type 0
 IsAsked words (Script files) = AskFor (codes "script") words × HasFiles (given_by words) files
 IsAsked words (Serve server) = AskFor (codes "serve") words × HasServer (given_by words) server
-IsAsked words (Connect path) = AskFor (codes "connect") words × (given_by words (codes "socket") ≡ Some path.now)
-IsAsked words (Check config) = AskFor (codes "check") words × (given_by words (codes "config") ≡ Some config.now)
-IsAsked words (Draw script) = AskFor (codes "draw") words × (given_by words (codes "SCRIPT") ≡ Some script.now)
+IsAsked words (Connect path) =
+    AskFor (codes "connect") words × (given_by words (codes "socket") ≡ Some path.now)
+IsAsked words (Check config) =
+    AskFor (codes "check") words × (given_by words (codes "config") ≡ Some config.now)
+IsAsked words (Draw script) = AskFor (codes "draw") words
+    × (given_by words (codes "SCRIPT") ≡ Some script.now)
 IsAsked words Man = AskFor (codes "man") words
-IsAsked words (Completions shell) = AskFor (codes "completions") words × (shell_at (given_by words) (codes "SHELL") ≡ Some shell)
+IsAsked words (Completions shell) =
+    AskFor (codes "completions") words × (shell_at (given_by words) (codes "SHELL") ≡ Some shell)
 IsAsked words (Help text) = AskForHelp words
 IsAsked words (Mistake text) = AreTurnedDown words

@@ -1,6 +1,6 @@
 -- The command line, as clap reads it: `landmap script [--config FILE] FILE`, `landmap serve` with
--- its options, `landmap connect --socket PATH`, `landmap check --config FILE`, `landmap draw SCRIPT`,
--- `landmap man`, and `landmap completions SHELL`.
+-- its options, `landmap connect --socket PATH`, `landmap check --config FILE`, `landmap draw
+-- SCRIPT`, `landmap man`, and `landmap completions SHELL`.
 use Rattle.std.specs.Prelude.{◌≡◌, ◌≢◌, ◌⊎◌, ℕ, Bool, true, false, List, [], ◌∷◌, Option, None, Some, codes, if◌then◌else◌, fold, option_map, option_and_then, pos}
 use Rattle.std.specs.Option.{option_map_or}
 use Rattle.std.specs.Str.{bytes_eq}
@@ -47,14 +47,17 @@ subcommand_line name rules = fold with_rule (new_app name) rules
 
 -- `script [--config FILE] FILE`
 abbrev pub script_line : App
-script_line = subcommand_line (codes "script") (option_rule (codes "config") ∷ needed (new_rule (codes "FILE")) ∷ [])
+script_line = subcommand_line (codes "script")
+    (option_rule (codes "config") ∷ needed (new_rule (codes "FILE")) ∷ [])
 
 -- `serve --socket PATH [--config FILE] --connections N [--workers N] [--idle SECONDS] [--takeover]
 -- [--until-stdin-ends]`
 abbrev pub serve_line : App
 serve_line = subcommand_line (codes "serve") (
-    needed (option_rule (codes "socket")) ∷ option_rule (codes "config") ∷ needed (up_to CONNECTION_LIMIT (option_rule (codes "connections")))
-    ∷ up_to WORKER_LIMIT (option_rule (codes "workers")) ∷ up_to IDLE_LIMIT (option_rule (codes "idle"))
+    needed (option_rule (codes "socket")) ∷ option_rule (codes "config") ∷ needed
+    (up_to CONNECTION_LIMIT (option_rule (codes "connections")))
+    ∷ up_to WORKER_LIMIT (option_rule (codes "workers")) ∷ up_to IDLE_LIMIT
+    (option_rule (codes "idle"))
     ∷ flag_rule (codes "takeover") ∷ flag_rule (codes "until-stdin-ends") ∷ [])
 
 -- `connect --socket PATH`
@@ -79,11 +82,13 @@ completions_line = subcommand_line (codes "completions") (needed (new_rule (code
 
 -- the command line without its subcommands; one of them is required
 abbrev pub bare_line : App
-bare_line = on_top (λ s. record s { subcommand_required = true; arg_required_else_help = true }) (new_app (codes "landmap"))
+bare_line = on_top (λ s. record s { subcommand_required = true; arg_required_else_help = true })
+    (new_app (codes "landmap"))
 
 -- the subcommands, in the order of help
 abbrev pub subcommands : List App
-subcommands = script_line ∷ serve_line ∷ connect_line ∷ check_line ∷ draw_line ∷ man_line ∷ completions_line ∷ []
+subcommands = script_line ∷ serve_line ∷ connect_line ∷ check_line ∷ draw_line ∷ man_line
+    ∷ completions_line ∷ []
 
 -- the command line with its subcommands
 abbrev pub command_line : App
@@ -111,7 +116,8 @@ AreRejected words = (kind : ErrorKind) × IsAmong kind (refusals words) × (kind
 
 -- what the words give the subcommand for an argument
 abbrev pub given_by : List Text → Text → Option Text
-given_by words id = option_and_then (first_of id) (option_map (λ sub. sub.1) (subcommand_of command_line words))
+given_by words id = option_and_then (first_of id)
+    (option_map (λ sub. sub.1) (subcommand_of command_line words))
 
 -- the shell of this name
 abbrev pub shell_named : Text → Option Shell
@@ -127,7 +133,8 @@ shell_at given id = option_and_then shell_named (given id)
 
 -- the words ask for completions of a shell that has none
 abbrev pub NameNoShell : List Text → Type 0
-NameNoShell words = AskFor (codes "completions") words × (shell_at (given_by words) (codes "SHELL") ≡ None)
+NameNoShell words = AskFor (codes "completions") words
+    × (shell_at (given_by words) (codes "SHELL") ≡ None)
 
 -- the words are wrong
 abbrev pub AreTurnedDown : List Text → Type 0

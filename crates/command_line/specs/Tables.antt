@@ -10,7 +10,12 @@ abbrev pub Words : Type 0
 Words = Text × List (Text × Bool)
 
 abbrev pub table_words : CommandText → Words
-table_words command = (command.name.now, map (λ argument. (argument.name.now, bytes_eq argument.dashes.now (codes "--"))) command.arguments.now)
+table_words command = (
+  command.name.now,
+  map
+      (λ argument. (argument.name.now, bytes_eq argument.dashes.now (codes "--")))
+      command.arguments.now,
+)
 
 abbrev pub line_words : App → Words
 line_words line = (line.top.name, map (λ rule. (rule.id, is_some rule.long)) line.top.rules)

@@ -1,4 +1,4 @@
-//! The host's words, and how clap reads them. Only this module makes a `WordsRefused`.
+//! The host's words, and how clap reads them. Only this module makes a `NoMemoryForWords`.
 
 ghost use Rattle.std.specs.Prelude.{◌≡◌, map, string_bytes, IfOk};
 ghost use Rattle.clap.specs.Words.{app_of};
@@ -23,14 +23,14 @@ use std::{env, io};
 /// Out of memory while the words of the command line were collected or read. Only this module makes
 /// one, and only after std or clap has reported it, so no caller can invent one.
 #[derive(Debug, Drop, PartialEq, Eq)]
-pub struct WordsRefused {
+pub struct NoMemoryForWords {
     seal: (),
 }
 
-impl WordsRefused {
+impl NoMemoryForWords {
     /// Call only after std or clap has reported that it is out of memory.
     fn seen() -> Self {
-        WordsRefused { seal: () }
+        NoMemoryForWords { seal: () }
     }
 }
 
@@ -40,7 +40,7 @@ pub enum WordsFault {
     /// A word is not UTF-8.
     NotUtf8,
     /// Out of memory.
-    Memory(WordsRefused),
+    Memory(NoMemoryForWords),
 }
 
 /// The words with which the host started the program; the first is its name. `NotUtf8` if a word is
@@ -49,13 +49,13 @@ pub fn host_words(rt: &HostRuntime) -> Result<Vec<String>, WordsFault> {
     let words = match env::args(rt) {
         Ok(words) => words,
         Err(error) if error.kind() == io::ErrorKind::OutOfMemory => {
-            return Err(WordsFault::Memory(WordsRefused::seen()));
+            return Err(WordsFault::Memory(NoMemoryForWords::seen()));
         }
         Err(_) => return Err(WordsFault::NotUtf8),
     };
     match words.collect(rt.alloc()) {
         Ok(words) => Ok(words),
-        Err(_) => Err(WordsFault::Memory(WordsRefused::seen())),
+        Err(_) => Err(WordsFault::Memory(NoMemoryForWords::seen())),
     }
 }
 
@@ -213,19 +213,19 @@ pub(crate) enum Reading<'a> {
 }
 
 /// Reads the words of a command line with clap; the first word is the program's name.
-/// `WordsRefused` if clap runs out of memory.
+/// `NoMemoryForWords` if clap runs out of memory.
 pub(crate) fn clap_reading<'a>(
     alloc: Global,
     words: &'a [String],
-) -> Result<Reading<'a>, WordsRefused>
+) -> Result<Reading<'a>, NoMemoryForWords>
     ensures { IfOk result (IsReading (map (λ word. string_bytes word) words.entry.now)) }
 {
     let Ok(command) = command(alloc) else {
-        return Err(WordsRefused::seen());
+        return Err(NoMemoryForWords::seen());
     };
     match command.try_get_matches_from(words) {
         Ok(matches) => Ok(Reading::Given(matches)),
-        Err(error) if error.kind() == ErrorKind::OutOfMemory => Err(WordsRefused::seen()),
+        Err(error) if error.kind() == ErrorKind::OutOfMemory => Err(NoMemoryForWords::seen()),
         Err(error) => Ok(Reading::Told(error)),
     }
 }

@@ -10,7 +10,7 @@ mod shells;
 mod tables;
 mod words;
 
-pub use commands::{WordsFault, WordsRefused, host_words};
+pub use commands::{NoMemoryForWords, WordsFault, host_words};
 pub use laws::option_limits_in_numbers;
 pub use options::{CONNECTION_LIMIT, DEFAULT_WORKERS, IDLE_LIMIT, ServerOptions, WORKER_LIMIT};
 pub use shells::Shell;

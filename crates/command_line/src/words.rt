@@ -5,7 +5,7 @@ ghost use Rattle.clap.specs.Words.{IsAmong, Text, first_of, found_of, kind_of, r
 ghost use Rattle.command_line.specs.CommandLine.{refusals};
 ghost use Rattle.command_line.specs.Asking.{HasFiles, HasServer, IsAsked, IsAskedShell, IsGiven};
 
-use crate::commands::{Reading, WordsRefused, clap_reading};
+use crate::commands::{NoMemoryForWords, Reading, clap_reading};
 use crate::options::{DEFAULT_WORKERS, ServerOptions};
 use crate::shells::{Shell, shell_named};
 use clap::error::ErrorKind;
@@ -179,15 +179,16 @@ fn asked_text<'a>(text: Error) -> Asked<'a>
     }
 }
 
-/// Reads the command line; the first word is the program's name. `WordsRefused` if an allocation is
-/// refused. If clap accepts the words, they name one of the subcommands, because one is required.
-pub fn read_words<'a>(alloc: Global, words: &'a [String]) -> Result<Asked<'a>, WordsRefused>
+/// Reads the command line; the first word is the program's name. `NoMemoryForWords` if an
+/// allocation is refused. If clap accepts the words, they name one of the subcommands, because one
+/// is required.
+pub fn read_words<'a>(alloc: Global, words: &'a [String]) -> Result<Asked<'a>, NoMemoryForWords>
     ensures { IfOk result (IsAsked (map (λ word. string_bytes word) words.entry.now)) }
 {
     let matches = match clap_reading(alloc, words) {
         Ok(Reading::Given(matches)) => matches,
         Ok(Reading::Told(text)) => return Ok(asked_text(text)),
-        Err(refused) => return Err(refused),
+        Err(no_memory) => return Err(no_memory),
     };
     if let Some(given) = matches.subcommand_matches("script") {
         return Ok(Asked::Script(script_words(given)));

@@ -17,8 +17,8 @@ use Rattle.configuration.specs.Configs.{◌>>=◌, ConfigData, config_from, conf
 use Rattle.configuration.specs.Spelling.{IsObject, HasName, IsFlag, SpellsSubject, SpellsSubjects, SpellsConfig, Spells}
 use Rattle.configuration.specs.declared.config_faults.ConfigFault.{ConfigFault}
 use Rattle.configuration.specs.declared.config_faults.ConfigFault.TheVariants as faults
-use Rattle.configuration.specs.declared.fields.Key.{Key}
-use Rattle.configuration.specs.declared.fields.Key.TheVariants as keys
+use Rattle.configuration.specs.declared.fields.MemberName.{MemberName}
+use Rattle.configuration.specs.declared.fields.MemberName.TheVariants as member_names
 
 -- a chain that gave a value, by its first step
 bound : {A B P : Type 0} (r : Result A ConfigFault) (k : A → Result B ConfigFault) (y : B) → (r >>= k) ≡ Ok y →
@@ -47,7 +47,7 @@ some_of (Some y) e x told = let same : y ≡ x = cc in ap Some same
 
 -- ---- what was read is spelled
 
-object-found : (listed : List Key) (d : Data) (u : Unit {0}) → object_in listed d ≡ Ok u → IsObject listed d
+object-found : (listed : List MemberName) (d : Data) (u : Unit {0}) → object_in listed d ≡ Ok u → IsObject listed d
 object-found listed null u told = absurd cc
 object-found listed (boolean b) u told = absurd cc
 object-found listed (number n) u told = absurd cc
@@ -70,7 +70,7 @@ name-under (Some (object ms)) name told = absurd cc
 name-under (Some (string s)) name told =
     let found = named (is_name s) s name refl told in (ap (λ text. Some (string text)) found.0, found.1)
 
-name-found : (key : Key) (d : Data) (name : List ℕ) → name_in key d ≡ Ok name → HasName key d name
+name-found : (key : MemberName) (d : Data) (name : List ℕ) → name_in key d ≡ Ok name → HasName key d name
 name-found key d name told = let found = name-under (value_of key d) name told in record { stands = found.0; spelled = found.1 }
 
 flag-found : (o : Option Data) (b : Bool) → flag_in o ≡ Ok b → IsFlag o b
@@ -88,15 +88,15 @@ subject_with name office role steward = record { name = name; office = office; r
 subject-found : (d : Data) (s : Subject) → subject_in d ≡ Ok s → SpellsSubject d s
 unfolding subject_in
 subject-found d s told =
-    bound (object_in subject_keys d) _ s told (λ u is_object t1. bound (name_in keys.Name d) _ s t1 (λ name has_name t2.
-    bound (name_in keys.Office d) _ s t2 (λ office has_office t3. bound (name_in keys.Role d) _ s t3 (λ role has_role t4.
+    bound (object_in subject_keys d) _ s told (λ u is_object t1. bound (name_in member_names.Name d) _ s t1 (λ name has_name t2.
+    bound (name_in member_names.Office d) _ s t2 (λ office has_office t3. bound (name_in member_names.Role d) _ s t3 (λ role has_role t4.
     bound (steward_in d) _ s t4 (λ steward has_flag t5.
     subst (SpellsSubject d) (same_value (subject_with name office role steward) s t5) (record {
       is_object = object-found subject_keys d u is_object;
-      name = name-found keys.Name d name has_name;
-      office = name-found keys.Office d office has_office;
-      role = name-found keys.Role d role has_role;
-      steward = flag-found (value_of keys.Steward d) steward has_flag;
+      name = name-found member_names.Name d name has_name;
+      office = name-found member_names.Office d office has_office;
+      role = name-found member_names.Role d role has_role;
+      steward = flag-found (value_of member_names.Steward d) steward has_flag;
     }))))))
 
 subjects-found : (items : Items) (ss : List Subject) → subjects_in items ≡ Ok ss → SpellsSubjects items ss
@@ -144,21 +144,21 @@ config-found : (d : Data) (c : ConfigData) → config_in d ≡ Ok c → SpellsCo
 unfolding config_in config_from
 config-found d c told =
     bound (object_in config_keys d) _ c told (λ u is_object t1.
-    bound (ok_or (option_and_then as_array (value_of keys.Subjects d)) faults.Form) _ c t1 (λ items has_items t2.
-    bound (ok_or (value_of keys.Policies d) faults.Form) _ c t2 (λ policies has_policies t3.
+    bound (ok_or (option_and_then as_array (value_of member_names.Subjects d)) faults.Form) _ c t1 (λ items has_items t2.
+    bound (ok_or (value_of member_names.Policies d) faults.Form) _ c t2 (λ policies has_policies t3.
     bound (subjects_in items) _ c t3 (λ given each t4. bound (taken_over given) _ c t4 (λ taken is_taken t5.
     bound (policies_in policies) _ c t5 (λ document has_document t6.
     let taken_as = taken-found given taken is_taken in
     subst (SpellsConfig d) (ap (λ ss. config_with ss document) taken_as.same ∙ same_value (config_with taken document) c t6) (record {
       is_object = object-found config_keys d u is_object;
       items = items;
-      has_subjects = array-under (value_of keys.Subjects d) items (some_of _ faults.Form items has_items);
+      has_subjects = array-under (value_of member_names.Subjects d) items (some_of _ faults.Form items has_items);
       each = subjects-found items given each;
       some = taken_as.some;
       fit = taken_as.fit;
       distinct = taken_as.distinct;
       policies = policies;
-      has_policies = some_of (value_of keys.Policies d) faults.Form policies has_policies;
+      has_policies = some_of (value_of member_names.Policies d) faults.Form policies has_policies;
       document = document-found (document_in policies) document has_document;
     })))))))
 
@@ -176,10 +176,10 @@ found text c told = by_test (is_utf8 text) refl told
 
 -- ---- what is spelled is read
 
-object-again : (listed : List Key) (d : Data) → IsObject listed d → object_in listed d ≡ Ok tt
+object-again : (listed : List MemberName) (d : Data) → IsObject listed d → object_in listed d ≡ Ok tt
 object-again listed d h = rw (h.is, h.only) refl
 
-name-again : (key : Key) (d : Data) (name : List ℕ) → HasName key d name → name_in key d ≡ Ok name
+name-again : (key : MemberName) (d : Data) (name : List ℕ) → HasName key d name → name_in key d ≡ Ok name
 name-again key d name h = rw (h.stands, h.spelled) refl
 
 flag-again : (o : Option Data) (b : Bool) → IsFlag o b → flag_in o ≡ Ok b
@@ -190,10 +190,10 @@ subject-again : (d : Data) (s : Subject) → SpellsSubject d s → subject_in d 
 unfolding subject_in
 subject-again d s h =
     onward (object_in subject_keys d) _ tt _ (object-again subject_keys d h.is_object)
-    (onward (name_in keys.Name d) _ s.name _ (name-again keys.Name d s.name h.name)
-    (onward (name_in keys.Office d) _ s.office _ (name-again keys.Office d s.office h.office)
-    (onward (name_in keys.Role d) _ s.role _ (name-again keys.Role d s.role h.role)
-    (onward (steward_in d) _ s.steward _ (flag-again (value_of keys.Steward d) s.steward h.steward) refl))))
+    (onward (name_in member_names.Name d) _ s.name _ (name-again member_names.Name d s.name h.name)
+    (onward (name_in member_names.Office d) _ s.office _ (name-again member_names.Office d s.office h.office)
+    (onward (name_in member_names.Role d) _ s.role _ (name-again member_names.Role d s.role h.role)
+    (onward (steward_in d) _ s.steward _ (flag-again (value_of member_names.Steward d) s.steward h.steward) refl))))
 
 subjects-again : (items : Items) (ss : List Subject) → SpellsSubjects items ss → subjects_in items ≡ Ok ss
 unfolding subjects_in
@@ -215,8 +215,8 @@ config-again : (d : Data) (c : ConfigData) → SpellsConfig d c → config_in d 
 unfolding config_in config_from
 config-again d c h =
     onward (object_in config_keys d) _ tt _ (object-again config_keys d h.is_object)
-    (onward (ok_or (option_and_then as_array (value_of keys.Subjects d)) faults.Form) _ h.items _ (rw h.has_subjects refl)
-    (onward (ok_or (value_of keys.Policies d) faults.Form) _ h.policies _ (rw h.has_policies refl)
+    (onward (ok_or (option_and_then as_array (value_of member_names.Subjects d)) faults.Form) _ h.items _ (rw h.has_subjects refl)
+    (onward (ok_or (value_of member_names.Policies d) faults.Form) _ h.policies _ (rw h.has_policies refl)
     (onward (subjects_in h.items) _ c.subjects _ (subjects-again h.items c.subjects h.each)
     (onward (taken_over c.subjects) _ c.subjects _ (taken-again c.subjects h.some h.fit h.distinct)
     (onward (policies_in h.policies) _ c.document _ (ap of_policies h.document) refl)))))

@@ -15,31 +15,32 @@ use Rattle.configuration.specs.declared.config_faults.ConfigFault.TheVariants.{N
 use Rattle.configuration.specs.declared.files.FileFault.{FileFault}
 use Rattle.configuration.specs.declared.files.TheConstants.{CONFIG_LIMIT}
 use Rattle.configuration.specs.declared.places.Place.{Place}
-use Rattle.configuration.specs.declared.places.Step.{Step}
+use Rattle.configuration.specs.declared.places.PathPart.{PathPart}
 use Rattle.configuration.specs.declared.summaries.Summary.{Summary}
 use Rattle.policy_text.specs.declared.faults.TextFault.{TextFault}
 use Rattle.policy_text.specs.declared.faults.TextFault.TheVariants as texts
 use Rattle.wkt.specs.declared.fault.WktFault.{WktFault}
 use Rattle.wkt.specs.declared.fault.WktFault.TheVariants as shapes
 
--- the text is JSON, and the steps lead to the value at fault
-abbrev pub IsPlaceOf : ConfigFault → List ℕ → List Step → Type 0
+-- the text is JSON, and the parts lead to the value at fault
+abbrev pub IsPlaceOf : ConfigFault → List ℕ → List PathPart → Type 0
 IsPlaceOf fault text place = (value : Data) × (read text ≡ Some value) × LeadsTo fault place value
 
 -- the text is read as a configuration, which has this
 abbrev pub IsRight : Summary → List ℕ → Type 0
-IsRight summary text = (config : ConfigData) × (config_of text ≡ Ok config) × (summary ≡ summary_of config)
+IsRight summary text = (config : ConfigData) × (config_of text ≡ Ok config)
+    × (summary ≡ summary_of config)
 
 -- this is the first fault of the text; the place, if one is told, is that of the fault
-abbrev pub IsWrong : ConfigFault → Option (List Step) → List ℕ → Type 0
+abbrev pub IsWrong : ConfigFault → Option (List PathPart) → List ℕ → Type 0
 IsWrong fault place text = Fails fault (config_of text) × IfSome place (IsPlaceOf fault text)
 
-abbrev pub steps_of : {A : Type 0} → Option (Place A) → Option (List Step)
-steps_of place = option_map (λ place. place.steps.items) place
+abbrev pub parts_of : {A : Type 0} → Option (Place A) → Option (List PathPart)
+parts_of place = option_map (λ place. place.parts.items) place
 
 abbrev pub IsCheckOf : {A : Type 0} → List ℕ → Checked A → Type 0
 IsCheckOf text (Right summary) = IsRight summary text
-IsCheckOf text (Wrong fault place) = IsWrong fault (steps_of place) text
+IsCheckOf text (Wrong fault place) = IsWrong fault (parts_of place) text
 
 -- the byte, within the text of a zone's shape, at which that is at fault
 abbrev pub shape_byte : WktFault → Option ℕ
@@ -69,7 +70,7 @@ byte_of (Subjects fault) = None
 byte_of (Memory refused) = None
 
 -- what is printed: of what is right a line for each number, and of a fault one line
-abbrev pub place_part : Option (List Step) → List ℕ
+abbrev pub place_part : Option (List PathPart) → List ℕ
 place_part None = []
 place_part (Some place) = codes " at \"" ++ place_text place ++ codes "\""
 
@@ -77,14 +78,16 @@ abbrev pub byte_part : Option ℕ → List ℕ
 byte_part None = []
 byte_part (Some byte) = codes ", byte " ++ decimal byte
 
-abbrev pub wrong_text : ConfigFault → Option (List Step) → List ℕ
-wrong_text fault place = config_code_of fault ++ place_part place ++ byte_part (byte_of fault) ++ codes "\n"
+abbrev pub wrong_text : ConfigFault → Option (List PathPart) → List ℕ
+wrong_text fault place = config_code_of fault ++ place_part place ++ byte_part (byte_of fault)
+    ++ codes "\n"
 
 abbrev pub checked_text : {A : Type 0} → Checked A → List ℕ
 checked_text (Right summary) = summary_text summary
-checked_text (Wrong fault place) = wrong_text fault (steps_of place)
+checked_text (Wrong fault place) = wrong_text fault (parts_of place)
 
 -- what a file gives, by the bytes that it has left, if they are known
 abbrev pub CheckGives : {A : Type 0} → Result (Checked A) FileFault → Option (List ℕ) → Type 0
-CheckGives (Ok checked) left = IfSome left (λ text. (length text ≤ CONFIG_LIMIT) × IsCheckOf text checked)
+CheckGives (Ok checked) left =
+    IfSome left (λ text. (length text ≤ CONFIG_LIMIT) × IsCheckOf text checked)
 CheckGives (Err fault) left = IsUnread left fault

@@ -18,84 +18,86 @@ use Rattle.configuration.specs.Configs.{config_keys, object_in, subject_keys}
 use Rattle.configuration.specs.declared.config_faults.ConfigFault.{ConfigFault}
 use Rattle.configuration.specs.declared.config_faults.ConfigFault.TheVariants.{NotJson, Form, Subjects, Policies, Memory}
 use Rattle.configuration.specs.declared.places.TheConstants.{TOO_DEEP}
-use Rattle.configuration.specs.declared.places.Step.{Step}
-use Rattle.configuration.specs.declared.places.Step.TheVariants.{Item, Key}
+use Rattle.configuration.specs.declared.places.PathPart.{PathPart}
+use Rattle.configuration.specs.declared.places.PathPart.TheVariants.{Item, Member}
 
 -- ---- places
 
--- the value to which a step leads
-abbrev pub value_after : Step → Data → Option Data
-value_after (Key key) d = get key.now d
+-- the value to which a part leads
+abbrev pub value_after : PathPart → Data → Option Data
+value_after (Member key) d = get key.now d
 value_after (Item index) d = at index d
 
 -- the value to which a place leads
-abbrev pub value_at : List Step → Data → Option Data
+abbrev pub value_at : List PathPart → Data → Option Data
 value_at [] d = Some d
-value_at (step ∷ rest) d = option_and_then (value_at rest) (value_after step d)
+value_at (part ∷ rest) d = option_and_then (value_at rest) (value_after part d)
 
--- a step as it is printed
-abbrev pub step_text : Step → List ℕ
-step_text (Key key) = codes "/" ++ key.now
-step_text (Item index) = codes "/" ++ decimal index
+-- a part as it is printed
+abbrev pub part_text : PathPart → List ℕ
+part_text (Member key) = codes "/" ++ key.now
+part_text (Item index) = codes "/" ++ decimal index
 
 -- a place as it is printed: a JSON Pointer (RFC 6901)
-abbrev pub place_text : List Step → List ℕ
-place_text = flat_map step_text
+abbrev pub place_text : List PathPart → List ℕ
+place_text = flat_map part_text
 
-abbrev pub last_step : List Step → Option Step
-last_step place = slice_get place (length place - 1)
+abbrev pub last_part : List PathPart → Option PathPart
+last_part place = slice_get place (length place - 1)
 
-abbrev pub is_step_to : List ℕ → Option Step → Bool
-is_step_to key None = false
-is_step_to key (Some (Item index)) = false
-is_step_to key (Some (Key last)) = bytes_eq last.now key
+abbrev pub is_part_to : List ℕ → Option PathPart → Bool
+is_part_to key None = false
+is_part_to key (Some (Item index)) = false
+is_part_to key (Some (Member last)) = bytes_eq last.now key
 
 -- the place is one of a value under this key
-abbrev pub ends_in : List ℕ → List Step → Bool
-ends_in key place = is_step_to key (last_step place)
+abbrev pub ends_in : List ℕ → List PathPart → Bool
+ends_in key place = is_part_to key (last_part place)
 
 -- ---- the value at fault
 
 abbrev pub is_name_text : Data → Bool
 is_name_text d = is_some (option_and_then name_of (as_str d))
 
--- the value has not the form that is wanted behind this step; `None` is the whole configuration
-abbrev pub is_wrong_after : Option Step → Data → Bool
+-- the value has not the form that is wanted behind this part; `None` is the whole configuration
+abbrev pub is_wrong_after : Option PathPart → Data → Bool
 is_wrong_after None d = is_err (object_in config_keys d)
 is_wrong_after (Some (Item index)) d = is_err (object_in subject_keys d)
-is_wrong_after (Some (Key key)) d =
+is_wrong_after (Some (Member key)) d =
     if bytes_eq key.now (codes "subjects") then is_none (as_array d)
     else if bytes_eq key.now (codes "steward") then is_none (as_bool d)
     else not (is_name_text d)
 
 -- the key of the place must be there
-abbrev pub is_needed : List Step → Bool
+abbrev pub is_needed : List PathPart → Bool
 is_needed place =
-    ends_in (codes "subjects") place || ends_in (codes "policies") place || ends_in (codes "name") place || ends_in (codes "office") place || ends_in (codes "role") place
+    ends_in (codes "subjects") place || ends_in (codes "policies") place || ends_in (codes "name")
+    place || ends_in (codes "office") place || ends_in (codes "role") place
 
-abbrev pub is_wrong_form : List Step → Option Data → Bool
+abbrev pub is_wrong_form : List PathPart → Option Data → Bool
 is_wrong_form place None = is_needed place
-is_wrong_form place (Some d) = is_wrong_after (last_step place) d
+is_wrong_form place (Some d) = is_wrong_after (last_part place) d
 
 -- the value is this text
 abbrev pub is_text : List ℕ → Data → Bool
 is_text text d = option_map_or (λ s. bytes_eq s text) (as_str d) false
 
-abbrev pub is_wrong_list : SubjectsFault → List Step → Data → Bool
+abbrev pub is_wrong_list : SubjectsFault → List PathPart → Data → Bool
 is_wrong_list lists.NameTwice place d = ends_in (codes "name") place && is_name_text d
 is_wrong_list lists.NoneGiven place d = ends_in (codes "subjects") place
 is_wrong_list lists.TooMany place d = ends_in (codes "subjects") place
 
 -- the place is one of a name of a zone, a set, a policy or a rule
-abbrev pub is_name_place : List Step → Bool
-is_name_place place = ends_in (codes "zone") place || ends_in (codes "set") place || ends_in (codes "policy") place || ends_in (codes "rule") place
+abbrev pub is_name_place : List PathPart → Bool
+is_name_place place = ends_in (codes "zone") place || ends_in (codes "set") place || ends_in
+    (codes "policy") place || ends_in (codes "rule") place
 
 -- the value is a text that spells no shape
 abbrev pub is_no_shape : Data → Bool
 is_no_shape d = option_map_or (λ text. is_err (shape_of text)) (as_str d) false
 
 -- the value is at fault at its place. Of a fault of the policies that has a path, this is not asked
-abbrev pub is_wrong_policy : TextFault → List Step → Data → Bool
+abbrev pub is_wrong_policy : TextFault → List PathPart → Data → Bool
 is_wrong_policy (texts.NameTwice name) place d = is_name_place place && is_text name d
 is_wrong_policy (texts.NoZone name) place d = ends_in (codes "zone") place && is_text name d
 is_wrong_policy (texts.BadZone name fault) place d = ends_in (codes "shape") place && is_no_shape d
@@ -107,7 +109,7 @@ is_wrong_policy (texts.UnknownKey path) place d = false
 is_wrong_policy (texts.Memory refused) place d = false
 
 -- the value at a place, if there is one, is the one at fault
-abbrev pub is_wrong : ConfigFault → List Step → Option Data → Bool
+abbrev pub is_wrong : ConfigFault → List PathPart → Option Data → Bool
 is_wrong Form place value = is_wrong_form place value
 is_wrong (Subjects fault) place value = option_map_or (is_wrong_list fault place) value false
 is_wrong (Policies fault) place value = option_map_or (is_wrong_policy fault place) value false
@@ -115,12 +117,14 @@ is_wrong NotJson place value = false
 is_wrong (Memory refused) place value = false
 
 -- the value at a place is the one at fault
-abbrev pub IsWrongAt : ConfigFault → List Step → Data → Type 0
+abbrev pub IsWrongAt : ConfigFault → List PathPart → Data → Type 0
 IsWrongAt fault place d = IsTrue (is_wrong fault place (value_at place d))
 
 -- the place of a fault leads to the value at fault: it has the path of the fault, where that has
 -- one
-abbrev pub LeadsTo : ConfigFault → List Step → Data → Type 0
-LeadsTo (Policies (texts.Form path)) place d = place_text place ≡ codes "/policies" ++ path_text path
-LeadsTo (Policies (texts.UnknownKey path)) place d = place_text place ≡ codes "/policies" ++ path_text path
+abbrev pub LeadsTo : ConfigFault → List PathPart → Data → Type 0
+LeadsTo (Policies (texts.Form path)) place d =
+    place_text place ≡ codes "/policies" ++ path_text path
+LeadsTo (Policies (texts.UnknownKey path)) place d =
+    place_text place ≡ codes "/policies" ++ path_text path
 LeadsTo fault place d = IsWrongAt fault place d

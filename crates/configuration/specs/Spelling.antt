@@ -10,17 +10,17 @@ use Rattle.features.specs.declared.actors.Subject.{Subject}
 use Rattle.features.specs.declared.actors.TheConstants.{SUBJECT_LIMIT}
 use Rattle.policy_text.specs.Reading.{document_in}
 use Rattle.configuration.specs.Configs.{ConfigData, config_keys, has_only, subject_keys, value_of}
-use Rattle.configuration.specs.declared.fields.Key.{Key}
-use Rattle.configuration.specs.declared.fields.Key.TheVariants as keys
+use Rattle.configuration.specs.declared.fields.MemberName.{MemberName}
+use Rattle.configuration.specs.declared.fields.MemberName.TheVariants as member_names
 
 -- an object whose keys are all listed
-pub record IsObject (listed : List Key) (d : Data) : Type 0 where
+pub record IsObject (listed : List MemberName) (d : Data) : Type 0 where
   pub members : Members
   pub is : d ≡ object members
   pub only : IsTrue (has_only listed members)
 
 -- the value under the key is this name
-pub record HasName (key : Key) (d : Data) (name : List ℕ) : Type 0 where
+pub record HasName (key : MemberName) (d : Data) (name : List ℕ) : Type 0 where
   pub stands : value_of key d ≡ Some (string name)
   pub spelled : IsTrue (is_name name)
 
@@ -31,15 +31,16 @@ IsFlag (Some d) steward = d ≡ boolean steward
 
 pub record SpellsSubject (d : Data) (subject : Subject) : Type 0 where
   pub is_object : IsObject subject_keys d
-  pub name : HasName keys.Name d subject.name
-  pub office : HasName keys.Office d subject.office
-  pub role : HasName keys.Role d subject.role
-  pub steward : IsFlag (value_of keys.Steward d) subject.steward
+  pub name : HasName member_names.Name d subject.name
+  pub office : HasName member_names.Office d subject.office
+  pub role : HasName member_names.Role d subject.role
+  pub steward : IsFlag (value_of member_names.Steward d) subject.steward
 
 -- each item spells a subject, in order
 abbrev pub SpellsSubjects : Items → List Subject → Type 0
 SpellsSubjects no_items [] = Unit {0}
-SpellsSubjects (item d rest) (subject ∷ subjects) = SpellsSubject d subject × SpellsSubjects rest subjects
+SpellsSubjects (item d rest) (subject ∷ subjects) =
+    SpellsSubject d subject × SpellsSubjects rest subjects
 SpellsSubjects no_items (subject ∷ subjects) = ⊥
 SpellsSubjects (item d rest) [] = ⊥
 
@@ -47,13 +48,13 @@ SpellsSubjects (item d rest) [] = ⊥
 pub record SpellsConfig (value : Data) (config : ConfigData) : Type 0 where
   pub is_object : IsObject config_keys value
   pub items : Items
-  pub has_subjects : value_of keys.Subjects value ≡ Some (array items)
+  pub has_subjects : value_of member_names.Subjects value ≡ Some (array items)
   pub each : SpellsSubjects items config.subjects
   pub some : 1 ≤ length config.subjects
   pub fit : length config.subjects ≤ SUBJECT_LIMIT
   pub distinct : IsTrue (have_distinct_names config.subjects)
   pub policies : Data
-  pub has_policies : value_of keys.Policies value ≡ Some policies
+  pub has_policies : value_of member_names.Policies value ≡ Some policies
   pub document : document_in policies ≡ Ok config.document
 
 -- a text spells a configuration

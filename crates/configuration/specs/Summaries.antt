@@ -46,5 +46,9 @@ summary_of config = record {
 -- a line for each number
 abbrev pub summary_text : Summary → List ℕ
 summary_text s =
-    codes "subjects " ++ (decimal s.subjects ++ (codes "\nstewards " ++ (decimal s.stewards ++ (codes "\nzones " ++ (decimal s.zones
-    ++ (codes "\nrules that permit " ++ (decimal s.permits ++ (codes "\nrules that deny " ++ (decimal s.denies ++ codes "\n")))))))))
+    codes "subjects " ++ (decimal
+    s.subjects ++ (codes "\nstewards "
+    ++ (decimal s.stewards ++ (codes "\nzones " ++ (decimal s.zones
+    ++ (codes "\nrules that permit "
+    ++ (decimal s.permits ++ (codes "\nrules that deny "
+    ++ (decimal s.denies ++ codes "\n")))))))))

@@ -9,7 +9,7 @@ use crate::files::{FileFault, whole_file};
 use crate::finding::place_of;
 use crate::places::Place;
 use crate::summaries::{Summary, summary_of};
-use memory::{JsonFault, Refused, json_value};
+use memory::{JsonFault, NoMemory, json_value};
 use policy_text::TextFault;
 use std::alloc::{Allocator, Global};
 use std::fmt;
@@ -73,14 +73,14 @@ fn place_in<A: Allocator>(
     heap: Global,
     fault: &ConfigFault,
     text: &[u8],
-) -> Result<Option<Place<A>>, Refused>
+) -> Result<Option<Place<A>>, NoMemory>
     ensures { IfOk result
-        (λ found. IfSome found (λ place. IsPlaceOf fault.now text.now place.steps.items)) }
+        (λ found. IfSome found (λ place. IsPlaceOf fault.now text.now place.parts.items)) }
 {
     match json_value(heap, text) {
         Ok(value) => place_of(alloc, fault, &value),
         Err(JsonFault::Text(_)) => Ok(None),
-        Err(JsonFault::Memory(refused)) => Err(refused),
+        Err(JsonFault::Memory(no_memory)) => Err(no_memory),
     }
 }
 
@@ -90,12 +90,12 @@ pub fn check_config<A: Allocator + Copy>(
     alloc: A,
     heap: Global,
     text: &[u8],
-) -> Result<Checked<A>, Refused>
+) -> Result<Checked<A>, NoMemory>
     ensures { IfOk result (IsCheckOf text.now) }
 {
     match read_config(alloc, heap, text) {
         Ok(config) => Ok(Checked::Right(summary_of(alloc, &config)?)),
-        Err(ConfigFault::Memory(refused)) => Err(refused),
+        Err(ConfigFault::Memory(no_memory)) => Err(no_memory),
         Err(fault) => {
             let place = place_in(alloc, heap, &fault, text)?;
             Ok(Checked::Wrong(fault, place))

@@ -3,7 +3,7 @@
 ghost use Rattle.std.specs.Prelude.{◌≡◌};
 
 use features::SubjectsFault;
-use memory::{JsonFault, Refused};
+use memory::{JsonFault, NoMemory};
 use policy_text::TextFault;
 use std::fmt;
 
@@ -21,7 +21,7 @@ pub enum ConfigFault {
     Policies(TextFault),
     /// B5: an allocation was refused. It can occur with any text and replaces any other fault,
     /// except that `read_config` always returns `NotJson` for an empty text.
-    Memory(Refused),
+    Memory(NoMemory),
 }
 
 impl ConfigFault {
@@ -52,14 +52,14 @@ impl fmt::Display for ConfigFault {
     }
 }
 
-impl From<Refused> for ConfigFault {
+impl From<NoMemory> for ConfigFault {
     ghost use Rattle.std.specs.Prelude.{◌≡◌};
     ghost use Rattle.configuration.specs.declared.config_faults.ConfigFault.TheVariants.{Memory};
 
-    ghost from_gives = { λ refused fault. fault ≡ Memory refused };
+    ghost from_gives = { λ no_memory fault. fault ≡ Memory no_memory };
 
-    fn from(refused: Refused) -> Self {
-        ConfigFault::Memory(refused)
+    fn from(no_memory: NoMemory) -> Self {
+        ConfigFault::Memory(no_memory)
     }
 }
 
@@ -72,7 +72,7 @@ impl From<JsonFault> for ConfigFault {
     fn from(unread: JsonFault) -> Self {
         match unread {
             JsonFault::Text(_) => ConfigFault::NotJson,
-            JsonFault::Memory(refused) => ConfigFault::Memory(refused),
+            JsonFault::Memory(no_memory) => ConfigFault::Memory(no_memory),
         }
     }
 }
@@ -96,7 +96,7 @@ impl From<TextFault> for ConfigFault {
 
     fn from(unread: TextFault) -> Self {
         match unread {
-            TextFault::Memory(refused) => ConfigFault::Memory(refused),
+            TextFault::Memory(no_memory) => ConfigFault::Memory(no_memory),
             fault => ConfigFault::Policies(fault),
         }
     }

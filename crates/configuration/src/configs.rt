@@ -8,16 +8,21 @@ ghost use Rattle.configuration.specs.Configs.{config_data, config_from, config_i
 ghost use Rattle.configuration.specs.declared.config_faults.ConfigFault.TheVariants.{Form};
 
 use crate::config_faults::ConfigFault;
-use crate::fields::{Key, array_in, is_object_of, name_in, steward_in, value_in};
+use crate::fields::{MemberName, array_in, is_object_of, name_in, steward_in, value_in};
 use features::{Subject, Subjects};
 use memory::{GrowVec, json_value};
 use policy_text::{Document, document_of_value};
 use serde_json::Value;
 use std::alloc::{Allocator, Global};
 
-pub(crate) const CONFIG_KEYS: [Key; 2] = [Key::Subjects, Key::Policies];
+pub(crate) const CONFIG_KEYS: [MemberName; 2] = [MemberName::Subjects, MemberName::Policies];
 
-pub(crate) const SUBJECT_KEYS: [Key; 4] = [Key::Name, Key::Office, Key::Role, Key::Steward];
+pub(crate) const SUBJECT_KEYS: [MemberName; 4] = [
+    MemberName::Name,
+    MemberName::Office,
+    MemberName::Role,
+    MemberName::Steward,
+];
 
 /// What a server is opened with: its subjects and its first policy document.
 #[derive(Debug, Drop)]
@@ -36,9 +41,9 @@ pub(crate) fn subject_in(value: &Value) -> Option<Subject>
     if !is_object_of(value, &SUBJECT_KEYS) {
         return None;
     }
-    let name = name_in(value, Key::Name)?;
-    let office = name_in(value, Key::Office)?;
-    let role = name_in(value, Key::Role)?;
+    let name = name_in(value, MemberName::Name)?;
+    let office = name_in(value, MemberName::Office)?;
+    let role = name_in(value, MemberName::Role)?;
     let steward = steward_in(value)?;
     Some(Subject {
         name,
@@ -99,10 +104,10 @@ fn config_in<A: Allocator + Copy>(alloc: A, value: &Value) -> Result<Config<A>, 
     if !is_object_of(value, &CONFIG_KEYS) {
         return Err(ConfigFault::Form);
     }
-    let Some(items) = array_in(value, Key::Subjects) else {
+    let Some(items) = array_in(value, MemberName::Subjects) else {
         return Err(ConfigFault::Form);
     };
-    let Some(policies) = value_in(value, Key::Policies) else {
+    let Some(policies) = value_in(value, MemberName::Policies) else {
         return Err(ConfigFault::Form);
     };
     config_from(alloc, items, policies)

@@ -12,7 +12,7 @@ use serde_json::{Map, Value};
 
 /// A key of an object of a configuration.
 #[derive(Clone, Copy)]
-pub(crate) enum Key {
+pub(crate) enum MemberName {
     Subjects,
     Policies,
     Name,
@@ -21,31 +21,31 @@ pub(crate) enum Key {
     Steward,
 }
 
-impl Key {
+impl MemberName {
     /// The key as it is written.
     pub fn text(self) -> &'static str
         ensures { result.now ≡ key_text self }
     {
         match self {
-            Key::Subjects => "subjects",
-            Key::Policies => "policies",
-            Key::Name => "name",
-            Key::Office => "office",
-            Key::Role => "role",
-            Key::Steward => "steward",
+            MemberName::Subjects => "subjects",
+            MemberName::Policies => "policies",
+            MemberName::Name => "name",
+            MemberName::Office => "office",
+            MemberName::Role => "role",
+            MemberName::Steward => "steward",
         }
     }
 }
 
 /// Whether a text is one of the listed keys.
-fn is_listed(listed: &[Key], text: &str) -> bool
+fn is_listed(listed: &[MemberName], text: &str) -> bool
     ensures { result ≡ is_listed listed.now text.now }
 {
     listed.iter().any(|key| key.text() == text)
 }
 
 /// Whether each key of an object is listed.
-fn has_only(listed: &[Key], members: &Map<String, Value>) -> bool
+fn has_only(listed: &[MemberName], members: &Map<String, Value>) -> bool
     ensures { result ≡ has_only listed.now (members_view members.now.entries) }
 {
     for (key, _) in members.iter() {
@@ -57,7 +57,7 @@ fn has_only(listed: &[Key], members: &Map<String, Value>) -> bool
 }
 
 /// Whether a value is an object with listed keys only.
-pub(crate) fn is_object_of(value: &Value, listed: &[Key]) -> bool
+pub(crate) fn is_object_of(value: &Value, listed: &[MemberName]) -> bool
     ensures { object_in listed.now (view value.now) ≡ (if result then Ok tt else Err Form) }
 {
     match value.as_object() {
@@ -67,14 +67,14 @@ pub(crate) fn is_object_of(value: &Value, listed: &[Key]) -> bool
 }
 
 /// The value under a key.
-pub(crate) fn value_in(value: &Value, key: Key) -> Option<&Value>
+pub(crate) fn value_in(value: &Value, key: MemberName) -> Option<&Value>
     ensures { option_map (λ v. view v.now) result ≡ value_of key (view value.now) }
 {
     value.get(key.text())
 }
 
 /// The array under a key.
-pub(crate) fn array_in(value: &Value, key: Key) -> Option<&[Value]>
+pub(crate) fn array_in(value: &Value, key: MemberName) -> Option<&[Value]>
     ensures { option_map (λ items. items_view items.now) result
         ≡ option_and_then as_array (value_of key (view value.now)) }
 {
@@ -82,7 +82,7 @@ pub(crate) fn array_in(value: &Value, key: Key) -> Option<&[Value]>
 }
 
 /// The name under a key.
-pub(crate) fn name_in(value: &Value, key: Key) -> Option<Name>
+pub(crate) fn name_in(value: &Value, key: MemberName) -> Option<Name>
     ensures { ok_or result Form ≡ name_in key (view value.now) }
 {
     let text = value.get(key.text())?.as_str()?;
@@ -93,7 +93,7 @@ pub(crate) fn name_in(value: &Value, key: Key) -> Option<Name>
 pub(crate) fn steward_in(value: &Value) -> Option<bool>
     ensures { ok_or result Form ≡ steward_in (view value.now) }
 {
-    match value.get(Key::Steward.text()) {
+    match value.get(MemberName::Steward.text()) {
         Some(flag) => flag.as_bool(),
         None => Some(false),
     }

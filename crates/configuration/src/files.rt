@@ -6,7 +6,7 @@ ghost use Rattle.configuration.specs.ConfigFiles.{FileGives, IsUnread, IsWhole};
 use crate::config_faults::ConfigFault;
 use crate::configs::{Config, read_config};
 use byte_streams::{NotOpened, ReadFailed, read_some};
-use memory::{Refused, try_extend};
+use memory::{NoMemory, try_extend};
 use std::alloc::{Allocator, Global};
 use std::io::Read;
 
@@ -48,15 +48,15 @@ impl From<ReadFailed> for FileFault {
     }
 }
 
-impl From<Refused> for FileFault {
+impl From<NoMemory> for FileFault {
     ghost use Rattle.std.specs.Prelude.{◌≡◌};
     ghost use Rattle.configuration.specs.declared.config_faults.ConfigFault.TheVariants.{Memory};
     ghost use Rattle.configuration.specs.declared.files.FileFault.TheVariants as reasons;
 
-    ghost from_gives = { λ refused fault. fault ≡ reasons.Config (Memory refused) };
+    ghost from_gives = { λ no_memory fault. fault ≡ reasons.Config (Memory no_memory) };
 
-    fn from(refused: Refused) -> Self {
-        FileFault::Config(ConfigFault::Memory(refused))
+    fn from(no_memory: NoMemory) -> Self {
+        FileFault::Config(ConfigFault::Memory(no_memory))
     }
 }
 

@@ -7,27 +7,27 @@ ghost use Rattle.configuration.specs.Places.{IsWrongAt, LeadsTo, place_text};
 
 use crate::config_faults::ConfigFault;
 use crate::configs::{CONFIG_KEYS, SUBJECT_KEYS, subject_in};
-use crate::fields::{Key, array_in, is_object_of, name_in, value_in};
-use crate::places::{Place, Step, value_at};
+use crate::fields::{MemberName, array_in, is_object_of, name_in, value_in};
+use crate::places::{PathPart, Place, value_at};
 use crate::searches::find_in_policies;
 use crate::wrongs::is_wrong;
 use features::SubjectsFault;
-use memory::{GrowVec, Refused};
-use policy_text::{Path, Step as PathStep, TextFault};
+use memory::{GrowVec, NoMemory};
+use policy_text::{Path, PathPart as DocumentPart, TextFault};
 use serde_json::Value;
 use std::alloc::Allocator;
 
 /// The place of a fault of the policies that has this path.
-fn path_place<A: Allocator>(alloc: A, path: &Path) -> Result<Vec<Step, A>, Refused>
+fn path_place<A: Allocator>(alloc: A, path: &Path) -> Result<Vec<PathPart, A>, NoMemory>
     ensures { IfOk result
         (λ place. place_text place.items ≡ codes "/policies" ++ path_text path.now) }
 {
     let mut place = Vec::new(alloc);
-    place.try_push(Step::Key("policies"))?;
-    for step in path.as_slice() {
-        let next = match step {
-            PathStep::Key(key) => Step::Key(key.text()),
-            PathStep::Item(index) => Step::Item(*index),
+    place.try_push(PathPart::Member("policies"))?;
+    for part in path.as_slice() {
+        let next = match part {
+            DocumentPart::Member(key) => PathPart::Member(key.text()),
+            DocumentPart::Item(index) => PathPart::Item(*index),
         };
         place.try_push(next)?;
     }
@@ -35,35 +35,35 @@ fn path_place<A: Allocator>(alloc: A, path: &Path) -> Result<Vec<Step, A>, Refus
 }
 
 /// The key of a subject that is at fault, if it is not the subject itself.
-fn faulty_key(subject: &Value) -> Option<Key> {
+fn faulty_key(subject: &Value) -> Option<MemberName> {
     if !is_object_of(subject, &SUBJECT_KEYS) {
         return None;
     }
-    for key in [Key::Name, Key::Office, Key::Role] {
+    for key in [MemberName::Name, MemberName::Office, MemberName::Role] {
         if name_in(subject, key).is_none() {
             return Some(key);
         }
     }
-    Some(Key::Steward)
+    Some(MemberName::Steward)
 }
 
-/// Puts the steps to what is not of the form of a configuration.
-fn find_form<A: Allocator>(value: &Value, place: &mut Vec<Step, A>) -> Result<(), Refused> {
+/// Puts the parts to what is not of the form of a configuration.
+fn find_form<A: Allocator>(value: &Value, place: &mut Vec<PathPart, A>) -> Result<(), NoMemory> {
     if !is_object_of(value, &CONFIG_KEYS) {
         return Ok(());
     }
-    let Some(items) = array_in(value, Key::Subjects) else {
-        return place.try_push(Step::Key("subjects"));
+    let Some(items) = array_in(value, MemberName::Subjects) else {
+        return place.try_push(PathPart::Member("subjects"));
     };
-    if value_in(value, Key::Policies).is_none() {
-        return place.try_push(Step::Key("policies"));
+    if value_in(value, MemberName::Policies).is_none() {
+        return place.try_push(PathPart::Member("policies"));
     }
     for (index, subject) in items.iter().enumerate() {
         if subject_in(subject).is_none() {
-            place.try_push(Step::Key("subjects"))?;
-            place.try_push(Step::Item(index))?;
+            place.try_push(PathPart::Member("subjects"))?;
+            place.try_push(PathPart::Item(index))?;
             if let Some(key) = faulty_key(subject) {
-                place.try_push(Step::Key(key.text()))?;
+                place.try_push(PathPart::Member(key.text()))?;
             }
             return Ok(());
         }
@@ -73,34 +73,34 @@ fn find_form<A: Allocator>(value: &Value, place: &mut Vec<Step, A>) -> Result<()
 
 /// Whether one of these subjects has the name of this one.
 fn is_named_before(before: &[Value], subject: &Value) -> bool {
-    let Some(name) = name_in(subject, Key::Name) else {
+    let Some(name) = name_in(subject, MemberName::Name) else {
         return false;
     };
     for other in before {
-        if name_in(other, Key::Name) == Some(name) {
+        if name_in(other, MemberName::Name) == Some(name) {
             return true;
         }
     }
     false
 }
 
-/// Puts the steps to what is at fault in the list of subjects.
+/// Puts the parts to what is at fault in the list of subjects.
 fn find_list<A: Allocator>(
     fault: SubjectsFault,
     value: &Value,
-    place: &mut Vec<Step, A>,
-) -> Result<(), Refused> {
-    place.try_push(Step::Key("subjects"))?;
+    place: &mut Vec<PathPart, A>,
+) -> Result<(), NoMemory> {
+    place.try_push(PathPart::Member("subjects"))?;
     if fault != SubjectsFault::NameTwice {
         return Ok(());
     }
-    let Some(items) = array_in(value, Key::Subjects) else {
+    let Some(items) = array_in(value, MemberName::Subjects) else {
         return Ok(());
     };
     for (index, subject) in items.iter().enumerate() {
         if is_named_before(&items[..index], subject) {
-            place.try_push(Step::Item(index))?;
-            return place.try_push(Step::Key("name"));
+            place.try_push(PathPart::Item(index))?;
+            return place.try_push(PathPart::Member("name"));
         }
     }
     Ok(())
@@ -111,14 +111,14 @@ fn find<A: Allocator>(
     alloc: A,
     fault: &ConfigFault,
     value: &Value,
-) -> Result<Vec<Step, A>, Refused> {
+) -> Result<Vec<PathPart, A>, NoMemory> {
     let mut place = Vec::new(alloc);
     match fault {
         ConfigFault::Form => find_form(value, &mut place)?,
         ConfigFault::Subjects(fault) => find_list(*fault, value, &mut place)?,
         ConfigFault::Policies(fault) => {
-            if let Some(policies) = value_in(value, Key::Policies) {
-                place.try_push(Step::Key("policies"))?;
+            if let Some(policies) = value_in(value, MemberName::Policies) {
+                place.try_push(PathPart::Member("policies"))?;
                 find_in_policies(fault, policies, &mut place)?;
             }
         }
@@ -132,13 +132,13 @@ fn place_found<A: Allocator>(
     alloc: A,
     fault: &ConfigFault,
     value: &Value,
-) -> Result<Option<Place<A>>, Refused>
+) -> Result<Option<Place<A>>, NoMemory>
     ensures { IfOk result
-        (λ found. IfSome found (λ place. IsWrongAt fault.now place.steps.items (view value.now))) }
+        (λ found. IfSome found (λ place. IsWrongAt fault.now place.parts.items (view value.now))) }
 {
-    let steps = find(alloc, fault, value)?;
-    if is_wrong(fault, &steps, value_at(value, &steps)) {
-        Ok(Some(Place { steps }))
+    let parts = find(alloc, fault, value)?;
+    if is_wrong(fault, &parts, value_at(value, &parts)) {
+        Ok(Some(Place { parts }))
     } else {
         Ok(None)
     }
@@ -149,14 +149,14 @@ pub(crate) fn place_of<A: Allocator>(
     alloc: A,
     fault: &ConfigFault,
     value: &Value,
-) -> Result<Option<Place<A>>, Refused>
+) -> Result<Option<Place<A>>, NoMemory>
     ensures { IfOk result
-        (λ found. IfSome found (λ place. LeadsTo fault.now place.steps.items (view value.now))) }
+        (λ found. IfSome found (λ place. LeadsTo fault.now place.parts.items (view value.now))) }
 {
     match fault {
         ConfigFault::Policies(TextFault::Form(path) | TextFault::UnknownKey(path)) => {
-            let steps = path_place(alloc, path)?;
-            Ok(Some(Place { steps }))
+            let parts = path_place(alloc, path)?;
+            Ok(Some(Place { parts }))
         }
         fault => place_found(alloc, fault, value),
     }

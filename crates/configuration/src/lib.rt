@@ -18,5 +18,5 @@ pub use config_faults::ConfigFault;
 pub use configs::{Config, read_config};
 pub use files::{CONFIG_LIMIT, FileFault, ReadFault, read_config_file};
 pub use laws::{configurations_are_one, read_is_spelled};
-pub use places::{Place, Step};
+pub use places::{PathPart, Place};
 pub use summaries::Summary;

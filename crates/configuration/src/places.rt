@@ -8,27 +8,27 @@ use serde_json::Value;
 use std::alloc::Allocator;
 use std::fmt;
 
-/// How many steps lead to a set or a policy that nests too deep: to the root, two, and from each of
+/// How many parts lead to a set or a policy that nests too deep: to the root, two, and from each of
 /// eight sets to the one below it, two.
 pub const TOO_DEEP: usize = 18;
 
-/// One step of a place: to the value under a key, or to an item of an array, counted from 0.
+/// One part of a place: to the value under a key, or to an item of an array, counted from 0.
 #[derive(Clone, Copy, Debug)]
-pub enum Step {
-    Key(&'static str),
+pub enum PathPart {
+    Member(&'static str),
     Item(usize),
 }
 
-impl fmt::Display for Step {
+impl fmt::Display for PathPart {
     ghost use Rattle.std.specs.Prelude.{Some};
-    ghost use Rattle.configuration.specs.Places.{step_text};
+    ghost use Rattle.configuration.specs.Places.{part_text};
 
-    ghost output = { λ step. Some (step_text step) };
+    ghost output = { λ part. Some (part_text part) };
 
     fn fmt<W: fmt::Write>(&self, f: &mut fmt::Formatter<W>) -> fmt::Result {
         match self {
-            Step::Key(key) => write!(f, "/{}", *key),
-            Step::Item(index) => write!(f, "/{}", *index),
+            PathPart::Member(key) => write!(f, "/{}", *key),
+            PathPart::Item(index) => write!(f, "/{}", *index),
         }
     }
 }
@@ -37,51 +37,51 @@ impl fmt::Display for Step {
 /// configuration, as the empty text.
 #[derive(Debug, Drop)]
 pub struct Place<A: Allocator> {
-    /// The steps to it, from the whole configuration.
-    pub steps: Vec<Step, A>,
+    /// The parts to it, from the whole configuration.
+    pub parts: Vec<PathPart, A>,
 }
 
 impl<A: Allocator> fmt::Display for Place<A> {
     ghost use Rattle.std.specs.Prelude.{Some};
     ghost use Rattle.configuration.specs.Places.{place_text};
 
-    ghost output = { λ place. Some (place_text place.steps.items) };
+    ghost output = { λ place. Some (place_text place.parts.items) };
 
     fn fmt<W: fmt::Write>(&self, f: &mut fmt::Formatter<W>) -> fmt::Result {
-        for step in self.steps.as_slice() {
-            fmt::Display::fmt(step, f)?;
+        for part in self.parts.as_slice() {
+            fmt::Display::fmt(part, f)?;
         }
         Ok(())
     }
 }
 
-/// The value to which a step leads.
-fn value_after<'v>(value: &'v Value, step: &Step) -> Option<&'v Value>
-    ensures { option_map (λ v. view v.now) result ≡ value_after step.now (view value.now) }
+/// The value to which a part leads.
+fn value_after<'v>(value: &'v Value, part: &PathPart) -> Option<&'v Value>
+    ensures { option_map (λ v. view v.now) result ≡ value_after part.now (view value.now) }
 {
-    match step {
-        Step::Key(key) => value.get(*key),
-        Step::Item(index) => value.get(*index),
+    match part {
+        PathPart::Member(key) => value.get(*key),
+        PathPart::Item(index) => value.get(*index),
     }
 }
 
 /// The value to which a place leads.
-pub(crate) fn value_at<'v>(value: &'v Value, place: &[Step]) -> Option<&'v Value>
+pub(crate) fn value_at<'v>(value: &'v Value, place: &[PathPart]) -> Option<&'v Value>
     ensures { option_map (λ v. view v.now) result ≡ value_at place.now (view value.now) }
 {
     let mut here = value;
-    for step in place {
-        here = value_after(here, step)?;
+    for part in place {
+        here = value_after(here, part)?;
     }
     Some(here)
 }
 
 /// Whether a place is one of a value under this key.
-pub(crate) fn ends_in(key: &str, place: &[Step]) -> bool
+pub(crate) fn ends_in(key: &str, place: &[PathPart]) -> bool
     ensures { result ≡ ends_in key.now place.now }
 {
     match place.last() {
-        Some(Step::Key(last)) => *last == key,
+        Some(PathPart::Member(last)) => *last == key,
         _ => false,
     }
 }

@@ -1,7 +1,7 @@
 //! Looks for the part of the policies that is at fault, in the order in which they are read.
 
-use crate::places::Step;
-use memory::{GrowVec, Refused};
+use crate::places::PathPart;
+use memory::{GrowVec, NoMemory};
 use policy_documents::{DEPTH_LIMIT, NODE_LIMIT, RULE_LIMIT, TEST_LIMIT, ZONE_LIMIT};
 use policy_text::TextFault;
 use serde_json::Value;
@@ -40,8 +40,8 @@ fn named<A: Allocator>(
     value: &Value,
     key: &'static str,
     seen: &mut Seen,
-    place: &mut Vec<Step, A>,
-) -> Result<bool, Refused> {
+    place: &mut Vec<PathPart, A>,
+) -> Result<bool, NoMemory> {
     let TextFault::NameTwice(name) = fault else {
         return Ok(false);
     };
@@ -55,7 +55,7 @@ fn named<A: Allocator>(
     if seen.names < 2 {
         return Ok(false);
     }
-    place.try_push(Step::Key(key))?;
+    place.try_push(PathPart::Member(key))?;
     Ok(true)
 }
 
@@ -64,12 +64,12 @@ fn tested<A: Allocator>(
     fault: &TextFault,
     value: &Value,
     seen: &mut Seen,
-    place: &mut Vec<Step, A>,
-) -> Result<bool, Refused> {
+    place: &mut Vec<PathPart, A>,
+) -> Result<bool, NoMemory> {
     if let TextFault::NoZone(name) = fault {
         if let Some(text) = text_in(value, "zone") {
             if text.as_bytes() == name.as_bytes() {
-                place.try_push(Step::Key("zone"))?;
+                place.try_push(PathPart::Member("zone"))?;
                 return Ok(true);
             }
         }
@@ -83,8 +83,8 @@ fn condition<A: Allocator>(
     fault: &TextFault,
     value: &Value,
     seen: &mut Seen,
-    place: &mut Vec<Step, A>,
-) -> Result<bool, Refused> {
+    place: &mut Vec<PathPart, A>,
+) -> Result<bool, NoMemory> {
     let Some(inner) = value.get("not") else {
         return tested(fault, value, seen, place);
     };
@@ -92,7 +92,7 @@ fn condition<A: Allocator>(
     if seen.tests > TEST_LIMIT as usize && matches!(fault, TextFault::TooMany) {
         return Ok(true);
     }
-    place.try_push(Step::Key("not"))?;
+    place.try_push(PathPart::Member("not"))?;
     if tested(fault, inner, seen, place)? {
         return Ok(true);
     }
@@ -105,11 +105,11 @@ fn conditions<A: Allocator>(
     fault: &TextFault,
     value: &Value,
     seen: &mut Seen,
-    place: &mut Vec<Step, A>,
-) -> Result<bool, Refused> {
-    place.try_push(Step::Key("when"))?;
+    place: &mut Vec<PathPart, A>,
+) -> Result<bool, NoMemory> {
+    place.try_push(PathPart::Member("when"))?;
     for (index, item) in items_in(value, "when").iter().enumerate() {
-        place.try_push(Step::Item(index))?;
+        place.try_push(PathPart::Item(index))?;
         if condition(fault, item, seen, place)? {
             return Ok(true);
         }
@@ -124,13 +124,13 @@ fn alternative<A: Allocator>(
     fault: &TextFault,
     value: &Value,
     seen: &mut Seen,
-    place: &mut Vec<Step, A>,
-) -> Result<bool, Refused> {
+    place: &mut Vec<PathPart, A>,
+) -> Result<bool, NoMemory> {
     let Some(items) = value.as_array() else {
         return Ok(false);
     };
     for (index, item) in items.iter().enumerate() {
-        place.try_push(Step::Item(index))?;
+        place.try_push(PathPart::Item(index))?;
         if tested(fault, item, seen, place)? {
             return Ok(true);
         }
@@ -144,13 +144,13 @@ fn part<A: Allocator>(
     fault: &TextFault,
     value: &Value,
     seen: &mut Seen,
-    place: &mut Vec<Step, A>,
-) -> Result<bool, Refused> {
+    place: &mut Vec<PathPart, A>,
+) -> Result<bool, NoMemory> {
     let Some(items) = value.as_array() else {
         return Ok(false);
     };
     for (index, item) in items.iter().enumerate() {
-        place.try_push(Step::Item(index))?;
+        place.try_push(PathPart::Item(index))?;
         if alternative(fault, item, seen, place)? {
             return Ok(true);
         }
@@ -164,11 +164,11 @@ fn target<A: Allocator>(
     fault: &TextFault,
     value: &Value,
     seen: &mut Seen,
-    place: &mut Vec<Step, A>,
-) -> Result<bool, Refused> {
-    place.try_push(Step::Key("target"))?;
+    place: &mut Vec<PathPart, A>,
+) -> Result<bool, NoMemory> {
+    place.try_push(PathPart::Member("target"))?;
     for (index, item) in items_in(value, "target").iter().enumerate() {
-        place.try_push(Step::Item(index))?;
+        place.try_push(PathPart::Item(index))?;
         if part(fault, item, seen, place)? {
             return Ok(true);
         }
@@ -183,8 +183,8 @@ fn rule<A: Allocator>(
     fault: &TextFault,
     value: &Value,
     seen: &mut Seen,
-    place: &mut Vec<Step, A>,
-) -> Result<bool, Refused> {
+    place: &mut Vec<PathPart, A>,
+) -> Result<bool, NoMemory> {
     if named(fault, value, "rule", seen, place)? {
         return Ok(true);
     }
@@ -203,11 +203,11 @@ fn rules<A: Allocator>(
     fault: &TextFault,
     value: &Value,
     seen: &mut Seen,
-    place: &mut Vec<Step, A>,
-) -> Result<bool, Refused> {
-    place.try_push(Step::Key("rules"))?;
+    place: &mut Vec<PathPart, A>,
+) -> Result<bool, NoMemory> {
+    place.try_push(PathPart::Member("rules"))?;
     for (index, item) in items_in(value, "rules").iter().enumerate() {
-        place.try_push(Step::Item(index))?;
+        place.try_push(PathPart::Item(index))?;
         if rule(fault, item, seen, place)? {
             return Ok(true);
         }
@@ -223,8 +223,8 @@ fn head<A: Allocator>(
     value: &Value,
     name: &'static str,
     seen: &mut Seen,
-    place: &mut Vec<Step, A>,
-) -> Result<bool, Refused> {
+    place: &mut Vec<PathPart, A>,
+) -> Result<bool, NoMemory> {
     if named(fault, value, name, seen, place)? {
         return Ok(true);
     }
@@ -242,8 +242,8 @@ fn node<A: Allocator>(
     value: &Value,
     levels: usize,
     seen: &mut Seen,
-    place: &mut Vec<Step, A>,
-) -> Result<bool, Refused> {
+    place: &mut Vec<PathPart, A>,
+) -> Result<bool, NoMemory> {
     if levels == 0 {
         return Ok(matches!(fault, TextFault::TooDeep));
     }
@@ -256,7 +256,7 @@ fn node<A: Allocator>(
     if head(fault, value, "set", seen, place)? {
         return Ok(true);
     }
-    place.try_push(Step::Key("of"))?;
+    place.try_push(PathPart::Member("of"))?;
     if nodes(fault, items_in(value, "of"), levels - 1, seen, place)? {
         return Ok(true);
     }
@@ -271,10 +271,10 @@ fn nodes<A: Allocator>(
     items: &[Value],
     levels: usize,
     seen: &mut Seen,
-    place: &mut Vec<Step, A>,
-) -> Result<bool, Refused> {
+    place: &mut Vec<PathPart, A>,
+) -> Result<bool, NoMemory> {
     for (index, item) in items.iter().enumerate() {
-        place.try_push(Step::Item(index))?;
+        place.try_push(PathPart::Item(index))?;
         if node(fault, item, levels, seen, place)? {
             return Ok(true);
         }
@@ -289,8 +289,8 @@ fn zone<A: Allocator>(
     value: &Value,
     before: usize,
     seen: &mut Seen,
-    place: &mut Vec<Step, A>,
-) -> Result<bool, Refused> {
+    place: &mut Vec<PathPart, A>,
+) -> Result<bool, NoMemory> {
     if let TextFault::BadZone(name, shape) = fault {
         let (Some(given), Some(text)) = (text_in(value, "zone"), text_in(value, "shape")) else {
             return Ok(false);
@@ -298,7 +298,7 @@ fn zone<A: Allocator>(
         if given.as_bytes() != name.as_bytes() || read_shape(text.as_bytes()) != Err(*shape) {
             return Ok(false);
         }
-        place.try_push(Step::Key("shape"))?;
+        place.try_push(PathPart::Member("shape"))?;
         return Ok(true);
     }
     if named(fault, value, "zone", seen, place)? {
@@ -312,11 +312,11 @@ fn zones<A: Allocator>(
     fault: &TextFault,
     value: &Value,
     seen: &mut Seen,
-    place: &mut Vec<Step, A>,
-) -> Result<bool, Refused> {
-    place.try_push(Step::Key("zones"))?;
+    place: &mut Vec<PathPart, A>,
+) -> Result<bool, NoMemory> {
+    place.try_push(PathPart::Member("zones"))?;
     for (index, item) in items_in(value, "zones").iter().enumerate() {
-        place.try_push(Step::Item(index))?;
+        place.try_push(PathPart::Item(index))?;
         if zone(fault, item, index, seen, place)? {
             return Ok(true);
         }
@@ -331,8 +331,8 @@ fn zones<A: Allocator>(
 pub(crate) fn find_in_policies<A: Allocator>(
     fault: &TextFault,
     policies: &Value,
-    place: &mut Vec<Step, A>,
-) -> Result<(), Refused> {
+    place: &mut Vec<PathPart, A>,
+) -> Result<(), NoMemory> {
     let mut seen = Seen {
         names: 0,
         nodes: 0,
@@ -347,7 +347,7 @@ pub(crate) fn find_in_policies<A: Allocator>(
     let Some(root) = policies.get("root") else {
         return Ok(());
     };
-    place.try_push(Step::Key("root"))?;
+    place.try_push(PathPart::Member("root"))?;
     if !node(fault, root, DEPTH_LIMIT, &mut seen, place)? {
         let _ = place.pop();
     }

@@ -8,7 +8,7 @@ ghost use Rattle.configuration.specs.Summaries.{count_of, counted, is_permit, no
 
 use crate::configs::Config;
 use features::Subject;
-use memory::{GrowVec, Refused};
+use memory::{GrowVec, NoMemory};
 use policy_text::{Effect, Node, Rule};
 use std::alloc::Allocator;
 use std::fmt;
@@ -65,7 +65,10 @@ fn count_of(wanted: bool, flags: &[bool]) -> usize
 }
 
 /// Whether each subject is a steward.
-fn put_stewards<A: Allocator>(subjects: &[Subject], flags: &mut Vec<bool, A>) -> Result<(), Refused>
+fn put_stewards<A: Allocator>(
+    subjects: &[Subject],
+    flags: &mut Vec<bool, A>,
+) -> Result<(), NoMemory>
     ensures { OnOk result (flags.new.items ≡ flags.old.items ++ map (λ s. s.steward) subjects.now) }
 {
     for subject in subjects {
@@ -78,7 +81,7 @@ fn put_stewards<A: Allocator>(subjects: &[Subject], flags: &mut Vec<bool, A>) ->
 fn put_rule_permits<A: Allocator, B: Allocator>(
     rules: &Vec<Rule<A>, A>,
     flags: &mut Vec<bool, B>,
-) -> Result<(), Refused>
+) -> Result<(), NoMemory>
     ensures { OnOk result (flags.new.items ≡ flags.old.items ++ map is_permit rules.now.items) }
 {
     for rule in rules {
@@ -92,7 +95,7 @@ fn put_rule_permits<A: Allocator, B: Allocator>(
 fn put_permits<A: Allocator, B: Allocator>(
     node: &Node<A>,
     flags: &mut Vec<bool, B>,
-) -> Result<(), Refused>
+) -> Result<(), NoMemory>
     ensures { OnOk result (flags.new.items
         ≡ flags.old.items ++ node_permits (node_view node.now)) }
 {
@@ -107,7 +110,7 @@ fn put_permits<A: Allocator, B: Allocator>(
 fn put_permits_below<A: Allocator, B: Allocator>(
     nodes: &Vec<Node<A>, A>,
     flags: &mut Vec<bool, B>,
-) -> Result<(), Refused>
+) -> Result<(), NoMemory>
     ensures { OnOk result (flags.new.items
         ≡ flags.old.items ++ flat_map (λ n. node_permits (node_view n)) nodes.now.items) }
 {
@@ -122,7 +125,7 @@ fn put_permits_below<A: Allocator, B: Allocator>(
 pub(crate) fn summary_of<A: Allocator, B: Allocator + Copy>(
     alloc: B,
     config: &Config<A>,
-) -> Result<Summary, Refused>
+) -> Result<Summary, NoMemory>
     ensures { IfOk result (λ summary. summary ≡ summary_of (config_data config.now)) }
 {
     let subjects = config.subjects.as_slice();

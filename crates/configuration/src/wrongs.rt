@@ -2,12 +2,12 @@
 
 ghost use Rattle.std.specs.Prelude.{◌≡◌, option_map};
 ghost use Rattle.serde_json.specs.View.{view};
-ghost use Rattle.configuration.specs.Places.{is_name_place, is_name_text, is_needed, is_no_shape, is_text, is_wrong, is_wrong_after, is_wrong_form, is_wrong_list, is_wrong_policy, last_step};
+ghost use Rattle.configuration.specs.Places.{is_name_place, is_name_text, is_needed, is_no_shape, is_text, is_wrong, is_wrong_after, is_wrong_form, is_wrong_list, is_wrong_policy, last_part};
 
 use crate::config_faults::ConfigFault;
 use crate::configs::{CONFIG_KEYS, SUBJECT_KEYS};
 use crate::fields::is_object_of;
-use crate::places::{Step, TOO_DEEP, ends_in};
+use crate::places::{PathPart, TOO_DEEP, ends_in};
 use features::{Name, SubjectsFault};
 use policy_text::TextFault;
 use serde_json::Value;
@@ -34,13 +34,13 @@ fn is_text(text: &[u8], value: &Value) -> bool
 }
 
 /// Whether a value has not the form that is wanted at a place.
-fn is_wrong_after(place: &[Step], value: &Value) -> bool
-    ensures { result ≡ is_wrong_after (last_step place.now) (view value.now) }
+fn is_wrong_after(place: &[PathPart], value: &Value) -> bool
+    ensures { result ≡ is_wrong_after (last_part place.now) (view value.now) }
 {
     match place.last() {
         None => !is_object_of(value, &CONFIG_KEYS),
-        Some(Step::Item(_)) => !is_object_of(value, &SUBJECT_KEYS),
-        Some(Step::Key(key)) => {
+        Some(PathPart::Item(_)) => !is_object_of(value, &SUBJECT_KEYS),
+        Some(PathPart::Member(key)) => {
             if *key == "subjects" {
                 value.as_array().is_none()
             } else if *key == "steward" {
@@ -53,7 +53,7 @@ fn is_wrong_after(place: &[Step], value: &Value) -> bool
 }
 
 /// Whether the key of a place must be there.
-fn is_needed(place: &[Step]) -> bool
+fn is_needed(place: &[PathPart]) -> bool
     ensures { result ≡ is_needed place.now }
 {
     ends_in("subjects", place)
@@ -64,7 +64,7 @@ fn is_needed(place: &[Step]) -> bool
 }
 
 /// Whether a value is missing, or not of the form that is wanted.
-fn is_wrong_form(place: &[Step], value: Option<&Value>) -> bool
+fn is_wrong_form(place: &[PathPart], value: Option<&Value>) -> bool
     ensures { result ≡ is_wrong_form place.now (option_map (λ v. view v.now) value.entry) }
 {
     match value {
@@ -74,7 +74,7 @@ fn is_wrong_form(place: &[Step], value: Option<&Value>) -> bool
 }
 
 /// Whether a value is at fault with this fault of the list of subjects.
-fn is_wrong_list(fault: SubjectsFault, place: &[Step], value: &Value) -> bool
+fn is_wrong_list(fault: SubjectsFault, place: &[PathPart], value: &Value) -> bool
     ensures { result ≡ is_wrong_list fault place.now (view value.now) }
 {
     match fault {
@@ -84,7 +84,7 @@ fn is_wrong_list(fault: SubjectsFault, place: &[Step], value: &Value) -> bool
 }
 
 /// Whether a place is one of a name of a zone, a set, a policy or a rule.
-fn is_name_place(place: &[Step]) -> bool
+fn is_name_place(place: &[PathPart]) -> bool
     ensures { result ≡ is_name_place place.now }
 {
     ends_in("zone", place)
@@ -104,7 +104,7 @@ fn is_no_shape(value: &Value) -> bool
 }
 
 /// Whether a value is at fault with this fault of the policies, which has no path.
-fn is_wrong_policy(fault: &TextFault, place: &[Step], value: &Value) -> bool
+fn is_wrong_policy(fault: &TextFault, place: &[PathPart], value: &Value) -> bool
     ensures { result ≡ is_wrong_policy fault.now place.now (view value.now) }
 {
     match fault {
@@ -119,7 +119,7 @@ fn is_wrong_policy(fault: &TextFault, place: &[Step], value: &Value) -> bool
 }
 
 /// Whether the value at a place is the one at fault.
-pub(crate) fn is_wrong(fault: &ConfigFault, place: &[Step], value: Option<&Value>) -> bool
+pub(crate) fn is_wrong(fault: &ConfigFault, place: &[PathPart], value: Option<&Value>) -> bool
     ensures { result
         ≡ is_wrong fault.now place.now (option_map (λ v. view v.now) value.entry) }
 {

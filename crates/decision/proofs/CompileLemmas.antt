@@ -14,8 +14,8 @@ use Rattle.combining.specs.declared.decisions.Decision.TheVariants.{Permit, Deny
 use Rattle.combining.specs.declared.gathering.Gathered.{Gathered}
 use Rattle.decision.proofs.FinishLemmas.{gathered, verdict}
 use Rattle.decision.specs.declared.known.Known.{Known}
-use Rattle.decision.specs.declared.steps.Step.{Step}
-use Rattle.decision.specs.declared.steps.Step.TheVariants as steps
+use Rattle.decision.specs.declared.plan_nodes.PlanNode.{PlanNode}
+use Rattle.decision.specs.declared.plan_nodes.PlanNode.TheVariants as plan_nodes
 use Rattle.combining.specs.Holding.{target_holds, atom_holds, rule_applies}
 use Rattle.combining.specs.Decisions.{effect_decision, decision_of}
 use Rattle.combining.specs.Deciding.{Placed, rule_part, is_deciding, placed_rules, verdict_of}
@@ -23,7 +23,7 @@ use Rattle.combining.specs.Gathering.{with_verdict, settled_verdict, nothing_gat
 use Rattle.combining.specs.Tallies.{or_else}
 use Rattle.decision.specs.Known.{Fits}
 use Rattle.decision.specs.Plans.{Branches, no_branches, leaf, fork, flat, gathered_from, branches_verdict, leaf_verdict, not_applicable}
-use Rattle.decision.specs.Compiled.{Appends, StandsFor, AllStandFor, placeholder, closed}
+use Rattle.decision.specs.Compiled.{Appends, StandsFor, AllStandFor, placeholder, node_closed}
 use Rattle.combining.proofs.GatherLemmas.{OwnDecision, gathered-more, rule_applied, rule_left, none_unmakes, settled-set, settled-policy, left-set, left-policy}
 use Rattle.combining.proofs.PlacedLemmas.{sizes_of, parts_of-map}
 
@@ -36,10 +36,10 @@ join (fork combine target below row) others = fork combine target below (join ro
 flat-join : (A : Type 0) (row others : Branches) → flat A (join row others) ≡ flat A row ++ flat A others
 unfolding join
 flat-join A no_branches others = refl
-flat-join A (leaf number effect target when row) others = ap (λ list. steps.Rule number effect target when ∷ list) (flat-join A row others)
+flat-join A (leaf number effect target when row) others = ap (λ list. plan_nodes.Rule number effect target when ∷ list) (flat-join A row others)
 flat-join A (fork combine target below row) others =
-    ap (λ list. steps.Node combine target (length (flat A below)) ∷ (flat A below ++ list)) (flat-join A row others)
-    ∙ ap (λ list. steps.Node combine target (length (flat A below)) ∷ list) (sym (append_assoc (flat A below) (flat A row) (flat A others)))
+    ap (λ list. plan_nodes.Node combine target (length (flat A below)) ∷ (flat A below ++ list)) (flat-join A row others)
+    ∙ ap (λ list. plan_nodes.Node combine target (length (flat A below)) ∷ list) (sym (append_assoc (flat A below) (flat A row) (flat A others)))
 
 gathered_from-join : (q : Question) (met : List (List ℕ)) (a : Algorithm) (g : Gathered) (row others : Branches) →
     gathered_from q met a g (join row others) ≡ gathered_from q met a (gathered_from q met a g row) others
@@ -88,7 +88,7 @@ left_out a g =
 
 module _ (A : Type 0) (known : Known) where
   -- what is never applicable can be left out
-  appends_none : (n : ℕ) (part : Question → List (List ℕ) → Decision × List Placed) (old : List (Step A)) →
+  appends_none : (n : ℕ) (part : Question → List (List ℕ) → Decision × List Placed) (old : List (PlanNode A)) →
       ((q : Question) (met : List (List ℕ)) → Fits known q → part_verdict q met n (part q met) ≡ not_applicable) → Appends A known (λ q met. StandsFor q met n (part q met)) old old
   appends_none n part old never = record {
     row = no_branches;
@@ -96,15 +96,15 @@ module _ (A : Type 0) (known : Known) where
     meant = λ q met fits a g. sym (ap (with_verdict a g) (never q met fits) ∙ left_out a g);
   }
 
-  pub rule-never : (n : ℕ) (rule : RuleData) (old : List (Step A)) → ((q : Question) (met : List (List ℕ)) → Fits known q → rule_applies q met rule ≡ false) →
+  pub rule-never : (n : ℕ) (rule : RuleData) (old : List (PlanNode A)) → ((q : Question) (met : List (List ℕ)) → Fits known q → rule_applies q met rule ≡ false) →
       Appends A known (λ q met. StandsFor q met n (rule_part q met rule)) old old
   rule-never n rule old never = appends_none n (λ q met. rule_part q met rule) old (λ q met fits. rule_left q met n rule (sym (never q met fits)))
 
-  pub target-never : (n : ℕ) (rule : RuleData) (old : List (Step A)) → ((q : Question) (met : List (List ℕ)) → Fits known q → target_holds q met rule.target ≡ false) →
+  pub target-never : (n : ℕ) (rule : RuleData) (old : List (PlanNode A)) → ((q : Question) (met : List (List ℕ)) → Fits known q → target_holds q met rule.target ≡ false) →
       Appends A known (λ q met. StandsFor q met n (rule_part q met rule)) old old
   target-never n rule old never = rule-never n rule old (λ q met fits. ap (λ b. b && list_all (atom_holds q met) rule.when) (never q met fits))
 
-  pub when-never : (n : ℕ) (rule : RuleData) (old : List (Step A)) → ((q : Question) (met : List (List ℕ)) → Fits known q → list_all (atom_holds q met) rule.when ≡ false) →
+  pub when-never : (n : ℕ) (rule : RuleData) (old : List (PlanNode A)) → ((q : Question) (met : List (List ℕ)) → Fits known q → list_all (atom_holds q met) rule.when ≡ false) →
       Appends A known (λ q met. StandsFor q met n (rule_part q met rule)) old old
   when-never n rule old never =
       rule-never n rule old (λ q met fits. ap (λ b. target_holds q met rule.target && b) (never q met fits) ∙ and_false (target_holds q met rule.target))
@@ -115,10 +115,10 @@ module _ (A : Type 0) (known : Known) where
   by_test q met n rule false other = sym (rule_left q met n rule other)
 
   -- a rule whose reduced target and conditions are kept
-  pub rule-kept : (n : ℕ) (rule : RuleData) (target : List (List (List Match))) (when : List Atom) (old new : List (Step A)) →
+  pub rule-kept : (n : ℕ) (rule : RuleData) (target : List (List (List Match))) (when : List Atom) (old new : List (PlanNode A)) →
       ((q : Question) (met : List (List ℕ)) → Fits known q → target_holds q met rule.target ≡ target_holds q met target) →
       ((q : Question) (met : List (List ℕ)) → Fits known q → list_all (atom_holds q met) rule.when ≡ list_all (atom_holds q met) when) →
-      new ≡ old ++ steps.Rule n rule.effect target when ∷ [] → Appends A known (λ q met. StandsFor q met n (rule_part q met rule)) old new
+      new ≡ old ++ plan_nodes.Rule n rule.effect target when ∷ [] → Appends A known (λ q met. StandsFor q met n (rule_part q met rule)) old new
   rule-kept n rule target when old new same_target same_when appended = record {
     row = leaf n rule.effect target when no_branches;
     appended = appended;
@@ -134,12 +134,12 @@ module _ (A : Type 0) (known : Known) where
   nothing-gathered q met FirstApplicable n = refl
 
   -- no parts are compiled to no branches
-  pub all-none : (n : ℕ) (old : List (Step A)) → Appends A known (λ q met. AllStandFor q met n []) old old
+  pub all-none : (n : ℕ) (old : List (PlanNode A)) → Appends A known (λ q met. AllStandFor q met n []) old old
   all-none n old = record { row = no_branches; appended = sym (append-nil old); meant = λ q met fits a. nothing-gathered q met a n }
 
   -- one more part
   pub all-more : {X : Type 0} (part : Question → List (List ℕ) → X → Decision × List Placed) → ((q : Question) (met : List (List ℕ)) (x : X) → OwnDecision q met (part q met x)) →
-      (n : ℕ) (xs : List X) (i : ℕ) (x : X) (number : ℕ) (old mid new : List (Step A)) → i < length xs → x ≡ get_or xs i x →
+      (n : ℕ) (xs : List X) (i : ℕ) (x : X) (number : ℕ) (old mid new : List (PlanNode A)) → i < length xs → x ≡ get_or xs i x →
       ((q : Question) (met : List (List ℕ)) → number ≡ n + sizes_of (map (part q met) (take i xs))) →
       Appends A known (λ q met. AllStandFor q met n (map (part q met) (take i xs))) old mid → Appends A known (λ q met. StandsFor q met number (part q met x)) mid new →
       Appends A known (λ q met. AllStandFor q met n (map (part q met) (take (i + 1) xs))) old new
@@ -155,30 +155,30 @@ module _ (A : Type 0) (known : Known) where
         (ap (λ k. part_verdict q met k (part q met x)) (numbered q met));
   }
 
-  closed-list : (combine : Algorithm) (target : List (List (List Match))) (old behind mid : List (Step A)) → mid ≡ (old ++ placeholder A combine ∷ []) ++ behind →
-      closed A (length old) combine target mid ≡ old ++ steps.Node combine target (length behind) ∷ behind
+  closed-list : (combine : Algorithm) (target : List (List (List Match))) (old behind mid : List (PlanNode A)) → mid ≡ (old ++ placeholder A combine ∷ []) ++ behind →
+      node_closed A (length old) combine target mid ≡ old ++ plan_nodes.Node combine target (length behind) ∷ behind
   closed-list combine target old behind mid e =
       let regrouped : mid ≡ old ++ placeholder A combine ∷ behind = e ∙ append_assoc old (placeholder A combine ∷ []) behind in
       let counted : length mid - length old - 1 ≡ length behind = ap (λ list. length list - length old - 1) regrouped ∙ omega (arith, length-append old (placeholder A combine ∷ behind)) in
-      (λ i. slice_set (regrouped i) (length old) (steps.Node combine target (counted i))) ∙ set_at old (placeholder A combine) behind (steps.Node combine target (length behind)) (length old) refl
+      (λ i. slice_set (regrouped i) (length old) (plan_nodes.Node combine target (counted i))) ∙ set_at old (placeholder A combine) behind (plan_nodes.Node combine target (length behind)) (length old) refl
 
   -- a set or a policy whose target never holds can be left out
-  pub node-never : (n : ℕ) (node : NodeData) (target : List (List (List Match))) (old : List (Step A)) →
+  pub node-never : (n : ℕ) (node : NodeData) (target : List (List (List Match))) (old : List (PlanNode A)) →
       ((q : Question) (met : List (List ℕ)) → false ≡ target_holds q met target → part_verdict q met n (node_part q met node) ≡ not_applicable) →
       ((q : Question) (met : List (List ℕ)) → Fits known q → target_holds q met target ≡ false) → Appends A known (λ q met. StandsFor q met n (node_part q met node)) old old
   node-never n node target old dropped never = appends_none n (λ q met. node_part q met node) old (λ q met fits. dropped q met (sym (never q met fits)))
 
   -- a set or a policy with a reduced target, and the steps below it
-  pub node-kept : (n : ℕ) (node : NodeData) (combine : Algorithm) (target left : List (List (List Match))) (parts : Question → List (List ℕ) → List (Decision × List Placed)) (old mid new : List (Step A)) →
+  pub node-kept : (n : ℕ) (node : NodeData) (combine : Algorithm) (target left : List (List (List Match))) (parts : Question → List (List ℕ) → List (Decision × List Placed)) (old mid new : List (PlanNode A)) →
       ((q : Question) (met : List (List ℕ)) → true ≡ target_holds q met target → settled_verdict combine (gathered_of q met combine n (parts q met)) ≡ part_verdict q met n (node_part q met node)) →
       ((q : Question) (met : List (List ℕ)) → false ≡ target_holds q met target → part_verdict q met n (node_part q met node) ≡ not_applicable) →
       ((q : Question) (met : List (List ℕ)) → Fits known q → target_holds q met target ≡ target_holds q met left) →
-      Appends A known (λ q met. AllStandFor q met n (parts q met)) (old ++ placeholder A combine ∷ []) mid → new ≡ closed A (length old) combine left mid →
+      Appends A known (λ q met. AllStandFor q met n (parts q met)) (old ++ placeholder A combine ∷ []) mid → new ≡ node_closed A (length old) combine left mid →
       Appends A known (λ q met. StandsFor q met n (node_part q met node)) old new
   node-kept n node combine target left parts old mid new kept dropped same inner is = record {
     row = fork combine left inner.row no_branches;
     appended = is ∙ closed-list combine left old (flat A inner.row) mid inner.appended
-        ∙ ap (λ list. old ++ steps.Node combine left (length (flat A inner.row)) ∷ list) (sym (append-nil (flat A inner.row)));
+        ∙ ap (λ list. old ++ plan_nodes.Node combine left (length (flat A inner.row)) ∷ list) (sym (append-nil (flat A inner.row)));
     meant = λ q met fits a g. ap (with_verdict a g) (by_target q met fits (target_holds q met left) (same q met fits));
   }
     where
@@ -194,24 +194,24 @@ module _ (A : Type 0) (known : Known) where
   HoldAlike target left = (q : Question) (met : List (List ℕ)) → Fits known q → target_holds q met target ≡ target_holds q met left
 
   -- the two facts for sets, and for policies
-  pub set-never : {X : Type 0} (view : X → NodeData) (n : ℕ) (head : Head) (xs : List X) (old : List (Step A)) → NeverHolds head.target →
+  pub set-never : {X : Type 0} (view : X → NodeData) (n : ℕ) (head : Head) (xs : List X) (old : List (PlanNode A)) → NeverHolds head.target →
       Appends A known (λ q met. StandsFor q met n (node_part q met (set head (children_of (map view xs))))) old old
   set-never view n head xs old never = node-never n (set head (children_of (map view xs))) head.target old (λ q met other. left-set q met n head (children_of (map view xs)) other) never
 
-  pub set-kept : {X : Type 0} (view : X → NodeData) (n : ℕ) (head : Head) (xs : List X) (left : List (List (List Match))) (old mid new : List (Step A)) → HoldAlike head.target left →
-      Appends A known (λ q met. AllStandFor q met n (map (λ x. node_part q met (view x)) xs)) (old ++ placeholder A head.combine ∷ []) mid → new ≡ closed A (length old) head.combine left mid →
+  pub set-kept : {X : Type 0} (view : X → NodeData) (n : ℕ) (head : Head) (xs : List X) (left : List (List (List Match))) (old mid new : List (PlanNode A)) → HoldAlike head.target left →
+      Appends A known (λ q met. AllStandFor q met n (map (λ x. node_part q met (view x)) xs)) (old ++ placeholder A head.combine ∷ []) mid → new ≡ node_closed A (length old) head.combine left mid →
       Appends A known (λ q met. StandsFor q met n (node_part q met (set head (children_of (map view xs))))) old new
   set-kept view n head xs left old mid new same inner is =
       node-kept n (set head (children_of (map view xs))) head.combine head.target left (λ q met. map (λ x. node_part q met (view x)) xs) old mid new
       (λ q met holds. ap (λ ps. settled_verdict head.combine (gathered_of q met head.combine n ps)) (sym (parts_of-map q met view xs)) ∙ settled-set q met n head (children_of (map view xs)) holds)
       (λ q met other. left-set q met n head (children_of (map view xs)) other) same inner is
 
-  pub policy-never : (n : ℕ) (head : Head) (rules : List RuleData) (old : List (Step A)) → NeverHolds head.target →
+  pub policy-never : (n : ℕ) (head : Head) (rules : List RuleData) (old : List (PlanNode A)) → NeverHolds head.target →
       Appends A known (λ q met. StandsFor q met n (node_part q met (policy head rules))) old old
   policy-never n head rules old never = node-never n (policy head rules) head.target old (λ q met other. left-policy q met n head rules other) never
 
-  pub policy-kept : (n : ℕ) (head : Head) (rules : List RuleData) (left : List (List (List Match))) (old mid new : List (Step A)) → HoldAlike head.target left →
-      Appends A known (λ q met. AllStandFor q met n (map (rule_part q met) rules)) (old ++ placeholder A head.combine ∷ []) mid → new ≡ closed A (length old) head.combine left mid →
+  pub policy-kept : (n : ℕ) (head : Head) (rules : List RuleData) (left : List (List (List Match))) (old mid new : List (PlanNode A)) → HoldAlike head.target left →
+      Appends A known (λ q met. AllStandFor q met n (map (rule_part q met) rules)) (old ++ placeholder A head.combine ∷ []) mid → new ≡ node_closed A (length old) head.combine left mid →
       Appends A known (λ q met. StandsFor q met n (node_part q met (policy head rules))) old new
   policy-kept n head rules left old mid new same inner is =
       node-kept n (policy head rules) head.combine head.target left (λ q met. map (rule_part q met) rules) old mid new

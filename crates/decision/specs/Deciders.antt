@@ -23,4 +23,7 @@ restored s = record { document = documents.restored s.0; edition = s.1 }
 
 abbrev pub restored-stored : (d : DeciderData) → restored (stored d) ≡ d
 restored-stored d =
-    ap (λ (document : DocumentData). let e : DeciderData = record { document = document; edition = d.edition } in e) (documents.restored-stored d.document)
+    ap (λ (document : DocumentData). let e : DeciderData = record {
+      document = document;
+      edition = d.edition;
+    } in e) (documents.restored-stored d.document)

@@ -15,7 +15,13 @@ pub record FoldedData : Type 0 where
 
 -- the question that a folded decider is asked
 abbrev pub asked : FoldedData → List ℕ → List ℕ → List Point → Question
-asked f owner class shape = record { subject = f.subject; action = f.action; owner = owner; class = class; shape = shape }
+asked f owner class shape = record {
+  subject = f.subject;
+  action = f.action;
+  owner = owner;
+  class = class;
+  shape = shape;
+}
 
 -- codes by which proofs tell two of them apart
 abbrev pub Stored : Type 0
@@ -29,4 +35,8 @@ restored s = record { decider = deciders.restored s.0; subject = s.1.0; action =
 
 abbrev pub restored-stored : (f : FoldedData) → restored (stored f) ≡ f
 restored-stored f =
-    ap (λ (decider : DeciderData). let e : FoldedData = record { decider = decider; subject = f.subject; action = f.action } in e) (deciders.restored-stored f.decider)
+    ap (λ (decider : DeciderData). let e : FoldedData = record {
+      decider = decider;
+      subject = f.subject;
+      action = f.action;
+    } in e) (deciders.restored-stored f.decider)

@@ -51,12 +51,17 @@ abbrev pub conditions_hold : Test (List Atom)
 conditions_hold q met when = list_all (atom_holds q met) when
 
 -- the reduced test agrees with x for each question that fits
-abbrev pub Keeps : {X : Type 0} → Known → Test X → X → Kept X → Type 0
-Keeps known test x Always = (q : Question) (met : List (List ℕ)) → Fits known q → test q met x ≡ true
-Keeps known test x Never = (q : Question) (met : List (List ℕ)) → Fits known q → test q met x ≡ false
-Keeps known test x (Asks left) = (q : Question) (met : List (List ℕ)) → Fits known q → test q met x ≡ test q met left
+abbrev pub KeepsTest : {X : Type 0} → Known → Test X → X → Kept X → Type 0
+KeepsTest known test x Always =
+    (q : Question) (met : List (List ℕ)) → Fits known q → test q met x ≡ true
+KeepsTest known test x Never =
+    (q : Question) (met : List (List ℕ)) → Fits known q → test q met x ≡ false
+KeepsTest known test x (Asks left) =
+    (q : Question) (met : List (List ℕ)) → Fits known q → test q met x ≡ test q met left
 
 -- the same, with an empty test in place of one that always holds
-abbrev pub Leaves : {X : Type 0} → Known → Test X → X → Option X → Type 0
-Leaves known test x None = (q : Question) (met : List (List ℕ)) → Fits known q → test q met x ≡ false
-Leaves known test x (Some left) = (q : Question) (met : List (List ℕ)) → Fits known q → test q met x ≡ test q met left
+abbrev pub LeavesTest : {X : Type 0} → Known → Test X → X → Option X → Type 0
+LeavesTest known test x None =
+    (q : Question) (met : List (List ℕ)) → Fits known q → test q met x ≡ false
+LeavesTest known test x (Some left) =
+    (q : Question) (met : List (List ℕ)) → Fits known q → test q met x ≡ test q met left

@@ -4,14 +4,14 @@ ghost use Rattle.std.specs.Prelude.{◌≡◌, ℕ, ◌+◌, ◌<◌, ◌≤◌,
 ghost use Rattle.combining.specs.Deciding.{rule_part};
 ghost use Rattle.combining.specs.Gathering.{node_part, last_number};
 ghost use Rattle.decision.specs.Plans.{Branches, flat};
-ghost use Rattle.decision.specs.Compiled.{Appends, StandsFor, AllStandFor, placeholder, closed};
+ghost use Rattle.decision.specs.Compiled.{Appends, StandsFor, AllStandFor, placeholder, node_closed};
 ghost use Rattle.policy_documents.specs.Documents.{set, policy, rules_of, rules_of_all, children_of};
 ghost use Rattle.policy_documents.specs.Views.{node_view};
 
 use crate::known::{Known, keep_conditions, keep_target};
-use crate::steps::Step;
+use crate::plan_nodes::PlanNode;
 use combining::rule_count;
-use memory::{GrowVec, Refused};
+use memory::{GrowVec, NoMemory};
 use policy_documents::{Algorithm, Node, Rule, Target};
 use std::alloc::Allocator;
 
@@ -22,8 +22,8 @@ fn compile_rule<A: Allocator, B: Allocator + Copy>(
     known: &Known,
     rule: &Rule<A>,
     number: u32,
-    steps: &mut Vec<Step<B>, B>,
-) -> Result<(), Refused>
+    steps: &mut Vec<PlanNode<B>, B>,
+) -> Result<(), NoMemory>
     ensures { OnOk result
         (Appends B known.now (λ q met. StandsFor q met number (rule_part q met rule.now))
         steps.old.items steps.new.items) }
@@ -34,7 +34,7 @@ fn compile_rule<A: Allocator, B: Allocator + Copy>(
     let Some(when) = keep_conditions(alloc, known, &rule.when)? else {
         return Ok(());
     };
-    steps.try_push(Step::Rule {
+    steps.try_push(PlanNode::Rule {
         number,
         effect: rule.effect,
         target,
@@ -49,8 +49,8 @@ fn compile_rules<A: Allocator, B: Allocator + Copy>(
     known: &Known,
     rules: &[Rule<A>],
     next: u32,
-    steps: &mut Vec<Step<B>, B>,
-) -> Result<(), Refused>
+    steps: &mut Vec<PlanNode<B>, B>,
+) -> Result<(), NoMemory>
     requires { next + length rules.now ≤ last_number }
     ensures { OnOk result
         (Appends B known.now (λ q met. AllStandFor q met next (map (rule_part q met) rules.now))
@@ -69,14 +69,14 @@ fn compile_rules<A: Allocator, B: Allocator + Copy>(
 fn open_node<B: Allocator + Copy>(
     alloc: B,
     combine: Algorithm,
-    steps: &mut Vec<Step<B>, B>,
-) -> Result<usize, Refused>
+    steps: &mut Vec<PlanNode<B>, B>,
+) -> Result<usize, NoMemory>
     ensures { IfOk result
         (λ place. (place ≡ length steps.old.items)
         × (steps.new.items ≡ steps.old.items ++ placeholder B combine ∷ [])) }
 {
     let place = steps.len();
-    steps.try_push(Step::Node {
+    steps.try_push(PlanNode::Node {
         combine,
         target: Target::from_vec(Vec::new(alloc)),
         below: 0,
@@ -86,16 +86,16 @@ fn open_node<B: Allocator + Copy>(
 
 /// Replaces the placeholder at `place` by a set or a policy that has all steps after it below it.
 fn close_node<B: Allocator + Copy>(
-    steps: &mut Vec<Step<B>, B>,
+    steps: &mut Vec<PlanNode<B>, B>,
     place: usize,
     combine: Algorithm,
     target: Target<B>,
 )
     requires { place < length steps.old.items }
-    ensures { steps.new.items ≡ closed B place combine target steps.old.items }
+    ensures { steps.new.items ≡ node_closed B place combine target steps.old.items }
 {
     let below = steps.len() - place - 1;
-    steps[place] = Step::Node {
+    steps[place] = PlanNode::Node {
         combine,
         target,
         below,
@@ -112,8 +112,8 @@ fn compile_policy<A: Allocator, B: Allocator + Copy>(
     target: &Target<A>,
     rules: &[Rule<A>],
     next: u32,
-    steps: &mut Vec<Step<B>, B>,
-) -> Result<(), Refused>
+    steps: &mut Vec<PlanNode<B>, B>,
+) -> Result<(), NoMemory>
     requires { next + length rules.now ≤ last_number }
     ensures { (name : List ℕ)
         → OnOk result (Appends B known.now
@@ -139,8 +139,8 @@ pub(crate) fn compile_node<A: Allocator, B: Allocator + Copy>(
     known: &Known,
     node: &Node<A>,
     next: u32,
-    steps: &mut Vec<Step<B>, B>,
-) -> Result<(), Refused>
+    steps: &mut Vec<PlanNode<B>, B>,
+) -> Result<(), NoMemory>
     requires { next + length (rules_of (node_view node.now)) ≤ last_number }
     ensures { OnOk result
         (Appends B known.now (λ q met. StandsFor q met next (node_part q met (node_view node.now)))
@@ -173,8 +173,8 @@ fn compile_set<A: Allocator, B: Allocator + Copy>(
     target: &Target<A>,
     of: &[Node<A>],
     next: u32,
-    steps: &mut Vec<Step<B>, B>,
-) -> Result<(), Refused>
+    steps: &mut Vec<PlanNode<B>, B>,
+) -> Result<(), NoMemory>
     requires { next + length (rules_of_all (children_of (map node_view of.now))) ≤ last_number }
     ensures { (name : List ℕ)
         → OnOk result (Appends B known.now
@@ -200,8 +200,8 @@ fn compile_nodes<A: Allocator, B: Allocator + Copy>(
     known: &Known,
     nodes: &[Node<A>],
     next: u32,
-    steps: &mut Vec<Step<B>, B>,
-) -> Result<(), Refused>
+    steps: &mut Vec<PlanNode<B>, B>,
+) -> Result<(), NoMemory>
     requires { next + length (rules_of_all (children_of (map node_view nodes.now))) ≤ last_number }
     ensures { OnOk result
         (Appends B known.now

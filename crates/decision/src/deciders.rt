@@ -10,7 +10,7 @@ use crate::plans::Plan;
 use crate::rulings::Ruling;
 use combining::{Decision, Question, Verdict};
 use features::{Action, Name, Subject};
-use memory::{NotStored, Refused};
+use memory::{NoMemory, NotStored};
 use policy_documents::{Document, Node};
 use std::alloc::Global;
 use std::marker::Model;
@@ -78,9 +78,9 @@ impl Decider {
                 edition,
                 plan,
             }),
-            Err(refusal) => Err(NotStored {
+            Err(cause) => Err(NotStored {
                 value: document,
-                refusal,
+                cause,
             }),
         }
     }
@@ -94,7 +94,7 @@ impl Decider {
 
     /// Specializes the decider for one subject and one action: all that these two determine is
     /// decided in advance. Fails only when out of memory.
-    pub fn fold(&self, subject: &Subject, action: &Action) -> Result<Folded<'_>, Refused>
+    pub fn fold(&self, subject: &Subject, action: &Action) -> Result<Folded<'_>, NoMemory>
         ensures { IfOk result
             (λ folded. folded
             ≡ record { decider = self.now; subject = subject.now; action = action.now }) }

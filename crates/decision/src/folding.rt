@@ -37,9 +37,14 @@ impl<'a> Model for Folded<'a> {
 
     ghost coded = { code_by Stored (Prim.hlevel codes) stored restored restored-stored };
 
-    ghost view = { λ f. record { decider = f.decider.now; subject = f.subject; action = f.action } };
+    ghost view = { λ f. record {
+      decider = f.decider.now;
+      subject = f.subject;
+      action = f.action;
+    } };
 
-    ghost invariant = { λ f. (q : Question) → q.subject ≡ f.subject → q.action ≡ f.action → Decides _ f.plan f.decider.now.document.root q };
+    ghost invariant = { λ f. (q : Question) → q.subject ≡ f.subject → q.action ≡ f.action
+        → Decides _ f.plan f.decider.now.document.root q };
 }
 
 impl<'a> Folded<'a> {

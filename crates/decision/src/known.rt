@@ -2,10 +2,10 @@
 
 ghost use Rattle.std.specs.Prelude.{◌≡◌, IfOk};
 ghost use Rattle.combining.specs.Holding.{target_holds};
-ghost use Rattle.decision.specs.Known.{told_match, told_atom, all_hold, some_hold, conditions_hold, Keeps, Leaves};
+ghost use Rattle.decision.specs.Known.{told_match, told_atom, all_hold, some_hold, conditions_hold, KeepsTest, LeavesTest};
 
 use features::{Action, Subject};
-use memory::{GrowVec, Refused};
+use memory::{GrowVec, NoMemory};
 use policy_documents::{AllOf, AnyOf, Atom, Conditions, Match, Target, Term};
 use std::alloc::Allocator;
 
@@ -62,8 +62,8 @@ fn keep_all_of<A: Allocator, B: Allocator + Copy>(
     alloc: B,
     known: &Known,
     matches: &AllOf<A>,
-) -> Result<Kept<AllOf<B>>, Refused>
-    ensures { IfOk result (Keeps known.now all_hold matches.now) }
+) -> Result<Kept<AllOf<B>>, NoMemory>
+    ensures { IfOk result (KeepsTest known.now all_hold matches.now) }
 {
     let mut kept = Vec::new(alloc);
     let tests = matches.as_slice();
@@ -85,8 +85,8 @@ fn keep_any_of<A: Allocator, B: Allocator + Copy>(
     alloc: B,
     known: &Known,
     alternatives: &AnyOf<A>,
-) -> Result<Kept<AnyOf<B>>, Refused>
-    ensures { IfOk result (Keeps known.now some_hold alternatives.now) }
+) -> Result<Kept<AnyOf<B>>, NoMemory>
+    ensures { IfOk result (KeepsTest known.now some_hold alternatives.now) }
 {
     let mut kept = Vec::new(alloc);
     let rows = alternatives.as_slice();
@@ -108,8 +108,8 @@ pub(crate) fn keep_target<A: Allocator, B: Allocator + Copy>(
     alloc: B,
     known: &Known,
     target: &Target<A>,
-) -> Result<Option<Target<B>>, Refused>
-    ensures { IfOk result (Leaves known.now target_holds target.now) }
+) -> Result<Option<Target<B>>, NoMemory>
+    ensures { IfOk result (LeavesTest known.now target_holds target.now) }
 {
     let mut kept = Vec::new(alloc);
     let parts = target.as_slice();
@@ -129,8 +129,8 @@ pub(crate) fn keep_conditions<A: Allocator, B: Allocator + Copy>(
     alloc: B,
     known: &Known,
     when: &Conditions<A>,
-) -> Result<Option<Conditions<B>>, Refused>
-    ensures { IfOk result (Leaves known.now conditions_hold when.now) }
+) -> Result<Option<Conditions<B>>, NoMemory>
+    ensures { IfOk result (LeavesTest known.now conditions_hold when.now) }
 {
     let mut kept = Vec::new(alloc);
     let atoms = when.as_slice();

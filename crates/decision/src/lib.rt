@@ -6,10 +6,10 @@ mod deciders;
 mod folding;
 mod known;
 mod laws;
+mod plan_nodes;
 mod plans;
 mod rulings;
 mod running;
-mod steps;
 
 pub use deciders::Decider;
 pub use folding::Folded;

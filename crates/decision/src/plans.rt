@@ -9,11 +9,11 @@ ghost use Rattle.policy_documents.specs.Documents.{NodeData};
 
 use crate::compiling::compile_node;
 use crate::known::Known;
+use crate::plan_nodes::PlanNode;
 use crate::running::run_steps;
-use crate::steps::Step;
 use combining::{Question, Verdict, met_zones};
 use features::Name;
-use memory::Refused;
+use memory::NoMemory;
 use policy_documents::{Algorithm, Document};
 use std::alloc::Allocator;
 use std::marker::Model;
@@ -22,14 +22,14 @@ use std::marker::Model;
 /// rules, its sets and its policies, in document order. A contract sees the list.
 #[derive(Debug, Drop)]
 pub(crate) struct Plan<A: Allocator> {
-    steps: Vec<Step<A>, A>,
+    steps: Vec<PlanNode<A>, A>,
 }
 
 impl<A: Allocator> Model for Plan<A> {
     ghost use Rattle.std.specs.Prelude.{List};
-    ghost use Rattle.decision.specs.declared.steps.Step.{Step};
+    ghost use Rattle.decision.specs.declared.plan_nodes.PlanNode.{PlanNode};
 
-    ghost Value = { List (Step A) };
+    ghost Value = { List (PlanNode A) };
 
     ghost view = { λ p. p.steps.items };
 }
@@ -40,7 +40,7 @@ impl<A: Allocator + Copy> Plan<A> {
         alloc: A,
         known: &Known,
         document: &Document<D>,
-    ) -> Result<Plan<A>, Refused>
+    ) -> Result<Plan<A>, NoMemory>
         ensures { IfOk result
             (λ plan. (q : Question) → Fits known.now q → Decides A plan document.now.root q) }
     {

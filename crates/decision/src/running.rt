@@ -3,7 +3,7 @@
 ghost use Rattle.std.specs.Prelude.{◌≡◌};
 ghost use Rattle.decision.specs.Plans.{Branches, flat, IsFlat, branches_verdict, step_verdict};
 
-use crate::steps::Step;
+use crate::plan_nodes::PlanNode;
 use combining::{
     Decision, Gathered, Question, Verdict, conditions_hold, effect_decision, target_holds,
 };
@@ -22,7 +22,7 @@ pub(crate) fn run_steps<A: Allocator>(
     question: &Question,
     met: &[Name],
     combine: Algorithm,
-    steps: &[Step<A>],
+    steps: &[PlanNode<A>],
 ) -> Verdict
     requires { IsFlat A steps.now }
     ensures { (row : Branches) → steps.now ≡ flat A row
@@ -47,15 +47,15 @@ pub(crate) fn run_steps<A: Allocator>(
 fn run_step<A: Allocator>(
     question: &Question,
     met: &[Name],
-    step: &Step<A>,
-    below: &[Step<A>],
+    step: &PlanNode<A>,
+    below: &[PlanNode<A>],
 ) -> Verdict
     requires { IsFlat A below.now }
     ensures { (row : Branches) → below.now ≡ flat A row
         → result ≡ step_verdict question.now met.now A step.now row }
 {
     match step {
-        Step::Rule {
+        PlanNode::Rule {
             number,
             effect,
             target,
@@ -69,7 +69,7 @@ fn run_step<A: Allocator>(
             }
             NOT_APPLICABLE
         }
-        Step::Node {
+        PlanNode::Node {
             combine,
             target,
             ..

@@ -7,26 +7,26 @@ use Rattle.line_streams.specs.declared.streams.ServeFault.{ServeFault}
 use Rattle.line_streams.specs.Streams.{GoesOn, LinesTell, Ran}
 use Rattle.drawing.specs.declared.marks.Mark.{Mark}
 use Rattle.drawing.specs.declared.reading.Stop.{Stop}
-use Rattle.drawing.specs.Gathering.{Gathered, LineTells, ReadsMarks}
+use Rattle.drawing.specs.Gathering.{Gathered, LineGathers, ReadsMarks}
 use Rattle.drawing.specs.Marks.{AreNotTooMany, marks_on}
 
-line_marks : (line : List ℕ) (old new : Gathered) (said : List ℕ) → GoesOn LineTells line old new said → new.marks ≡ old.marks ++ marks_on line
+line_marks : (line : List ℕ) (old new : Gathered) (said : List ℕ) → GoesOn LineGathers line old new said → new.marks ≡ old.marks ++ marks_on line
 line_marks line old new said told = told.1.0
 
-line_within : (line : List ℕ) (old new : Gathered) (said : List ℕ) → GoesOn LineTells line old new said → AreNotTooMany old.marks → AreNotTooMany new.marks
+line_within : (line : List ℕ) (old new : Gathered) (said : List ℕ) → GoesOn LineGathers line old new said → AreNotTooMany old.marks → AreNotTooMany new.marks
 line_within line old new said told = told.1.2
 
-lines_within : (lines : List (List ℕ)) (old new : Gathered) (said : List ℕ) → LinesTell (GoesOn LineTells) old lines new said → AreNotTooMany old.marks → AreNotTooMany new.marks
+lines_within : (lines : List (List ℕ)) (old new : Gathered) (said : List ℕ) → LinesTell (GoesOn LineGathers) old lines new said → AreNotTooMany old.marks → AreNotTooMany new.marks
 lines_within [] old new said told within = subst (λ (s : Gathered). AreNotTooMany s.marks) (sym told.0) within
 lines_within (line ∷ lines) old new said told within = lines_within lines told.0 new told.2 told.5 (line_within line old told.0 told.1 told.3 within)
 
-lines_marks : (lines : List (List ℕ)) (old new : Gathered) (said : List ℕ) → LinesTell (GoesOn LineTells) old lines new said → new.marks ≡ old.marks ++ flat_map marks_on lines
+lines_marks : (lines : List (List ℕ)) (old new : Gathered) (said : List ℕ) → LinesTell (GoesOn LineGathers) old lines new said → new.marks ≡ old.marks ++ flat_map marks_on lines
 lines_marks [] old new said told = ap (λ (s : Gathered). s.marks) told.0 ∙ sym (append-nil old.marks)
 lines_marks (line ∷ lines) old new said told =
     lines_marks lines told.0 new told.2 told.5 ∙ ap (λ (ms : List Mark). ms ++ flat_map marks_on lines) (line_marks line old told.0 told.1 told.3)
     ∙ append_assoc old.marks (marks_on line) (flat_map marks_on lines)
 
-ended_at : (next : Next) (line said : List ℕ) (old new : Gathered) → next ≡ End → LineTells line old new said next → IsSome new.stop
+ended_at : (next : Next) (line said : List ℕ) (old new : Gathered) → next ≡ End → LineGathers line old new said next → IsSome new.stop
 ended_at End line said old new is (quiet, stopped) = stopped
 ended_at Line line said old new is told = cc
 
@@ -36,7 +36,7 @@ none_some (Some x) is some = cc
 
 -- a run to the end, by which nothing is left out, has gathered what the lines of the whole input
 -- show
-pub run_gathers : {O : Type 0} (r : Result O ServeFault) (old new : Gathered) (input left a b : Option (List ℕ)) → Ran LineTells r old new input left a b → OnOk r (new.stop ≡ None → ReadsMarks old.marks new.marks input left)
+pub run_gathers : {O : Type 0} (r : Result O ServeFault) (old new : Gathered) (input left a b : Option (List ℕ)) → Ran LineGathers r old new input left a b → OnOk r (new.stop ≡ None → ReadsMarks old.marks new.marks input left)
 run_gathers (Err e) old new input left a b run = tt
 run_gathers (Ok done) old new input left a b (inl run) =
     λ none. record { text = run.text; read = run.read; at_end = run.at_end; are = lines_marks _ old new run.answered.said run.answered.told; not_too_many = lines_within _ old new run.answered.said run.answered.told }

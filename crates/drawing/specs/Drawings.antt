@@ -20,20 +20,26 @@ pub record ReadBoth (script script_then replies replies_then : Option (List ℕ)
   pub replies_end : IsAtEnd replies_then
 
 -- the whole drawing was written, of at most `MARK_LIMIT` marks
-abbrev pub DrawsAll : Option (List ℕ) → Option (List ℕ) → Option (List ℕ) → Option (List ℕ) → Option (List ℕ) → Option (List ℕ) → Type 0
+abbrev pub DrawsAll : Option (List ℕ) → Option (List ℕ) → Option (List ℕ) → Option (List ℕ)
+    → Option (List ℕ) → Option (List ℕ) → Type 0
 DrawsAll script script_then replies replies_then before after =
-    (both : ReadBoth script script_then replies replies_then) × AreNotTooMany (marks_in both.commands ++ marks_in both.answers)
+    (both : ReadBoth script script_then replies replies_then)
+    × AreNotTooMany (marks_in both.commands ++ marks_in both.answers)
     × Appends before after (drawn both.commands both.answers)
 
 -- a front part of the drawing was written, maybe all of it
-abbrev pub DrawsFront : Option (List ℕ) → Option (List ℕ) → Option (List ℕ) → Option (List ℕ) → Option (List ℕ) → Option (List ℕ) → Type 0
+abbrev pub DrawsFront : Option (List ℕ) → Option (List ℕ) → Option (List ℕ) → Option (List ℕ)
+    → Option (List ℕ) → Option (List ℕ) → Type 0
 DrawsFront script script_then replies replies_then before after =
-    (both : ReadBoth script script_then replies replies_then) × (front : List ℕ) × (left : List ℕ) × (drawn both.commands both.answers ≡ front ++ left) × Appends before after front
+    (both : ReadBoth script script_then replies replies_then) × (front : List ℕ) × (left : List ℕ)
+    × (drawn both.commands both.answers ≡ front ++ left) × Appends before after front
 
 -- What was written, by how the drawing ended: after a failed write a front part of the document, or
 -- nothing; after every other fault nothing.
-abbrev pub Draws : {T : Type 0} → Result T DrawFault → Option (List ℕ) → Option (List ℕ) → Option (List ℕ) → Option (List ℕ) → Option (List ℕ) → Option (List ℕ) → Type 0
-Draws (Ok done) script script_then replies replies_then before after = DrawsAll script script_then replies replies_then before after
+abbrev pub Draws : {T : Type 0} → Result T DrawFault → Option (List ℕ) → Option (List ℕ)
+    → Option (List ℕ) → Option (List ℕ) → Option (List ℕ) → Option (List ℕ) → Type 0
+Draws (Ok done) script script_then replies replies_then before after =
+    DrawsAll script script_then replies replies_then before after
 Draws (Err (Write failed)) script script_then replies replies_then before after =
     DrawsFront script script_then replies replies_then before after ⊎ (after ≡ before)
 Draws (Err _) script script_then replies replies_then before after = after ≡ before

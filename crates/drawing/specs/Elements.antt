@@ -15,10 +15,12 @@ abbrev pub place_text : List ℕ → List ℕ → Point → List ℕ
 place_text x y p = attribute x p.x ++ attribute y p.y
 
 abbrev pub circle_text : Point → List ℕ
-circle_text p = codes "<circle r=\"0.6%\"" ++ place_text (codes " cx=\"") (codes " cy=\"") p ++ codes "/>"
+circle_text p = codes "<circle r=\"0.6%\"" ++ place_text (codes " cx=\"") (codes " cy=\"")
+    p ++ codes "/>"
 
 abbrev pub line_text : Point → Point → List ℕ
-line_text p q = codes "<line" ++ place_text (codes " x1=\"") (codes " y1=\"") p ++ place_text (codes " x2=\"") (codes " y2=\"") q ++ codes "/>"
+line_text p q = codes "<line" ++ place_text (codes " x1=\"") (codes " y1=\"") p ++ place_text
+    (codes " x2=\"") (codes " y2=\"") q ++ codes "/>"
 
 -- a corner of a polygon
 abbrev pub corner_text : Point → List ℕ
@@ -39,22 +41,26 @@ word_text name = codes " " ++ name
 
 -- the id, the class and the office of a feature
 abbrev pub title_text : Feature → List ℕ
-title_text feature = codes "<title>" ++ decimal feature.id ++ word_text feature.class ++ word_text feature.office ++ codes "</title>"
+title_text feature = codes "<title>" ++ decimal feature.id ++ word_text feature.class ++ word_text
+    feature.office ++ codes "</title>"
 
 abbrev pub paint_text : List ℕ → List ℕ
 paint_text colour = codes "<g fill=\"" ++ colour ++ codes "\" stroke=\"" ++ colour ++ codes "\">"
 
 -- the element of a feature, in this colour
 abbrev pub row_text : List ℕ → Feature → List ℕ
-row_text colour feature = paint_text colour ++ title_text feature ++ figure_text feature.shape ++ codes "</g>\n"
+row_text colour feature = paint_text colour ++ title_text feature ++ figure_text feature.shape
+    ++ codes "</g>\n"
 
 -- the element of a window
 abbrev pub window_text : List Point → List ℕ
-window_text corners = codes "<g fill=\"none\" stroke=\"#000000\" stroke-dasharray=\"1% 1%\">" ++ figure_text corners ++ codes "</g>\n"
+window_text corners = codes "<g fill=\"none\" stroke=\"#000000\" stroke-dasharray=\"1% 1%\">"
+    ++ figure_text corners ++ codes "</g>\n"
 
 -- the element of a class in the legend
 abbrev pub class_text : List ℕ → List ℕ → List ℕ
-class_text colour class = codes "<tspan x=\"1000\" dy=\"32\" fill=\"" ++ colour ++ codes "\">" ++ class ++ codes "</tspan>\n"
+class_text colour class = codes "<tspan x=\"1000\" dy=\"32\" fill=\"" ++ colour ++ codes
+    "\">" ++ class ++ codes "</tspan>\n"
 
 abbrev pub pair_text : ℤ → ℤ → List ℕ
 pair_text a b = signed_decimal a ++ codes " " ++ signed_decimal b

@@ -17,12 +17,13 @@ gathered marks stop = record { marks = marks; stop = stop }
 
 -- what is found is added, if there are not too many marks; or it is not, and the gathering ends
 abbrev pub GathersAs : Next → List Mark → Gathered → Gathered → Type 0
-GathersAs Line found old new = (new.marks ≡ old.marks ++ found) × (new.stop ≡ old.stop) × (AreNotTooMany old.marks → AreNotTooMany new.marks)
+GathersAs Line found old new = (new.marks ≡ old.marks ++ found) × (new.stop ≡ old.stop)
+    × (AreNotTooMany old.marks → AreNotTooMany new.marks)
 GathersAs End found old new = IsSome new.stop
 
 -- what a line shows is added, and nothing is written
-abbrev pub LineTells : List ℕ → Gathered → Gathered → List ℕ → Next → Type 0
-LineTells line old new said next = (said ≡ []) × GathersAs next (marks_on line) old new
+abbrev pub LineGathers : List ℕ → Gathered → Gathered → List ℕ → Next → Type 0
+LineGathers line old new said next = (said ≡ []) × GathersAs next (marks_on line) old new
 
 -- a text was read to its end, and what its lines show follows the marks that were there before
 pub record ReadsMarks (old new : List Mark) (input left : Option (List ℕ)) : Type 0 where

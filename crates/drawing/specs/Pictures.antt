@@ -40,7 +40,8 @@ colour_of classes class = colour_at (place_of classes class)
 
 -- a class that is not there is added, if there is a colour left for it
 abbrev pub with_name : List (List ℕ) → List ℕ → List (List ℕ)
-with_name classes class = if place_of classes class == length classes && nat_lt (place_of classes class) COLOURS then classes ++ class ∷ [] else classes
+with_name classes class = if place_of classes class == length classes && nat_lt
+    (place_of classes class) COLOURS then classes ++ class ∷ [] else classes
 
 abbrev pub with_class : List (List ℕ) → Mark → List (List ℕ)
 with_class classes (Window corners) = classes
@@ -74,7 +75,8 @@ head_text area = start_text ++ (view_text area ++ map_start)
 
 -- the legend and the end of the document
 abbrev pub legend_start : List ℕ
-legend_start = codes "</g>\n</svg>\n<text font-family=\"sans-serif\" font-size=\"24\" x=\"1000\" y=\"40\">\n"
+legend_start =
+    codes "</g>\n</svg>\n<text font-family=\"sans-serif\" font-size=\"24\" x=\"1000\" y=\"40\">\n"
 
 abbrev pub end_text : List ℕ
 end_text = codes "</text>\n</svg>\n"

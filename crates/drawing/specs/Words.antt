@@ -18,7 +18,8 @@ unspaced text = drop (prefix_len is_space text) text
 -- the word at the front of a text, and the rest of the text
 abbrev pub parted : List ℕ → Option (List ℕ × List ℕ)
 parted [] = None
-parted (b ∷ bs) = let len = prefix_len is_letter (b ∷ bs) in Some (take len (b ∷ bs), drop len (b ∷ bs))
+parted (b ∷ bs) = let len = prefix_len is_letter (b ∷ bs) in
+    Some (take len (b ∷ bs), drop len (b ∷ bs))
 
 -- the next word of a text, and the rest of the text
 unfoldable pub next_word : List ℕ → Option (List ℕ × List ℕ)
@@ -27,6 +28,7 @@ next_word text = parted (unspaced text)
 -- the number that a word spells: 1 to 20 digits, below 2 ^ 64
 unfoldable pub number_of : List ℕ → Option ℕ
 number_of word =
-    if nat_le 1 (length word) && nat_le (length word) 20 && all_ascii_digits word && nat_lt (digits_value 10 word) (2 ^ 64)
+    if nat_le 1 (length word) && nat_le (length word) 20 && all_ascii_digits word && nat_lt
+    (digits_value 10 word) (2 ^ 64)
     then Some (digits_value 10 word)
     else None

@@ -4,7 +4,7 @@ ghost use Rattle.std.specs.Prelude.{◌≡◌};
 
 use byte_streams::{ReadFailed, Turns, WriteFailed};
 use line_streams::ServeFault;
-use memory::Refused;
+use memory::NoMemory;
 use std::fmt;
 
 /// Why a drawing is not made. Only after `Write` a front part of it may have been written.
@@ -17,7 +17,7 @@ pub enum DrawFault {
     /// V3: the script or the replies did not end within the reads of a run. These were made.
     TooManyTurns(Turns),
     /// V4: out of memory.
-    Memory(Refused),
+    Memory(NoMemory),
     /// G1: there would be more than `MARK_LIMIT` marks.
     TooManyMarks,
 }
@@ -50,13 +50,13 @@ impl fmt::Display for DrawFault {
     }
 }
 
-impl From<Refused> for DrawFault {
+impl From<NoMemory> for DrawFault {
     ghost use Rattle.drawing.specs.declared.faults.DrawFault.TheVariants as faults;
 
-    ghost from_gives = { λ refused fault. fault ≡ faults.Memory refused };
+    ghost from_gives = { λ no_memory fault. fault ≡ faults.Memory no_memory };
 
-    fn from(refused: Refused) -> DrawFault {
-        DrawFault::Memory(refused)
+    fn from(no_memory: NoMemory) -> DrawFault {
+        DrawFault::Memory(no_memory)
     }
 }
 
@@ -80,7 +80,7 @@ impl From<ServeFault> for DrawFault {
             ServeFault::Read(failed) => DrawFault::Read(failed),
             ServeFault::Write(failed) => DrawFault::Write(failed),
             ServeFault::TooManyTurns(turns) => DrawFault::TooManyTurns(turns),
-            ServeFault::Memory(refused) => DrawFault::Memory(refused),
+            ServeFault::Memory(no_memory) => DrawFault::Memory(no_memory),
         }
     }
 }

@@ -6,7 +6,7 @@ ghost use Rattle.drawing.specs.declared.pictures.TheConstants.{COLOURS};
 
 use crate::marks::Mark;
 use features::Name;
-use memory::{Refused, vec_with_room};
+use memory::{NoMemory, vec_with_room};
 use plane::{Frame, frame_of, hull};
 use std::alloc::Allocator;
 
@@ -81,7 +81,7 @@ fn add_class<A: Allocator>(classes: &mut Vec<Name, A>, mark: &Mark)
 }
 
 /// The first classes of the marks, in the order in which they come. Refused if out of memory.
-pub(crate) fn classes_of<A: Allocator>(alloc: A, marks: &[Mark]) -> Result<Vec<Name, A>, Refused>
+pub(crate) fn classes_of<A: Allocator>(alloc: A, marks: &[Mark]) -> Result<Vec<Name, A>, NoMemory>
     ensures { IfOk result (λ classes. classes.items ≡ classes_of marks.now) }
 {
     let mut classes = vec_with_room(alloc, COLOURS)?;

@@ -7,7 +7,7 @@ use crate::faults::DrawFault;
 use crate::marks::{Mark, read_mark};
 use byte_streams::WriteFailed;
 use line_streams::{LINE_LIMIT, LineDesk, Next, run_lines};
-use memory::{GrowVec, Refused};
+use memory::{GrowVec, NoMemory};
 use std::alloc::Allocator;
 use std::io::{Read, Write, sink};
 use std::marker::PhantomData;
@@ -19,7 +19,7 @@ pub const MARK_LIMIT: usize = 100_000;
 #[derive(Debug, Drop)]
 enum Stop {
     /// Out of memory for a mark.
-    Memory(Refused),
+    Memory(NoMemory),
     /// There are `MARK_LIMIT` marks already.
     Full,
 }
@@ -47,8 +47,8 @@ impl<A: Allocator> Sheet<A> {
         }
         match self.marks.try_push(mark) {
             Ok(()) => Next::Line,
-            Err(refused) => {
-                self.stop = Some(Stop::Memory(refused));
+            Err(no_memory) => {
+                self.stop = Some(Stop::Memory(no_memory));
                 Next::End
             }
         }
@@ -76,7 +76,7 @@ impl<A: Allocator> Sheet<A> {
     {
         match self.stop {
             None => Ok(self.marks),
-            Some(Stop::Memory(refused)) => Err(DrawFault::Memory(refused)),
+            Some(Stop::Memory(no_memory)) => Err(DrawFault::Memory(no_memory)),
             Some(Stop::Full) => Err(DrawFault::TooManyMarks),
         }
     }
@@ -91,12 +91,13 @@ struct Gatherer<A: Allocator> {
 }
 
 impl<A: Allocator> LineDesk for Gatherer<A> {
-    ghost use Rattle.drawing.specs.Gathering.{LineTells, gathered};
+    ghost use Rattle.drawing.specs.Gathering.{LineGathers, gathered};
     ghost use Rattle.std.proofs.Common.{rules};
 
     type World = Sheet<A>;
 
-    ghost tells = { λ line old new said next. LineTells line (gathered old.0.marks.items old.0.stop) (gathered new.0.marks.items new.0.stop) said next };
+    ghost tells = { λ line old new said next. LineGathers line
+        (gathered old.0.marks.items old.0.stop) (gathered new.0.marks.items new.0.stop) said next };
 
     fn take_line<W: Write>(
         &mut self,

@@ -21,8 +21,9 @@ pub record IsSearched (asked : List Point) (answer : AnswerData) (old new : Seat
   pub receipt : new ≡ receipted (told_answer answer) old
 
 -- the seat's subject committed these changes with this outcome, and the receipt records it
-pub record IsCommitted (changes : List Change) (outcome : Outcome) (old new : SeatData) : Type 0 where
-  pub receipt : new ≡ receipted (deed_of old.subject changes outcome) old
+pub record IsCommitted (changes : List Change) (outcome : Outcome) (old new : SeatData) : Type 0
+  where
+    pub receipt : new ≡ receipted (deed_of old.subject changes outcome) old
 
 -- the decider of a document with which a list of policies ends; its edition is the length of the
 -- list
@@ -31,7 +32,8 @@ put_in_force document list = record { document = document; edition = length list
 
 -- the seat's subject put this document in force: the published list ends with it, and the receipt
 -- records it
-pub record IsGoverned (document : DocumentData) (list : List DeciderData) (old new : SeatData) : Type 0 where
+pub record IsGoverned (document : DocumentData) (list : List DeciderData)
+    (old new : SeatData) : Type 0 where
   pub last : last_or None list ≡ Some (put_in_force document list)
   pub receipt : new ≡ receipted (governed (length list) (put_in_force document list)) old
 

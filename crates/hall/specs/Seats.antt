@@ -14,7 +14,12 @@ pub record SeatData : Type 0 where
 
 -- a seat with one more receipt, of this deed
 abbrev pub receipted : DeedData → SeatData → SeatData
-receipted deed seat = record seat { receipts = seat.receipts ++ record { seat = seat.number; deed = deed } ∷ [] }
+receipted deed seat = record seat {
+  receipts = seat.receipts ++ record {
+    seat = seat.number;
+    deed = deed;
+  } ∷ [];
+}
 
 -- the records of the seat are its receipts, in order
 abbrev pub IsKeptBy : List RecordData → SeatData → Type 0
@@ -37,4 +42,9 @@ restored_seat s = record { number = s.0; subject = s.1.0; receipts = map trails.
 
 abbrev pub restored_seat-stored_seat : (seat : SeatData) → restored_seat (stored_seat seat) ≡ seat
 restored_seat-stored_seat seat =
-    ap (λ (receipts : List RecordData). let e : SeatData = record { number = seat.number; subject = seat.subject; receipts = receipts } in e) (trails.restored_all-stored_all seat.receipts)
+    ap (λ (receipts : List RecordData). let e : SeatData = record {
+      number = seat.number;
+      subject = seat.subject;
+      receipts = receipts;
+    } in e)
+    (trails.restored_all-stored_all seat.receipts)

@@ -155,7 +155,7 @@ impl<'h, L: Ledger + ListName, R: Wait + Drop, A: Allocator + Copy> Seat<'h, L, 
         ensures ok { IfOk result (λ outcome. IsCommitted changes.now outcome self.old self.new) }
         ensures err { OnErr result (self.new ≡ self.old) }
     {
-        self.receipts.make_place()?;
+        self.receipts.make_slot()?;
         let hall = self.hall;
         let seat = self.number;
         let number = placed(rt, hall, seat, changes, gate)?;

@@ -2,8 +2,8 @@
 
 ghost use Rattle.std.specs.Prelude.{◌≡◌};
 
-use memory::Refused;
-use published_policies::NoMemory;
+use memory::NoMemory;
+use published_policies::NoMemoryForPolicies;
 use std::fmt;
 use transactions::Fault;
 
@@ -22,7 +22,7 @@ pub enum HallFault {
     /// H5: the world refuses an event of the call. The code shown is the world's.
     Core(Fault),
     /// H6: an allocation was refused before any event of the call.
-    Memory(Refused),
+    Memory(NoMemory),
     /// H7: a view has no policy to read.
     NotRead,
 }
@@ -57,14 +57,14 @@ impl fmt::Display for HallFault {
     }
 }
 
-impl From<Refused> for HallFault {
+impl From<NoMemory> for HallFault {
     ghost use Rattle.std.specs.Prelude.{◌≡◌};
     ghost use Rattle.hall.specs.declared.faults.HallFault.TheVariants.{Memory};
 
-    ghost from_gives = { λ refused fault. fault ≡ Memory refused };
+    ghost from_gives = { λ no_memory fault. fault ≡ Memory no_memory };
 
-    fn from(refused: Refused) -> Self {
-        HallFault::Memory(refused)
+    fn from(no_memory: NoMemory) -> Self {
+        HallFault::Memory(no_memory)
     }
 }
 
@@ -91,9 +91,9 @@ pub enum OpenFault {
     /// H5: the world is not opened. The code shown is the world's.
     Core(Fault),
     /// H6: an allocation was refused.
-    Memory(Refused),
+    Memory(NoMemory),
     /// H6: there is no memory for the policies that views read.
-    Policies(NoMemory),
+    Policies(NoMemoryForPolicies),
 }
 
 impl OpenFault {
@@ -122,25 +122,25 @@ impl fmt::Display for OpenFault {
     }
 }
 
-impl From<Refused> for OpenFault {
+impl From<NoMemory> for OpenFault {
     ghost use Rattle.std.specs.Prelude.{◌≡◌};
     ghost use Rattle.hall.specs.declared.faults.OpenFault.TheVariants.{Memory};
 
-    ghost from_gives = { λ refused fault. fault ≡ Memory refused };
+    ghost from_gives = { λ no_memory fault. fault ≡ Memory no_memory };
 
-    fn from(refused: Refused) -> Self {
-        OpenFault::Memory(refused)
+    fn from(no_memory: NoMemory) -> Self {
+        OpenFault::Memory(no_memory)
     }
 }
 
-impl From<NoMemory> for OpenFault {
+impl From<NoMemoryForPolicies> for OpenFault {
     ghost use Rattle.std.specs.Prelude.{◌≡◌};
     ghost use Rattle.hall.specs.declared.faults.OpenFault.TheVariants.{Policies};
 
-    ghost from_gives = { λ refused fault. fault ≡ Policies refused };
+    ghost from_gives = { λ no_memory fault. fault ≡ Policies no_memory };
 
-    fn from(refused: NoMemory) -> Self {
-        OpenFault::Policies(refused)
+    fn from(no_memory: NoMemoryForPolicies) -> Self {
+        OpenFault::Policies(no_memory)
     }
 }
 

@@ -27,7 +27,7 @@ impl<'h, L: Ledger + ListName, R: Wait + Drop, A: Allocator + Copy> Seat<'h, L, 
         ensures ok { IfOk result (λ edition. IsGoverned document edition self.old self.new) }
         ensures err { OnErr result (self.new ≡ self.old) }
     {
-        self.receipts.make_place()?;
+        self.receipts.make_slot()?;
         let hall = self.hall;
         let governed = hall
             .lock

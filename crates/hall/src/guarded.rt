@@ -16,7 +16,7 @@ use audit_trail::Record;
 use chronicle::Chronicle;
 use decision::Decider;
 use features::{Change, Name, Subject};
-use memory::{Refused, another, shared};
+use memory::{NoMemory, another, shared};
 use plane::Shape;
 use policy_documents::Document;
 use published_policies::{Edition, ListName, Publisher, View};
@@ -51,8 +51,8 @@ pub(crate) struct Guarded<L: Ledger + ListName, R: Wait + Drop, A: Allocator> {
     pub ghost idle: { gathered ≡ false → spare.amount ≡ 0 },
     pub ghost cut: { gathered ≡ false → spare.parts + length chronicle.seats ≡ 1025 },
     pub ghost edition: { length publisher ≡ chronicle.decider.edition },
-    pub ghost begins: { slice_get publisher 0 ≡ Some chronicle.opening } by { decider_set (slice_get publisher 0) (Some chronicle.opening) },
-    pub ghost in_force: { last_or None publisher ≡ Some chronicle.decider } by { decider_set (last_or None publisher) (Some chronicle.decider) },
+    pub ghost begins: { slice_get publisher 0 ≡ Some chronicle.opening } by { decider_set _ _ },
+    pub ghost in_force: { last_or None publisher ≡ Some chronicle.decider } by { decider_set _ _ },
 }
 
 /// Counts the last record, which was just written, in a seat's share, and returns another owner of
@@ -119,11 +119,11 @@ fn next_decider<A: Allocator>(
     let edition = chronicle.next_edition(seat)?;
     let decider = match Decider::new(document, edition) {
         Ok(decider) => decider,
-        Err(failed) => return Err(HallFault::Memory(Refused::from(failed))),
+        Err(failed) => return Err(HallFault::Memory(NoMemory::from(failed))),
     };
     match shared(heap, decider) {
         Ok(decider) => Ok(decider),
-        Err(failed) => Err(HallFault::Memory(Refused::from(failed))),
+        Err(failed) => Err(HallFault::Memory(NoMemory::from(failed))),
     }
 }
 

@@ -98,7 +98,7 @@ impl<L: Ledger + ListName, R: Wait + Drop, A: Allocator + Copy> Hall<L, R, A> {
         // A fault returns this copy where the world has the document already.
         let copy = match document.copy(heap) {
             Ok(copy) => copy,
-            Err(refused) => return Err((document, OpenFault::Memory(refused))),
+            Err(no_memory) => return Err((document, OpenFault::Memory(no_memory))),
         };
         let chronicle = match Chronicle::open(alloc, heap, subjects, document) {
             Ok(chronicle) => chronicle,

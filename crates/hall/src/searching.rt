@@ -59,7 +59,7 @@ impl<'h, L: Ledger + ListName, R: Wait + Drop, A: Allocator + Copy> Seat<'h, L, 
         ensures ok { IfOk result (λ answer. IsSearched window answer self.old self.new) }
         ensures err { OnErr result (self.new ≡ self.old) }
     {
-        self.receipts.make_place()?;
+        self.receipts.make_slot()?;
         let hall = self.hall;
         let seat = self.number;
         let opened = hall.lock.lock(rt).chronicle.open_search(seat, window);

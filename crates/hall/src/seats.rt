@@ -45,9 +45,14 @@ impl<'h, L: Ledger + ListName, R: Wait + Drop, A: Allocator> Model for Seat<'h, 
 
     ghost Value = { SeatData };
 
-    ghost coded = { code_by StoredSeat (Prim.hlevel codes) stored_seat restored_seat restored_seat-stored_seat };
+    ghost coded = { code_by StoredSeat (Prim.hlevel codes) stored_seat restored_seat
+        restored_seat-stored_seat };
 
-    ghost view = { λ s. record { number = s.number; subject = s.subject; receipts = map arc_value s.receipts.items } };
+    ghost view = { λ s. record {
+      number = s.number;
+      subject = s.subject;
+      receipts = map arc_value s.receipts.items;
+    } };
 
     // a seat has one part of the ledger, with as much in its share as it has receipts
     ghost invariant = { λ s. (s.share.parts ≡ 1) × (s.share.amount ≡ length s.receipts.items) };

@@ -8,10 +8,10 @@ use Rattle.decision.specs.Deciders.{DeciderData}
 use Rattle.hall.specs.declared.faults.HallFault.{HallFault}
 use Rattle.hall.specs.Calls.{IsGoverned}
 use Rattle.hall.specs.Seats.{SeatData}
-use Rattle.session_lines.specs.declared.faults.Fault.TheVariants.{BeforeHello}
+use Rattle.session_lines.specs.declared.faults.LineFault.TheVariants.{BeforeHello}
 use Rattle.session_lines.specs.declared.replies.Reply.TheVariants.{Edition, Error}
 use Rattle.session_lines.specs.Replies.{SaidData, line}
-use Rattle.hall_sessions.specs.Replies.{told}
+use Rattle.hall_sessions.specs.Replies.{hall_told}
 use Rattle.hall_sessions.specs.Services.{Calls, CallsSeat, OnlySays, PutsInForce, SeatChanges}
 use Rattle.hall_sessions.specs.Sessions.{SessionData, session, seat_of}
 
@@ -26,11 +26,11 @@ stands seats len place seat view counted within is = slice_get_read seats len pl
 
 -- the seat at the session's place was called
 pub called : {T : Type 0} (show : T → SaidData) (Changes : T → SeatData → SessionData → SessionData → Type 0) (end : Result T HallFault) (said : SaidData)
-    (old new : SessionData) (seat : SeatData) → seat_of old ≡ Some seat → said ≡ told show end
+    (old new : SessionData) (seat : SeatData) → seat_of old ≡ Some seat → said ≡ hall_told show end
     → MatchResult end (λ value. Changes value seat old new) (λ fault. new ≡ old) → Calls show Changes old new said
 called {T = T} show Changes end said old new seat here says left =
     let Called : Option SeatData → Type 0 = λ own. MatchOption own (OnlySays (Error BeforeHello) old new said)
-    (λ seat. (end : Result T HallFault) × (said ≡ told show end) × MatchResult end (λ value. Changes value seat old new) (λ fault. new ≡ old)) in
+    (λ seat. (end : Result T HallFault) × (said ≡ hall_told show end) × MatchResult end (λ value. Changes value seat old new) (λ fault. new ≡ old)) in
     subst Called (sym here) (end, says, left)
 
 module _ {T : Type 0} (show : T → SaidData) (Changes : T → SeatData → SeatData → Type 0) where
@@ -44,7 +44,7 @@ module _ {T : Type 0} (show : T → SaidData) (Changes : T → SeatData → Seat
 
   -- the same, where only the seat changes
   pub seat_called : (end : Result T HallFault) (said : SaidData) (seats : List SeatData) (len place : ℕ) (seat next : SeatData) (view : List DeciderData)
-      → len ≡ length seats → place < len → seat ≡ slice_index_or seats place seat → said ≡ told show end
+      → len ≡ length seats → place < len → seat ≡ slice_index_or seats place seat → said ≡ hall_told show end
       → MatchResult end (λ value. Changes value seat next) (λ fault. next ≡ seat)
       → CallsSeat show Changes (session place seats view) (session place (slice_set seats place next) view) said
   seat_called end said seats len place seat next view counted within is says left =

@@ -5,7 +5,7 @@ use Rattle.decision.specs.declared.rulings.Ruling.TheVariants.{Permit, DeniedBy,
 use Rattle.published_policies.specs.declared.explaining.Explained.{Explained}
 use Rattle.hall.specs.declared.faults.HallFault.{HallFault}
 use Rattle.hall.specs.declared.faults.HallFault.TheVariants as halls
-use Rattle.session_lines.specs.declared.faults.Fault.TheVariants as faults
+use Rattle.session_lines.specs.declared.faults.LineFault.TheVariants as faults
 use Rattle.session_lines.specs.declared.replies.Reply.{Reply}
 use Rattle.session_lines.specs.declared.replies.Reply.TheVariants.{Held, Memory, Error, Permitted, Forbidden}
 use Rattle.session_lines.specs.Replies.{SaidData, line, fault_reply}
@@ -31,6 +31,6 @@ abbrev pub explained_reply : Explained → Reply
 explained_reply explained = ruled explained.ruling explained.rule explained.edition
 
 -- the reply to a call: its value as `show` has it, or its refusal
-abbrev pub told : {T : Type 0} → (T → SaidData) → Result T HallFault → SaidData
-told show (Ok value) = show value
-told show (Err fault) = line (hall_reply fault)
+abbrev pub hall_told : {T : Type 0} → (T → SaidData) → Result T HallFault → SaidData
+hall_told show (Ok value) = show value
+hall_told show (Err fault) = line (hall_reply fault)

@@ -14,12 +14,12 @@ use Rattle.hall.specs.Seats.{SeatData}
 use Rattle.plain_world.specs.Answers.{AnswerData}
 use Rattle.plain_world.specs.Rolls.{RolledData}
 use Rattle.plain_world.specs.declared.outcomes.Outcome.{Outcome}
-use Rattle.session_lines.specs.declared.faults.Fault.TheVariants.{BeforeHello, NotRead}
+use Rattle.session_lines.specs.declared.faults.LineFault.TheVariants.{BeforeHello, NotRead}
 use Rattle.session_lines.specs.declared.replies.Reply.{Reply}
 use Rattle.session_lines.specs.declared.replies.Reply.TheVariants.{Hello as Greets, Edition, Bye, Error}
 use Rattle.session_lines.specs.Replies.{SaidData, line, rows, rolled, outcome_reply, ruling_reply}
 use Rattle.session_lines.specs.Services.{Call, Hello, Search, Commit, Govern, Explain, Roll, Leave}
-use Rattle.hall_sessions.specs.Replies.{told}
+use Rattle.hall_sessions.specs.Replies.{hall_told}
 use Rattle.hall_sessions.specs.Sessions.{SessionData, session, unbegun, seat_of, with_seat}
 
 -- nothing changes, and this is the reply
@@ -27,24 +27,31 @@ abbrev pub OnlySays : Reply → SessionData → SessionData → SaidData → Typ
 OnlySays reply old new said = (new ≡ old) × (said ≡ line reply)
 
 -- the session's seat changes by `Changes`, and no other seat does
-abbrev pub SeatChanges : (SeatData → SeatData → Type 0) → SeatData → SessionData → SessionData → Type 0
-SeatChanges Changes seat old new = (next : SeatData) × Changes seat next × (new ≡ with_seat next old)
+abbrev pub SeatChanges : (SeatData → SeatData → Type 0) → SeatData → SessionData → SessionData
+    → Type 0
+SeatChanges Changes seat old new =
+    (next : SeatData) × Changes seat next × (new ≡ with_seat next old)
 
 -- A call of the session's seat: the reply says its result, and the session changes by `Changes` for
 -- this result. A call that the hall refuses changes nothing. No line leads here before HELLO, since
 -- E5 comes before the call.
-abbrev pub Calls : {T : Type 0} → (T → SaidData) → (T → SeatData → SessionData → SessionData → Type 0) → SessionData → SessionData → SaidData → Type 0
+abbrev pub Calls : {T : Type 0} → (T → SaidData)
+    → (T → SeatData → SessionData → SessionData → Type 0) → SessionData → SessionData → SaidData
+    → Type 0
 Calls {T = T} show Changes old new said =
     MatchOption (seat_of old) (OnlySays (Error BeforeHello) old new said)
-    (λ seat. (end : Result T HallFault) × (said ≡ told show end) × MatchResult end (λ value. Changes value seat old new) (λ fault. new ≡ old))
+    (λ seat. (end : Result T HallFault) × (said ≡ hall_told show end)
+    × MatchResult end (λ value. Changes value seat old new) (λ fault. new ≡ old))
 
 -- the same, where only the seat changes
-abbrev pub CallsSeat : {T : Type 0} → (T → SaidData) → (T → SeatData → SeatData → Type 0) → SessionData → SessionData → SaidData → Type 0
+abbrev pub CallsSeat : {T : Type 0} → (T → SaidData) → (T → SeatData → SeatData → Type 0)
+    → SessionData → SessionData → SaidData → Type 0
 CallsSeat show Changes = Calls show (λ value. SeatChanges (Changes value))
 
 -- the seat has put a document in force, with which this list ends, and the view was told of the
 -- list
-pub record PutsInForce (document : DocumentData) (list : List DeciderData) (seat : SeatData) (old new : SessionData) : Type 0 where
+pub record PutsInForce (document : DocumentData) (list : List DeciderData) (seat : SeatData)
+    (old new : SessionData) : Type 0 where
   pub next : SeatData
   pub governed : IsGoverned document list seat next
   pub before : IsPrefix old.view new.view
@@ -53,33 +60,41 @@ pub record PutsInForce (document : DocumentData) (list : List DeciderData) (seat
 
 -- The view has read the published list at least as far as it knew it before, and the reply is the
 -- ruling of the last decider that it has read.
-pub record Explains (question : Question) (old new : SessionData) (said : SaidData) : Type 0 where
-  pub before : IsPrefix old.view new.view
-  pub published : IsPublished new.view
-  pub decider : DeciderData
-  pub last : last_or None new.view ≡ Some decider
-  pub ruling : Ruling
-  pub ruled : Rules decider.document question ruling
-  pub reply : said ≡ line (ruling_reply decider ruling)
-  pub only : new ≡ record old { view = new.view }
+pub record ExplainsInHall (question : Question) (old new : SessionData) (said : SaidData) : Type 0
+  where
+    pub before : IsPrefix old.view new.view
+    pub published : IsPublished new.view
+    pub decider : DeciderData
+    pub last : last_or None new.view ≡ Some decider
+    pub ruling : Ruling
+    pub ruled : Rules decider.document question ruling
+    pub reply : said ≡ line (ruling_reply decider ruling)
+    pub only : new ≡ record old { view = new.view }
 
 -- a session begins where the subject of its name is given a seat: it has no receipts yet, and is
 -- appended to the seats of the worker's earlier sessions
-abbrev pub Begins : List ℕ → SessionData → SessionData → SaidData → Type 0
-Begins name old new said =
-    (end : Result SeatData HallFault) × (said ≡ told (λ seat. line (Greets name)) end)
+abbrev pub BeginsInHall : List ℕ → SessionData → SessionData → SaidData → Type 0
+BeginsInHall name old new said =
+    (end : Result SeatData HallFault) × (said ≡ hall_told (λ seat. line (Greets name)) end)
     × MatchResult end
-    (λ seat. (seat.subject.name ≡ name) × (seat.receipts ≡ []) × (new ≡ session (length old.seats) (old.seats ++ seat ∷ []) old.view))
+    (λ seat. (seat.subject.name ≡ name) × (seat.receipts ≡ [])
+    × (new ≡ session (length old.seats) (old.seats ++ seat ∷ []) old.view))
     (λ fault. new ≡ old)
 
 -- What a call makes of a session, and what is said. A search, a commit or a document that succeeds
 -- adds one receipt, and the reply says what the receipt records; a roll adds none. A question is
 -- ruled by the last policy that the view reads, or there is none to read; it changes no seat.
-abbrev pub Serves : Call → SessionData → SessionData → SaidData → Type 0
-Serves (Hello name) old new said = Begins name old new said
-Serves (Search window) old new said = CallsSeat rows (λ answer. IsSearched window answer) old new said
-Serves (Commit changes) old new said = CallsSeat (λ outcome. line (outcome_reply outcome)) (λ outcome. IsCommitted changes outcome) old new said
-Serves (Govern document) old new said = Calls (λ list. line (Edition (length list))) (λ list. PutsInForce document list) old new said
-Serves (Explain question) old new said = OnlySays (Error NotRead) old new said ⊎ Explains question old new said
-Serves Roll old new said = CallsSeat {T = RolledData} rolled (λ piece seat next. next ≡ seat) old new said
-Serves Leave old new said = (new ≡ unbegun old.seats old.view) × (said ≡ line Bye)
+abbrev pub ServesInHall : Call → SessionData → SessionData → SaidData → Type 0
+ServesInHall (Hello name) old new said = BeginsInHall name old new said
+ServesInHall (Search window) old new said =
+    CallsSeat rows (λ answer. IsSearched window answer) old new said
+ServesInHall (Commit changes) old new said =
+    CallsSeat (λ outcome. line (outcome_reply outcome)) (λ outcome. IsCommitted changes outcome) old
+    new said
+ServesInHall (Govern document) old new said =
+    Calls (λ list. line (Edition (length list))) (λ list. PutsInForce document list) old new said
+ServesInHall (Explain question) old new said =
+    OnlySays (Error NotRead) old new said ⊎ ExplainsInHall question old new said
+ServesInHall Roll old new said =
+    CallsSeat {T = RolledData} rolled (λ piece seat next. next ≡ seat) old new said
+ServesInHall Leave old new said = (new ≡ unbegun old.seats old.view) × (said ≡ line Bye)

@@ -9,7 +9,7 @@ use hall::{Gate, Hall, HallFault, ListName, Seat, View};
 use memory::GrowVec;
 use plane::Shape;
 use policy_documents::Document;
-use session_lines::{Fault, Reply, Said, Service, outcome_reply};
+use session_lines::{LineFault, Reply, Said, Service, outcome_reply};
 use std::alloc::{Allocator, Global};
 use std::sync::Wait;
 use std::sync::ledger::Ledger;
@@ -68,7 +68,7 @@ impl<'a, 'h, L: Ledger + ListName, R: Wait + Drop, A: Allocator + Copy, W: Wait,
 impl<'a, 'h, L: Ledger + ListName, R: Wait + Drop, A: Allocator + Copy, W: Wait, G: Gate> Service
     for Attended<'a, 'h, L, R, A, W, G> {
     ghost use Rattle.std.specs.Prelude.{◌≡◌};
-    ghost use Rattle.hall_sessions.specs.Services.{Serves};
+    ghost use Rattle.hall_sessions.specs.Services.{ServesInHall};
     ghost use Rattle.hall_sessions.specs.Sessions.{session, session_subject};
 
     type Memory = A;
@@ -77,7 +77,7 @@ impl<'a, 'h, L: Ledger + ListName, R: Wait + Drop, A: Allocator + Copy, W: Wait,
 
     ghost serves = { λ call old new said. (new.seats.ghost_name ≡ old.seats.ghost_name)
         × (new.view.ghost_name ≡ old.view.ghost_name)
-        × Serves call (session old.earlier old.seats.now.items old.view.now)
+        × ServesInHall call (session old.earlier old.seats.now.items old.view.now)
         (session new.earlier new.seats.now.items new.view.now) said };
 
     fn subject(&self) -> Option<Subject> {
@@ -85,8 +85,8 @@ impl<'a, 'h, L: Ledger + ListName, R: Wait + Drop, A: Allocator + Copy, W: Wait,
     }
 
     fn hello(&mut self, name: Name) -> Reply {
-        if let Err(refused) = self.seats.make_place() {
-            return Reply::Memory(refused);
+        if let Err(no_memory) = self.seats.make_slot() {
+            return Reply::Memory(no_memory);
         }
         match self.hall.seat(self.rt, name) {
             Ok(seat) => {
@@ -100,7 +100,7 @@ impl<'a, 'h, L: Ledger + ListName, R: Wait + Drop, A: Allocator + Copy, W: Wait,
 
     fn search(&mut self, window: Shape) -> Said<A> {
         let Some(seat) = self.seats.get_mut(self.earlier) else {
-            return Said::Line(Reply::Error(Fault::BeforeHello));
+            return Said::Line(Reply::Error(LineFault::BeforeHello));
         };
         match seat.search(self.rt, window, self.gate) {
             Ok(answer) => Said::Rows(answer),
@@ -110,7 +110,7 @@ impl<'a, 'h, L: Ledger + ListName, R: Wait + Drop, A: Allocator + Copy, W: Wait,
 
     fn commit(&mut self, changes: &[Change]) -> Reply {
         let Some(seat) = self.seats.get_mut(self.earlier) else {
-            return Reply::Error(Fault::BeforeHello);
+            return Reply::Error(LineFault::BeforeHello);
         };
         match seat.commit(self.rt, changes, self.gate) {
             Ok(outcome) => outcome_reply(&outcome),
@@ -120,7 +120,7 @@ impl<'a, 'h, L: Ledger + ListName, R: Wait + Drop, A: Allocator + Copy, W: Wait,
 
     fn govern(&mut self, document: Document<Global>) -> Reply {
         let Some(seat) = self.seats.get_mut(self.earlier) else {
-            return Reply::Error(Fault::BeforeHello);
+            return Reply::Error(LineFault::BeforeHello);
         };
         match seat.govern(self.rt, document) {
             Ok(edition) => {
@@ -141,7 +141,7 @@ impl<'a, 'h, L: Ledger + ListName, R: Wait + Drop, A: Allocator + Copy, W: Wait,
 
     fn roll(&mut self) -> Said<A> {
         let Some(seat) = self.seats.get_mut(self.earlier) else {
-            return Said::Line(Reply::Error(Fault::BeforeHello));
+            return Said::Line(Reply::Error(LineFault::BeforeHello));
         };
         match seat.roll(self.rt) {
             Ok(piece) => Said::Rolled(piece),

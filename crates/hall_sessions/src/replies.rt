@@ -5,20 +5,20 @@ ghost use Rattle.hall_sessions.specs.Replies.{explained_reply, hall_reply};
 
 use decision::Ruling;
 use hall::{Explained, HallFault};
-use session_lines::{Fault, Reply, fault_reply};
+use session_lines::{LineFault, Reply, fault_reply};
 
 /// The reply to a call that the hall refuses.
 pub fn hall_reply(fault: HallFault) -> Reply
     ensures { result ≡ hall_reply fault }
 {
     match fault {
-        HallFault::NoSubject => Reply::Error(Fault::NoSubject),
-        HallFault::NoPlace => Reply::Error(Fault::NoPlace),
-        HallFault::Closed => Reply::Error(Fault::Closed),
+        HallFault::NoSubject => Reply::Error(LineFault::NoSubject),
+        HallFault::NoPlace => Reply::Error(LineFault::NoPlace),
+        HallFault::Closed => Reply::Error(LineFault::Closed),
         HallFault::Held => Reply::Held,
         HallFault::Core(refusal) => fault_reply(refusal),
         HallFault::Memory(refusal) => Reply::Memory(refusal),
-        HallFault::NotRead => Reply::Error(Fault::NotRead),
+        HallFault::NotRead => Reply::Error(LineFault::NotRead),
     }
 }
 

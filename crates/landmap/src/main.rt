@@ -6,7 +6,7 @@ use byte_streams::{WriteFailed, flush, let_go, write_shown};
 use client::{End, TalkFault, talk};
 use command_line::{WordsFault, host_words};
 use log::Log;
-use memory::{Refused, another, buffered, shared, text};
+use memory::{NoMemory, another, buffered, shared, text};
 use program::{HostFolder, Next, ProgramFault, WantedServer, run_program, tell};
 use server::{Closed, ServerFault, Serving, SocketOptions, serve_socket, watch};
 use std::alloc::Global;
@@ -36,7 +36,7 @@ fn fail(fault: &ProgramFault<'_>, errors: &mut Stderr) -> ExitCode {
 fn given_words(rt: &HostRuntime, errors: &mut Stderr) -> Result<Vec<String>, ExitCode> {
     match host_words(rt) {
         Ok(words) => Ok(words),
-        Err(WordsFault::Memory(refused)) => Err(fail(&ProgramFault::Words(refused), errors)),
+        Err(WordsFault::Memory(no_memory)) => Err(fail(&ProgramFault::Words(no_memory), errors)),
         Err(WordsFault::NotUtf8) => {
             let _ = write!(errors, "error: an argument is not UTF-8\n");
             Err(ExitCode::from(TURNED_DOWN))
@@ -89,7 +89,7 @@ struct Stopping {
 }
 
 /// The server that the command line asks for.
-fn planned(heap: Global, server: WantedServer<'_>) -> Result<Plan, Refused> {
+fn planned(heap: Global, server: WantedServer<'_>) -> Result<Plan, NoMemory> {
     let WantedServer { options, config } = server;
     let ends = shared(heap, AtomicU64::new(0))?;
     let stopping = if options.until_stdin_ends {
@@ -149,7 +149,7 @@ where
 fn conclude<R: Print>(rt: &R, heap: Global, closed: Closed, errors: &mut Stderr) -> ExitCode {
     let mut output = match buffered(heap, io::writer(rt)) {
         Ok(output) => output,
-        Err(refused) => return fail(&ProgramFault::Memory(refused), errors),
+        Err(no_memory) => return fail(&ProgramFault::Memory(no_memory), errors),
     };
     let told = tell_closed(closed, &mut output);
     let _ = let_go(output);
@@ -192,7 +192,7 @@ fn connect(rt: &HostRuntime, path: &str, errors: &mut Stderr) -> ExitCode {
     };
     let mut output = match buffered(rt.alloc(), io::writer(rt)) {
         Ok(output) => output,
-        Err(refused) => return fail(&ProgramFault::Memory(refused), errors),
+        Err(no_memory) => return fail(&ProgramFault::Memory(no_memory), errors),
     };
     let prompts = rt.stdin().is_terminal() && rt.stderr().is_terminal();
     let mut input = Prompted {
@@ -228,7 +228,7 @@ fn main(rt: HostRuntime) -> ExitCode {
     };
     let mut output = match buffered(rt.alloc(), io::writer(&rt)) {
         Ok(output) => output,
-        Err(refused) => return fail(&ProgramFault::Memory(refused), &mut errors),
+        Err(no_memory) => return fail(&ProgramFault::Memory(no_memory), &mut errors),
     };
     let folder = HostFolder::of(&rt);
     let next = run_program(
@@ -252,7 +252,7 @@ fn main(rt: HostRuntime) -> ExitCode {
                 }
                 serve(&rt, rt, rt.alloc(), plan, &mut errors)
             }
-            Err(refused) => fail(&ProgramFault::Memory(refused), &mut errors),
+            Err(no_memory) => fail(&ProgramFault::Memory(no_memory), &mut errors),
         },
         Next::Connect(path) => connect(&rt, path, &mut errors),
     }

@@ -16,21 +16,26 @@ use Rattle.line_streams.specs.declared.streams.TheConstants.{HELD, READ_LIMIT}
 use Rattle.line_streams.specs.Lines.{lines_of, whole_lines_of}
 
 -- lines are answered one after another; `text` is all their answers
-abbrev pub LinesTell : {S : Type 0} → (List ℕ → S → S → List ℕ → Type 0) → S → List (List ℕ) → S → List ℕ → Type 0
+abbrev pub LinesTell : {S : Type 0} → (List ℕ → S → S → List ℕ → Type 0) → S → List (List ℕ) → S
+    → List ℕ → Type 0
 LinesTell tell old [] new text = (new ≡ old) × (text ≡ [])
 LinesTell {S = S} tell old (line ∷ lines) new text =
-    (mid : S) × (said : List ℕ) × (more : List ℕ) × tell line old mid said × (text ≡ said ++ more) × LinesTell tell mid lines new more
+    (mid : S) × (said : List ℕ) × (more : List ℕ) × tell line old mid said × (text ≡ said ++ more)
+    × LinesTell tell mid lines new more
 
 -- a line is answered, and the stream goes on
-abbrev pub GoesOn : {S : Type 0} → (List ℕ → S → S → List ℕ → Next → Type 0) → List ℕ → S → S → List ℕ → Type 0
+abbrev pub GoesOn : {S : Type 0} → (List ℕ → S → S → List ℕ → Next → Type 0) → List ℕ → S → S
+    → List ℕ → Type 0
 GoesOn tell line old new said = tell line old new said Line
 
 -- a line is answered, and the stream always goes on
-abbrev pub NeverEnds : {S : Type 0} → (List ℕ → S → S → List ℕ → Type 0) → List ℕ → S → S → List ℕ → Next → Type 0
+abbrev pub NeverEnds : {S : Type 0} → (List ℕ → S → S → List ℕ → Type 0) → List ℕ → S → S → List ℕ
+    → Next → Type 0
 NeverEnds tell line old new said next = tell line old new said × (next ≡ Line)
 
 -- lines are answered up to the first that ends the stream, including that one
-pub record StreamEnds {S : Type 0} (tell : List ℕ → S → S → List ℕ → Next → Type 0) (old : S) (lines : List (List ℕ)) (new : S) (text : List ℕ) : Type 0 where
+pub record StreamEnds {S : Type 0} (tell : List ℕ → S → S → List ℕ → Next
+    → Type 0) (old : S) (lines : List (List ℕ)) (new : S) (text : List ℕ) : Type 0 where
   pub firsts : List (List ℕ)
   pub last : List ℕ
   pub others : List (List ℕ)
@@ -44,18 +49,24 @@ pub record StreamEnds {S : Type 0} (tell : List ℕ → S → S → List ℕ →
 
 -- The answers of a stream's lines: of all of them, if none ends it, or of those up to the first
 -- that does.
-abbrev pub StreamTells : {S : Type 0} → (List ℕ → S → S → List ℕ → Next → Type 0) → S → List (List ℕ) → S → List ℕ → Type 0
-StreamTells tell old lines new text = LinesTell (GoesOn tell) old lines new text ⊎ StreamEnds tell old lines new text
+abbrev pub StreamTells : {S : Type 0} → (List ℕ → S → S → List ℕ → Next → Type 0) → S
+    → List (List ℕ) → S → List ℕ → Type 0
+StreamTells tell old lines new text =
+    LinesTell (GoesOn tell) old lines new text ⊎ StreamEnds tell old lines new text
 
 -- what a writer took of a line's answer, and whether the stream goes on if it took all
-abbrev pub TookLine : {E : Type 0} → Result Next E → Option (List ℕ) → Option (List ℕ) → List ℕ → Next → Type 0
-TookLine result before after said next = Took result before after said × IfOk result (λ answered. answered ≡ next)
+abbrev pub TookLine : {E : Type 0} → Result Next E → Option (List ℕ) → Option (List ℕ) → List ℕ
+    → Next → Type 0
+TookLine result before after said next =
+    Took result before after said × IfOk result (λ answered. answered ≡ next)
 
 -- Lines were answered, none of them ended the stream, and all answers were written.
-pub record Answered {S : Type 0} (tell : List ℕ → S → S → List ℕ → Next → Type 0) (old : S) (lines : List (List ℕ)) (new : S) (before after : Option (List ℕ)) : Type 0 where
-  pub said : List ℕ
-  pub told : LinesTell (GoesOn tell) old lines new said
-  pub written : Appends before after said
+pub record Answered {S : Type 0} (tell : List ℕ → S → S → List ℕ → Next
+    → Type 0) (old : S) (lines : List (List ℕ)) (new : S) (before after : Option (List ℕ)) : Type 0
+  where
+    pub said : List ℕ
+    pub told : LinesTell (GoesOn tell) old lines new said
+    pub written : Appends before after said
 
 -- how a run stops at a line: the line ends the stream and its answer is written in full, or its
 -- answer was not written in full
@@ -65,7 +76,9 @@ StopsAs (Failed failed) next left = Unit {0}
 
 -- Lines were answered, and the last one stopped the run. The answers of all but the last are
 -- written in full, and of that of the last its front.
-pub record Stopped {S : Type 0} (tell : List ℕ → S → S → List ℕ → Next → Type 0) (stop : Stop) (old : S) (lines : List (List ℕ)) (new : S) (before after : Option (List ℕ)) : Type 0 where
+pub record Stopped {S : Type 0} (tell : List ℕ → S → S → List ℕ → Next
+    → Type 0) (stop : Stop) (old : S) (lines : List (List ℕ)) (new : S)
+    (before after : Option (List ℕ)) : Type 0 where
   pub firsts : List (List ℕ)
   pub last : List ℕ
   pub are : lines ≡ firsts ++ last ∷ []
@@ -82,13 +95,15 @@ pub record Stopped {S : Type 0} (tell : List ℕ → S → S → List ℕ → Ne
   pub written : Appends before after (said ++ front)
 
 -- the whole lines of what was read are answered
-pub record RanSoFar {S : Type 0} (tell : List ℕ → S → S → List ℕ → Next → Type 0) (old new : S) (input left before after : Option (List ℕ)) : Type 0 where
+pub record RanSoFar {S : Type 0} (tell : List ℕ → S → S → List ℕ → Next
+    → Type 0) (old new : S) (input left before after : Option (List ℕ)) : Type 0 where
   pub text : List ℕ
   pub read : Consumes input left text
   pub answered : Answered tell old (whole_lines_of text) new before after
 
 -- the input was read to its end, and all its lines are answered
-pub record RanToEnd {S : Type 0} (tell : List ℕ → S → S → List ℕ → Next → Type 0) (old new : S) (input left before after : Option (List ℕ)) : Type 0 where
+pub record RanToEnd {S : Type 0} (tell : List ℕ → S → S → List ℕ → Next
+    → Type 0) (old new : S) (input left before after : Option (List ℕ)) : Type 0 where
   pub text : List ℕ
   pub read : Consumes input left text
   pub at_end : IsAtEnd left
@@ -96,7 +111,8 @@ pub record RanToEnd {S : Type 0} (tell : List ℕ → S → S → List ℕ → N
 
 -- Lines from the start of the input are answered, and the last of them stopped the run. No read was
 -- made after the one that ended this line: what was read before that one has fewer whole lines.
-pub record RanToStop {S : Type 0} (tell : List ℕ → S → S → List ℕ → Next → Type 0) (stop : Stop) (old new : S) (input left before after : Option (List ℕ)) : Type 0 where
+pub record RanToStop {S : Type 0} (tell : List ℕ → S → S → List ℕ → Next
+    → Type 0) (stop : Stop) (old new : S) (input left before after : Option (List ℕ)) : Type 0 where
   pub lines : List (List ℕ)
   pub others : List (List ℕ)
   pub are_first : IfSome input (λ text. lines_of text ≡ lines ++ others)
@@ -108,21 +124,30 @@ pub record RanToStop {S : Type 0} (tell : List ℕ → S → S → List ℕ → 
 
 -- all lines that the run has to answer are answered: those of the whole input, or those up to the
 -- one that ends the stream
-abbrev pub RanWell : {S : Type 0} → (List ℕ → S → S → List ℕ → Next → Type 0) → S → S → Option (List ℕ) → Option (List ℕ) → Option (List ℕ) → Option (List ℕ) → Type 0
-RanWell tell old new input left before after = RanToEnd tell old new input left before after ⊎ RanToStop tell Ended old new input left before after
+abbrev pub RanWell : {S : Type 0} → (List ℕ → S → S → List ℕ → Next → Type 0) → S → S
+    → Option (List ℕ) → Option (List ℕ) → Option (List ℕ) → Option (List ℕ) → Type 0
+RanWell tell old new input left before after =
+    RanToEnd tell old new input left before after
+    ⊎ RanToStop tell Ended old new input left before after
 
 -- What holds when a run has ended, by how it ended: for the states, and for the known bytes of the
 -- reader and the writer, before and after. If a write failed, it was at a line, or it was a flush
 -- after the whole lines of what was read, or after all lines that the run has to answer.
 -- `TooManyTurns` means that `READ_LIMIT` reads were made.
-abbrev pub Ran : {S T : Type 0} → (List ℕ → S → S → List ℕ → Next → Type 0) → Result T ServeFault → S → S → Option (List ℕ) → Option (List ℕ) → Option (List ℕ) → Option (List ℕ) → Type 0
+abbrev pub Ran : {S T : Type 0} → (List ℕ → S → S → List ℕ → Next → Type 0) → Result T ServeFault
+    → S → S → Option (List ℕ) → Option (List ℕ) → Option (List ℕ) → Option (List ℕ) → Type 0
 Ran tell (Ok done) old new input left before after = RanWell tell old new input left before after
-Ran tell (Err (Read failed)) old new input left before after = RanSoFar tell old new input left before after
+Ran tell (Err (Read failed)) old new input left before after =
+    RanSoFar tell old new input left before after
 Ran tell (Err (Write failed)) old new input left before after =
-    RanToStop tell (Failed failed) old new input left before after ⊎ (RanSoFar tell old new input left before after ⊎ RanWell tell old new input left before after)
+    RanToStop tell (Failed failed) old new input left before after
+    ⊎ (RanSoFar tell old new input left before after
+    ⊎ RanWell tell old new input left before after)
 Ran tell (Err (TooManyTurns turns)) old new input left before after =
-    (run : RanSoFar tell old new input left before after) × (READ_LIMIT ≤ length run.text) × (turns.made ≡ READ_LIMIT)
-Ran tell (Err (Memory refused)) old new input left before after = (new ≡ old) × (left ≡ input) × (after ≡ before)
+    (run : RanSoFar tell old new input left before after) × (READ_LIMIT ≤ length run.text)
+    × (turns.made ≡ READ_LIMIT)
+Ran tell (Err (Memory refused)) old new input left before after =
+    (new ≡ old) × (left ≡ input) × (after ≡ before)
 
 -- what holds if the run was out of memory
 abbrev pub OnMemory : ServeFault → Type 0 → Type 0
@@ -151,7 +176,9 @@ pub record ArePieces (text : List ℕ) (pieces : List (List ℕ)) (behind : List
 
 -- Bytes were taken: the start of a line that was held already, and further bytes. The lines that
 -- they end are answered, and the start of the next line is held.
-pub record Passed {S : Type 0} (tell : List ℕ → S → S → List ℕ → Next → Type 0) (text : List ℕ) (old new : S) (held : List ℕ) (before after : Option (List ℕ)) : Type 0 where
+pub record Passed {S : Type 0} (tell : List ℕ → S → S → List ℕ → Next
+    → Type 0) (text : List ℕ) (old new : S) (held : List ℕ) (before after : Option (List ℕ)) : Type
+    0 where
   pub pieces : List (List ℕ)
   pub begun : List ℕ
   pub are : ArePieces text pieces begun
@@ -160,45 +187,57 @@ pub record Passed {S : Type 0} (tell : List ℕ → S → S → List ℕ → Nex
   pub answered : Answered tell old (map (strip_last 13) pieces) new before after
 
 -- the same, up to a line that stopped the run
-pub record PassedToStop {S : Type 0} (tell : List ℕ → S → S → List ℕ → Next → Type 0) (stop : Stop) (text : List ℕ) (old new : S) (before after : Option (List ℕ)) : Type 0 where
-  pub pieces : List (List ℕ)
-  pub behind : List ℕ
-  pub are : ArePieces text pieces behind
-  pub stopped : Stopped tell stop old (map (strip_last 13) pieces) new before after
+pub record PassedToStop {S : Type 0} (tell : List ℕ → S → S → List ℕ → Next
+    → Type 0) (stop : Stop) (text : List ℕ) (old new : S) (before after : Option (List ℕ)) : Type 0
+  where
+    pub pieces : List (List ℕ)
+    pub behind : List ℕ
+    pub are : ArePieces text pieces behind
+    pub stopped : Stopped tell stop old (map (strip_last 13) pieces) new before after
 
-abbrev pub Passes : {S : Type 0} → (List ℕ → S → S → List ℕ → Next → Type 0) → Result (Unit {0}) Stop → List ℕ → S → S → List ℕ → Option (List ℕ) → Option (List ℕ) → Type 0
+abbrev pub Passes : {S : Type 0} → (List ℕ → S → S → List ℕ → Next → Type 0)
+    → Result (Unit {0}) Stop → List ℕ → S → S → List ℕ → Option (List ℕ) → Option (List ℕ) → Type 0
 Passes tell (Ok u) text old new held before after = Passed tell text old new held before after
-Passes tell (Err stop) text old new held before after = PassedToStop tell stop text old new before after
+Passes tell (Err stop) text old new held before after =
+    PassedToStop tell stop text old new before after
 
 -- a line was answered, and it stopped the run
-pub record StoppedAt {S : Type 0} (tell : List ℕ → S → S → List ℕ → Next → Type 0) (stop : Stop) (line : List ℕ) (old new : S) (before after : Option (List ℕ)) : Type 0 where
-  pub said : List ℕ
-  pub next : Next
-  pub told : tell line old new said next
-  pub front : List ℕ
-  pub left : List ℕ
-  pub parts : said ≡ front ++ left
-  pub stops : StopsAs stop next left
-  pub written : Appends before after front
+pub record StoppedAt {S : Type 0} (tell : List ℕ → S → S → List ℕ → Next
+    → Type 0) (stop : Stop) (line : List ℕ) (old new : S) (before after : Option (List ℕ)) : Type 0
+  where
+    pub said : List ℕ
+    pub next : Next
+    pub told : tell line old new said next
+    pub front : List ℕ
+    pub left : List ℕ
+    pub parts : said ≡ front ++ left
+    pub stops : StopsAs stop next left
+    pub written : Appends before after front
 
 -- a line was answered, and the run goes on or stops
-abbrev pub TookOne : {S : Type 0} → (List ℕ → S → S → List ℕ → Next → Type 0) → Result (Unit {0}) Stop → List ℕ → S → S → Option (List ℕ) → Option (List ℕ) → Type 0
-TookOne tell (Ok u) line old new before after = (said : List ℕ) × Appends before after said × tell line old new said Line
+abbrev pub TookOne : {S : Type 0} → (List ℕ → S → S → List ℕ → Next → Type 0)
+    → Result (Unit {0}) Stop → List ℕ → S → S → Option (List ℕ) → Option (List ℕ) → Type 0
+TookOne tell (Ok u) line old new before after =
+    (said : List ℕ) × Appends before after said × tell line old new said Line
 TookOne tell (Err stop) line old new before after = StoppedAt tell stop line old new before after
 
 -- the last lines were answered, or the last of them stopped the run
-abbrev pub TookLast : {S : Type 0} → (List ℕ → S → S → List ℕ → Next → Type 0) → Result (Unit {0}) Stop → List (List ℕ) → S → S → Option (List ℕ) → Option (List ℕ) → Type 0
+abbrev pub TookLast : {S : Type 0} → (List ℕ → S → S → List ℕ → Next → Type 0)
+    → Result (Unit {0}) Stop → List (List ℕ) → S → S → Option (List ℕ) → Option (List ℕ) → Type 0
 TookLast tell (Ok u) lines old new before after = Answered tell old lines new before after
 TookLast tell (Err stop) lines old new before after = Stopped tell stop old lines new before after
 
 -- everything was written before; the run ends well if the flush does
-abbrev pub IsFlushed : {T : Type 0} → Result T ServeFault → Option (List ℕ) → Option (List ℕ) → Type 0
+abbrev pub IsFlushed : {T : Type 0} → Result T ServeFault → Option (List ℕ) → Option (List ℕ)
+    → Type 0
 IsFlushed (Ok done) before after = Keeps before after
 IsFlushed (Err (Write failed)) before after = Keeps before after
 IsFlushed (Err _) before after = ⊥
 
 -- a run ends after its last line: with that line's failed write, or with the result of a flush
-abbrev pub Concludes : {T : Type 0} → Result (Unit {0}) Stop → Result T ServeFault → Option (List ℕ) → Option (List ℕ) → Type 0
+abbrev pub Concludes : {T : Type 0} → Result (Unit {0}) Stop → Result T ServeFault → Option (List ℕ)
+    → Option (List ℕ) → Type 0
 Concludes (Ok u) result before after = IsFlushed result before after
 Concludes (Err Ended) result before after = IsFlushed result before after
-Concludes (Err (Failed failed)) result before after = (result ≡ Err (Write failed)) × Keeps before after
+Concludes (Err (Failed failed)) result before after =
+    (result ≡ Err (Write failed)) × Keeps before after

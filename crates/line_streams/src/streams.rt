@@ -7,7 +7,7 @@ ghost use Rattle.line_streams.specs.Streams.{Concludes, IsLine, OnMemory, Passes
 ghost use Rattle.line_streams.specs.declared.streams.TheConstants.{HELD};
 
 use byte_streams::{Flushed, ReadFailed, Turns, WriteFailed, flush};
-use memory::{Refused, vec_with_room};
+use memory::{NoMemory, vec_with_room};
 use std::alloc::Allocator;
 use std::fmt;
 use std::io::{Read, Write};
@@ -36,7 +36,7 @@ pub enum ServeFault {
     /// V3: the input did not end within the reads of a run. These were made.
     TooManyTurns(Turns),
     /// V4: out of memory for the line buffer, before anything was read.
-    Memory(Refused),
+    Memory(NoMemory),
 }
 
 impl ServeFault {
@@ -86,13 +86,13 @@ impl From<WriteFailed> for ServeFault {
     }
 }
 
-impl From<Refused> for ServeFault {
+impl From<NoMemory> for ServeFault {
     ghost use Rattle.line_streams.specs.declared.streams.ServeFault.TheVariants.{Memory};
 
-    ghost from_gives = { λ refused fault. fault ≡ Memory refused };
+    ghost from_gives = { λ no_memory fault. fault ≡ Memory no_memory };
 
-    fn from(refused: Refused) -> ServeFault {
-        ServeFault::Memory(refused)
+    fn from(no_memory: NoMemory) -> ServeFault {
+        ServeFault::Memory(no_memory)
     }
 }
 
@@ -142,7 +142,8 @@ pub trait LineDesk {
             × tells line.now (world.old, self.old) (world.new, self.new) said next };
 
     /// All lines that are too long are answered alike.
-    ghost long_alike: { (line other : List ℕ) (old new : Self.World × Self) (said : List ℕ) (next : Next)
+    ghost long_alike: { (line other : List ℕ) (old new : Self.World
+        × Self) (said : List ℕ) (next : Next)
         → is_too_long line ≡ true → is_too_long other ≡ true
         → tells line old new said next → tells other old new said next };
 }
@@ -176,7 +177,7 @@ struct Held<A: Allocator> {
 
 impl<A: Allocator> Held<A> {
     /// No byte of a line yet. Makes room for all bytes of a line.
-    fn new(alloc: A) -> Result<Self, Refused>
+    fn new(alloc: A) -> Result<Self, NoMemory>
         ensures { IfOk result (λ held. held.bytes.items ≡ []) }
     {
         let bytes = vec_with_room(alloc, HELD)?;

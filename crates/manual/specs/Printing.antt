@@ -24,7 +24,11 @@ IsPageFor shell text = (table : HelpTable) × IsTable table × (text ≡ page_of
 
 -- What a writer has taken: the whole page; nothing, since there was no memory for it; or a front of
 -- it, since a write failed.
-abbrev pub IsPrinted : Option Shell → Result Flushed PageFault → Option (List ℕ) → Option (List ℕ) → Type 0
-IsPrinted shell (Ok flushed) before after = (text : List ℕ) × IsPageFor shell text × Appends before after text
+abbrev pub IsPrinted : Option Shell → Result Flushed PageFault → Option (List ℕ) → Option (List ℕ)
+    → Type 0
+IsPrinted shell (Ok flushed) before after =
+    (text : List ℕ) × IsPageFor shell text × Appends before after text
 IsPrinted shell (Err (Memory refused)) before after = after ≡ before
-IsPrinted shell (Err (Write failed)) before after = (text : List ℕ) × (front : List ℕ) × (left : List ℕ) × IsPageFor shell text × (text ≡ front ++ left) × Appends before after front
+IsPrinted shell (Err (Write failed)) before after =
+    (text : List ℕ) × (front : List ℕ) × (left : List ℕ) × IsPageFor shell text
+    × (text ≡ front ++ left) × Appends before after front

@@ -5,11 +5,11 @@ ghost use Rattle.manual.specs.Pages.{bash_case, bash_option, bash_page, bash_wor
 
 use crate::texts::put;
 use command_line::{ArgumentText, CommandText, HelpTable};
-use memory::Refused;
+use memory::NoMemory;
 use std::alloc::Allocator;
 
 /// The names of the commands.
-fn put_words<A: Allocator>(commands: &[CommandText], page: &mut Vec<u8, A>) -> Result<(), Refused>
+fn put_words<A: Allocator>(commands: &[CommandText], page: &mut Vec<u8, A>) -> Result<(), NoMemory>
     ensures { OnOk result (page.new.items ≡ fold bash_word page.old.items commands.now) }
 {
     for command in commands {
@@ -23,7 +23,7 @@ fn put_words<A: Allocator>(commands: &[CommandText], page: &mut Vec<u8, A>) -> R
 fn put_options<A: Allocator>(
     arguments: &[ArgumentText],
     page: &mut Vec<u8, A>,
-) -> Result<(), Refused>
+) -> Result<(), NoMemory>
     ensures { OnOk result (page.new.items ≡ fold bash_option page.old.items arguments.now) }
 {
     for argument in arguments {
@@ -35,7 +35,7 @@ fn put_options<A: Allocator>(
 }
 
 /// The case of a command.
-fn put_case<A: Allocator>(command: &CommandText, page: &mut Vec<u8, A>) -> Result<(), Refused>
+fn put_case<A: Allocator>(command: &CommandText, page: &mut Vec<u8, A>) -> Result<(), NoMemory>
     ensures { OnOk result (page.new.items ≡ bash_case page.old.items command.now) }
 {
     put("        ", page)?;
@@ -46,7 +46,7 @@ fn put_case<A: Allocator>(command: &CommandText, page: &mut Vec<u8, A>) -> Resul
 }
 
 /// The cases of the commands.
-fn put_cases<A: Allocator>(commands: &[CommandText], page: &mut Vec<u8, A>) -> Result<(), Refused>
+fn put_cases<A: Allocator>(commands: &[CommandText], page: &mut Vec<u8, A>) -> Result<(), NoMemory>
     ensures { OnOk result (page.new.items ≡ fold bash_case page.old.items commands.now) }
 {
     for command in commands {
@@ -59,7 +59,7 @@ fn put_cases<A: Allocator>(commands: &[CommandText], page: &mut Vec<u8, A>) -> R
 pub(crate) fn put_bash<A: Allocator>(
     table: &HelpTable,
     page: &mut Vec<u8, A>,
-) -> Result<(), Refused>
+) -> Result<(), NoMemory>
     ensures { OnOk result (page.new.items ≡ bash_page page.old.items table.now) }
 {
     put(

@@ -5,7 +5,7 @@ ghost use Rattle.manual.specs.Pages.{fish_command, fish_option};
 
 use crate::texts::{Style, put, put_spelled};
 use command_line::{ArgumentText, CommandText};
-use memory::Refused;
+use memory::NoMemory;
 use std::alloc::Allocator;
 
 /// An option of the command of this name. Other arguments are left out.
@@ -13,7 +13,7 @@ fn put_option<A: Allocator>(
     name: &str,
     argument: &ArgumentText,
     page: &mut Vec<u8, A>,
-) -> Result<(), Refused>
+) -> Result<(), NoMemory>
     ensures { OnOk result (page.new.items ≡ fish_option name.now page.old.items argument.now) }
 {
     if argument.dashes.is_empty() {
@@ -33,7 +33,7 @@ fn put_options<A: Allocator>(
     name: &str,
     arguments: &[ArgumentText],
     page: &mut Vec<u8, A>,
-) -> Result<(), Refused>
+) -> Result<(), NoMemory>
     ensures { OnOk result
         (page.new.items ≡ fold (fish_option name.now) page.old.items arguments.now) }
 {
@@ -44,7 +44,7 @@ fn put_options<A: Allocator>(
 }
 
 /// A command.
-fn put_command<A: Allocator>(command: &CommandText, page: &mut Vec<u8, A>) -> Result<(), Refused>
+fn put_command<A: Allocator>(command: &CommandText, page: &mut Vec<u8, A>) -> Result<(), NoMemory>
     ensures { OnOk result (page.new.items ≡ fish_command page.old.items command.now) }
 {
     put("complete -c landmap -n __fish_use_subcommand -f -a ", page)?;
@@ -59,7 +59,7 @@ fn put_command<A: Allocator>(command: &CommandText, page: &mut Vec<u8, A>) -> Re
 pub(crate) fn put_fish<A: Allocator>(
     commands: &[CommandText],
     page: &mut Vec<u8, A>,
-) -> Result<(), Refused>
+) -> Result<(), NoMemory>
     ensures { OnOk result (page.new.items ≡ fold fish_command page.old.items commands.now) }
 {
     for command in commands {

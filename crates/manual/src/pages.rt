@@ -8,11 +8,14 @@ use crate::fish::put_fish;
 use crate::texts::{Style, put, put_spelled};
 use crate::zsh::put_zsh;
 use command_line::{ArgumentText, CommandText, HelpTable, Shell};
-use memory::Refused;
+use memory::NoMemory;
 use std::alloc::Allocator;
 
 /// An argument of a command.
-fn put_argument<A: Allocator>(argument: &ArgumentText, page: &mut Vec<u8, A>) -> Result<(), Refused>
+fn put_argument<A: Allocator>(
+    argument: &ArgumentText,
+    page: &mut Vec<u8, A>,
+) -> Result<(), NoMemory>
     ensures { OnOk result (page.new.items ≡ man_argument page.old.items argument.now) }
 {
     put(".TP\n.BI \"", page)?;
@@ -29,7 +32,7 @@ fn put_argument<A: Allocator>(argument: &ArgumentText, page: &mut Vec<u8, A>) ->
 fn put_arguments<A: Allocator>(
     arguments: &[ArgumentText],
     page: &mut Vec<u8, A>,
-) -> Result<(), Refused>
+) -> Result<(), NoMemory>
     ensures { OnOk result (page.new.items ≡ fold man_argument page.old.items arguments.now) }
 {
     for argument in arguments {
@@ -39,7 +42,7 @@ fn put_arguments<A: Allocator>(
 }
 
 /// A command.
-fn put_command<A: Allocator>(command: &CommandText, page: &mut Vec<u8, A>) -> Result<(), Refused>
+fn put_command<A: Allocator>(command: &CommandText, page: &mut Vec<u8, A>) -> Result<(), NoMemory>
     ensures { OnOk result (page.new.items ≡ man_command page.old.items command.now) }
 {
     put(".SS landmap ", page)?;
@@ -54,7 +57,7 @@ fn put_command<A: Allocator>(command: &CommandText, page: &mut Vec<u8, A>) -> Re
 }
 
 /// What stands before the commands.
-fn put_head<A: Allocator>(table: &HelpTable, page: &mut Vec<u8, A>) -> Result<(), Refused>
+fn put_head<A: Allocator>(table: &HelpTable, page: &mut Vec<u8, A>) -> Result<(), NoMemory>
     ensures { OnOk result (page.new.items ≡ man_head page.old.items table.now) }
 {
     put(".TH LANDMAP 1\n.SH NAME\nlandmap \\- ", page)?;
@@ -71,7 +74,7 @@ fn put_head<A: Allocator>(table: &HelpTable, page: &mut Vec<u8, A>) -> Result<()
 fn put_commands<A: Allocator>(
     commands: &[CommandText],
     page: &mut Vec<u8, A>,
-) -> Result<(), Refused>
+) -> Result<(), NoMemory>
     ensures { OnOk result (page.new.items ≡ fold man_command page.old.items commands.now) }
 {
     for command in commands {
@@ -81,7 +84,7 @@ fn put_commands<A: Allocator>(
 }
 
 /// The manual page of a table of help, as roff. The error is that an allocation was refused.
-pub fn manual_page<A: Allocator>(alloc: A, table: &HelpTable) -> Result<Vec<u8, A>, Refused>
+pub fn manual_page<A: Allocator>(alloc: A, table: &HelpTable) -> Result<Vec<u8, A>, NoMemory>
     ensures { IfOk result (λ page. page.items ≡ man_page [] table.now) }
 {
     let mut page = Vec::new(alloc);
@@ -99,7 +102,7 @@ pub fn completions<A: Allocator>(
     alloc: A,
     shell: Shell,
     table: &HelpTable,
-) -> Result<Vec<u8, A>, Refused>
+) -> Result<Vec<u8, A>, NoMemory>
     ensures { IfOk result (λ page. page.items ≡ completions_for shell table.now) }
 {
     let mut page = Vec::new(alloc);

@@ -7,7 +7,7 @@ ghost use Rattle.manual.specs.Printing.{IsPageFor, IsPrinted};
 use crate::pages::{completions, manual_page};
 use byte_streams::{Flushed, WriteFailed, flush, write_whole};
 use command_line::{Shell, help_table};
-use memory::Refused;
+use memory::NoMemory;
 use std::alloc::Allocator;
 use std::io::Write;
 
@@ -15,13 +15,13 @@ use std::io::Write;
 #[derive(Debug, Drop, PartialEq, Eq)]
 pub enum PageFault {
     /// There was no memory for it, and nothing is written.
-    Memory(Refused),
+    Memory(NoMemory),
     /// A write or the flush failed; some of the front of the page may be written.
     Write(WriteFailed),
 }
 
 /// The manual page, or the completions for a shell.
-fn page_for<A: Allocator>(alloc: A, shell: Option<Shell>) -> Result<Vec<u8, A>, Refused>
+fn page_for<A: Allocator>(alloc: A, shell: Option<Shell>) -> Result<Vec<u8, A>, NoMemory>
     ensures { IfOk result (λ page. IsPageFor shell page.items) }
 {
     let table = help_table();
@@ -50,7 +50,7 @@ pub fn print_page<A: Allocator, W: Write>(
 {
     let page = match page_for(alloc, shell) {
         Ok(page) => page,
-        Err(refused) => return Err(PageFault::Memory(refused)),
+        Err(no_memory) => return Err(PageFault::Memory(no_memory)),
     };
     match write_page(page.as_slice(), output) {
         Ok(flushed) => Ok(flushed),

@@ -5,7 +5,7 @@ ghost use Rattle.std.specs.Prelude.{◌≡◌, ◌++◌, OnOk, option_map, unwra
 ghost use Rattle.std.specs.List.{flat_map};
 ghost use Rattle.manual.specs.Spelling.{spelled, spelling};
 
-use memory::{GrowVec, Refused, try_extend};
+use memory::{GrowVec, NoMemory, try_extend};
 use std::alloc::Allocator;
 
 /// How a text is spelled.
@@ -37,7 +37,7 @@ fn spelling(style: Style, byte: u8) -> Option<&'static [u8]>
 }
 
 /// Puts a text at the end of a page.
-pub(crate) fn put<A: Allocator>(text: &str, page: &mut Vec<u8, A>) -> Result<(), Refused>
+pub(crate) fn put<A: Allocator>(text: &str, page: &mut Vec<u8, A>) -> Result<(), NoMemory>
     ensures { OnOk result (page.new.items ≡ page.old.items ++ text.now) }
 {
     try_extend(page, text.as_bytes())
@@ -48,7 +48,7 @@ pub(crate) fn put_spelled<A: Allocator>(
     style: Style,
     text: &str,
     page: &mut Vec<u8, A>,
-) -> Result<(), Refused>
+) -> Result<(), NoMemory>
     ensures { OnOk result (page.new.items ≡ page.old.items ++ flat_map (spelled style) text.now) }
 {
     for byte in text.as_bytes() {

@@ -6,11 +6,11 @@ ghost use Rattle.manual.specs.Pages.{zsh_case, zsh_option, zsh_page, zsh_word};
 
 use crate::texts::{Style, put, put_spelled};
 use command_line::{ArgumentText, CommandText, HelpTable};
-use memory::Refused;
+use memory::NoMemory;
 use std::alloc::Allocator;
 
 /// The names of the commands.
-fn put_words<A: Allocator>(commands: &[CommandText], page: &mut Vec<u8, A>) -> Result<(), Refused>
+fn put_words<A: Allocator>(commands: &[CommandText], page: &mut Vec<u8, A>) -> Result<(), NoMemory>
     ensures { OnOk result (page.new.items ≡ fold zsh_word page.old.items commands.now) }
 {
     for command in commands {
@@ -27,7 +27,7 @@ fn put_words<A: Allocator>(commands: &[CommandText], page: &mut Vec<u8, A>) -> R
 fn put_options<A: Allocator>(
     arguments: &[ArgumentText],
     page: &mut Vec<u8, A>,
-) -> Result<(), Refused>
+) -> Result<(), NoMemory>
     ensures { OnOk result (page.new.items ≡ fold zsh_option page.old.items arguments.now) }
 {
     for argument in arguments {
@@ -42,7 +42,7 @@ fn put_options<A: Allocator>(
 }
 
 /// The case of a command.
-fn put_case<A: Allocator>(command: &CommandText, page: &mut Vec<u8, A>) -> Result<(), Refused>
+fn put_case<A: Allocator>(command: &CommandText, page: &mut Vec<u8, A>) -> Result<(), NoMemory>
     ensures { OnOk result (page.new.items ≡ zsh_case page.old.items command.now) }
 {
     put("        ", page)?;
@@ -53,7 +53,7 @@ fn put_case<A: Allocator>(command: &CommandText, page: &mut Vec<u8, A>) -> Resul
 }
 
 /// The cases of the commands.
-fn put_cases<A: Allocator>(commands: &[CommandText], page: &mut Vec<u8, A>) -> Result<(), Refused>
+fn put_cases<A: Allocator>(commands: &[CommandText], page: &mut Vec<u8, A>) -> Result<(), NoMemory>
     ensures { OnOk result (page.new.items ≡ fold zsh_case page.old.items commands.now) }
 {
     for command in commands {
@@ -63,7 +63,10 @@ fn put_cases<A: Allocator>(commands: &[CommandText], page: &mut Vec<u8, A>) -> R
 }
 
 /// The completions of a table of help.
-pub(crate) fn put_zsh<A: Allocator>(table: &HelpTable, page: &mut Vec<u8, A>) -> Result<(), Refused>
+pub(crate) fn put_zsh<A: Allocator>(
+    table: &HelpTable,
+    page: &mut Vec<u8, A>,
+) -> Result<(), NoMemory>
     ensures { OnOk result (page.new.items ≡ zsh_page page.old.items table.now) }
 {
     put(

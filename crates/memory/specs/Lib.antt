@@ -1,2 +1,2 @@
-pub mod Refused
+pub mod NoMemory
 pub mod JsonFault

@@ -4,7 +4,7 @@ ghost use Rattle.std.specs.Prelude.{◌≡◌, [], None, OnOk, OnErr, IfOk, IfEr
 ghost use Rattle.std.specs.Io.Buffered.{writer_inner, writer_buffer};
 ghost use Rattle.indexmap.specs.IndexMap.{get, insert_entry, IsUnchanged};
 
-use crate::refused::{NotStored, Refused};
+use crate::no_memory::{NoMemory, NotStored};
 use indexmap::IndexMap;
 use std::alloc::Allocator;
 use std::hash::{BuildHasher, Hash};
@@ -27,7 +27,7 @@ pub fn put<K: Eq + Hash + Drop, V, S: BuildHasher, A: Allocator>(
         Ok(old) => Ok(old),
         Err(failed) => Err(NotStored {
             value: failed.value,
-            refusal: Refused::seen(),
+            cause: NoMemory::seen(),
         }),
     }
 }
@@ -36,12 +36,12 @@ pub fn put<K: Eq + Hash + Drop, V, S: BuildHasher, A: Allocator>(
 pub fn buffered<W: Write + Drop, A: Allocator>(
     alloc: A,
     inner: W,
-) -> Result<BufWriter<W, A>, Refused>
+) -> Result<BufWriter<W, A>, NoMemory>
     ensures inner { IfOk result (λ writer. writer_inner writer ≡ inner) }
     ensures empty { IfOk result (λ writer. writer_buffer writer ≡ []) }
 {
     match BufWriter::new(alloc, inner) {
         Ok(writer) => Ok(writer),
-        Err(_) => Err(Refused::seen()),
+        Err(_) => Err(NoMemory::seen()),
     }
 }

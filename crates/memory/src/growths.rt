@@ -5,7 +5,7 @@ ghost use prog.Memory.{size};
 ghost use denote.Param.{layout};
 ghost use Rattle.chunks.specs.declared.chunked.TheConstants.{MOST_ELEMENTS};
 
-use crate::refused::{NotStored, Refused};
+use crate::no_memory::{NoMemory, NotStored};
 use chunks::Chunked;
 use std::alloc::Allocator;
 
@@ -13,14 +13,14 @@ use std::alloc::Allocator;
 /// refusal by asking for more than any memory holds.
 pub const MOST_BYTES: usize = 67_108_864;
 
-/// The most elements that `make_places` and `vec_with_places` may ask for; the size of these
+/// The most elements that `make_slots` and `vec_with_slots` may ask for; the size of these
 /// depends on a type parameter.
-pub const MOST_PLACES: usize = 4_096;
+pub const MOST_SLOTS: usize = 4_096;
 
 /// Growths of a `Vec`.
 pub trait GrowVec<T> {
     /// Appends a value. If out of memory, the value is dropped.
-    fn try_push(&mut self, value: T) -> Result<(), Refused>
+    fn try_push(&mut self, value: T) -> Result<(), NoMemory>
     where
         T: Drop;
 
@@ -28,19 +28,19 @@ pub trait GrowVec<T> {
     fn store(&mut self, value: T) -> Result<(), NotStored<T>>;
 
     /// Makes room for this many more values.
-    fn make_room(&mut self, additional: usize) -> Result<(), Refused>
+    fn make_room(&mut self, additional: usize) -> Result<(), NoMemory>
         requires { additional * size (layout T.row) ≤ MOST_BYTES };
 
     /// Makes room for one more value, of a type whose size depends on a type parameter.
-    fn make_place(&mut self) -> Result<(), Refused>;
+    fn make_slot(&mut self) -> Result<(), NoMemory>;
 
     /// Makes room for this many more values, of a type whose size depends on a type parameter.
-    fn make_places(&mut self, additional: usize) -> Result<(), Refused>
-        requires { additional ≤ MOST_PLACES };
+    fn make_slots(&mut self, additional: usize) -> Result<(), NoMemory>
+        requires { additional ≤ MOST_SLOTS };
 }
 
 impl<T, A: Allocator> GrowVec<T> for Vec<T, A> {
-    fn try_push(&mut self, value: T) -> Result<(), Refused>
+    fn try_push(&mut self, value: T) -> Result<(), NoMemory>
     where
         T: Drop,
         ensures items { self.new.items
@@ -52,7 +52,7 @@ impl<T, A: Allocator> GrowVec<T> for Vec<T, A> {
     {
         match self.push(value) {
             Ok(()) => Ok(()),
-            Err(_) => Err(Refused::seen()),
+            Err(_) => Err(NoMemory::seen()),
         }
     }
 
@@ -69,12 +69,12 @@ impl<T, A: Allocator> GrowVec<T> for Vec<T, A> {
             Ok(()) => Ok(()),
             Err(failed) => Err(NotStored {
                 value: failed.value,
-                refusal: Refused::seen(),
+                cause: NoMemory::seen(),
             }),
         }
     }
 
-    fn make_room(&mut self, additional: usize) -> Result<(), Refused>
+    fn make_room(&mut self, additional: usize) -> Result<(), NoMemory>
         requires { additional * size (layout T.row) ≤ MOST_BYTES }
         ensures items { self.new.items ≡ self.old.items }
         ensures len { vec_len self.new ≡ vec_len self.old }
@@ -85,11 +85,11 @@ impl<T, A: Allocator> GrowVec<T> for Vec<T, A> {
     {
         match self.reserve(additional) {
             Ok(()) => Ok(()),
-            Err(_) => Err(Refused::seen()),
+            Err(_) => Err(NoMemory::seen()),
         }
     }
 
-    fn make_place(&mut self) -> Result<(), Refused>
+    fn make_slot(&mut self) -> Result<(), NoMemory>
         ensures items { self.new.items ≡ self.old.items }
         ensures len { vec_len self.new ≡ vec_len self.old }
         ensures ok { OnOk result (vec_len self.new + 1 ≤ vec_capacity self.new) }
@@ -99,12 +99,12 @@ impl<T, A: Allocator> GrowVec<T> for Vec<T, A> {
     {
         match self.reserve(1) {
             Ok(()) => Ok(()),
-            Err(_) => Err(Refused::seen()),
+            Err(_) => Err(NoMemory::seen()),
         }
     }
 
-    fn make_places(&mut self, additional: usize) -> Result<(), Refused>
-        requires { additional ≤ MOST_PLACES }
+    fn make_slots(&mut self, additional: usize) -> Result<(), NoMemory>
+        requires { additional ≤ MOST_SLOTS }
         ensures items { self.new.items ≡ self.old.items }
         ensures len { vec_len self.new ≡ vec_len self.old }
         ensures ok { OnOk result (vec_len self.new + additional ≤ vec_capacity self.new) }
@@ -114,13 +114,13 @@ impl<T, A: Allocator> GrowVec<T> for Vec<T, A> {
     {
         match self.reserve(additional) {
             Ok(()) => Ok(()),
-            Err(_) => Err(Refused::seen()),
+            Err(_) => Err(NoMemory::seen()),
         }
     }
 }
 
 /// Appends copies of all these values, or of none if out of memory.
-pub fn try_extend<T: Copy, A: Allocator>(list: &mut Vec<T, A>, values: &[T]) -> Result<(), Refused>
+pub fn try_extend<T: Copy, A: Allocator>(list: &mut Vec<T, A>, values: &[T]) -> Result<(), NoMemory>
     ensures items { list.new.items
         ≡ (if is_ok result then list.old.items ++ values.now else list.old.items) }
     ensures len { vec_len list.new
@@ -130,12 +130,12 @@ pub fn try_extend<T: Copy, A: Allocator>(list: &mut Vec<T, A>, values: &[T]) -> 
 {
     match list.extend_from_slice(values) {
         Ok(()) => Ok(()),
-        Err(_) => Err(Refused::seen()),
+        Err(_) => Err(NoMemory::seen()),
     }
 }
 
 /// Makes places for 256 more elements of a list in chunks. No element moves.
-pub fn make_chunk<S, A: Allocator>(list: &mut Chunked<S, A>) -> Result<(), Refused>
+pub fn make_chunk<S, A: Allocator>(list: &mut Chunked<S, A>) -> Result<(), NoMemory>
     requires { list.old.places < MOST_ELEMENTS }
     ensures items { list.new.items ≡ list.old.items }
     ensures ok { OnOk result (list.new.places ≡ list.old.places + 256) }
@@ -143,23 +143,23 @@ pub fn make_chunk<S, A: Allocator>(list: &mut Chunked<S, A>) -> Result<(), Refus
 {
     match list.make_places() {
         Ok(()) => Ok(()),
-        Err(_) => Err(Refused::seen()),
+        Err(_) => Err(NoMemory::seen()),
     }
 }
 
 /// Growths of a `String`.
 pub trait GrowText {
     /// Appends a text.
-    fn try_push_str(&mut self, text: &str) -> Result<(), Refused>;
+    fn try_push_str(&mut self, text: &str) -> Result<(), NoMemory>;
 
     /// Appends a character.
-    fn try_push_char(&mut self, character: char) -> Result<(), Refused>;
+    fn try_push_char(&mut self, character: char) -> Result<(), NoMemory>;
 }
 
 impl<A: Allocator> GrowText for String<A> {
     ghost use Rattle.std.specs.Char.{encode_utf8};
 
-    fn try_push_str(&mut self, text: &str) -> Result<(), Refused>
+    fn try_push_str(&mut self, text: &str) -> Result<(), NoMemory>
         ensures bytes { string_bytes self.new
             ≡ (if is_ok result then string_bytes self.old ++ text.now else string_bytes self.old) }
         ensures full { OnErr result
@@ -167,11 +167,11 @@ impl<A: Allocator> GrowText for String<A> {
     {
         match self.push_str(text) {
             Ok(()) => Ok(()),
-            Err(_) => Err(Refused::seen()),
+            Err(_) => Err(NoMemory::seen()),
         }
     }
 
-    fn try_push_char(&mut self, character: char) -> Result<(), Refused>
+    fn try_push_char(&mut self, character: char) -> Result<(), NoMemory>
         ensures bytes { string_bytes self.new
             ≡ (if is_ok result then string_bytes self.old
             ++ encode_utf8 character else string_bytes self.old) }
@@ -180,7 +180,7 @@ impl<A: Allocator> GrowText for String<A> {
     {
         match self.push(character) {
             Ok(()) => Ok(()),
-            Err(_) => Err(Refused::seen()),
+            Err(_) => Err(NoMemory::seen()),
         }
     }
 }

@@ -7,7 +7,7 @@ ghost use Rattle.serde_json.specs.View.{view, members_view};
 ghost use Rattle.serde_json.specs.Written.{has_float, compact_text};
 ghost use Rattle.memory.specs.JsonFault.{IsTextFault};
 
-use crate::refused::Refused;
+use crate::no_memory::NoMemory;
 use serde_json::{Category, Error, Map, Value};
 use std::alloc::Global;
 
@@ -17,7 +17,7 @@ pub enum JsonFault {
     /// They are not JSON, or not UTF-8.
     Text(Error),
     /// Out of memory.
-    Memory(Refused),
+    Memory(NoMemory),
 }
 
 /// Reads a JSON text (RFC 8259) in UTF-8. An empty text is always the fault `Text`.
@@ -32,7 +32,7 @@ pub fn json_value(heap: Global, bytes: &[u8]) -> Result<Value, JsonFault>
     match Value::from_slice(heap, bytes) {
         Ok(value) => Ok(value),
         Err(error) => match error.classify() {
-            Category::Memory => Err(JsonFault::Memory(Refused::seen())),
+            Category::Memory => Err(JsonFault::Memory(NoMemory::seen())),
             _ => Err(JsonFault::Text(error)),
         },
     }
@@ -40,7 +40,7 @@ pub fn json_value(heap: Global, bytes: &[u8]) -> Result<Value, JsonFault>
 
 /// A JSON value as text: without spaces, the keys of each object sorted. It is read as that value,
 /// if it nests no deeper than the reader allows.
-pub fn json_text(heap: Global, value: &Value) -> Result<String, Refused>
+pub fn json_text(heap: Global, value: &Value) -> Result<String, NoMemory>
     ensures text { IfOk result
         (λ text. has_float (view value.now) ≡ false
         → string_bytes text ≡ compact_text (view value.now)) }
@@ -50,17 +50,17 @@ pub fn json_text(heap: Global, value: &Value) -> Result<String, Refused>
 {
     match value.to_string(heap) {
         Ok(text) => Ok(text),
-        Err(_) => Err(Refused::seen()),
+        Err(_) => Err(NoMemory::seen()),
     }
 }
 
 /// A text as a JSON string.
-pub fn json_string(heap: Global, text: &str) -> Result<Value, Refused>
+pub fn json_string(heap: Global, text: &str) -> Result<Value, NoMemory>
     ensures { IfOk result (λ value. view value ≡ string text.now) }
 {
     match Value::try_from_str(heap, text) {
         Ok(value) => Ok(value),
-        Err(_) => Err(Refused::seen()),
+        Err(_) => Err(NoMemory::seen()),
     }
 }
 
@@ -71,7 +71,7 @@ pub fn put_member(
     heap: Global,
     key: &str,
     value: Value,
-) -> Result<(), Refused>
+) -> Result<(), NoMemory>
     ensures ok { OnOk result
         (members_view members.new.entries
         ≡ with_member key.now (view value) (members_view members.old.entries)) }
@@ -79,6 +79,6 @@ pub fn put_member(
 {
     match serde_json::put(members, heap, key, value) {
         Ok(()) => Ok(()),
-        Err(_) => Err(Refused::seen()),
+        Err(_) => Err(NoMemory::seen()),
     }
 }

@@ -36,7 +36,8 @@ module _ {T : Type 0} where
   IsInRange first WornOut = first ≤ last_generation
 
   -- the link names this free slot, whose own link is `after`
-  pub record IsLink (slots : List (Slot T)) (next : Option ℕ) (slot generation : ℕ) (after : Option ℕ) : Type 0 where
+  pub record IsLink (slots : List (Slot T)) (next : Option ℕ) (slot generation : ℕ)
+      (after : Option ℕ) : Type 0 where
     pub named : next ≡ Some slot
     pub found : slice_get slots slot ≡ Some (Free generation after)
 
@@ -47,9 +48,10 @@ module _ {T : Type 0} where
       × IsLink slots next slot generation after × IsChain slots count after
 
   -- `live` counts the values, and the chain from `next` has the `free` slots that are not taken
-  pub record IsSound (first : ℕ) (slots : List (Slot T)) (live free : ℕ) (next : Option ℕ) : Type 0 where
-    pub limit : length slots ≤ MAX_SLOTS
-    pub in_range : All (IsInRange first) slots
-    pub live_counted : live ≡ count_by (λ slot. is_some slot.1) (map seen slots)
-    pub free_counted : count_by is_taken (map seen slots) + free ≡ length slots
-    pub chained : IsChain slots free next
+  pub record IsSound (first : ℕ) (slots : List (Slot T)) (live free : ℕ) (next : Option ℕ) : Type 0
+    where
+      pub limit : length slots ≤ MAX_SLOTS
+      pub in_range : All (IsInRange first) slots
+      pub live_counted : live ≡ count_by (λ slot. is_some slot.1) (map seen slots)
+      pub free_counted : count_by is_taken (map seen slots) + free ≡ length slots
+      pub chained : IsChain slots free next

@@ -46,7 +46,8 @@ module _ {T : Type 0} where
 
   -- the used handles: those that were given out
   abbrev pub IsUsed : Slots T → Handle → Type 0
-  IsUsed s handle = (s.first ≤ handle.generation) × (handle.generation < next_generation s handle.slot)
+  IsUsed s handle = (s.first ≤ handle.generation)
+      × (handle.generation < next_generation s handle.slot)
 
   -- how many values there are
   abbrev pub value_count : Slots T → ℕ

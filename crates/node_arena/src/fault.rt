@@ -3,7 +3,7 @@
 ghost use Rattle.std.specs.Prelude.{◌≡◌, Some};
 ghost use Rattle.node_arena.specs.FaultCodes.{code_of};
 
-use memory::Refused;
+use memory::NoMemory;
 use std::error::Error;
 use std::fmt;
 
@@ -13,16 +13,16 @@ pub enum ArenaFault {
     /// A1: too few of the `MAX_SLOTS` slots are left; the others hold a value or are worn out.
     Full,
     /// A2: too few slots were free, and the allocation for more was refused.
-    Memory(Refused),
+    Memory(NoMemory),
 }
 
-impl From<Refused> for ArenaFault {
+impl From<NoMemory> for ArenaFault {
     ghost use Rattle.node_arena.specs.declared.fault.ArenaFault.TheVariants.{Memory};
 
-    ghost from_gives = { λ refused fault. fault ≡ Memory refused };
+    ghost from_gives = { λ no_memory fault. fault ≡ Memory no_memory };
 
-    fn from(refused: Refused) -> ArenaFault {
-        ArenaFault::Memory(refused)
+    fn from(no_memory: NoMemory) -> ArenaFault {
+        ArenaFault::Memory(no_memory)
     }
 }
 

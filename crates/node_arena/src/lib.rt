@@ -5,7 +5,7 @@ ghost use Rattle.std.specs.Prelude.{◌≡◌, ◌↔◌, ℕ, ◌+◌, ◌<◌,
 ghost use Rattle.std.specs.Option.{option_copied_mut};
 ghost use Rattle.std.specs.Borrow.{sem};
 ghost use Rattle.node_arena.specs.Slots.{last_generation, slot_at, next_generation, value_at, IsUsed, value_count, IsSize, slot_count, taken_count, HasRoomFor, SameButRoom, empty_from, with_slot, with_value, IsEmpty, IsGiven, CountsGiven, IsChangedAt, SameCounts};
-ghost use Rattle.memory.specs.Refused.{refused};
+ghost use Rattle.memory.specs.NoMemory.{out_of_memory};
 
 use chunks::Chunked;
 use memory::make_chunk;
@@ -178,15 +178,15 @@ impl<T, A: Allocator> Arena<T, A> {
     /// Makes room for `more` values, so that the next `more` calls of `insert` take no memory and
     /// cannot fail.
     ///
-    /// A1 where fewer than `more` values fit below `MAX_SLOTS`, A2 where an allocation for a chunk of
-    /// slots is refused. On an error nothing changes.
+    /// A1 where fewer than `more` values fit below `MAX_SLOTS`, A2 where an allocation for a chunk
+    /// of slots is refused. On an error nothing changes.
     pub fn reserve(&mut self, more: u32) -> Result<(), ArenaFault>
         requires { more ≤ MOST_RESERVED }
         ensures ok { OnOk result (HasRoomFor self.new more) }
         ensures rest_kept { SameButRoom self.old self.new }
         ensures places { self.old.places ≤ self.new.places }
         ensures full { (result ≡ Err ArenaFault.Full) ↔ (MAX_SLOTS < taken_count self.old + more) }
-        ensures memory_only_where_room_was_missing { result ≡ Err (ArenaFault.Memory refused)
+        ensures memory_only_where_room_was_missing { result ≡ Err (ArenaFault.Memory out_of_memory)
             → self.old.places < taken_count self.old + more }
         ensures err { OnErr result (self.new ≡ self.old) }
     {
@@ -215,7 +215,8 @@ impl<T, A: Allocator> Arena<T, A> {
             → IfOk result (λ handle. handle.slot < slot_count self.old) }
         ensures full { (result ≡ Err (value, ArenaFault.Full))
             ↔ (taken_count self.old ≡ MAX_SLOTS) }
-        ensures memory_only_where_none_is_free { result ≡ Err (value, ArenaFault.Memory refused)
+        ensures memory_only_where_none_is_free { result ≡ Err
+            (value, ArenaFault.Memory out_of_memory)
             → taken_count self.old ≡ slot_count self.old }
         ensures value_returned { IfErr result (λ refused. refused.0 ≡ value) }
         ensures err { OnErr result (self.new ≡ self.old) }
@@ -232,8 +233,8 @@ impl<T, A: Allocator> Arena<T, A> {
             return Err((value, ArenaFault::Full));
         }
         if self.slots.len() == self.slots.places() {
-            if let Err(refused) = make_chunk(&mut self.slots) {
-                return Err((value, ArenaFault::Memory(refused)));
+            if let Err(no_memory) = make_chunk(&mut self.slots) {
+                return Err((value, ArenaFault::Memory(no_memory)));
             }
         }
         let handle = Handle {

@@ -21,7 +21,8 @@ AreOnOrLeft ways points = All (λ side. All (λ r. pos 0 ≤ℤ turn side.0 side
 -- the path turns left at each of the points; it comes from `before` and goes on to `after`
 abbrev pub TurnsLeft : Point → Point → List Point → Type 0
 TurnsLeft before after [] = Unit {0}
-TurnsLeft before after (p ∷ rest) = (pos 0 <ℤ turn before p (slice_index_or rest 0 after)) × TurnsLeft p after rest
+TurnsLeft before after (p ∷ rest) = (pos 0 <ℤ turn before p (slice_index_or rest 0 after))
+    × TurnsLeft p after rest
 
 -- at least 3 points in range, few enough to be listed with the closing one, distinct, not all on
 -- one line, each on or left of every side

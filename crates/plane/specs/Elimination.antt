@@ -33,7 +33,8 @@ IsNowhere Q = (y w : ℤ) → pos 0 <ℤ w → Q y w → ⊥
 abbrev pub PairAllows : Row → Row → ℤ → ℤ → Type 0
 PairAllows first second y w =
     second.a <ℤ pos 0
-    → ((first.a *ℤ second.b -ℤ second.a *ℤ first.b) *ℤ y) ≤ℤ ((first.a *ℤ second.c -ℤ second.a *ℤ first.c) *ℤ w)
+    → ((first.a *ℤ second.b -ℤ second.a *ℤ first.b) *ℤ y) ≤ℤ
+    ((first.a *ℤ second.c -ℤ second.a *ℤ first.c) *ℤ w)
 
 -- what remains of a row, paired with each of the others, when x is removed
 pub record RowAllows (rows : List Row) (row : Row) (y w : ℤ) : Type 0 where

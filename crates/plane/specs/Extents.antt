@@ -28,7 +28,12 @@ point_extent p = record { x0 = p.x; y0 = p.y; x1 = p.x; y1 = p.y }
 
 -- the least extent that contains both
 abbrev pub joined : Extent → Extent → Extent
-joined e f = record { x0 = int_min e.x0 f.x0; y0 = int_min e.y0 f.y0; x1 = int_max e.x1 f.x1; y1 = int_max e.y1 f.y1 }
+joined e f = record {
+  x0 = int_min e.x0 f.x0;
+  y0 = int_min e.y0 f.y0;
+  x1 = int_max e.x1 f.x1;
+  y1 = int_max e.y1 f.y1;
+}
 
 -- the least extent that contains all the points, at least one
 abbrev pub extent_of : List Point → Extent

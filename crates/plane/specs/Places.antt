@@ -14,7 +14,10 @@ pub record IsKept (count : ℕ) (places : List Point) : Type 0 where
   pub canonical : IsCanonical (take count places)
 
 abbrev pub places_of : List Point → Inside
-places_of corners = record { places = corners ++ replicate (CORNER_LIMIT - length corners) origin; count = length corners }
+places_of corners = record {
+  places = corners ++ replicate (CORNER_LIMIT - length corners) origin;
+  count = length corners;
+}
 
 -- `n` corners, in these places
 abbrev kept_as : ℕ → List Point → Inside
@@ -25,6 +28,8 @@ same_places m n l k e f = cc
 
 pub places_of-take : (s : Inside) → IsKept s.count s.places → places_of (take s.count s.places) ≡ s
 places_of-take s kept =
-    let len : length (take s.count s.places) ≡ s.count = length-take-le s.count s.places (omega (arith, kept.at_most, kept.whole)) in
-    let all : take s.count s.places ++ replicate (CORNER_LIMIT - s.count) origin ≡ s.places = rw (← kept.unused) (take-append-drop s.count s.places) in
+    let len : length (take s.count s.places) ≡ s.count =
+    length-take-le s.count s.places (omega (arith, kept.at_most, kept.whole)) in
+    let all : take s.count s.places ++ replicate (CORNER_LIMIT - s.count) origin ≡ s.places =
+    rw (← kept.unused) (take-append-drop s.count s.places) in
     same_places (length (take s.count s.places)) s.count _ _ len (rw len all)

@@ -43,7 +43,8 @@ is_flat ring = list_all (λ side. list_all (is_on_line side) ring) (sides ring)
 
 -- some side of the ring has all the points strictly on its right
 abbrev pub is_apart : List Point → List Point → Bool
-is_apart ring points = list_any (λ side. list_all (λ r. not (is_on_or_left side r)) points) (sides ring)
+is_apart ring points = list_any (λ side. list_all (λ r. not (is_on_or_left side r)) points)
+    (sides ring)
 
 -- a point occurs twice in the list
 abbrev pub has_repeat : List Point → Bool
@@ -61,7 +62,9 @@ from_least ring = let at = position_or_len (is_least ring) ring in drop at ring 
 -- the points at which the path turns; it comes from `before` and goes on to `after`
 abbrev pub turning : Point → Point → List Point → List Point
 turning before after [] = []
-turning before after (p ∷ rest) = if is_on_line (before, p) (slice_index_or rest 0 after) then turning p after rest else p ∷ turning p after rest
+turning before after (p ∷ rest) =
+    if is_on_line (before, p) (slice_index_or rest 0 after) then turning p after rest
+    else p ∷ turning p after rest
 
 -- the points at which the ring turns
 abbrev pub turning_points : List Point → List Point

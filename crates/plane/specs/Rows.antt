@@ -62,7 +62,8 @@ FramesMeet first second = HaveCommonPoint (frame_rows first) (frame_rows second)
 
 -- each fraction point of the second frame lies in the first
 abbrev pub Covers : Extent → Extent → Type 0
-Covers first second = (x y w : ℤ) → pos 0 <ℤ w → All (Satisfies x y w) (frame_rows second) → All (Satisfies x y w) (frame_rows first)
+Covers first second = (x y w : ℤ) → pos 0 <ℤ w → All (Satisfies x y w) (frame_rows second)
+    → All (Satisfies x y w) (frame_rows first)
 
 -- the result covers both extents, and each frame that covers both covers it
 pub record IsLeastCover (result first second : Extent) : Type 0 where
@@ -73,4 +74,5 @@ pub record IsLeastCover (result first second : Extent) : Type 0 where
 -- the result covers each of the points, and each frame that covers them all covers it
 pub record IsLeastFrame (result : Extent) (points : List Point) : Type 0 where
   pub covers : All (λ p. Covers result (point_extent p)) points
-  pub least : (e : Extent) → IsFrame e → All (λ p. Covers e (point_extent p)) points → Covers e result
+  pub least : (e : Extent) → IsFrame e → All (λ p. Covers e (point_extent p)) points
+      → Covers e result

@@ -1,7 +1,7 @@
 //! Points, segments and convex polygons with whole coordinates, and whether two of them meet.
 //!
-//! Meeting is decided exactly, in whole numbers of 64 and 128 bits: two shapes meet if some point of
-//! the plane, with any fractions as coordinates, lies in both.
+//! Meeting is decided exactly, in whole numbers of 64 and 128 bits: two shapes meet if some point
+//! of the plane, with any fractions as coordinates, lies in both.
 #![tactic(auto)]
 
 mod bounds;

@@ -20,7 +20,8 @@ abbrev mutual
 
   pub parts_before_all : Children → List Part → List Part
   parts_before_all no_children rest = ends ∷ rest
-  parts_before_all (child node others) rest = next ∷ parts_before node (parts_before_all others rest)
+  parts_before_all (child node others) rest =
+      next ∷ parts_before node (parts_before_all others rest)
 
 -- what the parts to the right of a position build
 pub data Built : Type 0 where
@@ -45,14 +46,18 @@ built [] = nothing
 built (p ∷ ps) = with_part p (built ps)
 
 abbrev mutual
-  pub built-parts_before : (n : NodeData) (rest : List Part) → built (parts_before n rest) ≡ a_node n (built rest)
-  built-parts_before (set head children) rest = ap (with_part (opens head)) (built-parts_before_all children rest)
+  pub built-parts_before : (n : NodeData) (rest : List Part)
+      → built (parts_before n rest) ≡ a_node n (built rest)
+  built-parts_before (set head children) rest =
+      ap (with_part (opens head)) (built-parts_before_all children rest)
   built-parts_before (policy head rules) rest = refl
 
-  pub built-parts_before_all : (c : Children) (rest : List Part) → built (parts_before_all c rest) ≡ a_row c (built rest)
+  pub built-parts_before_all : (c : Children) (rest : List Part)
+      → built (parts_before_all c rest) ≡ a_row c (built rest)
   built-parts_before_all no_children rest = refl
   built-parts_before_all (child node others) rest =
-      ap (with_part next) (built-parts_before node (parts_before_all others rest) ∙ ap (a_node node) (built-parts_before_all others rest))
+      ap (with_part next) (built-parts_before node (parts_before_all others rest) ∙ ap (a_node node)
+      (built-parts_before_all others rest))
 
 abbrev pub first_node : Built → NodeData → NodeData
 first_node nothing d = d
@@ -79,4 +84,7 @@ abbrev pub restored : List Zone × List Part → DocumentData
 restored p = record { zones = p.0; root = node_of p.1 }
 
 abbrev pub restored-stored : (d : DocumentData) → restored (stored d) ≡ d
-restored-stored d = ap (λ (n : NodeData). let e : DocumentData = record { zones = d.zones; root = n } in e) (node_of-parts_of d.root)
+restored-stored d = ap (λ (n : NodeData). let e : DocumentData = record {
+  zones = d.zones;
+  root = n;
+} in e) (node_of-parts_of d.root)

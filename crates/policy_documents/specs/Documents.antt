@@ -116,7 +116,8 @@ term_matches terms.Own = []
 
 -- the matches of a rule
 abbrev pub rule_matches : RuleData → List Match
-rule_matches rule = target_matches rule.target ++ flat_map (λ atom. term_matches (atom_term atom)) rule.when
+rule_matches rule = target_matches rule.target ++ flat_map (λ atom. term_matches (atom_term atom))
+    rule.when
 
 -- the matches below a node
 abbrev mutual
@@ -158,7 +159,8 @@ atom_sizes (atom ∷ rest) = atom_size atom + atom_sizes rest
 
 abbrev pub rule_sizes : List RuleData → ℕ
 rule_sizes [] = 0
-rule_sizes (rule ∷ rest) = length (target_matches rule.target) + atom_sizes rule.when + rule_sizes rest
+rule_sizes (rule ∷ rest) = length (target_matches rule.target) + atom_sizes rule.when + rule_sizes
+    rest
 
 -- how many matches and atoms there are below a node and in its target
 abbrev mutual

@@ -168,43 +168,62 @@ pub same_conditions_decides : (a b : List Atom) → Decides (same_conditions a b
 same_conditions_decides = pointwise_decides same_atom_decides
 
 abbrev pub same_rule : RuleData → RuleData → Bool
-same_rule a b = same_name a.name b.name && same_effect a.effect b.effect && same_target a.target b.target && same_conditions a.when b.when
+same_rule a b = same_name a.name b.name && same_effect a.effect b.effect && same_target a.target
+    b.target && same_conditions a.when b.when
 
 same_rule-itself : (a : RuleData) → same_rule a a ≡ true
 same_rule-itself a =
-    both_so _ _ (both_so _ _ (both_so _ _ (same_name-itself a.name) (same_effect-itself a.effect)) ((same_target_decides a.target a.target).1 refl))
+    both_so _ _ (both_so _ _ (both_so _ _ (same_name-itself a.name) (same_effect-itself a.effect))
+    ((same_target_decides a.target a.target).1 refl))
     ((same_conditions_decides a.when a.when).1 refl)
 
-same_rule-by : (a b : RuleData) → a.name ≡ b.name → a.effect ≡ b.effect → a.target ≡ b.target → a.when ≡ b.when → a ≡ b
+same_rule-by : (a b : RuleData) → a.name ≡ b.name → a.effect ≡ b.effect → a.target ≡ b.target
+    → a.when ≡ b.when → a ≡ b
 same_rule-by a b p q r s = λ i. record { name = p i; effect = q i; target = r i; when = s i }
 
 same_rule-told : (a b : RuleData) → same_rule a b ≡ true → a ≡ b
 same_rule-told a b e =
-    let three = first_so (same_name a.name b.name && same_effect a.effect b.effect && same_target a.target b.target) (same_conditions a.when b.when) e in
-    let two = first_so (same_name a.name b.name && same_effect a.effect b.effect) (same_target a.target b.target) three in
-    same_rule-by a b (same_name-told a.name b.name (first_so (same_name a.name b.name) (same_effect a.effect b.effect) two))
-    (same_effect-told a.effect b.effect (second_so (same_name a.name b.name) (same_effect a.effect b.effect) two))
-    ((same_target_decides a.target b.target).0 (second_so (same_name a.name b.name && same_effect a.effect b.effect) (same_target a.target b.target) three))
-    ((same_conditions_decides a.when b.when).0 (second_so (same_name a.name b.name && same_effect a.effect b.effect && same_target a.target b.target) (same_conditions a.when b.when) e))
+    let three = first_so (same_name a.name b.name && same_effect a.effect b.effect && same_target
+    a.target b.target) (same_conditions a.when b.when) e in
+    let two = first_so (same_name a.name b.name && same_effect a.effect b.effect)
+    (same_target a.target b.target) three in
+    same_rule-by a b (same_name-told a.name b.name
+    (first_so (same_name a.name b.name) (same_effect a.effect b.effect) two))
+    (same_effect-told a.effect b.effect
+    (second_so (same_name a.name b.name) (same_effect a.effect b.effect) two))
+    ((same_target_decides a.target b.target).0
+    (second_so (same_name a.name b.name && same_effect a.effect b.effect)
+    (same_target a.target b.target) three))
+    ((same_conditions_decides a.when b.when).0
+    (second_so (same_name a.name b.name && same_effect a.effect b.effect && same_target a.target
+    b.target) (same_conditions a.when b.when) e))
 
 pub same_rule_decides : (a b : RuleData) → Decides (same_rule a b) (a ≡ b)
 same_rule_decides = decides_by same_rule same_rule-itself same_rule-told
 
 abbrev pub same_head : Head → Head → Bool
-same_head a b = same_name a.name b.name && same_algorithm a.combine b.combine && same_target a.target b.target
+same_head a b = same_name a.name b.name && same_algorithm a.combine b.combine && same_target
+    a.target b.target
 
 same_head-itself : (a : Head) → same_head a a ≡ true
-same_head-itself a = both_so _ _ (both_so _ _ (same_name-itself a.name) (same_algorithm-itself a.combine)) ((same_target_decides a.target a.target).1 refl)
+same_head-itself a = both_so _ _
+    (both_so _ _ (same_name-itself a.name) (same_algorithm-itself a.combine))
+    ((same_target_decides a.target a.target).1 refl)
 
 same_head-by : (a b : Head) → a.name ≡ b.name → a.combine ≡ b.combine → a.target ≡ b.target → a ≡ b
 same_head-by a b p q r = λ i. record { name = p i; combine = q i; target = r i }
 
 same_head-told : (a b : Head) → same_head a b ≡ true → a ≡ b
 same_head-told a b e =
-    let two = first_so (same_name a.name b.name && same_algorithm a.combine b.combine) (same_target a.target b.target) e in
-    same_head-by a b (same_name-told a.name b.name (first_so (same_name a.name b.name) (same_algorithm a.combine b.combine) two))
-    (same_algorithm-told a.combine b.combine (second_so (same_name a.name b.name) (same_algorithm a.combine b.combine) two))
-    ((same_target_decides a.target b.target).0 (second_so (same_name a.name b.name && same_algorithm a.combine b.combine) (same_target a.target b.target) e))
+    let two = first_so (same_name a.name b.name && same_algorithm a.combine b.combine)
+    (same_target a.target b.target) e in
+    same_head-by a b (same_name-told a.name b.name
+    (first_so (same_name a.name b.name) (same_algorithm a.combine b.combine) two))
+    (same_algorithm-told a.combine b.combine
+    (second_so (same_name a.name b.name) (same_algorithm a.combine b.combine) two))
+    ((same_target_decides a.target b.target).0
+    (second_so (same_name a.name b.name && same_algorithm a.combine b.combine)
+    (same_target a.target b.target) e))
 
 -- what a set and a policy have in common
 abbrev pub head_of : NodeData → Head
@@ -256,7 +275,8 @@ mutual
   same_children-told no_children no_children e = refl
   same_children-told (child a rest) (child b others) e =
       let p = same_node-told a b (first_so (same_node a b) (same_children rest others) e) in
-      let q = same_children-told rest others (second_so (same_node a b) (same_children rest others) e) in
+      let q = same_children-told rest others
+      (second_so (same_node a b) (same_children rest others) e) in
       λ i. child (p i) (q i)
   same_children-told no_children (child b others) e = absurd (false≢true e)
   same_children-told (child a rest) no_children e = absurd (false≢true e)
@@ -268,15 +288,18 @@ abbrev pub same_zone : Zone → Zone → Bool
 same_zone a b = same_name a.name b.name && same_shape a.shape b.shape
 
 same_zone-itself : (a : Zone) → same_zone a a ≡ true
-same_zone-itself a = both_so _ _ (same_name-itself a.name) ((same_shape_decides a.shape a.shape).1 refl)
+same_zone-itself a = both_so _ _ (same_name-itself a.name)
+    ((same_shape_decides a.shape a.shape).1 refl)
 
 same_zone-by : (a b : Zone) → a.name ≡ b.name → a.shape ≡ b.shape → a ≡ b
 same_zone-by a b p q = λ i. record { name = p i; shape = q i }
 
 same_zone-told : (a b : Zone) → same_zone a b ≡ true → a ≡ b
 same_zone-told a b e =
-    same_zone-by a b (same_name-told a.name b.name (first_so (same_name a.name b.name) (same_shape a.shape b.shape) e))
-    ((same_shape_decides a.shape b.shape).0 (second_so (same_name a.name b.name) (same_shape a.shape b.shape) e))
+    same_zone-by a b (same_name-told a.name b.name
+    (first_so (same_name a.name b.name) (same_shape a.shape b.shape) e))
+    ((same_shape_decides a.shape b.shape).0
+    (second_so (same_name a.name b.name) (same_shape a.shape b.shape) e))
 
 pub same_zone_decides : (a b : Zone) → Decides (same_zone a b) (a ≡ b)
 same_zone_decides = decides_by same_zone same_zone-itself same_zone-told
@@ -292,15 +315,18 @@ abbrev pub same_document : DocumentData → DocumentData → Bool
 same_document a b = same_zones a.zones b.zones && same_node a.root b.root
 
 same_document-itself : (a : DocumentData) → same_document a a ≡ true
-same_document-itself a = both_so _ _ ((same_zones_decides a.zones a.zones).1 refl) (same_node-itself a.root)
+same_document-itself a = both_so _ _ ((same_zones_decides a.zones a.zones).1 refl)
+    (same_node-itself a.root)
 
 same_document-by : (a b : DocumentData) → a.zones ≡ b.zones → a.root ≡ b.root → a ≡ b
 same_document-by a b p q = λ i. record { zones = p i; root = q i }
 
 same_document-told : (a b : DocumentData) → same_document a b ≡ true → a ≡ b
 same_document-told a b e =
-    same_document-by a b ((same_zones_decides a.zones b.zones).0 (first_so (same_zones a.zones b.zones) (same_node a.root b.root) e))
-    (same_node-told a.root b.root (second_so (same_zones a.zones b.zones) (same_node a.root b.root) e))
+    same_document-by a b ((same_zones_decides a.zones b.zones).0
+    (first_so (same_zones a.zones b.zones) (same_node a.root b.root) e))
+    (same_node-told a.root b.root
+    (second_so (same_zones a.zones b.zones) (same_node a.root b.root) e))
 
 pub same_document_decides : (a b : DocumentData) → Decides (same_document a b) (a ≡ b)
 same_document_decides = decides_by same_document same_document-itself same_document-told

@@ -8,8 +8,10 @@ use Rattle.policy_documents.specs.declared.nodes.Node.{Node, fold-Node}
 use Rattle.policy_documents.specs.declared.nodes.Node.TheOpen.{Node-F}
 
 abbrev pub node_step : {A : Type 0} → Node-F A NodeData → NodeData
-node_step (Node-F.Set name combine target of) = set (record { name = name; combine = combine; target = target }) (children_of of.items)
-node_step (Node-F.Policy name combine target rules) = policy (record { name = name; combine = combine; target = target }) rules.items
+node_step (Node-F.Set name combine target of) =
+    set (record { name = name; combine = combine; target = target }) (children_of of.items)
+node_step (Node-F.Policy name combine target rules) =
+    policy (record { name = name; combine = combine; target = target }) rules.items
 
 abbrev pub node_view : {A : Type 0} → Node A → NodeData
 node_view {A = A} = fold-Node A NodeData node_step

@@ -11,7 +11,7 @@ use crate::rules::Rule;
 use crate::zones::{Zone, ZoneName};
 use features::Name;
 use indexmap::IndexMap;
-use memory::{Refused, put};
+use memory::{NoMemory, put};
 use plane::Shape;
 use std::alloc::Allocator;
 use std::hash::{BuildHasherDefault, FoldHasher};
@@ -53,7 +53,8 @@ impl<A: Allocator> Model for Document<A> {
 
     ghost Value = { DocumentData };
 
-    ghost coded = { code_by (List Zone × List Part) (Prim.hlevel codes) stored restored restored-stored };
+    ghost coded = { code_by (List Zone × List Part) (Prim.hlevel codes) stored restored
+        restored-stored };
 
     ghost use Rattle.policy_documents.specs.Views.{document_view};
 
@@ -124,7 +125,7 @@ impl<A: Allocator> Document<A> {
     }
 
     /// A copy of the document in another allocator. Fails only when out of memory.
-    pub fn copy<B: Allocator + Copy>(&self, alloc: B) -> Result<Document<B>, Refused>
+    pub fn copy<B: Allocator + Copy>(&self, alloc: B) -> Result<Document<B>, NoMemory>
         ensures { IfOk result (λ copy. copy ≡ self.now) }
     {
         Ok(Document {
@@ -177,7 +178,7 @@ fn rule_in_nodes<A: Allocator>(nodes: &[Node<A>], index: usize) -> Result<Name, 
 fn copy_zones<A: Allocator, B: Allocator + Copy>(
     alloc: B,
     zones: &Zones<A>,
-) -> Result<Zones<B>, Refused>
+) -> Result<Zones<B>, NoMemory>
     ensures { IfOk result (λ copy. copy.entries ≡ zones.now.entries) }
 {
     let mut copies = IndexMap::new(alloc);

@@ -4,7 +4,7 @@ ghost use Rattle.std.specs.Prelude.{◌≡◌, ◌↔◌, IfOk, IsTrue};
 ghost use Rattle.std.specs.Cmp.Lexicographic.{pointwise, lists_per, lists_equiv};
 
 use features::{Action, Name};
-use memory::{GrowVec, Refused, copied};
+use memory::{GrowVec, NoMemory, copied};
 use std::alloc::Allocator;
 use std::marker::Model;
 
@@ -104,7 +104,7 @@ impl<T: Eq, A: Allocator> Eq for Items<T, A> {
 pub(crate) fn copy_items<T: Copy, A: Allocator, B: Allocator + Copy>(
     alloc: B,
     items: &Items<T, A>,
-) -> Result<Items<T, B>, Refused>
+) -> Result<Items<T, B>, NoMemory>
     ensures { IfOk result (λ copy. copy ≡ items.now) }
 {
     Ok(Items::from_vec(copied(alloc, items.as_slice())?))
@@ -114,7 +114,7 @@ pub(crate) fn copy_items<T: Copy, A: Allocator, B: Allocator + Copy>(
 pub(crate) fn copy_alternatives<A: Allocator, B: Allocator + Copy>(
     alloc: B,
     alternatives: &AnyOf<A>,
-) -> Result<AnyOf<B>, Refused>
+) -> Result<AnyOf<B>, NoMemory>
     ensures { IfOk result (λ copy. copy ≡ alternatives.now) }
 {
     let mut copies = Vec::new(alloc);
@@ -128,7 +128,7 @@ pub(crate) fn copy_alternatives<A: Allocator, B: Allocator + Copy>(
 pub(crate) fn copy_target<A: Allocator, B: Allocator + Copy>(
     alloc: B,
     target: &Target<A>,
-) -> Result<Target<B>, Refused>
+) -> Result<Target<B>, NoMemory>
     ensures { IfOk result (λ copy. copy ≡ target.now) }
 {
     let mut copies = Vec::new(alloc);

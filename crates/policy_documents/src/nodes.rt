@@ -9,7 +9,7 @@ use crate::algorithms::Algorithm;
 use crate::matches::{Target, copy_target};
 use crate::rules::Rule;
 use features::Name;
-use memory::{GrowVec, Refused};
+use memory::{GrowVec, NoMemory};
 use std::alloc::Allocator;
 
 /// A set, whose children are sets and policies, or a policy, whose children are rules. If its
@@ -35,7 +35,7 @@ pub enum Node<A: Allocator> {
 pub(crate) fn copy_node<A: Allocator, B: Allocator + Copy>(
     alloc: B,
     node: &Node<A>,
-) -> Result<Node<B>, Refused>
+) -> Result<Node<B>, NoMemory>
     ensures { IfOk result (λ copy. node_view copy ≡ node_view node.now) }
 {
     match node {
@@ -69,7 +69,7 @@ pub(crate) fn copy_node<A: Allocator, B: Allocator + Copy>(
 fn copy_nodes<A: Allocator, B: Allocator + Copy>(
     alloc: B,
     nodes: &Vec<Node<A>, A>,
-) -> Result<Vec<Node<B>, B>, Refused>
+) -> Result<Vec<Node<B>, B>, NoMemory>
     ensures { IfOk result (λ copies. map node_view copies.items ≡ map node_view nodes.now.items) }
 {
     let mut copies = Vec::new(alloc);
@@ -83,7 +83,7 @@ fn copy_nodes<A: Allocator, B: Allocator + Copy>(
 fn copy_rules<A: Allocator, B: Allocator + Copy>(
     alloc: B,
     rules: &Vec<Rule<A>, A>,
-) -> Result<Vec<Rule<B>, B>, Refused>
+) -> Result<Vec<Rule<B>, B>, NoMemory>
     ensures { IfOk result (λ copies. copies.items ≡ rules.now.items) }
 {
     let mut copies = Vec::new(alloc);
@@ -100,7 +100,8 @@ impl<A: Allocator> PartialEq for Node<A> {
 
     ghost eq = { λ a b. same_node (node_view a) (node_view b) };
 
-    ghost laws = { partial_equiv_from_equiv (on_equiv node_view (decided same_node same_node_decides)) };
+    ghost laws = { partial_equiv_from_equiv
+        (on_equiv node_view (decided same_node same_node_decides)) };
 
     #[tactic(auto, using(crate::proofs::EqualLemmas::exact_node))]
     fn eq(&self, other: &Self) -> bool

@@ -6,7 +6,7 @@ ghost use Rattle.policy_documents.specs.Equality.{same_rule};
 use crate::algorithms::Effect;
 use crate::matches::{Conditions, Target, copy_items, copy_target};
 use features::Name;
-use memory::Refused;
+use memory::NoMemory;
 use std::alloc::Allocator;
 use std::marker::Model;
 
@@ -24,12 +24,17 @@ impl<A: Allocator> Model for Rule<A> {
 
     ghost Value = { RuleData };
 
-    ghost view = { λ r. record { name = r.name; effect = r.effect; target = r.target; when = r.when } };
+    ghost view = { λ r. record {
+      name = r.name;
+      effect = r.effect;
+      target = r.target;
+      when = r.when;
+    } };
 }
 
 impl<A: Allocator> Rule<A> {
     /// A copy of the rule. Fails only when out of memory.
-    pub fn copy<B: Allocator + Copy>(&self, alloc: B) -> Result<Rule<B>, Refused>
+    pub fn copy<B: Allocator + Copy>(&self, alloc: B) -> Result<Rule<B>, NoMemory>
         ensures { IfOk result (λ copy. copy ≡ self.now) }
     {
         Ok(Rule {

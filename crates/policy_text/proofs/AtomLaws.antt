@@ -7,8 +7,8 @@ use Rattle.serde_json.specs.Find.{as_bool}
 use Rattle.policy_documents.specs.Documents.{is_zone_known, is_match_spelled, atom_term, term_matches, atom_size}
 use Rattle.policy_text.specs.Reading.{◌>>=◌, at_key, value_of, has_key, is_true, counted, match_in, own_in, term_in, known_term, term_of, term_at, atom_of, atom_at}
 use Rattle.policy_documents.specs.declared.zones.Zone.{Zone}
-use Rattle.policy_text.specs.declared.paths.Key.TheVariants as keys
-use Rattle.policy_text.specs.declared.paths.Step.{Step}
+use Rattle.policy_text.specs.declared.paths.MemberName.TheVariants as member_names
+use Rattle.policy_text.specs.declared.paths.PathPart.{PathPart}
 use Rattle.policy_documents.specs.declared.matches.Term.{Term}
 use Rattle.policy_documents.specs.declared.matches.Term.TheVariants as terms
 use Rattle.policy_documents.specs.declared.matches.Atom.{Atom}
@@ -19,10 +19,10 @@ use Rattle.policy_text.proofs.TestLaws.{IsTested, counted-read, known_in-known, 
 abbrev IsSpelled : Term → Type 0
 IsSpelled term = IsTrue (list_all is_match_spelled (term_matches term))
 
-module _ (path : List Step) (d : Data) where
+module _ (path : List PathPart) (d : Data) where
   own_in-spelled : (term : Term) → own_in path d ≡ Ok term → IsSpelled term
   own_in-spelled term told =
-      let t = taken (is_true (option_and_then as_bool (value_of keys.Own d))) terms.Own term _ told in subst IsSpelled t.1 refl
+      let t = taken (is_true (option_and_then as_bool (value_of member_names.Own d))) terms.Own term _ told in subst IsSpelled t.1 refl
 
   in_match : (term : Term) → (match_in path d >>= λ m. Ok (terms.Match m)) ≡ Ok term → IsSpelled term
   in_match term told = bound (match_in path d) (λ m. Ok (terms.Match m)) term told (λ m found end.
@@ -30,21 +30,21 @@ module _ (path : List Step) (d : Data) where
 
   term_in-spelled : (term : Term) → term_in path d ≡ Ok term → IsSpelled term
   unfolding term_in
-  term_in-spelled term = either IsSpelled (has_key keys.Own d) _ _ term (own_in-spelled term) (in_match term)
+  term_in-spelled term = either IsSpelled (has_key member_names.Own d) _ _ term (own_in-spelled term) (in_match term)
 
 module _ (zones : List Zone) where
   known_term-known : (term : Term) (u : Unit {0}) → known_term zones term ≡ Ok u → IsTrue (list_all (is_zone_known zones) (term_matches term))
   known_term-known (terms.Match m) u told = and_from _ true (known_in-known zones m u told) refl
   known_term-known terms.Own u told = refl
 
-  term_of-tested : (path : List Step) (a : ℕ) (d : Data) (r : Term × ℕ) → term_of zones path a d ≡ Ok r → IsTested zones a 1 (term_matches r.0) true r.1
+  term_of-tested : (path : List PathPart) (a : ℕ) (d : Data) (r : Term × ℕ) → term_of zones path a d ≡ Ok r → IsTested zones a 1 (term_matches r.0) true r.1
   unfolding term_of
   term_of-tested path a d r told = bound _ _ r told (λ term found known. bound _ _ r known (λ u there counting. bound _ _ r counting (λ n counted end.
       let c = counted-read a n counted in
       subst (λ q. IsTested zones a 1 (term_matches q.0) true q.1) (same_value (term, n) r end)
       (record { count = c.0; within = λ _. c.1; known = known_term-known term u there; spelled = term_in-spelled path d term found; filled = refl }))))
 
-  term_at-tested : (path : List Step) (a : ℕ) (d : Data) (r : Term × ℕ) → term_at zones path a d ≡ Ok r → IsTested zones a 1 (term_matches r.0) true r.1
+  term_at-tested : (path : List PathPart) (a : ℕ) (d : Data) (r : Term × ℕ) → term_at zones path a d ≡ Ok r → IsTested zones a 1 (term_matches r.0) true r.1
   unfolding term_at
   term_at-tested path a d r told = bound _ _ r told (λ _ _ read. term_of-tested path a d r read)
 
@@ -56,14 +56,14 @@ module _ (zones : List Zone) where
   negated a b r counted t = let c = counted-read a b counted in
       record { count = omega (arith, c.0, t.count); within = λ _. t.within c.1; known = t.known; spelled = t.spelled; filled = refl }
 
-  atom_of-tested : (path : List Step) (a : ℕ) (d : Data) (o : Option Data) (r : Atom × ℕ) → atom_of zones path a d o ≡ Ok r → IsAtom a r
+  atom_of-tested : (path : List PathPart) (a : ℕ) (d : Data) (o : Option Data) (r : Atom × ℕ) → atom_of zones path a d o ≡ Ok r → IsAtom a r
   unfolding atom_of
   atom_of-tested path a d None r told = bound (term_of zones path a d) (λ t. Ok (atoms.Is t.0, t.1)) r told (λ t read end.
       subst (IsAtom a) (same_value (atoms.Is t.0, t.1) r end) (term_of-tested path a d t read))
   atom_of-tested path a d (Some inner) r told = bound (counted a) _ r told (λ b counted rest.
-      bound (term_at zones (at_key path keys.Not) b inner) (λ t. Ok (atoms.Not t.0, t.1)) r rest (λ t read end.
-      subst (IsAtom a) (same_value (atoms.Not t.0, t.1) r end) (negated a b t counted (term_at-tested (at_key path keys.Not) b inner t read))))
+      bound (term_at zones (at_key path member_names.Not) b inner) (λ t. Ok (atoms.Not t.0, t.1)) r rest (λ t read end.
+      subst (IsAtom a) (same_value (atoms.Not t.0, t.1) r end) (negated a b t counted (term_at-tested (at_key path member_names.Not) b inner t read))))
 
-  pub atom_at-tested : (path : List Step) (a : ℕ) (d : Data) (r : Atom × ℕ) → atom_at zones path a d ≡ Ok r → IsTested zones a (atom_size r.0) (term_matches (atom_term r.0)) true r.1
+  pub atom_at-tested : (path : List PathPart) (a : ℕ) (d : Data) (r : Atom × ℕ) → atom_at zones path a d ≡ Ok r → IsTested zones a (atom_size r.0) (term_matches (atom_term r.0)) true r.1
   unfolding atom_at
-  atom_at-tested path a d r told = bound _ _ r told (λ _ _ read. atom_of-tested path a d (value_of keys.Not d) r read)
+  atom_at-tested path a d r told = bound _ _ r told (λ _ _ read. atom_of-tested path a d (value_of member_names.Not d) r read)

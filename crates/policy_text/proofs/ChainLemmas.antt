@@ -8,8 +8,8 @@ use Rattle.serde_json.specs.Find.{as_str}
 use Rattle.policy_documents.specs.Documents.{is_filled}
 use Rattle.features.specs.Equality.{same_name}
 use Rattle.policy_text.specs.Reading.{◌>>=◌, at_item, each_at, items_in, is_empty, name_in, value_of, at_key, fresh, within}
-use Rattle.policy_text.specs.declared.paths.Step.{Step}
-use Rattle.policy_text.specs.declared.paths.Key.{Key}
+use Rattle.policy_text.specs.declared.paths.PathPart.{PathPart}
+use Rattle.policy_text.specs.declared.paths.MemberName.{MemberName}
 use Rattle.policy_text.specs.declared.faults.TextFault.{TextFault}
 use Rattle.policy_text.specs.declared.faults.TextFault.TheVariants as faults
 
@@ -41,7 +41,7 @@ either P true r s x first second told = first told
 either P false r s x first second told = second told
 
 -- the name under a key is a valid name
-pub name_in-spelled : (key : Key) (path : List Step) (d : Data) (name : List ℕ) → name_in key path d ≡ Ok name → IsTrue (spelling.is_name name)
+pub name_in-spelled : (key : MemberName) (path : List PathPart) (d : Data) (name : List ℕ) → name_in key path d ≡ Ok name → IsTrue (spelling.is_name name)
 name_in-spelled key path d name = under (option_and_then as_str (value_of key d))
   where
     fault : TextFault
@@ -65,32 +65,32 @@ within-read limit before after told =
     let t = taken (nat_lt before limit) (before + 1) after _ told in (ltb-true before limit t.0, t.1)
 
 -- the items of an array that is not empty
-pub items_in-filled : (path : List Step) (d : Data) (items : Items) → items_in path d ≡ Ok items → is_empty items ≡ false
+pub items_in-filled : (path : List PathPart) (d : Data) (items : Items) → items_in path d ≡ Ok items → is_empty items ≡ false
 items_in-filled path d items told = bound _ _ _ told (λ found _ rest.
     let t = passed (is_empty found) found items _ rest in subst (λ i. is_empty i ≡ false) t.1 t.0)
 
 -- how the items of an array are read, given how each is read
-module _ {X S : Type 0} (read : List Step → S → Data → Result (X × S) TextFault) where
-  abbrev behind_first : List Step → ℕ → Items → X × S → Result (List X × S) TextFault
+module _ {X S : Type 0} (read : List PathPart → S → Data → Result (X × S) TextFault) where
+  abbrev behind_first : List PathPart → ℕ → Items → X × S → Result (List X × S) TextFault
   behind_first path i rest first = each_at read path (i + 1) first.1 rest >>= λ others. Ok (first.0 ∷ others.0, others.1)
 
-  each_at-item : (path : List Step) (i : ℕ) (s : S) (d : Data) (rest : Items) → each_at read path i s (item d rest) ≡ (read (at_item path i) s d >>= behind_first path i rest)
+  each_at-item : (path : List PathPart) (i : ℕ) (s : S) (d : Data) (rest : Items) → each_at read path i s (item d rest) ≡ (read (at_item path i) s d >>= behind_first path i rest)
   unfolding each_at
   each_at-item path i s d rest = refl
 
-  each_at-none : (path : List Step) (i : ℕ) (s : S) → each_at read path i s no_items ≡ Ok ([], s)
+  each_at-none : (path : List PathPart) (i : ℕ) (s : S) → each_at read path i s no_items ≡ Ok ([], s)
   unfolding each_at
   each_at-none path i s = refl
 
   -- the first item was read, then the others
-  in_turn : {P : Type 0} (path : List Step) (i : ℕ) (s : S) (d : Data) (rest : Items) (r : List X × S) → each_at read path i s (item d rest) ≡ Ok r →
+  in_turn : {P : Type 0} (path : List PathPart) (i : ℕ) (s : S) (d : Data) (rest : Items) (r : List X × S) → each_at read path i s (item d rest) ≡ Ok r →
       ((first : X × S) (others : List X × S) → read (at_item path i) s d ≡ Ok first → each_at read path (i + 1) first.1 rest ≡ Ok others → (first.0 ∷ others.0, others.1) ≡ r → P) → P
   in_turn path i s d rest r told next =
       bound (read (at_item path i) s d) (behind_first path i rest) r (sym (each_at-item path i s d rest) ∙ told) (λ first one behind.
       bound (each_at read path (i + 1) first.1 rest) (λ others. Ok (first.0 ∷ others.0, others.1)) r behind (λ others each end.
       next first others one each (same_value (first.0 ∷ others.0, others.1) r end)))
 
-  pub each_at-filled : (path : List Step) (i : ℕ) (s : S) (items : Items) (r : List X × S) → is_empty items ≡ false →
+  pub each_at-filled : (path : List PathPart) (i : ℕ) (s : S) (items : Items) (r : List X × S) → is_empty items ≡ false →
       each_at read path i s items ≡ Ok r → IsTrue (is_filled r.0)
   each_at-filled path i s no_items r filled told = absurd cc
   each_at-filled path i s (item d rest) r filled told =
@@ -98,8 +98,8 @@ module _ {X S : Type 0} (read : List Step → S → Data → Result (X × S) Tex
 
   module _ (One : S → X → S → Type 0) (Each : S → List X → S → Type 0) (none : (s : S) → Each s [] s)
       (more : (s t u : S) (x : X) (xs : List X) → One s x t → Each t xs u → Each s (x ∷ xs) u)
-      (reads : (path : List Step) (s : S) (d : Data) (r : X × S) → read path s d ≡ Ok r → One s r.0 r.1) where
-    pub each_at-read : (path : List Step) (i : ℕ) (s : S) (items : Items) (r : List X × S) → each_at read path i s items ≡ Ok r → Each s r.0 r.1
+      (reads : (path : List PathPart) (s : S) (d : Data) (r : X × S) → read path s d ≡ Ok r → One s r.0 r.1) where
+    pub each_at-read : (path : List PathPart) (i : ℕ) (s : S) (items : Items) (r : List X × S) → each_at read path i s items ≡ Ok r → Each s r.0 r.1
     each_at-read path i s no_items r told =
         subst (λ q. Each s q.0 q.1) (same_value ([], s) r (sym (each_at-none path i s) ∙ told)) (none s)
     each_at-read path i s (item d rest) r told =

@@ -4,7 +4,7 @@ use Rattle.serde_json.specs.Data.{Data}
 use Rattle.policy_documents.specs.Documents.{DocumentData, NodeData, IsDocument, are_distinct}
 use Rattle.policy_text.specs.Reading.{Seen, at_key, object_in, document_keys, optional_array_in, zones_at, node_at, nothing_seen, document_in}
 use Rattle.policy_documents.specs.declared.zones.Zone.{Zone}
-use Rattle.policy_text.specs.declared.paths.Key.TheVariants as keys
+use Rattle.policy_text.specs.declared.paths.MemberName.TheVariants as member_names
 use Rattle.policy_text.proofs.ChainLemmas.{bound, same_value}
 use Rattle.policy_text.proofs.PartLaws.{IsSound, IsWithin}
 use Rattle.policy_text.proofs.ContentLemmas.{node_contents}
@@ -34,7 +34,7 @@ both_sound zones root t z h = let w = h.kept nothing_within in record {
 -- a JSON value that was read gives a valid document
 pub document_in-IsDocument : (d : Data) (r : DocumentData) → document_in d ≡ Ok r → IsDocument r
 unfolding document_in
-document_in-IsDocument d r told = bound (object_in document_keys [] d) _ r told (λ _ _ a. bound (optional_array_in keys.Zones [] d) _ r a (λ items _ b.
-    bound _ _ r b (λ value _ c. bound (zones_at 0 [] items) _ r c (λ zones found e. bound (node_at zones 8 (at_key [] keys.Root) nothing_seen value) _ r e (λ n read end.
+document_in-IsDocument d r told = bound (object_in document_keys [] d) _ r told (λ _ _ a. bound (optional_array_in member_names.Zones [] d) _ r a (λ items _ b.
+    bound _ _ r b (λ value _ c. bound (zones_at 0 [] items) _ r c (λ zones found e. bound (node_at zones 8 (at_key [] member_names.Root) nothing_seen value) _ r e (λ n read end.
     subst IsDocument (same_value (record { zones = zones; root = n.0 }) r end)
-    (both_sound zones n.0 n.1 (zones_at-AreZones zones items found) (node_at-sound zones 8 (at_key [] keys.Root) nothing_seen value n read)))))))
+    (both_sound zones n.0 n.1 (zones_at-AreZones zones items found) (node_at-sound zones 8 (at_key [] member_names.Root) nothing_seen value n read)))))))

@@ -8,7 +8,7 @@ use Rattle.serde_json.specs.Find.{as_array}
 use Rattle.serde_json.specs.View.{view, items_view}
 use Rattle.serde_json.specs.declared.value.Value.{Value}
 use Rattle.policy_text.specs.Reading.{◌>>=◌, Fails, Gives, at_item, each_at, items_in, is_empty}
-use Rattle.policy_text.specs.declared.paths.Step.{Step}
+use Rattle.policy_text.specs.declared.paths.PathPart.{PathPart}
 use Rattle.policy_text.specs.declared.faults.TextFault.{TextFault}
 use Rattle.policy_text.specs.declared.faults.TextFault.TheVariants as faults
 
@@ -38,11 +38,11 @@ is_empty-length : (vs : List Value) → is_empty (items_view vs) ≡ nat_eq (len
 is_empty-length [] = refl
 is_empty-length (v ∷ vs) = grind (arith, nat_tests)
 
-abbrev items_in_of : List Step → Option Items → Result Items TextFault
+abbrev items_in_of : List PathPart → Option Items → Result Items TextFault
 items_in_of path o = ok_or o (faults.Form path) >>= λ items. if is_empty items then Err (faults.Form path) else Ok items
 
 -- an array that is not empty is found
-pub items_in-found : (path : List Step) (d : Data) (vs ws : List Value) (n : ℕ) → Some (items_view vs) ≡ as_array d → false ≡ nat_eq n 0 → length ws ≡ n → ws ≡ vs →
+pub items_in-found : (path : List PathPart) (d : Data) (vs ws : List Value) (n : ℕ) → Some (items_view vs) ≡ as_array d → false ≡ nat_eq n 0 → length ws ≡ n → ws ≡ vs →
     items_in path d ≡ Ok (items_view ws)
 items_in-found path d vs ws n e f k g =
     ap (items_in_of path) (sym e) ∙ ap (items_in_of path) (ap (λ l. Some (items_view l)) (sym g))
@@ -63,7 +63,7 @@ behind-cons : {X S : Type 0} (done : List X) (x : X) (r : Result (List X × S) T
 behind-cons done x (Ok r) = ap (λ xs. Ok (xs, r.1)) (sym (append_assoc done (x ∷ []) r.0))
 behind-cons done x (Err e) = refl
 
-module _ {X S : Type 0} (read : List Step → S → Data → Result (X × S) TextFault) (path : List Step) where
+module _ {X S : Type 0} (read : List PathPart → S → Data → Result (X × S) TextFault) (path : List PathPart) where
   -- what is left from the item at i on
   abbrev pub left_at : ℕ → S → List Value → Result (List X × S) TextFault
   left_at i seen vs = each_at read path i seen (items_view (drop i vs))

@@ -7,7 +7,7 @@ use Rattle.serde_json.specs.Data.{Data, Items}
 use Rattle.policy_documents.specs.Documents.{are_distinct, is_zone_known, is_match_spelled, is_target}
 use Rattle.policy_text.specs.Reading.{Seen, each_at, fresh}
 use Rattle.policy_documents.specs.declared.zones.Zone.{Zone}
-use Rattle.policy_text.specs.declared.paths.Step.{Step}
+use Rattle.policy_text.specs.declared.paths.PathPart.{PathPart}
 use Rattle.policy_documents.specs.declared.matches.Match.{Match}
 use Rattle.policy_text.specs.declared.faults.TextFault.{TextFault}
 use Rattle.policy_text.proofs.ChainLemmas.{each_at-read, fresh-read}
@@ -92,9 +92,9 @@ module _ (zones : List Zone) (levels : ℕ) where
     kept = λ low. k.kept (h.kept low);
   }
 
-  module _ {X : Type 0} (read : List Step → Seen → Data → Result (X × Seen) TextFault) (contents : X → Contents)
-      (reads : (path : List Step) (s : Seen) (d : Data) (r : X × Seen) → read path s d ≡ Ok r → IsSound zones levels s (contents r.0) r.1) where
-    pub each_sound : (path : List Step) (i : ℕ) (s : Seen) (items : Items) (r : List X × Seen) → each_at read path i s items ≡ Ok r →
+  module _ {X : Type 0} (read : List PathPart → Seen → Data → Result (X × Seen) TextFault) (contents : X → Contents)
+      (reads : (path : List PathPart) (s : Seen) (d : Data) (r : X × Seen) → read path s d ≡ Ok r → IsSound zones levels s (contents r.0) r.1) where
+    pub each_sound : (path : List PathPart) (i : ℕ) (s : Seen) (items : Items) (r : List X × Seen) → each_at read path i s items ≡ Ok r →
         IsSound zones levels s (all_contents contents r.0) r.1
     each_sound = each_at-read read (λ s x t. IsSound zones levels s (contents x) t) (λ s xs t. IsSound zones levels s (all_contents contents xs) t)
         nothing_sound (λ s t u x xs. then_sound s t u (contents x) (all_contents contents xs)) reads

@@ -7,7 +7,7 @@ use Rattle.serde_json.specs.Data.{Data, object, Items, no_items, item, no_member
 use Rattle.policy_documents.specs.Documents.{DocumentData, IsDocument, IsZone, is_zone_known, is_match_spelled, matches_of}
 use Rattle.policy_text.specs.Reading.{at_key, object_in, optional_array_in, document_keys, document_in, nothing_seen}
 use Rattle.policy_text.specs.Printed.{keyed, keyed_items, zones_items, node_data, document_data}
-use Rattle.policy_text.specs.declared.paths.Key.TheVariants as keys
+use Rattle.policy_text.specs.declared.paths.MemberName.TheVariants as member_names
 use Rattle.policy_documents.specs.declared.zones.Zone.{Zone}
 use Rattle.policy_documents.specs.declared.matches.Match.{Match}
 use Rattle.policy_text.proofs.PrintedLists.{list_all_both}
@@ -19,14 +19,14 @@ use Rattle.policy_text.proofs.PrintedZones.{zones_read}
 -- ---- the object of a document, with and without zones
 
 abbrev document_object : Data → Items → Data
-document_object root zones = object (keyed keys.Root root (keyed_items keys.Zones zones no_members))
+document_object root zones = object (keyed member_names.Root root (keyed_items member_names.Zones zones no_members))
 
 module _ (root : Data) where
   object_read : (zones : Items) → object_in document_keys [] (document_object root zones) ≡ Ok tt
   object_read no_items = refl
   object_read (item d ds) = refl
 
-  zones_found : (zones : Items) → optional_array_in keys.Zones [] (document_object root zones) ≡ Ok zones
+  zones_found : (zones : Items) → optional_array_in member_names.Zones [] (document_object root zones) ≡ Ok zones
   unfolding optional_array_in
   zones_found no_items = refl
   zones_found (item d ds) = refl
@@ -56,6 +56,6 @@ printed_document_in d h =
       object_read (node_data d.root) (zones_items d.zones),
       zones_found (node_data d.root) (zones_items d.zones),
       zones_read 0 [] d.zones (recursion_from_All IsZone d.zones h.zones_spelled) h.zone_names h.zones,
-      node_read d.zones d.root 8 (at_key [] keys.Root) nothing_seen (root_here d h),
+      node_read d.zones d.root 8 (at_key [] member_names.Root) nothing_seen (root_here d h),
     )
     refl

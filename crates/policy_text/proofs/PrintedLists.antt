@@ -8,7 +8,7 @@ use Rattle.serde_json.specs.View.{items_of}
 use Rattle.policy_documents.specs.Documents.{is_filled, atom_size, atom_sizes}
 use Rattle.policy_text.specs.Reading.{at_item, each_at, items_in}
 use Rattle.policy_documents.specs.declared.matches.Atom.{Atom}
-use Rattle.policy_text.specs.declared.paths.Step.{Step}
+use Rattle.policy_text.specs.declared.paths.PathPart.{PathPart}
 use Rattle.policy_text.specs.declared.faults.TextFault.{TextFault}
 
 -- ---- lists
@@ -45,16 +45,16 @@ list_all_both p q r both (x ∷ xs) h k =
 
 -- ---- arrays
 
-pub items_read : {X : Type 0} (data_of : X → Data) (path : List Step) (xs : List X) → IsTrue (is_filled xs) → items_in path (array (items_of (map data_of xs))) ≡ Ok (items_of (map data_of xs))
+pub items_read : {X : Type 0} (data_of : X → Data) (path : List PathPart) (xs : List X) → IsTrue (is_filled xs) → items_in path (array (items_of (map data_of xs))) ≡ Ok (items_of (map data_of xs))
 items_read data_of path [] h = absurd cc
 items_read data_of path (x ∷ xs) h = refl
 
-module _ {X : Type 0} (read : List Step → ℕ → Data → Result (X × ℕ) TextFault) (data_of : X → Data) (size : X → ℕ) (fits : X → Bool) where
+module _ {X : Type 0} (read : List PathPart → ℕ → Data → Result (X × ℕ) TextFault) (data_of : X → Data) (size : X → ℕ) (fits : X → Bool) where
   -- each item that fits is read as itself, if the limit allows it
   abbrev pub ReadsAgain : Type 0
-  ReadsAgain = (path : List Step) (tests : ℕ) (x : X) → IsTrue (fits x) → tests + size x ≤ 4096 → read path tests (data_of x) ≡ Ok (x, tests + size x)
+  ReadsAgain = (path : List PathPart) (tests : ℕ) (x : X) → IsTrue (fits x) → tests + size x ≤ 4096 → read path tests (data_of x) ≡ Ok (x, tests + size x)
 
-  pub each_read : ReadsAgain → (path : List Step) (index tests : ℕ) (xs : List X) → IsTrue (list_all fits xs) → tests + sizes size xs ≤ 4096 →
+  pub each_read : ReadsAgain → (path : List PathPart) (index tests : ℕ) (xs : List X) → IsTrue (list_all fits xs) → tests + sizes size xs ≤ 4096 →
       each_at read path index tests (items_of (map data_of xs)) ≡ Ok (xs, tests + sizes size xs)
   unfolding each_at
   each_read again path index tests [] h room = let e : tests ≡ tests + 0 = omega arith in ap (λ n. Ok ([], n)) e
@@ -65,11 +65,11 @@ module _ {X : Type 0} (read : List Step → ℕ → Data → Result (X × ℕ) T
       (ap (λ n. Ok (x ∷ xs, n)) e)
 
 -- one more item in front of those that are read
-pub each_more : {X S : Type 0} (read : List Step → S → Data → Result (X × S) TextFault) (path : List Step) (index : ℕ) (seen next last : S) (d : Data) (rest : Items) (x : X) (xs : List X) →
+pub each_more : {X S : Type 0} (read : List PathPart → S → Data → Result (X × S) TextFault) (path : List PathPart) (index : ℕ) (seen next last : S) (d : Data) (rest : Items) (x : X) (xs : List X) →
     read (at_item path index) seen d ≡ Ok (x, next) → each_at read path (index + 1) next rest ≡ Ok (xs, last) → each_at read path index seen (item d rest) ≡ Ok (x ∷ xs, last)
 unfolding each_at
 each_more read path index seen next last d rest x xs here behind = rw (here, behind) refl
 
-pub each_none : {X S : Type 0} (read : List Step → S → Data → Result (X × S) TextFault) (path : List Step) (index : ℕ) (seen : S) → each_at read path index seen no_items ≡ Ok ([], seen)
+pub each_none : {X S : Type 0} (read : List PathPart → S → Data → Result (X × S) TextFault) (path : List PathPart) (index : ℕ) (seen : S) → each_at read path index seen no_items ≡ Ok ([], seen)
 unfolding each_at
 each_none read path index seen = refl

@@ -8,8 +8,8 @@ use Rattle.policy_documents.specs.Documents.{RuleData, Head, NodeData, set, poli
 use Rattle.policy_text.specs.Reading.{at_key, at_item, each_at, rule_at, node_at, Seen}
 use Rattle.policy_text.proofs.SeenAfter.{after_rules, after_node, after_nodes}
 use Rattle.policy_text.specs.Printed.{algorithm_text, target_items, rule_data, node_data, nodes_items}
-use Rattle.policy_text.specs.declared.paths.Key.TheVariants as keys
-use Rattle.policy_text.specs.declared.paths.Step.{Step}
+use Rattle.policy_text.specs.declared.paths.MemberName.TheVariants as member_names
+use Rattle.policy_text.specs.declared.paths.PathPart.{PathPart}
 use Rattle.policy_documents.specs.declared.zones.Zone.{Zone}
 use Rattle.policy_text.proofs.NodeReadLemmas.{node_at-set, node_at-policy, policy_at-read, set_at-read}
 use Rattle.policy_text.proofs.PrintedSteps.{distinct_behind, seen_same}
@@ -47,7 +47,7 @@ module _ (seen : Seen) where
 -- ---- policies
 
 module _ (zones : List Zone) where
-  policy_read : (levels : ℕ) (path : List Step) (seen : Seen) (head : Head) (rules : List RuleData) → IsNodeHere zones (suc levels) seen (policy head rules) →
+  policy_read : (levels : ℕ) (path : List PathPart) (seen : Seen) (head : Head) (rules : List RuleData) → IsNodeHere zones (suc levels) seen (policy head rules) →
       node_at zones (suc levels) path seen (node_data (policy head rules)) ≡ Ok (policy head rules, after_node seen (policy head rules))
   policy_read levels path seen head rules h =
       let names = map (λ (r : RuleData). r.name) rules in
@@ -64,7 +64,7 @@ module _ (zones : List Zone) where
       } in
       let next = after_head seen head in
       let items = items_of (map rule_data rules) in
-      let place = at_key path keys.Rules in
+      let place = at_key path member_names.Rules in
       let behind : each_at (rule_at zones) place 0 next items ≡ Ok (rules, after_rules next rules) =
       rules_read zones place 0 next rules name_parts.1 target_parts.1 match_parts.1 (ap are_distinct (append_assoc seen.names (head.name ∷ []) names) ∙ h.distinct) h.rules (omega arith) in
       sym (node_at-policy zones path seen (node_data (policy head rules)) (suc levels) levels refl (policy_kind (algorithm_text head.combine) head.name items (target_items head.target)))
@@ -74,20 +74,20 @@ module _ (zones : List Zone) where
   -- ---- sets, and nodes one by one
 
   mutual
-    pub node_read : (node : NodeData) (levels : ℕ) (path : List Step) (seen : Seen) → IsNodeHere zones levels seen node → node_at zones levels path seen (node_data node) ≡ Ok (node, after_node seen node)
+    pub node_read : (node : NodeData) (levels : ℕ) (path : List PathPart) (seen : Seen) → IsNodeHere zones levels seen node → node_at zones levels path seen (node_data node) ≡ Ok (node, after_node seen node)
     node_read (set head nodes) zero path seen h = absurd (omega (arith, h.depth))
     node_read (policy head rules) zero path seen h = absurd (omega (arith, h.depth))
     node_read (policy head rules) (suc levels) path seen h = policy_read levels path seen head rules h
     node_read (set head nodes) (suc levels) path seen h =
         let next = after_head seen head in
-        let place = at_key path keys.Of in
+        let place = at_key path member_names.Of in
         sym (node_at-set zones path seen (node_data (set head nodes)) (suc levels) levels refl refl)
         ∙ set_at-read zones path seen (node_data (set head nodes)) head next (after_nodes next nodes) (nodes_items nodes) (node_at zones levels) place (nodes_of nodes)
         (set_head_read zones path seen head (nodes_items nodes) (set_head zones levels seen head nodes h)) refl
         (children_read nodes levels place 0 next (set_below zones levels seen head nodes h))
         ∙ rw (children_of-nodes_of nodes, after_set seen head nodes) refl
 
-    children_read : (nodes : Children) (levels : ℕ) (path : List Step) (index : ℕ) (seen : Seen) → AreNodesHere zones levels seen nodes →
+    children_read : (nodes : Children) (levels : ℕ) (path : List PathPart) (index : ℕ) (seen : Seen) → AreNodesHere zones levels seen nodes →
         each_at (node_at zones levels) path index seen (nodes_items nodes) ≡ Ok (nodes_of nodes, after_nodes seen nodes)
     children_read no_children levels path index seen h = each_none (node_at zones levels) path index seen ∙ ap (λ s. Ok ([], s)) (after_none seen)
     children_read (child node rest) levels path index seen h =

@@ -11,8 +11,8 @@ use Rattle.policy_documents.specs.Documents.{RuleData, is_target, are_distinct, 
 use Rattle.policy_text.specs.Reading.{at_key, at_item, object_in, optional_array_in, rule_keys, each_at, rule_at, Seen}
 use Rattle.policy_text.proofs.SeenAfter.{after_rules}
 use Rattle.policy_text.specs.Printed.{effect_text, keyed, keyed_items, target_items, when_items, rule_data}
-use Rattle.policy_text.specs.declared.paths.Key.TheVariants as keys
-use Rattle.policy_text.specs.declared.paths.Step.{Step}
+use Rattle.policy_text.specs.declared.paths.MemberName.TheVariants as member_names
+use Rattle.policy_text.specs.declared.paths.PathPart.{PathPart}
 use Rattle.policy_documents.specs.declared.zones.Zone.{Zone}
 use Rattle.policy_text.proofs.PrintedSteps.{name_read, effect_read, fresh_read, within_room, distinct_behind, seen_of, seen_same}
 use Rattle.policy_text.proofs.PrintedMatches.{is_readable}
@@ -21,22 +21,22 @@ use Rattle.policy_text.proofs.PrintedTargets.{target_read, when_read}
 -- ---- the object of a rule, with and without a target and conditions
 
 abbrev rule_object : List ℕ → List ℕ → Items → Items → Data
-rule_object effect name target when = object (keyed keys.Effect (string effect) (keyed keys.Rule (string name) (keyed_items keys.Target target (keyed_items keys.When when no_members))))
+rule_object effect name target when = object (keyed member_names.Effect (string effect) (keyed member_names.Rule (string name) (keyed_items member_names.Target target (keyed_items member_names.When when no_members))))
 
-object_read : (path : List Step) (effect name : List ℕ) (target when : Items) → object_in rule_keys path (rule_object effect name target when) ≡ Ok tt
+object_read : (path : List PathPart) (effect name : List ℕ) (target when : Items) → object_in rule_keys path (rule_object effect name target when) ≡ Ok tt
 object_read path effect name no_items no_items = refl
 object_read path effect name no_items (item d ds) = refl
 object_read path effect name (item d ds) no_items = refl
 object_read path effect name (item d ds) (item e es) = refl
 
-target_found : (path : List Step) (effect name : List ℕ) (target when : Items) → optional_array_in keys.Target path (rule_object effect name target when) ≡ Ok target
+target_found : (path : List PathPart) (effect name : List ℕ) (target when : Items) → optional_array_in member_names.Target path (rule_object effect name target when) ≡ Ok target
 unfolding optional_array_in
 target_found path effect name no_items no_items = refl
 target_found path effect name no_items (item d ds) = refl
 target_found path effect name (item d ds) no_items = refl
 target_found path effect name (item d ds) (item e es) = refl
 
-when_found : (path : List Step) (effect name : List ℕ) (target when : Items) → optional_array_in keys.When path (rule_object effect name target when) ≡ Ok when
+when_found : (path : List PathPart) (effect name : List ℕ) (target when : Items) → optional_array_in member_names.When path (rule_object effect name target when) ≡ Ok when
 unfolding optional_array_in
 when_found path effect name no_items no_items = refl
 when_found path effect name no_items (item d ds) = refl
@@ -59,7 +59,7 @@ abbrev after_rule : Seen → RuleData → Seen
 after_rule seen rule = seen_of (seen.names ++ rule.name ∷ []) seen.nodes (seen.rules + 1) (seen.tests + (length (target_matches rule.target) + atom_sizes rule.when))
 
 module _ (zones : List Zone) where
-  rule_read : (path : List Step) (seen : Seen) (rule : RuleData) → IsRuleHere zones seen rule → rule_at zones path seen (rule_data rule) ≡ Ok (rule, after_rule seen rule)
+  rule_read : (path : List PathPart) (seen : Seen) (rule : RuleData) → IsRuleHere zones seen rule → rule_at zones path seen (rule_data rule) ≡ Ok (rule, after_rule seen rule)
   unfolding rule_at
   rule_read path seen rule h =
       let target = target_items rule.target in
@@ -78,13 +78,13 @@ module _ (zones : List Zone) where
         when_found path (effect_text rule.effect) rule.name target when,
         fresh_read rule.name seen.names h.fresh,
         within_room 512 seen.rules h.rules,
-        target_read zones (at_key path keys.Target) seen.tests rule.target h.target parts.0 room,
-        when_read zones (at_key path keys.When) (seen.tests + size) rule.when parts.1 more,
+        target_read zones (at_key path member_names.Target) seen.tests rule.target h.target parts.0 room,
+        when_read zones (at_key path member_names.When) (seen.tests + size) rule.when parts.1 more,
       )
       (ap (λ n. Ok (rule, seen_of (seen.names ++ rule.name ∷ []) seen.nodes (seen.rules + 1) n)) e)
 
   -- the rules of a policy, one by one
-  pub rules_read : (path : List Step) (index : ℕ) (seen : Seen) (rules : List RuleData) → IsTrue (list_all spelling.is_name (map (λ rule. rule.name) rules)) →
+  pub rules_read : (path : List PathPart) (index : ℕ) (seen : Seen) (rules : List RuleData) → IsTrue (list_all spelling.is_name (map (λ rule. rule.name) rules)) →
       IsTrue (list_all is_target (map (λ rule. rule.target) rules)) → IsTrue (list_all (is_readable zones) (flat_map rule_matches rules)) →
       IsTrue (are_distinct (seen.names ++ map (λ rule. rule.name) rules)) → seen.rules + length rules ≤ 512 → seen.tests + rule_sizes rules ≤ 4096 →
       each_at (rule_at zones) path index seen (items_of (map rule_data rules)) ≡ Ok (rules, after_rules seen rules)

@@ -5,7 +5,7 @@ use Rattle.std.proofs.lemmas.Bool.{and_parts, and_from}
 use Rattle.policy_documents.specs.Documents.{is_filled, is_target, target_matches, atom_term, term_matches, atom_size, atom_sizes}
 use Rattle.policy_text.specs.Reading.{match_at, atom_at, all_of_at, any_of_at, target_at, when_at}
 use Rattle.policy_text.specs.Printed.{match_data, atom_data, all_of_data, any_of_data, target_items, when_items}
-use Rattle.policy_text.specs.declared.paths.Step.{Step}
+use Rattle.policy_text.specs.declared.paths.PathPart.{PathPart}
 use Rattle.policy_documents.specs.declared.zones.Zone.{Zone}
 use Rattle.policy_documents.specs.declared.matches.Match.{Match}
 use Rattle.policy_documents.specs.declared.matches.Atom.{Atom}
@@ -15,7 +15,7 @@ use Rattle.policy_text.proofs.PrintedMatches.{is_readable, is_atom_readable, mat
 module _ (zones : List Zone) where
   -- ---- conditions
 
-  pub when_read : (path : List Step) (tests : ℕ) (conditions : List Atom) → IsTrue (list_all (is_readable zones) (flat_map (λ atom. term_matches (atom_term atom)) conditions)) →
+  pub when_read : (path : List PathPart) (tests : ℕ) (conditions : List Atom) → IsTrue (list_all (is_readable zones) (flat_map (λ atom. term_matches (atom_term atom)) conditions)) →
       tests + atom_sizes conditions ≤ 4096 → when_at zones path tests (when_items conditions) ≡ Ok (conditions, tests + atom_sizes conditions)
   unfolding when_at
   when_read path tests conditions h room =
@@ -31,7 +31,7 @@ module _ (zones : List Zone) where
   abbrev is_any_readable : List (List Match) → Bool
   is_any_readable alternatives = is_filled alternatives && list_all is_all_readable alternatives
 
-  all_of_read : (path : List Step) (tests : ℕ) (all : List Match) → IsTrue (is_all_readable all) → tests + length all ≤ 4096 →
+  all_of_read : (path : List PathPart) (tests : ℕ) (all : List Match) → IsTrue (is_all_readable all) → tests + length all ≤ 4096 →
       all_of_at zones path tests (all_of_data all) ≡ Ok (all, tests + length all)
   unfolding all_of_at
   all_of_read path tests all h room =
@@ -43,7 +43,7 @@ module _ (zones : List Zone) where
   abbrev any_size : List (List Match) → ℕ
   any_size alternatives = length (flat_map (λ ms. ms) alternatives)
 
-  any_of_read : (path : List Step) (tests : ℕ) (alternatives : List (List Match)) → IsTrue (is_any_readable alternatives) → tests + any_size alternatives ≤ 4096 →
+  any_of_read : (path : List PathPart) (tests : ℕ) (alternatives : List (List Match)) → IsTrue (is_any_readable alternatives) → tests + any_size alternatives ≤ 4096 →
       any_of_at zones path tests (any_of_data alternatives) ≡ Ok (alternatives, tests + any_size alternatives)
   unfolding any_of_at
   any_of_read path tests alternatives h room =
@@ -63,7 +63,7 @@ module _ (zones : List Zone) where
       and_from (is_filled alternatives) (list_all is_all_readable alternatives) parts.0
       (list_all_both is_filled (list_all (is_readable zones)) is_all_readable all_filled alternatives parts.1 each)
 
-  pub target_read : (path : List Step) (tests : ℕ) (target : List (List (List Match))) → IsTrue (is_target target) → IsTrue (list_all (is_readable zones) (target_matches target)) →
+  pub target_read : (path : List PathPart) (tests : ℕ) (target : List (List (List Match))) → IsTrue (is_target target) → IsTrue (list_all (is_readable zones) (target_matches target)) →
       tests + length (target_matches target) ≤ 4096 → target_at zones path tests (target_items target) ≡ Ok (target, tests + length (target_matches target))
   unfolding target_at
   target_read path tests target h k room =

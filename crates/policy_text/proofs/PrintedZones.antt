@@ -8,7 +8,7 @@ use Rattle.features.specs.Equality.{same_name}
 use Rattle.policy_documents.specs.Documents.{IsZone, are_distinct}
 use Rattle.policy_text.specs.Reading.{at_item, with_zone, zone_at, zones_at, shape_in}
 use Rattle.policy_text.specs.Printed.{zone_data, zones_items}
-use Rattle.policy_text.specs.declared.paths.Step.{Step}
+use Rattle.policy_text.specs.declared.paths.PathPart.{PathPart}
 use Rattle.policy_documents.specs.declared.zones.Zone.{Zone}
 use Rattle.policy_text.proofs.PrintedSteps.{name_read, within_room, distinct_behind}
 use Rattle.policy_text.proofs.ZoneReadLemmas.{zones_place}
@@ -28,7 +28,7 @@ with_zone_read z zones absent room = rw (list_any-names z.name zones, absent, wi
 shape_read : (z : Zone) → IsZone z → shape_in z.name (printed z.shape) ≡ Ok z.shape
 shape_read z h = rw (printed_is_read z.shape h.shape) refl
 
-zone_read : (path : List Step) (z : Zone) (zones : List Zone) → IsZone z → list_any (same_name z.name) (names_of_zones zones) ≡ false → length zones < 64 →
+zone_read : (path : List PathPart) (z : Zone) (zones : List Zone) → IsZone z → list_any (same_name z.name) (names_of_zones zones) ≡ false → length zones < 64 →
     zone_at path zones (zone_data z) ≡ Ok (zones ++ z ∷ [])
 unfolding zone_at
 zone_read path z zones h absent room = rw (name_read z.name h.name, shape_read z h) (with_zone_read z zones absent room)

@@ -6,7 +6,7 @@ use Rattle.serde_json.specs.Data.{Data, Items}
 use Rattle.policy_documents.specs.Documents.{is_zone_known, is_match_spelled, is_filled, is_target, target_matches, atom_term, term_matches, atom_size, atom_sizes}
 use Rattle.policy_text.specs.Reading.{match_at, atom_at, items_in, all_of_at, any_of_at, target_at, when_at}
 use Rattle.policy_documents.specs.declared.zones.Zone.{Zone}
-use Rattle.policy_text.specs.declared.paths.Step.{Step}
+use Rattle.policy_text.specs.declared.paths.PathPart.{PathPart}
 use Rattle.policy_documents.specs.declared.matches.Match.{Match}
 use Rattle.policy_documents.specs.declared.matches.Atom.{Atom}
 use Rattle.policy_text.proofs.ChainLemmas.{bound, items_in-filled, each_at-filled}
@@ -40,7 +40,7 @@ module _ (zones : List Zone) where
     filled = full;
   }
 
-  all_of_at-tested : (path : List Step) (a : ℕ) (d : Data) (r : List Match × ℕ) → all_of_at zones path a d ≡ Ok r → IsTested zones a (length r.0) r.0 (is_filled r.0) r.1
+  all_of_at-tested : (path : List PathPart) (a : ℕ) (d : Data) (r : List Match × ℕ) → all_of_at zones path a d ≡ Ok r → IsTested zones a (length r.0) r.0 (is_filled r.0) r.1
   unfolding all_of_at
   all_of_at-tested path a d r told = bound (items_in path d) _ r told (λ items found read.
       as_tested a r.1 _ (length r.0) _ r.0 _ (is_filled r.0) (sizes-length r.0) (singles r.0)
@@ -50,7 +50,7 @@ module _ (zones : List Zone) where
   abbrev listed : List (List Match) → List Match
   listed = flat_map (λ matches. matches)
 
-  any_of_at-tested : (path : List Step) (a : ℕ) (d : Data) (r : List (List Match) × ℕ) → any_of_at zones path a d ≡ Ok r →
+  any_of_at-tested : (path : List PathPart) (a : ℕ) (d : Data) (r : List (List Match) × ℕ) → any_of_at zones path a d ≡ Ok r →
       IsTested zones a (length (listed r.0)) (listed r.0) (is_filled r.0 && list_all is_filled r.0) r.1
   unfolding any_of_at
   any_of_at-tested path a d r told = bound (items_in path d) _ r told (λ items found read.
@@ -59,7 +59,7 @@ module _ (zones : List Zone) where
       (and_from _ _ (each_at-filled (all_of_at zones) path 0 a items r (items_in-filled path d items found) read) t.filled) t)
 
   -- a target
-  pub target_at-tested : (path : List Step) (a : ℕ) (items : Items) (r : List (List (List Match)) × ℕ) → target_at zones path a items ≡ Ok r →
+  pub target_at-tested : (path : List PathPart) (a : ℕ) (items : Items) (r : List (List (List Match)) × ℕ) → target_at zones path a items ≡ Ok r →
       IsTested zones a (length (target_matches r.0)) (target_matches r.0) (is_target r.0) r.1
   unfolding target_at
   target_at-tested path a items r told =
@@ -67,7 +67,7 @@ module _ (zones : List Zone) where
       as_tested a r.1 _ (length (target_matches r.0)) _ (target_matches r.0) _ (is_target r.0) (sizes-flat_map listed r.0) refl t.filled t
 
   -- conditions
-  pub when_at-tested : (path : List Step) (a : ℕ) (items : Items) (r : List Atom × ℕ) → when_at zones path a items ≡ Ok r →
+  pub when_at-tested : (path : List PathPart) (a : ℕ) (items : Items) (r : List Atom × ℕ) → when_at zones path a items ≡ Ok r →
       IsTested zones a (atom_sizes r.0) (flat_map (λ atom. term_matches (atom_term atom)) r.0) true r.1
   unfolding when_at
   when_at-tested path a items r told =

@@ -9,9 +9,9 @@ use Rattle.policy_documents.specs.Documents.{is_zone_known, is_match_spelled}
 use Rattle.features.specs.Equality.{same_name}
 use Rattle.policy_text.specs.Reading.{◌>>=◌, has_key, name_in, action_in, match_in, known_in, counted, match_at, each_at}
 use Rattle.policy_documents.specs.declared.zones.Zone.{Zone}
-use Rattle.policy_text.specs.declared.paths.Key.{Key}
-use Rattle.policy_text.specs.declared.paths.Key.TheVariants as keys
-use Rattle.policy_text.specs.declared.paths.Step.{Step}
+use Rattle.policy_text.specs.declared.paths.MemberName.{MemberName}
+use Rattle.policy_text.specs.declared.paths.MemberName.TheVariants as member_names
+use Rattle.policy_text.specs.declared.paths.PathPart.{PathPart}
 use Rattle.policy_documents.specs.declared.matches.Match.{Match}
 use Rattle.policy_documents.specs.declared.matches.Match.TheVariants as matches
 use Rattle.policy_text.specs.declared.faults.TextFault.{TextFault}
@@ -36,8 +36,8 @@ sizes_of size (x ∷ xs) = size x + sizes_of size xs
 pub counted-read : (before after : ℕ) → counted before ≡ Ok after → (after ≡ before + 1) × (after ≤ 4096)
 counted-read before after told = let w = within-read 4096 before after told in (sym w.1, omega (arith, w.0, w.1))
 
-module _ (path : List Step) (d : Data) where
-  named : (key : Key) (make : List ℕ → Match) (m : Match) → ((name : List ℕ) → IsTrue (spelling.is_name name) → IsTrue (is_match_spelled (make name))) →
+module _ (path : List PathPart) (d : Data) where
+  named : (key : MemberName) (make : List ℕ → Match) (m : Match) → ((name : List ℕ) → IsTrue (spelling.is_name name) → IsTrue (is_match_spelled (make name))) →
       (name_in key path d >>= λ name. Ok (make name)) ≡ Ok m → IsTrue (is_match_spelled m)
   named key make m spelled told = bound (name_in key path d) (λ name. Ok (make name)) m told (λ name found end.
       subst (λ x. IsTrue (is_match_spelled x)) (same_value (make name) m end) (spelled name (name_in-spelled key path d name found)))
@@ -49,11 +49,11 @@ module _ (path : List Step) (d : Data) where
   pub match_in-spelled : (m : Match) → match_in path d ≡ Ok m → IsTrue (is_match_spelled m)
   unfolding match_in
   match_in-spelled m =
-      either spelled (has_key keys.Role d) _ _ m (named keys.Role matches.Role m (λ _ h. h))
-      (either spelled (has_key keys.Office d) _ _ m (named keys.Office matches.Office m (λ _ h. h))
-      (either spelled (has_key keys.Class d) _ _ m (named keys.Class matches.Class m (λ _ h. h))
-      (either spelled (has_key keys.Owner d) _ _ m (named keys.Owner matches.Owner m (λ _ h. h))
-      (either spelled (has_key keys.Zone d) _ _ m (named keys.Zone matches.Zone m (λ _ h. h)) (acted m)))))
+      either spelled (has_key member_names.Role d) _ _ m (named member_names.Role matches.Role m (λ _ h. h))
+      (either spelled (has_key member_names.Office d) _ _ m (named member_names.Office matches.Office m (λ _ h. h))
+      (either spelled (has_key member_names.Class d) _ _ m (named member_names.Class matches.Class m (λ _ h. h))
+      (either spelled (has_key member_names.Owner d) _ _ m (named member_names.Owner matches.Owner m (λ _ h. h))
+      (either spelled (has_key member_names.Zone d) _ _ m (named member_names.Zone matches.Zone m (λ _ h. h)) (acted m)))))
     where
       spelled : Match → Type 0
       spelled x = IsTrue (is_match_spelled x)
@@ -71,9 +71,9 @@ module _ (zones : List Zone) where
     filled = and_from f g h.filled k.filled;
   }
 
-  module _ {X : Type 0} (read : List Step → ℕ → Data → Result (X × ℕ) TextFault) (size : X → ℕ) (found : X → List Match) (full : X → Bool)
-      (reads : (path : List Step) (a : ℕ) (d : Data) (r : X × ℕ) → read path a d ≡ Ok r → IsTested zones a (size r.0) (found r.0) (full r.0) r.1) where
-    pub each_tested : (path : List Step) (i a : ℕ) (items : Items) (r : List X × ℕ) → each_at read path i a items ≡ Ok r →
+  module _ {X : Type 0} (read : List PathPart → ℕ → Data → Result (X × ℕ) TextFault) (size : X → ℕ) (found : X → List Match) (full : X → Bool)
+      (reads : (path : List PathPart) (a : ℕ) (d : Data) (r : X × ℕ) → read path a d ≡ Ok r → IsTested zones a (size r.0) (found r.0) (full r.0) r.1) where
+    pub each_tested : (path : List PathPart) (i a : ℕ) (items : Items) (r : List X × ℕ) → each_at read path i a items ≡ Ok r →
         IsTested zones a (sizes_of size r.0) (flat_map found r.0) (list_all full r.0) r.1
     each_tested = each_at-read read (λ a x b. IsTested zones a (size x) (found x) (full x) b)
         (λ a xs b. IsTested zones a (sizes_of size xs) (flat_map found xs) (list_all full xs) b)
@@ -95,7 +95,7 @@ module _ (zones : List Zone) where
   tested a b m known spelled told = let c = counted-read a b told in
       record { count = c.0; within = λ _. c.1; known = and_from _ true known refl; spelled = and_from _ true spelled refl; filled = refl }
 
-  pub match_at-tested : (path : List Step) (a : ℕ) (d : Data) (r : Match × ℕ) → match_at zones path a d ≡ Ok r → IsTested zones a 1 (r.0 ∷ []) true r.1
+  pub match_at-tested : (path : List PathPart) (a : ℕ) (d : Data) (r : Match × ℕ) → match_at zones path a d ≡ Ok r → IsTested zones a 1 (r.0 ∷ []) true r.1
   unfolding match_at
   match_at-tested path a d r told = bound _ _ r told (λ _ _ found. bound _ _ r found (λ m read known. bound _ _ r known (λ u there counting. bound _ _ r counting (λ n counted end.
       subst (λ q. IsTested zones a 1 (q.0 ∷ []) true q.1) (same_value (m, n) r end)

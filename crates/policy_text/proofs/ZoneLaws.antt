@@ -14,9 +14,9 @@ use Rattle.policy_documents.specs.Documents.{IsZone, are_distinct}
 use Rattle.features.specs.Equality.{same_name}
 use Rattle.policy_text.specs.Reading.{◌>>=◌, at_item, object_in, zone_keys, name_in, text_in, shape_in, unseen, within, with_zone, zone_at, zones_at}
 use Rattle.policy_documents.specs.declared.zones.Zone.{Zone}
-use Rattle.policy_text.specs.declared.paths.Key.TheVariants as keys
-use Rattle.policy_text.specs.declared.paths.Step.{Step}
-use Rattle.policy_text.specs.declared.paths.Step.TheVariants as steps
+use Rattle.policy_text.specs.declared.paths.MemberName.TheVariants as member_names
+use Rattle.policy_text.specs.declared.paths.PathPart.{PathPart}
+use Rattle.policy_text.specs.declared.paths.PathPart.TheVariants as path_parts
 use Rattle.policy_text.proofs.ChainLemmas.{bound, same_value, passed, name_in-spelled, within-read}
 use Rattle.policy_text.proofs.DistinctLemmas.{are_distinct-push, list_any-names}
 
@@ -56,25 +56,25 @@ with_zone-sound name shape zones more h spelled whole told = bound (unseen name 
     (one_more zones (record { name = name; shape = shape }) h (passed (list_any (λ z. same_name name z.name) zones) tt u _ new).0 (within-read 64 (length zones) n room).0
     (record { name = spelled; shape = whole }))))
 
-zone_at-sound : (path : List Step) (zones more : List Zone) (d : Data) → AreZones zones → zone_at path zones d ≡ Ok more → AreZones more
+zone_at-sound : (path : List PathPart) (zones more : List Zone) (d : Data) → AreZones zones → zone_at path zones d ≡ Ok more → AreZones more
 unfolding zone_at
-zone_at-sound path zones more d h told = bound (object_in zone_keys path d) _ more told (λ _ _ a. bound (name_in keys.Zone path d) _ more a (λ name named b.
-    bound (text_in keys.Shape path d) _ more b (λ text _ c. bound (shape_in name text) _ more c (λ shape shaped end.
-    with_zone-sound name shape zones more h (name_in-spelled keys.Zone path d name named) (shape_canonical text shape (shape_in-shape_of name text shape shaped)) end))))
+zone_at-sound path zones more d h told = bound (object_in zone_keys path d) _ more told (λ _ _ a. bound (name_in member_names.Zone path d) _ more a (λ name named b.
+    bound (text_in member_names.Shape path d) _ more b (λ text _ c. bound (shape_in name text) _ more c (λ shape shaped end.
+    with_zone-sound name shape zones more h (name_in-spelled member_names.Zone path d name named) (shape_canonical text shape (shape_in-shape_of name text shape shaped)) end))))
 
 zones_at-none : (i : ℕ) (zones : List Zone) → zones_at i zones no_items ≡ Ok zones
 unfolding zones_at
 zones_at-none i zones = refl
 
 zones_at-item : (i : ℕ) (zones : List Zone) (d : Data) (rest : Items) →
-    zones_at i zones (item d rest) ≡ (zone_at (at_item (steps.Key keys.Zones ∷ []) i) zones d >>= λ more. zones_at (i + 1) more rest)
+    zones_at i zones (item d rest) ≡ (zone_at (at_item (path_parts.Member member_names.Zones ∷ []) i) zones d >>= λ more. zones_at (i + 1) more rest)
 unfolding zones_at
 zones_at-item i zones d rest = refl
 
 zones_at-sound : (i : ℕ) (zones more : List Zone) (items : Items) → AreZones zones → zones_at i zones items ≡ Ok more → AreZones more
 zones_at-sound i zones more no_items h told = subst AreZones (same_value zones more (sym (zones_at-none i zones) ∙ told)) h
 zones_at-sound i zones more (item d rest) h told =
-    bound (zone_at (at_item (steps.Key keys.Zones ∷ []) i) zones d) (λ found. zones_at (i + 1) found rest) more (sym (zones_at-item i zones d rest) ∙ told) (λ found one others.
+    bound (zone_at (at_item (path_parts.Member member_names.Zones ∷ []) i) zones d) (λ found. zones_at (i + 1) found rest) more (sym (zones_at-item i zones d rest) ∙ told) (λ found one others.
     zones_at-sound (i + 1) found more rest (zone_at-sound _ zones found d h one) others)
 
 -- the zones of a document are valid

@@ -4,15 +4,15 @@ use Rattle.std.proofs.lemmas.List.{drop_all}
 use Rattle.serde_json.specs.View.{view, items_view}
 use Rattle.serde_json.specs.declared.value.Value.{Value}
 use Rattle.policy_text.specs.Reading.{◌>>=◌, Fails, at_item, zone_at, zones_at}
-use Rattle.policy_text.specs.declared.paths.Key.TheVariants as keys
-use Rattle.policy_text.specs.declared.paths.Step.{Step}
-use Rattle.policy_text.specs.declared.paths.Step.TheVariants as steps
+use Rattle.policy_text.specs.declared.paths.MemberName.TheVariants as member_names
+use Rattle.policy_text.specs.declared.paths.PathPart.{PathPart}
+use Rattle.policy_text.specs.declared.paths.PathPart.TheVariants as path_parts
 use Rattle.policy_documents.specs.declared.zones.Zone.{Zone}
 use Rattle.policy_text.specs.declared.faults.TextFault.{TextFault}
 use Rattle.policy_text.proofs.EachLemmas.{Fails-bind}
 
-abbrev pub zones_place : List Step
-zones_place = steps.Key keys.Zones ∷ []
+abbrev pub zones_place : List PathPart
+zones_place = path_parts.Member member_names.Zones ∷ []
 
 -- what is left to read from the item at index i on
 abbrev pub zones_left : ℕ → List Zone → List Value → Result (List Zone) TextFault

@@ -1,10 +1,10 @@
 -- The keys of documents.
 use Rattle.std.specs.Prelude.{ℕ, List, codes}
-use Rattle.policy_text.specs.declared.paths.Key.{Key}
-use Rattle.policy_text.specs.declared.paths.Key.TheVariants.{Zones, Root, Zone, Shape, Set, Policy, Combine, Target, Of, Rules, Rule, Effect, When, Role, Office, Class, Owner, Action, Own, Not}
+use Rattle.policy_text.specs.declared.paths.MemberName.{MemberName}
+use Rattle.policy_text.specs.declared.paths.MemberName.TheVariants.{Zones, Root, Zone, Shape, Set, Policy, Combine, Target, Of, Rules, Rule, Effect, When, Role, Office, Class, Owner, Action, Own, Not}
 
 -- a key as text
-abbrev pub key_text : Key → List ℕ
+abbrev pub key_text : MemberName → List ℕ
 key_text Zones = codes "zones"
 key_text Root = codes "root"
 key_text Zone = codes "zone"

@@ -6,99 +6,101 @@ use Rattle.std.specs.Cmp.Lexicographic.{pointwise, pointwise_decides}
 use Rattle.std.proofs.Common.{ap}
 use Rattle.std.proofs.lemmas.Bool.{false≢true}
 use Rattle.plane.specs.Equality.{decides_by}
-use Rattle.policy_text.specs.declared.paths.Key.{Key}
-use Rattle.policy_text.specs.declared.paths.Key.TheVariants as keys
-use Rattle.policy_text.specs.declared.paths.Step.{Step}
-use Rattle.policy_text.specs.declared.paths.Step.TheVariants as steps
+use Rattle.policy_text.specs.declared.paths.MemberName.{MemberName}
+use Rattle.policy_text.specs.declared.paths.MemberName.TheVariants as member_names
+use Rattle.policy_text.specs.declared.paths.PathPart.{PathPart}
+use Rattle.policy_text.specs.declared.paths.PathPart.TheVariants as path_parts
 
-abbrev pub same_key : Key → Key → Bool
-same_key keys.Zones keys.Zones = true
-same_key keys.Root keys.Root = true
-same_key keys.Zone keys.Zone = true
-same_key keys.Shape keys.Shape = true
-same_key keys.Set keys.Set = true
-same_key keys.Policy keys.Policy = true
-same_key keys.Combine keys.Combine = true
-same_key keys.Target keys.Target = true
-same_key keys.Of keys.Of = true
-same_key keys.Rules keys.Rules = true
-same_key keys.Rule keys.Rule = true
-same_key keys.Effect keys.Effect = true
-same_key keys.When keys.When = true
-same_key keys.Role keys.Role = true
-same_key keys.Office keys.Office = true
-same_key keys.Class keys.Class = true
-same_key keys.Owner keys.Owner = true
-same_key keys.Action keys.Action = true
-same_key keys.Own keys.Own = true
-same_key keys.Not keys.Not = true
+abbrev pub same_key : MemberName → MemberName → Bool
+same_key member_names.Zones member_names.Zones = true
+same_key member_names.Root member_names.Root = true
+same_key member_names.Zone member_names.Zone = true
+same_key member_names.Shape member_names.Shape = true
+same_key member_names.Set member_names.Set = true
+same_key member_names.Policy member_names.Policy = true
+same_key member_names.Combine member_names.Combine = true
+same_key member_names.Target member_names.Target = true
+same_key member_names.Of member_names.Of = true
+same_key member_names.Rules member_names.Rules = true
+same_key member_names.Rule member_names.Rule = true
+same_key member_names.Effect member_names.Effect = true
+same_key member_names.When member_names.When = true
+same_key member_names.Role member_names.Role = true
+same_key member_names.Office member_names.Office = true
+same_key member_names.Class member_names.Class = true
+same_key member_names.Owner member_names.Owner = true
+same_key member_names.Action member_names.Action = true
+same_key member_names.Own member_names.Own = true
+same_key member_names.Not member_names.Not = true
 same_key a b = false
 
-same_key-itself : (a : Key) → same_key a a ≡ true
-same_key-itself keys.Zones = refl
-same_key-itself keys.Root = refl
-same_key-itself keys.Zone = refl
-same_key-itself keys.Shape = refl
-same_key-itself keys.Set = refl
-same_key-itself keys.Policy = refl
-same_key-itself keys.Combine = refl
-same_key-itself keys.Target = refl
-same_key-itself keys.Of = refl
-same_key-itself keys.Rules = refl
-same_key-itself keys.Rule = refl
-same_key-itself keys.Effect = refl
-same_key-itself keys.When = refl
-same_key-itself keys.Role = refl
-same_key-itself keys.Office = refl
-same_key-itself keys.Class = refl
-same_key-itself keys.Owner = refl
-same_key-itself keys.Action = refl
-same_key-itself keys.Own = refl
-same_key-itself keys.Not = refl
+same_key-itself : (a : MemberName) → same_key a a ≡ true
+same_key-itself member_names.Zones = refl
+same_key-itself member_names.Root = refl
+same_key-itself member_names.Zone = refl
+same_key-itself member_names.Shape = refl
+same_key-itself member_names.Set = refl
+same_key-itself member_names.Policy = refl
+same_key-itself member_names.Combine = refl
+same_key-itself member_names.Target = refl
+same_key-itself member_names.Of = refl
+same_key-itself member_names.Rules = refl
+same_key-itself member_names.Rule = refl
+same_key-itself member_names.Effect = refl
+same_key-itself member_names.When = refl
+same_key-itself member_names.Role = refl
+same_key-itself member_names.Office = refl
+same_key-itself member_names.Class = refl
+same_key-itself member_names.Owner = refl
+same_key-itself member_names.Action = refl
+same_key-itself member_names.Own = refl
+same_key-itself member_names.Not = refl
 
-same_key-told : (a b : Key) → same_key a b ≡ true → a ≡ b
-same_key-told keys.Zones keys.Zones e = refl
-same_key-told keys.Root keys.Root e = refl
-same_key-told keys.Zone keys.Zone e = refl
-same_key-told keys.Shape keys.Shape e = refl
-same_key-told keys.Set keys.Set e = refl
-same_key-told keys.Policy keys.Policy e = refl
-same_key-told keys.Combine keys.Combine e = refl
-same_key-told keys.Target keys.Target e = refl
-same_key-told keys.Of keys.Of e = refl
-same_key-told keys.Rules keys.Rules e = refl
-same_key-told keys.Rule keys.Rule e = refl
-same_key-told keys.Effect keys.Effect e = refl
-same_key-told keys.When keys.When e = refl
-same_key-told keys.Role keys.Role e = refl
-same_key-told keys.Office keys.Office e = refl
-same_key-told keys.Class keys.Class e = refl
-same_key-told keys.Owner keys.Owner e = refl
-same_key-told keys.Action keys.Action e = refl
-same_key-told keys.Own keys.Own e = refl
-same_key-told keys.Not keys.Not e = refl
+same_key-told : (a b : MemberName) → same_key a b ≡ true → a ≡ b
+same_key-told member_names.Zones member_names.Zones e = refl
+same_key-told member_names.Root member_names.Root e = refl
+same_key-told member_names.Zone member_names.Zone e = refl
+same_key-told member_names.Shape member_names.Shape e = refl
+same_key-told member_names.Set member_names.Set e = refl
+same_key-told member_names.Policy member_names.Policy e = refl
+same_key-told member_names.Combine member_names.Combine e = refl
+same_key-told member_names.Target member_names.Target e = refl
+same_key-told member_names.Of member_names.Of e = refl
+same_key-told member_names.Rules member_names.Rules e = refl
+same_key-told member_names.Rule member_names.Rule e = refl
+same_key-told member_names.Effect member_names.Effect e = refl
+same_key-told member_names.When member_names.When e = refl
+same_key-told member_names.Role member_names.Role e = refl
+same_key-told member_names.Office member_names.Office e = refl
+same_key-told member_names.Class member_names.Class e = refl
+same_key-told member_names.Owner member_names.Owner e = refl
+same_key-told member_names.Action member_names.Action e = refl
+same_key-told member_names.Own member_names.Own e = refl
+same_key-told member_names.Not member_names.Not e = refl
 same_key-told a b e = absurd (false≢true e)
 
-abbrev pub same_step : Step → Step → Bool
-same_step (steps.Key a) (steps.Key b) = same_key a b
-same_step (steps.Item a) (steps.Item b) = nat_eq a b
-same_step a b = false
+abbrev pub same_part : PathPart → PathPart → Bool
+same_part (path_parts.Member a) (path_parts.Member b) = same_key a b
+same_part (path_parts.Item a) (path_parts.Item b) = nat_eq a b
+same_part a b = false
 
-same_step-itself : (a : Step) → same_step a a ≡ true
-same_step-itself (steps.Key a) = same_key-itself a
-same_step-itself (steps.Item a) = (unsigned_Decides a a).1 refl
+same_part-itself : (a : PathPart) → same_part a a ≡ true
+same_part-itself (path_parts.Member a) = same_key-itself a
+same_part-itself (path_parts.Item a) = (unsigned_Decides a a).1 refl
 
-same_step-told : (a b : Step) → same_step a b ≡ true → a ≡ b
-same_step-told (steps.Key a) (steps.Key b) e = ap steps.Key (same_key-told a b e)
-same_step-told (steps.Item a) (steps.Item b) e = ap steps.Item ((unsigned_Decides a b).0 e)
-same_step-told a b e = absurd (false≢true e)
+same_part-told : (a b : PathPart) → same_part a b ≡ true → a ≡ b
+same_part-told (path_parts.Member a) (path_parts.Member b) e =
+    ap path_parts.Member (same_key-told a b e)
+same_part-told (path_parts.Item a) (path_parts.Item b) e =
+    ap path_parts.Item ((unsigned_Decides a b).0 e)
+same_part-told a b e = absurd (false≢true e)
 
-pub same_step_decides : (a b : Step) → Decides (same_step a b) (a ≡ b)
-same_step_decides = decides_by same_step same_step-itself same_step-told
+pub same_part_decides : (a b : PathPart) → Decides (same_part a b) (a ≡ b)
+same_part_decides = decides_by same_part same_part-itself same_part-told
 
--- two paths are equal, step by step
-abbrev pub same_path : List Step → List Step → Bool
-same_path = pointwise same_step
+-- two paths are equal, part by part
+abbrev pub same_path : List PathPart → List PathPart → Bool
+same_path = pointwise same_part
 
-pub same_path_decides : (a b : List Step) → Decides (same_path a b) (a ≡ b)
-same_path_decides = pointwise_decides same_step_decides
+pub same_path_decides : (a b : List PathPart) → Decides (same_path a b) (a ≡ b)
+same_path_decides = pointwise_decides same_part_decides

@@ -4,14 +4,14 @@ use Rattle.std.specs.Prelude.{ℕ, List, ◌++◌, codes}
 use Rattle.std.specs.Fmt.{decimal}
 use Rattle.std.specs.List.{flat_map}
 use Rattle.policy_text.specs.Keys.{key_text}
-use Rattle.policy_text.specs.declared.paths.Step.{Step}
-use Rattle.policy_text.specs.declared.paths.Step.TheVariants.{Key, Item}
+use Rattle.policy_text.specs.declared.paths.PathPart.{PathPart}
+use Rattle.policy_text.specs.declared.paths.PathPart.TheVariants.{Member, Item}
 
--- a step: `/`, then its key or its index in decimal
-abbrev pub step_text : Step → List ℕ
-step_text (Key key) = codes "/" ++ key_text key
-step_text (Item index) = codes "/" ++ decimal index
+-- a part: `/`, then its key or its index in decimal
+abbrev pub part_text : PathPart → List ℕ
+part_text (Member key) = codes "/" ++ key_text key
+part_text (Item index) = codes "/" ++ decimal index
 
--- the steps, one after another; the path of the document itself is empty
-abbrev pub path_text : List Step → List ℕ
-path_text = flat_map step_text
+-- the parts, one after another; the path of the document itself is empty
+abbrev pub path_text : List PathPart → List ℕ
+path_text = flat_map part_text

@@ -17,10 +17,10 @@ use Rattle.features.specs.Equality.{same_name}
 use Rattle.policy_text.specs.Keys.{key_text}
 use Rattle.policy_documents.specs.declared.documents.TheConstants.{DEPTH_LIMIT, NODE_LIMIT, RULE_LIMIT, TEST_LIMIT, ZONE_LIMIT}
 use Rattle.policy_documents.specs.declared.zones.Zone.{Zone}
-use Rattle.policy_text.specs.declared.paths.Key.{Key}
-use Rattle.policy_text.specs.declared.paths.Key.TheVariants as keys
-use Rattle.policy_text.specs.declared.paths.Step.{Step}
-use Rattle.policy_text.specs.declared.paths.Step.TheVariants as steps
+use Rattle.policy_text.specs.declared.paths.MemberName.{MemberName}
+use Rattle.policy_text.specs.declared.paths.MemberName.TheVariants as member_names
+use Rattle.policy_text.specs.declared.paths.PathPart.{PathPart}
+use Rattle.policy_text.specs.declared.paths.PathPart.TheVariants as path_parts
 use Rattle.policy_text.specs.declared.faults.TextFault.{TextFault}
 use Rattle.policy_text.specs.declared.faults.TextFault.TheVariants as faults
 use Rattle.policy_documents.specs.declared.algorithms.Algorithm.{Algorithm}
@@ -35,7 +35,8 @@ use Rattle.policy_documents.specs.declared.matches.Atom.{Atom}
 use Rattle.policy_documents.specs.declared.matches.Atom.TheVariants as atoms
 
 infixl 10 ◌>>=◌
-abbrev pub ◌>>=◌ : {A B : Type 0} → Result A TextFault → (A → Result B TextFault) → Result B TextFault
+abbrev pub ◌>>=◌ : {A B : Type 0} → Result A TextFault → (A → Result B TextFault)
+    → Result B TextFault
 (Ok x) >>= f = f x
 (Err e) >>= f = Err e
 
@@ -67,39 +68,42 @@ Tells result (Ok y) = Unit {0}
 Tells result (Err e) = result ≡ Err e
 
 -- the path of the value under a key
-abbrev pub at_key : List Step → Key → List Step
-at_key path key = path ++ steps.Key key ∷ []
+abbrev pub at_key : List PathPart → MemberName → List PathPart
+at_key path key = path ++ path_parts.Member key ∷ []
 
 -- the path of an item of an array
-abbrev pub at_item : List Step → ℕ → List Step
-at_item path index = path ++ steps.Item index ∷ []
+abbrev pub at_item : List PathPart → ℕ → List PathPart
+at_item path index = path ++ path_parts.Item index ∷ []
 
-abbrev pub value_of : Key → Data → Option Data
+abbrev pub value_of : MemberName → Data → Option Data
 value_of key d = get (key_text key) d
 
 -- the text is one of these keys
-abbrev pub is_listed : List Key → List ℕ → Bool
+abbrev pub is_listed : List MemberName → List ℕ → Bool
 is_listed listed text = list_any (λ key. bytes_eq (key_text key) text) listed
 
 -- all keys of the object are listed
-abbrev pub has_only : List Key → Members → Bool
+abbrev pub has_only : List MemberName → Members → Bool
 has_only listed no_members = true
 has_only listed (member text d rest) = is_listed listed text && has_only listed rest
 
 -- the value is an object whose keys are all listed
-abbrev pub object_in : List Key → List Step → Data → Result (Unit {0}) TextFault
-object_in listed path d = ok_or (as_object d) (faults.Form path) >>= λ members. if has_only listed members then Ok tt else Err (faults.UnknownKey path)
+abbrev pub object_in : List MemberName → List PathPart → Data → Result (Unit {0}) TextFault
+object_in listed path d = ok_or (as_object d) (faults.Form path) >>= λ members. if has_only listed
+    members then Ok tt else Err (faults.UnknownKey path)
 
 -- the name under a key
-abbrev pub name_in : Key → List Step → Data → Result (List ℕ) TextFault
-name_in key path d = ok_or (option_and_then name_of (option_and_then as_str (value_of key d))) (faults.Form (at_key path key))
+abbrev pub name_in : MemberName → List PathPart → Data → Result (List ℕ) TextFault
+name_in key path d = ok_or (option_and_then name_of (option_and_then as_str (value_of key d)))
+    (faults.Form (at_key path key))
 
 -- the array under a key
-abbrev pub array_in : Key → List Step → Data → Result Items TextFault
-array_in key path d = ok_or (option_and_then as_array (value_of key d)) (faults.Form (at_key path key))
+abbrev pub array_in : MemberName → List PathPart → Data → Result Items TextFault
+array_in key path d = ok_or (option_and_then as_array (value_of key d))
+    (faults.Form (at_key path key))
 
 -- the array under a key; empty if the object does not have the key
-unfoldable pub optional_array_in : Key → List Step → Data → Result Items TextFault
+unfoldable pub optional_array_in : MemberName → List PathPart → Data → Result Items TextFault
 optional_array_in key path d = option_array (value_of key d)
   where
     option_array : Option Data → Result Items TextFault
@@ -115,8 +119,10 @@ algorithm_named text =
     else if bytes_eq text (codes "first-applicable") then Some FirstApplicable
     else None
 
-abbrev pub algorithm_in : List Step → Data → Result Algorithm TextFault
-algorithm_in path d = ok_or (option_and_then algorithm_named (option_and_then as_str (value_of keys.Combine d))) (faults.Form (at_key path keys.Combine))
+abbrev pub algorithm_in : List PathPart → Data → Result Algorithm TextFault
+algorithm_in path d = ok_or (option_and_then algorithm_named
+    (option_and_then as_str (value_of member_names.Combine d)))
+    (faults.Form (at_key path member_names.Combine))
 
 abbrev pub effect_named : List ℕ → Option Effect
 effect_named text =
@@ -124,8 +130,10 @@ effect_named text =
     else if bytes_eq text (codes "deny") then Some effects.Deny
     else None
 
-abbrev pub effect_in : List Step → Data → Result Effect TextFault
-effect_in path d = ok_or (option_and_then effect_named (option_and_then as_str (value_of keys.Effect d))) (faults.Form (at_key path keys.Effect))
+abbrev pub effect_in : List PathPart → Data → Result Effect TextFault
+effect_in path d = ok_or (option_and_then effect_named
+    (option_and_then as_str (value_of member_names.Effect d)))
+    (faults.Form (at_key path member_names.Effect))
 
 abbrev pub action_named : List ℕ → Option Action
 action_named text =
@@ -135,8 +143,10 @@ action_named text =
     else if bytes_eq text (codes "delete") then Some actions.Delete
     else None
 
-abbrev pub action_in : List Step → Data → Result Action TextFault
-action_in path d = ok_or (option_and_then action_named (option_and_then as_str (value_of keys.Action d))) (faults.Form (at_key path keys.Action))
+abbrev pub action_in : List PathPart → Data → Result Action TextFault
+action_in path d = ok_or (option_and_then action_named
+    (option_and_then as_str (value_of member_names.Action d)))
+    (faults.Form (at_key path member_names.Action))
 
 -- an object has exactly one key
 abbrev pub has_one : Members → Bool
@@ -145,27 +155,34 @@ has_one (member text d no_members) = true
 has_one (member text d (member more e rest)) = false
 
 -- the value is an object with exactly one key, which is listed
-abbrev pub single_in : List Key → List Step → Data → Result (Unit {0}) TextFault
+abbrev pub single_in : List MemberName → List PathPart → Data → Result (Unit {0}) TextFault
 single_in listed path d = ok_or (as_object d) (faults.Form path) >>= λ members.
-    if has_only listed members then (if has_one members then Ok tt else Err (faults.Form path)) else Err (faults.UnknownKey path)
+    if has_only listed members then (if has_one members then Ok tt else Err (faults.Form path))
+    else Err (faults.UnknownKey path)
 
 -- the object has this key
-abbrev pub has_key : Key → Data → Bool
+abbrev pub has_key : MemberName → Data → Bool
 has_key key d = is_some (value_of key d)
 
 -- the match of an object whose only key is a match's
-unfoldable pub match_in : List Step → Data → Result Match TextFault
+unfoldable pub match_in : List PathPart → Data → Result Match TextFault
 match_in path d =
-    if has_key keys.Role d then (name_in keys.Role path d >>= λ name. Ok (matches.Role name))
-    else if has_key keys.Office d then (name_in keys.Office path d >>= λ name. Ok (matches.Office name))
-    else if has_key keys.Class d then (name_in keys.Class path d >>= λ name. Ok (matches.Class name))
-    else if has_key keys.Owner d then (name_in keys.Owner path d >>= λ name. Ok (matches.Owner name))
-    else if has_key keys.Zone d then (name_in keys.Zone path d >>= λ name. Ok (matches.Zone name))
+    if has_key member_names.Role d then
+    (name_in member_names.Role path d >>= λ name. Ok (matches.Role name))
+    else if has_key member_names.Office d then
+    (name_in member_names.Office path d >>= λ name. Ok (matches.Office name))
+    else if has_key member_names.Class d then
+    (name_in member_names.Class path d >>= λ name. Ok (matches.Class name))
+    else if has_key member_names.Owner d then
+    (name_in member_names.Owner path d >>= λ name. Ok (matches.Owner name))
+    else if has_key member_names.Zone d then
+    (name_in member_names.Zone path d >>= λ name. Ok (matches.Zone name))
     else (action_in path d >>= λ action. Ok (matches.Action action))
 
 -- the zone of a match exists
 abbrev pub known_in : List Zone → Match → Result (Unit {0}) TextFault
-known_in zones (matches.Zone name) = if list_any (λ z. same_name name z.name) zones then Ok tt else Err (faults.NoZone name)
+known_in zones (matches.Zone name) =
+    if list_any (λ z. same_name name z.name) zones then Ok tt else Err (faults.NoZone name)
 known_in zones (matches.Role name) = Ok tt
 known_in zones (matches.Office name) = Ok tt
 known_in zones (matches.Class name) = Ok tt
@@ -180,13 +197,15 @@ within limit count = if nat_lt count limit then Ok (count + 1) else Err faults.T
 abbrev pub counted : ℕ → Result ℕ TextFault
 counted = within TEST_LIMIT
 
-abbrev pub match_keys : List Key
-match_keys = keys.Role ∷ keys.Office ∷ keys.Class ∷ keys.Owner ∷ keys.Zone ∷ keys.Action ∷ []
+abbrev pub match_keys : List MemberName
+match_keys = member_names.Role ∷ member_names.Office ∷ member_names.Class ∷ member_names.Owner
+    ∷ member_names.Zone ∷ member_names.Action ∷ []
 
 -- a match, with the count of matches and atoms after it
-unfoldable pub match_at : List Zone → List Step → ℕ → Data → Result (Match × ℕ) TextFault
+unfoldable pub match_at : List Zone → List PathPart → ℕ → Data → Result (Match × ℕ) TextFault
 match_at zones path tests d =
-    single_in match_keys path d >>= λ _. match_in path d >>= λ m. known_in zones m >>= λ _. counted tests >>= λ n. Ok (m, n)
+    single_in match_keys path d >>= λ _. match_in path d >>= λ m. known_in zones m >>= λ _. counted
+    tests >>= λ n. Ok (m, n)
 
 abbrev pub is_true : Option Bool → Bool
 is_true None = false
@@ -197,63 +216,78 @@ is_empty no_items = true
 is_empty (item d rest) = false
 
 -- the subject's own office: the key `own`, whose value is true
-abbrev pub own_in : List Step → Data → Result Term TextFault
-own_in path d = if is_true (option_and_then as_bool (value_of keys.Own d)) then Ok terms.Own else Err (faults.Form (at_key path keys.Own))
+abbrev pub own_in : List PathPart → Data → Result Term TextFault
+own_in path d = if is_true (option_and_then as_bool (value_of member_names.Own d)) then Ok terms.Own
+    else Err (faults.Form (at_key path member_names.Own))
 
-unfoldable pub term_in : List Step → Data → Result Term TextFault
-term_in path d = if has_key keys.Own d then own_in path d else (match_in path d >>= λ m. Ok (terms.Match m))
+unfoldable pub term_in : List PathPart → Data → Result Term TextFault
+term_in path d = if has_key member_names.Own d then own_in path d
+    else (match_in path d >>= λ m. Ok (terms.Match m))
 
 abbrev pub known_term : List Zone → Term → Result (Unit {0}) TextFault
 known_term zones (terms.Match m) = known_in zones m
 known_term zones terms.Own = Ok tt
 
-abbrev pub term_keys : List Key
-term_keys = keys.Role ∷ keys.Office ∷ keys.Class ∷ keys.Owner ∷ keys.Zone ∷ keys.Action ∷ keys.Own ∷ []
+abbrev pub term_keys : List MemberName
+term_keys = member_names.Role ∷ member_names.Office ∷ member_names.Class ∷ member_names.Owner
+    ∷ member_names.Zone ∷ member_names.Action ∷ member_names.Own ∷ []
 
-abbrev pub atom_keys : List Key
-atom_keys = keys.Role ∷ keys.Office ∷ keys.Class ∷ keys.Owner ∷ keys.Zone ∷ keys.Action ∷ keys.Own ∷ keys.Not ∷ []
+abbrev pub atom_keys : List MemberName
+atom_keys = member_names.Role ∷ member_names.Office ∷ member_names.Class ∷ member_names.Owner
+    ∷ member_names.Zone ∷ member_names.Action ∷ member_names.Own ∷ member_names.Not ∷ []
 
 -- the term of an object whose only key is a term's
-unfoldable pub term_of : List Zone → List Step → ℕ → Data → Result (Term × ℕ) TextFault
-term_of zones path tests d = term_in path d >>= λ term. known_term zones term >>= λ _. counted tests >>= λ n. Ok (term, n)
+unfoldable pub term_of : List Zone → List PathPart → ℕ → Data → Result (Term × ℕ) TextFault
+term_of zones path tests d = term_in path d >>= λ term. known_term zones term >>= λ _. counted tests
+    >>= λ n. Ok (term, n)
 
 -- the term in a `not`
-unfoldable pub term_at : List Zone → List Step → ℕ → Data → Result (Term × ℕ) TextFault
+unfoldable pub term_at : List Zone → List PathPart → ℕ → Data → Result (Term × ℕ) TextFault
 term_at zones path tests d = single_in term_keys path d >>= λ _. term_of zones path tests d
 
 -- a `not` counts before the term in it
-unfoldable pub atom_of : List Zone → List Step → ℕ → Data → Option Data → Result (Atom × ℕ) TextFault
+unfoldable pub atom_of : List Zone → List PathPart → ℕ → Data → Option Data
+    → Result (Atom × ℕ) TextFault
 atom_of zones path tests d None = term_of zones path tests d >>= λ r. Ok (atoms.Is r.0, r.1)
-atom_of zones path tests d (Some inner) = counted tests >>= λ n. term_at zones (at_key path keys.Not) n inner >>= λ r. Ok (atoms.Not r.0, r.1)
+atom_of zones path tests d (Some inner) =
+    counted tests >>= λ n. term_at zones (at_key path member_names.Not) n inner >>= λ r. Ok
+    (atoms.Not r.0, r.1)
 
 -- an atom, with the count of matches and atoms after it
-unfoldable pub atom_at : List Zone → List Step → ℕ → Data → Result (Atom × ℕ) TextFault
-atom_at zones path tests d = single_in atom_keys path d >>= λ _. atom_of zones path tests d (value_of keys.Not d)
+unfoldable pub atom_at : List Zone → List PathPart → ℕ → Data → Result (Atom × ℕ) TextFault
+atom_at zones path tests d = single_in atom_keys path d >>= λ _. atom_of zones path tests d
+    (value_of member_names.Not d)
 
 -- the items of an array, each read at its path from `index` on, given what was seen before it
-unfoldable pub each_at : {X S : Type 0} → (List Step → S → Data → Result (X × S) TextFault) → List Step → ℕ → S → Items → Result (List X × S) TextFault
+unfoldable pub each_at : {X S : Type 0} → (List PathPart → S → Data → Result (X × S) TextFault)
+    → List PathPart → ℕ → S → Items → Result (List X × S) TextFault
 each_at read path index seen no_items = Ok ([], seen)
 each_at read path index seen (item d rest) =
-    read (at_item path index) seen d >>= λ first. each_at read path (index + 1) first.1 rest >>= λ others. Ok (first.0 ∷ others.0, others.1)
+    read (at_item path index) seen d >>= λ first. each_at read path (index + 1) first.1 rest >>=
+    λ others. Ok (first.0 ∷ others.0, others.1)
 
 -- an array that is not empty
-abbrev pub items_in : List Step → Data → Result Items TextFault
-items_in path d = ok_or (as_array d) (faults.Form path) >>= λ items. if is_empty items then Err (faults.Form path) else Ok items
+abbrev pub items_in : List PathPart → Data → Result Items TextFault
+items_in path d = ok_or (as_array d) (faults.Form path) >>= λ items. if is_empty items then
+    Err (faults.Form path) else Ok items
 
 -- an array that is not empty, each item read given the count of matches and atoms before it
-abbrev pub row_at : {X : Type 0} → (List Step → ℕ → Data → Result (X × ℕ) TextFault) → List Step → ℕ → Data → Result (List X × ℕ) TextFault
+abbrev pub row_at : {X : Type 0} → (List PathPart → ℕ → Data → Result (X × ℕ) TextFault)
+    → List PathPart → ℕ → Data → Result (List X × ℕ) TextFault
 row_at read path tests d = items_in path d >>= λ items. each_at read path 0 tests items
 
-unfoldable pub all_of_at : List Zone → List Step → ℕ → Data → Result (List Match × ℕ) TextFault
+unfoldable pub all_of_at : List Zone → List PathPart → ℕ → Data → Result (List Match × ℕ) TextFault
 all_of_at zones = row_at (match_at zones)
 
-unfoldable pub any_of_at : List Zone → List Step → ℕ → Data → Result (List (List Match) × ℕ) TextFault
+unfoldable pub any_of_at : List Zone → List PathPart → ℕ → Data
+    → Result (List (List Match) × ℕ) TextFault
 any_of_at zones = row_at (all_of_at zones)
 
-unfoldable pub target_at : List Zone → List Step → ℕ → Items → Result (List (List (List Match)) × ℕ) TextFault
+unfoldable pub target_at : List Zone → List PathPart → ℕ → Items
+    → Result (List (List (List Match)) × ℕ) TextFault
 target_at zones path tests items = each_at (any_of_at zones) path 0 tests items
 
-unfoldable pub when_at : List Zone → List Step → ℕ → Items → Result (List Atom × ℕ) TextFault
+unfoldable pub when_at : List Zone → List PathPart → ℕ → Items → Result (List Atom × ℕ) TextFault
 when_at zones path tests items = each_at (atom_at zones) path 0 tests items
 
 -- what was read so far: the names of sets, policies and rules, and the counts of sets and policies,
@@ -266,56 +300,94 @@ pub record Seen : Type 0 where
 
 -- one more name, which was not seen before
 abbrev pub fresh : List ℕ → List (List ℕ) → Result (List (List ℕ)) TextFault
-fresh name names = if list_any (same_name name) names then Err (faults.NameTwice name) else Ok (names ++ name ∷ [])
+fresh name names = if list_any (same_name name) names then Err (faults.NameTwice name)
+    else Ok (names ++ name ∷ [])
 
-abbrev pub rule_keys : List Key
-rule_keys = keys.Rule ∷ keys.Effect ∷ keys.Target ∷ keys.When ∷ []
+abbrev pub rule_keys : List MemberName
+rule_keys = member_names.Rule ∷ member_names.Effect ∷ member_names.Target ∷ member_names.When ∷ []
 
-unfoldable pub rule_at : List Zone → List Step → Seen → Data → Result (RuleData × Seen) TextFault
+unfoldable pub rule_at : List Zone → List PathPart → Seen → Data
+    → Result (RuleData × Seen) TextFault
 rule_at zones path seen d =
-    object_in rule_keys path d >>= λ _. name_in keys.Rule path d >>= λ name. effect_in path d >>= λ effect.
-    optional_array_in keys.Target path d >>= λ target. optional_array_in keys.When path d >>= λ when.
+    object_in rule_keys path d >>= λ _. name_in member_names.Rule path d >>= λ name. effect_in path
+    d >>= λ effect.
+    optional_array_in member_names.Target path d >>= λ target. optional_array_in member_names.When
+    path d >>= λ when.
     fresh name seen.names >>= λ names. within RULE_LIMIT seen.rules >>= λ rules.
-    target_at zones (at_key path keys.Target) seen.tests target >>= λ t. when_at zones (at_key path keys.When) t.1 when >>= λ w.
-    Ok (record { name = name; effect = effect; target = t.0; when = w.0 }, record { names = names; nodes = seen.nodes; rules = rules; tests = w.1 })
+    target_at zones (at_key path member_names.Target) seen.tests target >>= λ t. when_at zones
+    (at_key path member_names.When) t.1 when >>= λ w.
+    Ok (
+      record { name = name; effect = effect; target = t.0; when = w.0 },
+      record {
+        names = names;
+        nodes = seen.nodes;
+        rules = rules;
+        tests = w.1;
+      },
+    )
 
-abbrev pub set_keys : List Key
-set_keys = keys.Set ∷ keys.Combine ∷ keys.Target ∷ keys.Of ∷ []
+abbrev pub set_keys : List MemberName
+set_keys = member_names.Set ∷ member_names.Combine ∷ member_names.Target ∷ member_names.Of ∷ []
 
-abbrev pub policy_keys : List Key
-policy_keys = keys.Policy ∷ keys.Combine ∷ keys.Target ∷ keys.Rules ∷ []
+abbrev pub policy_keys : List MemberName
+policy_keys = member_names.Policy ∷ member_names.Combine ∷ member_names.Target ∷ member_names.Rules
+    ∷ []
 
 -- a set or a policy without its children: its head, what was seen up to its target's end, and the
 -- array of its children
-unfoldable pub head_at : List Zone → List Key → Key → Key → List Step → Seen → Data → Result (Head × (Seen × Items)) TextFault
+unfoldable pub head_at : List Zone → List MemberName → MemberName → MemberName → List PathPart
+    → Seen → Data → Result (Head × (Seen × Items)) TextFault
 head_at zones listed name_key children path seen d =
-    object_in listed path d >>= λ _. name_in name_key path d >>= λ name. algorithm_in path d >>= λ combine.
-    optional_array_in keys.Target path d >>= λ target. array_in children path d >>= λ items.
+    object_in listed path d >>= λ _. name_in name_key path d >>= λ name. algorithm_in path d >>=
+    λ combine.
+    optional_array_in member_names.Target path d >>= λ target. array_in children path d >>= λ items.
     fresh name seen.names >>= λ names. within NODE_LIMIT seen.nodes >>= λ nodes.
-    target_at zones (at_key path keys.Target) seen.tests target >>= λ t.
-    Ok (record { name = name; combine = combine; target = t.0 }, (record { names = names; nodes = nodes; rules = seen.rules; tests = t.1 }, items))
+    target_at zones (at_key path member_names.Target) seen.tests target >>= λ t.
+    Ok (
+      record {
+        name = name;
+        combine = combine;
+        target = t.0;
+      },
+      (
+        record {
+          names = names;
+          nodes = nodes;
+          rules = seen.rules;
+          tests = t.1;
+        },
+        items,
+      ),
+    )
 
-unfoldable pub policy_at : List Zone → List Step → Seen → Data → Result (NodeData × Seen) TextFault
+unfoldable pub policy_at : List Zone → List PathPart → Seen → Data
+    → Result (NodeData × Seen) TextFault
 policy_at zones path seen d =
-    head_at zones policy_keys keys.Policy keys.Rules path seen d >>= λ h.
-    each_at (rule_at zones) (at_key path keys.Rules) 0 h.1.0 h.1.1 >>= λ r. Ok (policy h.0 r.0, r.1)
+    head_at zones policy_keys member_names.Policy member_names.Rules path seen d >>= λ h.
+    each_at (rule_at zones) (at_key path member_names.Rules) 0 h.1.0 h.1.1 >>= λ r. Ok
+    (policy h.0 r.0, r.1)
 
 -- a set, whose children are read by `read`
-unfoldable pub set_at : (List Step → Seen → Data → Result (NodeData × Seen) TextFault) → List Zone → List Step → Seen → Data → Result (NodeData × Seen) TextFault
+unfoldable pub set_at : (List PathPart → Seen → Data → Result (NodeData × Seen) TextFault)
+    → List Zone → List PathPart → Seen → Data → Result (NodeData × Seen) TextFault
 set_at read zones path seen d =
-    head_at zones set_keys keys.Set keys.Of path seen d >>= λ h.
-    each_at read (at_key path keys.Of) 0 h.1.0 h.1.1 >>= λ r. Ok (set h.0 (children_of r.0), r.1)
+    head_at zones set_keys member_names.Set member_names.Of path seen d >>= λ h.
+    each_at read (at_key path member_names.Of) 0 h.1.0 h.1.1 >>= λ r. Ok
+    (set h.0 (children_of r.0), r.1)
 
 -- a set or a policy with at most this many levels; an object with the key `set` is a set
-unfoldable pub node_at : List Zone → ℕ → List Step → Seen → Data → Result (NodeData × Seen) TextFault
+unfoldable pub node_at : List Zone → ℕ → List PathPart → Seen → Data
+    → Result (NodeData × Seen) TextFault
 node_at zones zero path seen d = Err faults.TooDeep
-node_at zones (suc levels) path seen d = if has_key keys.Set d then set_at (node_at zones levels) zones path seen d else policy_at zones path seen d
+node_at zones (suc levels) path seen d =
+    if has_key member_names.Set d then set_at (node_at zones levels) zones path seen d
+    else policy_at zones path seen d
 
-abbrev pub zone_keys : List Key
-zone_keys = keys.Zone ∷ keys.Shape ∷ []
+abbrev pub zone_keys : List MemberName
+zone_keys = member_names.Zone ∷ member_names.Shape ∷ []
 
 -- the text under a key
-abbrev pub text_in : Key → List Step → Data → Result (List ℕ) TextFault
+abbrev pub text_in : MemberName → List PathPart → Data → Result (List ℕ) TextFault
 text_in key path d = ok_or (option_and_then as_str (value_of key d)) (faults.Form (at_key path key))
 
 -- the shape of a zone
@@ -328,24 +400,29 @@ shape_in name text = zone_fault (shape_of text)
 
 -- no zone has the name yet
 abbrev pub unseen : List ℕ → List Zone → Result (Unit {0}) TextFault
-unseen name zones = if list_any (λ z. same_name name z.name) zones then Err (faults.NameTwice name) else Ok tt
+unseen name zones = if list_any (λ z. same_name name z.name) zones then Err (faults.NameTwice name)
+    else Ok tt
 
 -- the zones with one more, whose name is new
 unfoldable pub with_zone : List ℕ → List Point → List Zone → Result (List Zone) TextFault
-with_zone name shape zones = unseen name zones >>= λ _. within ZONE_LIMIT (length zones) >>= λ _. Ok (zones ++ record { name = name; shape = shape } ∷ [])
+with_zone name shape zones = unseen name zones >>= λ _. within ZONE_LIMIT (length zones) >>= λ _. Ok
+    (zones ++ record { name = name; shape = shape } ∷ [])
 
 -- a zone, added to those before it
-unfoldable pub zone_at : List Step → List Zone → Data → Result (List Zone) TextFault
+unfoldable pub zone_at : List PathPart → List Zone → Data → Result (List Zone) TextFault
 zone_at path zones d =
-    object_in zone_keys path d >>= λ _. name_in keys.Zone path d >>= λ name. text_in keys.Shape path d >>= λ text.
+    object_in zone_keys path d >>= λ _. name_in member_names.Zone path d >>= λ name. text_in
+    member_names.Shape path d >>= λ text.
     shape_in name text >>= λ shape. with_zone name shape zones
 
 unfoldable pub zones_at : ℕ → List Zone → Items → Result (List Zone) TextFault
 zones_at index zones no_items = Ok zones
-zones_at index zones (item d rest) = zone_at (at_item (steps.Key keys.Zones ∷ []) index) zones d >>= λ more. zones_at (index + 1) more rest
+zones_at index zones (item d rest) =
+    zone_at (at_item (path_parts.Member member_names.Zones ∷ []) index) zones d >>= λ more. zones_at
+    (index + 1) more rest
 
-abbrev pub document_keys : List Key
-document_keys = keys.Zones ∷ keys.Root ∷ []
+abbrev pub document_keys : List MemberName
+document_keys = member_names.Zones ∷ member_names.Root ∷ []
 
 abbrev pub nothing_seen : Seen
 nothing_seen = record { names = []; nodes = 0; rules = 0; tests = 0 }
@@ -353,9 +430,11 @@ nothing_seen = record { names = []; nodes = 0; rules = 0; tests = 0 }
 -- the document that a JSON value spells, or its first fault
 unfoldable pub document_in : Data → Result DocumentData TextFault
 document_in d =
-    object_in document_keys [] d >>= λ _. optional_array_in keys.Zones [] d >>= λ items.
-    ok_or (value_of keys.Root d) (faults.Form (at_key [] keys.Root)) >>= λ root. zones_at 0 [] items >>= λ zones.
-    node_at zones DEPTH_LIMIT (at_key [] keys.Root) nothing_seen root >>= λ r. Ok (record { zones = zones; root = r.0 })
+    object_in document_keys [] d >>= λ _. optional_array_in member_names.Zones [] d >>= λ items.
+    ok_or (value_of member_names.Root d) (faults.Form (at_key [] member_names.Root)) >>= λ root.
+    zones_at 0 [] items >>= λ zones.
+    node_at zones DEPTH_LIMIT (at_key [] member_names.Root) nothing_seen root >>= λ r. Ok
+    (record { zones = zones; root = r.0 })
 
 -- the document that a text spells, as `serde_json` reads the text, or its first fault
 unfoldable pub document_of : List ℕ → Result DocumentData TextFault

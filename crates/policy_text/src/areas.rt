@@ -7,7 +7,7 @@ ghost use Rattle.policy_text.specs.Reading.{Gives, Tells, shape_in, with_zone, z
 
 use crate::faults::TextFault;
 use crate::fields::{name_in, object_in, optional_array_in, text_in, value_in};
-use crate::paths::{Key, Path, STEP_LIMIT, Step};
+use crate::paths::{MemberName, PART_LIMIT, Path, PathPart};
 use crate::reading::{SoFar, node_at};
 use crate::terms::has_zone;
 use features::Name;
@@ -19,9 +19,9 @@ use serde_json::Value;
 use std::alloc::Allocator;
 use wkt::read_shape;
 
-const ZONE_KEYS: [Key; 2] = [Key::Zone, Key::Shape];
+const ZONE_KEYS: [MemberName; 2] = [MemberName::Zone, MemberName::Shape];
 
-const DOCUMENT_KEYS: [Key; 2] = [Key::Zones, Key::Root];
+const DOCUMENT_KEYS: [MemberName; 2] = [MemberName::Zones, MemberName::Root];
 
 /// Reads the shape of the zone with this name; `BadZone` if the text is no shape.
 fn shape_in(name: Name, text: &str) -> Result<Shape, TextFault>
@@ -61,14 +61,14 @@ fn zone_at<A: Allocator + Copy>(
     path: Path,
     zones: &mut Zones<A>,
 ) -> Result<(), TextFault>
-    requires { length path < STEP_LIMIT }
+    requires { length path < PART_LIMIT }
     ensures value { Gives (λ _. map zone_of zones.new.entries) result
         (zone_at path (map zone_of zones.old.entries) (view value.now)) }
     ensures told { Tells result (zone_at path (map zone_of zones.old.entries) (view value.now)) }
 {
     object_in(value, &ZONE_KEYS, path)?;
-    let name = name_in(value, Key::Zone, path)?;
-    let text = text_in(value, Key::Shape, path)?;
+    let name = name_in(value, MemberName::Zone, path)?;
+    let text = text_in(value, MemberName::Shape, path)?;
     let shape = shape_in(name, text)?;
     put_zone(name, shape, zones)
 }
@@ -77,10 +77,10 @@ fn zone_at<A: Allocator + Copy>(
 fn zones_at<A: Allocator + Copy>(alloc: A, items: &[Value]) -> Result<Zones<A>, TextFault>
     ensures { Gives (λ z. map zone_of z.entries) result (zones_at 0 [] (items_view items.now)) }
 {
-    let path = Path::new().with(Step::Key(Key::Zones));
+    let path = Path::new().with(PathPart::Member(MemberName::Zones));
     let mut zones = IndexMap::new(alloc);
     for (index, value) in items.iter().enumerate() {
-        zone_at(value, path.with(Step::Item(index)), &mut zones)?;
+        zone_at(value, path.with(PathPart::Item(index)), &mut zones)?;
     }
     Ok(zones)
 }
@@ -95,8 +95,8 @@ pub(crate) fn document_in<A: Allocator + Copy>(
 {
     let path = Path::new();
     object_in(value, &DOCUMENT_KEYS, path)?;
-    let items = optional_array_in(value, Key::Zones, path)?;
-    let root = value_in(value, Key::Root, path)?;
+    let items = optional_array_in(value, MemberName::Zones, path)?;
+    let root = value_in(value, MemberName::Root, path)?;
     let zones = zones_at(alloc, items)?;
     let mut seen = SoFar {
         names: Vec::new(alloc),
@@ -109,7 +109,7 @@ pub(crate) fn document_in<A: Allocator + Copy>(
         &zones,
         root,
         DEPTH_LIMIT,
-        path.with(Step::Key(Key::Root)),
+        path.with(PathPart::Member(MemberName::Root)),
         &mut seen,
     )?;
     Ok((zones, root))

@@ -4,7 +4,7 @@ ghost use Rattle.std.specs.Prelude.{◌≡◌};
 
 use crate::paths::Path;
 use features::Name;
-use memory::{JsonFault, NotStored, Refused};
+use memory::{JsonFault, NoMemory, NotStored};
 use std::fmt;
 use wkt::WktFault;
 
@@ -28,7 +28,7 @@ pub enum TextFault {
     /// D8: too many zones, sets and policies, rules, or matches and atoms.
     TooMany,
     /// D9: out of memory.
-    Memory(Refused),
+    Memory(NoMemory),
 }
 
 impl TextFault {
@@ -63,14 +63,14 @@ impl fmt::Display for TextFault {
     }
 }
 
-impl From<Refused> for TextFault {
+impl From<NoMemory> for TextFault {
     ghost use Rattle.std.specs.Prelude.{◌≡◌};
     ghost use Rattle.policy_text.specs.declared.faults.TextFault.TheVariants.{Memory};
 
-    ghost from_gives = { λ refused fault. fault ≡ Memory refused };
+    ghost from_gives = { λ no_memory fault. fault ≡ Memory no_memory };
 
-    fn from(refused: Refused) -> Self {
-        TextFault::Memory(refused)
+    fn from(no_memory: NoMemory) -> Self {
+        TextFault::Memory(no_memory)
     }
 }
 
@@ -78,10 +78,10 @@ impl<T: Drop> From<NotStored<T>> for TextFault {
     ghost use Rattle.std.specs.Prelude.{◌≡◌};
     ghost use Rattle.policy_text.specs.declared.faults.TextFault.TheVariants.{Memory};
 
-    ghost from_gives = { λ failed fault. fault ≡ Memory failed.refusal };
+    ghost from_gives = { λ failed fault. fault ≡ Memory failed.cause };
 
     fn from(failed: NotStored<T>) -> Self {
-        TextFault::Memory(failed.refusal)
+        TextFault::Memory(failed.cause)
     }
 }
 
@@ -94,7 +94,7 @@ impl From<JsonFault> for TextFault {
     fn from(unread: JsonFault) -> Self {
         match unread {
             JsonFault::Text(_) => TextFault::NotJson,
-            JsonFault::Memory(refused) => TextFault::Memory(refused),
+            JsonFault::Memory(no_memory) => TextFault::Memory(no_memory),
         }
     }
 }

@@ -9,20 +9,20 @@ ghost use Rattle.policy_text.specs.Reading.{Shows, is_listed, has_key, has_only,
 ghost use Rattle.policy_text.specs.declared.faults.TextFault.TheVariants.{Form};
 
 use crate::faults::TextFault;
-use crate::paths::{Key, Path, STEP_LIMIT, Step};
+use crate::paths::{MemberName, PART_LIMIT, Path, PathPart};
 use features::{Action, Name};
 use policy_documents::{Algorithm, Effect};
 use serde_json::{Map, Value};
 
 /// Whether `text` is one of these keys.
-fn is_listed(listed: &[Key], text: &str) -> bool
+fn is_listed(listed: &[MemberName], text: &str) -> bool
     ensures { result ≡ is_listed listed.now text.now }
 {
     listed.iter().any(|key| key.text() == text)
 }
 
 /// The text under a key, if there is one.
-fn text_at(value: &Value, key: Key) -> Option<&str>
+fn text_at(value: &Value, key: MemberName) -> Option<&str>
     ensures { option_map (λ text. text.now) result
         ≡ option_and_then as_str (value_of key (view value.now)) }
 {
@@ -30,16 +30,16 @@ fn text_at(value: &Value, key: Key) -> Option<&str>
 }
 
 /// The fault of a missing or wrong value under a key.
-fn form_at(path: Path, key: Key) -> TextFault
-    requires { length path < STEP_LIMIT }
+fn form_at(path: Path, key: MemberName) -> TextFault
+    requires { length path < PART_LIMIT }
     ensures { result ≡ Form (at_key path key) }
 {
-    TextFault::Form(path.with(Step::Key(key)))
+    TextFault::Form(path.with(PathPart::Member(key)))
 }
 
 /// The name under a key.
-pub(crate) fn name_in(value: &Value, key: Key, path: Path) -> Result<Name, TextFault>
-    requires { length path < STEP_LIMIT }
+pub(crate) fn name_in(value: &Value, key: MemberName, path: Path) -> Result<Name, TextFault>
+    requires { length path < PART_LIMIT }
     ensures { result ≡ name_in key path (view value.now) }
 {
     let Some(text) = text_at(value, key) else {
@@ -52,8 +52,8 @@ pub(crate) fn name_in(value: &Value, key: Key, path: Path) -> Result<Name, TextF
 }
 
 /// The text under a key.
-pub(crate) fn text_in(value: &Value, key: Key, path: Path) -> Result<&str, TextFault>
-    requires { length path < STEP_LIMIT }
+pub(crate) fn text_in(value: &Value, key: MemberName, path: Path) -> Result<&str, TextFault>
+    requires { length path < PART_LIMIT }
     ensures { Shows (λ text. text.now) result (text_in key path (view value.now)) }
 {
     let Some(text) = text_at(value, key) else {
@@ -63,8 +63,8 @@ pub(crate) fn text_in(value: &Value, key: Key, path: Path) -> Result<&str, TextF
 }
 
 /// The value under a key.
-pub(crate) fn value_in(value: &Value, key: Key, path: Path) -> Result<&Value, TextFault>
-    requires { length path < STEP_LIMIT }
+pub(crate) fn value_in(value: &Value, key: MemberName, path: Path) -> Result<&Value, TextFault>
+    requires { length path < PART_LIMIT }
     ensures { Shows (λ v. view v.now) result
         (ok_or (value_of key (view value.now)) (Form (at_key path key))) }
 {
@@ -76,11 +76,11 @@ pub(crate) fn value_in(value: &Value, key: Key, path: Path) -> Result<&Value, Te
 
 /// The algorithm under the key `combine`.
 pub(crate) fn algorithm_in(value: &Value, path: Path) -> Result<Algorithm, TextFault>
-    requires { length path < STEP_LIMIT }
+    requires { length path < PART_LIMIT }
     ensures { result ≡ algorithm_in path (view value.now) }
 {
-    let Some(text) = text_at(value, Key::Combine) else {
-        return Err(form_at(path, Key::Combine));
+    let Some(text) = text_at(value, MemberName::Combine) else {
+        return Err(form_at(path, MemberName::Combine));
     };
     match text {
         "deny-overrides" => Ok(Algorithm::DenyOverrides),
@@ -88,51 +88,51 @@ pub(crate) fn algorithm_in(value: &Value, path: Path) -> Result<Algorithm, TextF
         "deny-unless-permit" => Ok(Algorithm::DenyUnlessPermit),
         "permit-unless-deny" => Ok(Algorithm::PermitUnlessDeny),
         "first-applicable" => Ok(Algorithm::FirstApplicable),
-        _ => Err(form_at(path, Key::Combine)),
+        _ => Err(form_at(path, MemberName::Combine)),
     }
 }
 
 /// The effect under the key `effect`.
 pub(crate) fn effect_in(value: &Value, path: Path) -> Result<Effect, TextFault>
-    requires { length path < STEP_LIMIT }
+    requires { length path < PART_LIMIT }
     ensures { result ≡ effect_in path (view value.now) }
 {
-    let Some(text) = text_at(value, Key::Effect) else {
-        return Err(form_at(path, Key::Effect));
+    let Some(text) = text_at(value, MemberName::Effect) else {
+        return Err(form_at(path, MemberName::Effect));
     };
     match text {
         "permit" => Ok(Effect::Permit),
         "deny" => Ok(Effect::Deny),
-        _ => Err(form_at(path, Key::Effect)),
+        _ => Err(form_at(path, MemberName::Effect)),
     }
 }
 
 /// The action under the key `action`.
 pub(crate) fn action_in(value: &Value, path: Path) -> Result<Action, TextFault>
-    requires { length path < STEP_LIMIT }
+    requires { length path < PART_LIMIT }
     ensures { result ≡ action_in path (view value.now) }
 {
-    let Some(text) = text_at(value, Key::Action) else {
-        return Err(form_at(path, Key::Action));
+    let Some(text) = text_at(value, MemberName::Action) else {
+        return Err(form_at(path, MemberName::Action));
     };
     match text {
         "read" => Ok(Action::Read),
         "add" => Ok(Action::Add),
         "reshape" => Ok(Action::Reshape),
         "delete" => Ok(Action::Delete),
-        _ => Err(form_at(path, Key::Action)),
+        _ => Err(form_at(path, MemberName::Action)),
     }
 }
 
 /// Whether an object has this key.
-pub(crate) fn has_key(value: &Value, key: Key) -> bool
+pub(crate) fn has_key(value: &Value, key: MemberName) -> bool
     ensures { result ≡ has_key key (view value.now) }
 {
     value.get(key.text()).is_some()
 }
 
 /// Whether each key of an object is listed.
-fn has_only(listed: &[Key], members: &Map<String, Value>) -> bool
+fn has_only(listed: &[MemberName], members: &Map<String, Value>) -> bool
     ensures { result ≡ has_only listed.now (members_view members.now.entries) }
 {
     for (key, _) in members.iter() {
@@ -144,7 +144,7 @@ fn has_only(listed: &[Key], members: &Map<String, Value>) -> bool
 }
 
 /// Checks that a value is an object (else `Form`) and its keys are listed (else `UnknownKey`).
-pub(crate) fn object_in(value: &Value, listed: &[Key], path: Path) -> Result<(), TextFault>
+pub(crate) fn object_in(value: &Value, listed: &[MemberName], path: Path) -> Result<(), TextFault>
     ensures { result ≡ object_in listed.now path (view value.now) }
 {
     let Some(members) = value.as_object() else {
@@ -166,7 +166,7 @@ fn has_one(members: &Map<String, Value>) -> bool
 
 /// Checks that a value is an object (else `Form`), its keys are listed (else `UnknownKey`), and it
 /// has exactly one key (else `Form`).
-pub(crate) fn single_in(value: &Value, listed: &[Key], path: Path) -> Result<(), TextFault>
+pub(crate) fn single_in(value: &Value, listed: &[MemberName], path: Path) -> Result<(), TextFault>
     ensures { result ≡ single_in listed.now path (view value.now) }
 {
     let Some(members) = value.as_object() else {
@@ -183,8 +183,8 @@ pub(crate) fn single_in(value: &Value, listed: &[Key], path: Path) -> Result<(),
 }
 
 /// The array under a key.
-pub(crate) fn array_in(value: &Value, key: Key, path: Path) -> Result<&[Value], TextFault>
-    requires { length path < STEP_LIMIT }
+pub(crate) fn array_in(value: &Value, key: MemberName, path: Path) -> Result<&[Value], TextFault>
+    requires { length path < PART_LIMIT }
     ensures { Shows (λ items. items_view items.now) result (array_in key path (view value.now)) }
 {
     let Some(items) = value.get(key.text()) else {
@@ -198,8 +198,12 @@ pub(crate) fn array_in(value: &Value, key: Key, path: Path) -> Result<&[Value], 
 
 /// The array under a key; empty if the object does not have the key.
 #[tactic(auto, unfolding(crate::specs::Reading::optional_array_in))]
-pub(crate) fn optional_array_in(value: &Value, key: Key, path: Path) -> Result<&[Value], TextFault>
-    requires { length path < STEP_LIMIT }
+pub(crate) fn optional_array_in(
+    value: &Value,
+    key: MemberName,
+    path: Path,
+) -> Result<&[Value], TextFault>
+    requires { length path < PART_LIMIT }
     ensures { Shows (λ items. items_view items.now) result
         (optional_array_in key path (view value.now)) }
 {

@@ -16,7 +16,7 @@ mod words;
 
 pub use faults::TextFault;
 pub use laws::{faults_compare_exactly, printed_is_read, read_is_document};
-pub use paths::{Key, Path, Step};
+pub use paths::{MemberName, Path, PathPart};
 pub use policy_documents::{
     Algorithm, AllOf, AnyOf, Atom, Conditions, Document, Effect, Items, Match, Node, Rule, Target,
     Term, ZONE_LIMIT, Zone,

@@ -7,13 +7,13 @@ ghost use Rattle.policy_text.specs.Places.{same_path};
 use std::fmt;
 use std::marker::Model;
 
-/// The most steps that a path can have. The longest path of a fault has 22: the root, seven nested
+/// The most parts that a path can have. The longest path of a fault has 22: the root, seven nested
 /// sets, a policy's rule, and in its target the key of a match.
-pub const STEP_LIMIT: usize = 24;
+pub const PART_LIMIT: usize = 24;
 
 /// A key of an object of a document.
 #[derive(Clone, Copy, Debug, PartialEq, Eq)]
-pub enum Key {
+pub enum MemberName {
     Zones,
     Root,
     Zone,
@@ -36,68 +36,68 @@ pub enum Key {
     Not,
 }
 
-impl Key {
+impl MemberName {
     /// The key as text.
     pub fn text(self) -> &'static str
         ensures { result.now ≡ key_text self }
     {
         match self {
-            Key::Zones => "zones",
-            Key::Root => "root",
-            Key::Zone => "zone",
-            Key::Shape => "shape",
-            Key::Set => "set",
-            Key::Policy => "policy",
-            Key::Combine => "combine",
-            Key::Target => "target",
-            Key::Of => "of",
-            Key::Rules => "rules",
-            Key::Rule => "rule",
-            Key::Effect => "effect",
-            Key::When => "when",
-            Key::Role => "role",
-            Key::Office => "office",
-            Key::Class => "class",
-            Key::Owner => "owner",
-            Key::Action => "action",
-            Key::Own => "own",
-            Key::Not => "not",
+            MemberName::Zones => "zones",
+            MemberName::Root => "root",
+            MemberName::Zone => "zone",
+            MemberName::Shape => "shape",
+            MemberName::Set => "set",
+            MemberName::Policy => "policy",
+            MemberName::Combine => "combine",
+            MemberName::Target => "target",
+            MemberName::Of => "of",
+            MemberName::Rules => "rules",
+            MemberName::Rule => "rule",
+            MemberName::Effect => "effect",
+            MemberName::When => "when",
+            MemberName::Role => "role",
+            MemberName::Office => "office",
+            MemberName::Class => "class",
+            MemberName::Owner => "owner",
+            MemberName::Action => "action",
+            MemberName::Own => "own",
+            MemberName::Not => "not",
         }
     }
 }
 
-/// One step of a path: to the value under a key, or to an item of an array, counted from 0.
+/// One part of a path: to the value under a key, or to an item of an array, counted from 0.
 #[derive(Clone, Copy, Debug, PartialEq, Eq)]
-pub enum Step {
-    Key(Key),
+pub enum PathPart {
+    Member(MemberName),
     Item(usize),
 }
 
-/// A position in a document. A contract sees its steps. The steps are stored inline, so that a
+/// A position in a document. A contract sees its parts. The parts are stored inline, so that a
 /// fault needs no allocation. It is printed as `/root/of/0`, and the document itself as the empty
 /// text.
 #[derive(Clone, Copy)]
 pub struct Path {
-    steps: [Step; STEP_LIMIT],
+    parts: [PathPart; PART_LIMIT],
     len: usize,
 }
 
 impl Model for Path {
-    ghost use Rattle.policy_text.specs.Paths.{HoldsSteps, padded, padded_again, length_again};
-    ghost use Rattle.policy_text.specs.declared.paths.Step.{Step};
+    ghost use Rattle.policy_text.specs.Paths.{HoldsParts, padded, padded_again, length_again};
+    ghost use Rattle.policy_text.specs.declared.paths.PathPart.{PathPart};
     ghost use Rattle.std.specs.Prelude.{List, take, length};
 
-    ghost Value = { List Step };
+    ghost Value = { List PathPart };
 
-    ghost view = { λ p. take p.len p.steps };
+    ghost view = { λ p. take p.len p.parts };
 
-    ghost invariant = { λ p. HoldsSteps p.steps p.len };
+    ghost invariant = { λ p. HoldsParts p.parts p.len };
 
-    ghost inverse = { λ v. record { steps = padded v; len = length v } };
+    ghost inverse = { λ v. record { parts = padded v; len = length v } };
 
     ghost inverse_ok = { λ p h i. record {
-      steps = padded_again p.steps p.len h i;
-      len = length_again p.steps p.len h i;
+      parts = padded_again p.parts p.len h i;
+      len = length_again p.parts p.len h i;
     } };
 }
 
@@ -107,29 +107,29 @@ impl Path {
         ensures { result ≡ [] }
     {
         Path {
-            steps: [Step::Item(0); STEP_LIMIT],
+            parts: [PathPart::Item(0); PART_LIMIT],
             len: 0,
         }
     }
 
-    /// The path with one more step.
-    pub(crate) fn with(self, step: Step) -> Path
-        requires { length self < STEP_LIMIT }
-        ensures { result ≡ self ++ step ∷ [] }
+    /// The path with one more part.
+    pub(crate) fn with(self, part: PathPart) -> Path
+        requires { length self < PART_LIMIT }
+        ensures { result ≡ self ++ part ∷ [] }
     {
-        let mut steps = self.steps;
-        steps[self.len] = step;
+        let mut parts = self.parts;
+        parts[self.len] = part;
         Path {
-            steps,
+            parts,
             len: self.len + 1,
         }
     }
 
-    /// The steps, starting from the document.
-    pub fn as_slice(&self) -> &[Step]
+    /// The parts, starting from the document.
+    pub fn as_slice(&self) -> &[PathPart]
         ensures { result.now ≡ self.now }
     {
-        &self.steps[..self.len]
+        &self.parts[..self.len]
     }
 }
 
@@ -157,16 +157,16 @@ impl Eq for Path {
     ghost laws = { decided same_path same_path_decides };
 }
 
-impl fmt::Display for Step {
+impl fmt::Display for PathPart {
     ghost use Rattle.std.specs.Prelude.{Some};
-    ghost use Rattle.policy_text.specs.Pointers.{step_text};
+    ghost use Rattle.policy_text.specs.Pointers.{part_text};
 
-    ghost output = { λ step. Some (step_text step) };
+    ghost output = { λ part. Some (part_text part) };
 
     fn fmt<W: fmt::Write>(&self, f: &mut fmt::Formatter<W>) -> fmt::Result {
         match self {
-            Step::Key(key) => write!(f, "/{}", key.text()),
-            Step::Item(index) => write!(f, "/{}", *index),
+            PathPart::Member(key) => write!(f, "/{}", key.text()),
+            PathPart::Item(index) => write!(f, "/{}", *index),
         }
     }
 }
@@ -178,8 +178,8 @@ impl fmt::Display for Path {
     ghost output = { λ path. Some (path_text path) };
 
     fn fmt<W: fmt::Write>(&self, f: &mut fmt::Formatter<W>) -> fmt::Result {
-        for step in self.as_slice() {
-            fmt::Display::fmt(step, f)?;
+        for part in self.as_slice() {
+            fmt::Display::fmt(part, f)?;
         }
         Ok(())
     }

@@ -9,12 +9,12 @@ ghost use Rattle.policy_text.specs.Bytes.{document_of_bytes};
 ghost use Rattle.policy_text.specs.PrintedMembers.{put_node};
 ghost use Rattle.policy_documents.specs.Views.{node_view, zone_of};
 
-use crate::paths::Key;
+use crate::paths::MemberName;
 use crate::reading::{NodeForm, POLICY, SET};
 use crate::values::{Printed, part_values};
 use crate::words::{algorithm_word, effect_word, name_value, put_array};
 use features::Name;
-use memory::{GrowVec, Refused, json_string, json_text, put_member};
+use memory::{GrowVec, NoMemory, json_string, json_text, put_member};
 use plane::Shape;
 use policy_documents::{Algorithm, Document, Node, Rule, Target, Zones};
 use serde_json::{Map, Value};
@@ -25,22 +25,22 @@ impl<A: Allocator> Printed for Rule<A> {
     ghost printed = { rule_data };
 
     /// Leaves out an empty target and empty conditions.
-    fn value(&self, heap: Global) -> Result<Value, Refused> {
+    fn value(&self, heap: Global) -> Result<Value, NoMemory> {
         let effect = json_string(heap, effect_word(self.effect))?;
         let name = name_value(heap, &self.name)?;
         let target = target_values(heap, &self.target)?;
         let when = part_values(heap, self.when.as_slice())?;
         let mut members = Map::new(heap);
-        put_member(&mut members, heap, Key::Effect.text(), effect)?;
-        put_member(&mut members, heap, Key::Rule.text(), name)?;
-        put_array(&mut members, heap, Key::Target, target)?;
-        put_array(&mut members, heap, Key::When, when)?;
+        put_member(&mut members, heap, MemberName::Effect.text(), effect)?;
+        put_member(&mut members, heap, MemberName::Rule.text(), name)?;
+        put_array(&mut members, heap, MemberName::Target, target)?;
+        put_array(&mut members, heap, MemberName::When, when)?;
         Ok(Value::Object(members))
     }
 }
 
 /// The parts of a target. Fails only when out of memory.
-fn target_values<A: Allocator>(heap: Global, target: &Target<A>) -> Result<Vec<Value>, Refused>
+fn target_values<A: Allocator>(heap: Global, target: &Target<A>) -> Result<Vec<Value>, NoMemory>
     ensures { IfOk result (λ values. items_view values.items ≡ target_items target.now) }
 {
     part_values(heap, target.as_slice())
@@ -54,15 +54,19 @@ fn form_value<A: Allocator>(
     combine: Algorithm,
     target: &Target<A>,
     children: Vec<Value>,
-) -> Result<Value, Refused>
+) -> Result<Value, NoMemory>
     ensures { IfOk result (λ v. view v ≡ object
-        (put_node form.name form.children (record { name = name.now; combine = combine; target = target.now }) (items_view children.items))) }
+        (put_node form.name form.children (record {
+          name = name.now;
+          combine = combine;
+          target = target.now;
+        }) (items_view children.items))) }
 {
     let combine = json_string(heap, algorithm_word(combine))?;
     let name = name_value(heap, name)?;
     let target = target_values(heap, target)?;
     let mut members = Map::new(heap);
-    put_member(&mut members, heap, Key::Combine.text(), combine)?;
+    put_member(&mut members, heap, MemberName::Combine.text(), combine)?;
     put_member(&mut members, heap, form.name.text(), name)?;
     put_member(
         &mut members,
@@ -70,13 +74,13 @@ fn form_value<A: Allocator>(
         form.children.text(),
         Value::Array(children),
     )?;
-    put_array(&mut members, heap, Key::Target, target)?;
+    put_array(&mut members, heap, MemberName::Target, target)?;
     Ok(Value::Object(members))
 }
 
 /// A set or a policy. Fails only when out of memory.
 #[cycle(print)]
-fn node_value<A: Allocator>(heap: Global, node: &Node<A>) -> Result<Value, Refused>
+fn node_value<A: Allocator>(heap: Global, node: &Node<A>) -> Result<Value, NoMemory>
     ensures { IfOk result (λ v. view v ≡ node_data (node_view node.now)) }
 {
     match node {
@@ -103,7 +107,7 @@ fn node_value<A: Allocator>(heap: Global, node: &Node<A>) -> Result<Value, Refus
 
 /// The children of a set. Fails only when out of memory.
 #[cycle(print)]
-fn node_values<A: Allocator>(heap: Global, nodes: &Vec<Node<A>, A>) -> Result<Vec<Value>, Refused>
+fn node_values<A: Allocator>(heap: Global, nodes: &Vec<Node<A>, A>) -> Result<Vec<Value>, NoMemory>
     ensures { IfOk result
         (λ values. map view values.items ≡ map (λ n. node_data (node_view n)) nodes.now.items) }
 {
@@ -115,20 +119,20 @@ fn node_values<A: Allocator>(heap: Global, nodes: &Vec<Node<A>, A>) -> Result<Ve
 }
 
 /// A zone. Fails only when out of memory.
-fn zone_value(heap: Global, name: &Name, shape: &Shape) -> Result<Value, Refused>
+fn zone_value(heap: Global, name: &Name, shape: &Shape) -> Result<Value, NoMemory>
     ensures { IfOk result
         (λ v. view v ≡ zone_data (record { name = name.now; shape = shape.now })) }
 {
     let shape = Value::from(print_shape(heap, shape)?);
     let name = name_value(heap, name)?;
     let mut members = Map::new(heap);
-    put_member(&mut members, heap, Key::Shape.text(), shape)?;
-    put_member(&mut members, heap, Key::Zone.text(), name)?;
+    put_member(&mut members, heap, MemberName::Shape.text(), shape)?;
+    put_member(&mut members, heap, MemberName::Zone.text(), name)?;
     Ok(Value::Object(members))
 }
 
 /// The zones, in their order. Fails only when out of memory.
-fn zone_values<A: Allocator>(heap: Global, zones: &Zones<A>) -> Result<Vec<Value>, Refused>
+fn zone_values<A: Allocator>(heap: Global, zones: &Zones<A>) -> Result<Vec<Value>, NoMemory>
     ensures { IfOk result
         (λ values. items_view values.items ≡ zones_items (map zone_of zones.now.entries)) }
 {
@@ -140,22 +144,25 @@ fn zone_values<A: Allocator>(heap: Global, zones: &Zones<A>) -> Result<Vec<Value
 }
 
 /// A document as a JSON value, without an empty list of zones. Fails only when out of memory.
-pub fn document_value<A: Allocator>(heap: Global, document: &Document<A>) -> Result<Value, Refused>
+pub fn document_value<A: Allocator>(heap: Global, document: &Document<A>) -> Result<Value, NoMemory>
     ensures value { IfOk result (λ v. view v ≡ document_data document.now) }
     ensures sound { IsDocument document.now }
 {
     let root = node_value(heap, document.root())?;
     let zones = zone_values(heap, document.zones())?;
     let mut members = Map::new(heap);
-    put_member(&mut members, heap, Key::Root.text(), root)?;
-    put_array(&mut members, heap, Key::Zones, zones)?;
+    put_member(&mut members, heap, MemberName::Root.text(), root)?;
+    put_array(&mut members, heap, MemberName::Zones, zones)?;
     Ok(Value::Object(members))
 }
 
 /// A document as JSON (RFC 8259) without spaces, the keys of each object sorted. Leaves out zones,
 /// targets and conditions that are empty. `read_document` reads it as the same document. Fails only
 /// when out of memory.
-pub fn print_document<A: Allocator>(heap: Global, document: &Document<A>) -> Result<String, Refused>
+pub fn print_document<A: Allocator>(
+    heap: Global,
+    document: &Document<A>,
+) -> Result<String, NoMemory>
     ensures text { IfOk result (λ text. string_bytes text ≡ document_text document.now) }
     ensures read { IfOk result (λ text. document_of_bytes (string_bytes text) ≡ Ok document.now) }
 {

@@ -12,7 +12,7 @@ use crate::faults::TextFault;
 use crate::fields::{
     algorithm_in, array_in, effect_in, has_key, name_in, object_in, optional_array_in, within,
 };
-use crate::paths::{Key, Path, Step};
+use crate::paths::{MemberName, Path, PathPart};
 use crate::targets::parts_at;
 use features::Name;
 use memory::GrowVec;
@@ -20,26 +20,41 @@ use policy_documents::{Algorithm, NODE_LIMIT, Node, RULE_LIMIT, Rule, Target, Zo
 use serde_json::Value;
 use std::alloc::Allocator;
 
-const RULE_KEYS: [Key; 4] = [Key::Rule, Key::Effect, Key::Target, Key::When];
+const RULE_KEYS: [MemberName; 4] = [
+    MemberName::Rule,
+    MemberName::Effect,
+    MemberName::Target,
+    MemberName::When,
+];
 
 /// The keys of a set or of a policy: all of them, that of its name, and that of its children.
 #[derive(Clone, Copy)]
 pub(crate) struct NodeForm {
-    pub listed: [Key; 4],
-    pub name: Key,
-    pub children: Key,
+    pub listed: [MemberName; 4],
+    pub name: MemberName,
+    pub children: MemberName,
 }
 
 pub(crate) const SET: NodeForm = NodeForm {
-    listed: [Key::Set, Key::Combine, Key::Target, Key::Of],
-    name: Key::Set,
-    children: Key::Of,
+    listed: [
+        MemberName::Set,
+        MemberName::Combine,
+        MemberName::Target,
+        MemberName::Of,
+    ],
+    name: MemberName::Set,
+    children: MemberName::Of,
 };
 
 pub(crate) const POLICY: NodeForm = NodeForm {
-    listed: [Key::Policy, Key::Combine, Key::Target, Key::Rules],
-    name: Key::Policy,
-    children: Key::Rules,
+    listed: [
+        MemberName::Policy,
+        MemberName::Combine,
+        MemberName::Target,
+        MemberName::Rules,
+    ],
+    name: MemberName::Policy,
+    children: MemberName::Rules,
 };
 
 /// What was read so far: the names of sets, policies and rules, and the counts of sets and
@@ -93,20 +108,26 @@ fn rule_at<A: Allocator + Copy, B: Allocator>(
         (rule_at (map zone_of zones.now.entries) path (seen_view seen.old) (view value.now)) }
 {
     object_in(value, &RULE_KEYS, path)?;
-    let name = name_in(value, Key::Rule, path)?;
+    let name = name_in(value, MemberName::Rule, path)?;
     let effect = effect_in(value, path)?;
-    let target = optional_array_in(value, Key::Target, path)?;
-    let when = optional_array_in(value, Key::When, path)?;
+    let target = optional_array_in(value, MemberName::Target, path)?;
+    let when = optional_array_in(value, MemberName::When, path)?;
     fresh(name, &mut seen.names)?;
     seen.rules = within(RULE_LIMIT, seen.rules)?;
     let (target, tests) = parts_at(
         alloc,
         zones,
         target,
-        path.with(Step::Key(Key::Target)),
+        path.with(PathPart::Member(MemberName::Target)),
         seen.tests,
     )?;
-    let (when, tests) = parts_at(alloc, zones, when, path.with(Step::Key(Key::When)), tests)?;
+    let (when, tests) = parts_at(
+        alloc,
+        zones,
+        when,
+        path.with(PathPart::Member(MemberName::When)),
+        tests,
+    )?;
     seen.tests = tests;
     Ok(Rule {
         name,
@@ -126,11 +147,12 @@ fn rules_at<A: Allocator + Copy, B: Allocator>(
 ) -> Result<Vec<Rule<A>, A>, TextFault>
     requires { length path < 19 }
     ensures { Gives (λ rules. (rules.items, seen_view seen.new)) result
-        (each_at (rule_at (map zone_of zones.now.entries)) path 0 (seen_view seen.old) (items_view items.now)) }
+        (each_at (rule_at (map zone_of zones.now.entries)) path 0 (seen_view seen.old)
+        (items_view items.now)) }
 {
     let mut rules = Vec::new(alloc);
     for (index, value) in items.iter().enumerate() {
-        let rule = rule_at(alloc, zones, value, path.with(Step::Item(index)), seen)?;
+        let rule = rule_at(alloc, zones, value, path.with(PathPart::Item(index)), seen)?;
         rules.try_push(rule)?;
     }
     Ok(rules)
@@ -148,12 +170,13 @@ fn head_at<'v, A: Allocator + Copy, B: Allocator>(
 ) -> Result<(Headed<A>, &'v [Value]), TextFault>
     requires { length path < 20 }
     ensures { Gives (λ r. (head_view r.0, (seen_view seen.new, items_view r.1.now))) result
-        (head_at (map zone_of zones.now.entries) form.listed form.name form.children path (seen_view seen.old) (view value.now)) }
+        (head_at (map zone_of zones.now.entries) form.listed form.name form.children path
+        (seen_view seen.old) (view value.now)) }
 {
     object_in(value, &form.listed, path)?;
     let name = name_in(value, form.name, path)?;
     let combine = algorithm_in(value, path)?;
-    let target = optional_array_in(value, Key::Target, path)?;
+    let target = optional_array_in(value, MemberName::Target, path)?;
     let items = array_in(value, form.children, path)?;
     fresh(name, &mut seen.names)?;
     seen.nodes = within(NODE_LIMIT, seen.nodes)?;
@@ -161,7 +184,7 @@ fn head_at<'v, A: Allocator + Copy, B: Allocator>(
         alloc,
         zones,
         target,
-        path.with(Step::Key(Key::Target)),
+        path.with(PathPart::Member(MemberName::Target)),
         seen.tests,
     )?;
     seen.tests = tests;
@@ -187,7 +210,13 @@ fn policy_at<A: Allocator + Copy, B: Allocator>(
         (policy_at (map zone_of zones.now.entries) path (seen_view seen.old) (view value.now)) }
 {
     let (head, items) = head_at(alloc, zones, value, POLICY, path, seen)?;
-    let rules = rules_at(alloc, zones, items, path.with(Step::Key(Key::Rules)), seen)?;
+    let rules = rules_at(
+        alloc,
+        zones,
+        items,
+        path.with(PathPart::Member(MemberName::Rules)),
+        seen,
+    )?;
     let Headed {
         name,
         combine,
@@ -213,13 +242,14 @@ pub(crate) fn node_at<A: Allocator + Copy, B: Allocator>(
 ) -> Result<Node<A>, TextFault>
     requires { length path + 2 * levels ≤ 17 }
     ensures { Gives (λ node. (node_view node, seen_view seen.new)) result
-        (node_at (map zone_of zones.now.entries) levels path (seen_view seen.old) (view value.now)) }
+        (node_at (map zone_of zones.now.entries) levels path (seen_view seen.old)
+        (view value.now)) }
 {
     if levels == 0 {
         return Err(TextFault::TooDeep);
     }
     let below = levels - 1;
-    if has_key(value, Key::Set) {
+    if has_key(value, MemberName::Set) {
         set_at(alloc, zones, value, below, path, seen)
     } else {
         policy_at(alloc, zones, value, path, seen)
@@ -239,7 +269,8 @@ fn set_at<A: Allocator + Copy, B: Allocator>(
 ) -> Result<Node<A>, TextFault>
     requires { length path + 2 * below ≤ 15 }
     ensures { Gives (λ node. (node_view node, seen_view seen.new)) result
-        (set_at (node_at (map zone_of zones.now.entries) below) (map zone_of zones.now.entries) path (seen_view seen.old) (view value.now)) }
+        (set_at (node_at (map zone_of zones.now.entries) below) (map zone_of zones.now.entries) path
+        (seen_view seen.old) (view value.now)) }
 {
     let (head, items) = head_at(alloc, zones, value, SET, path, seen)?;
     let of = nodes_at(
@@ -247,7 +278,7 @@ fn set_at<A: Allocator + Copy, B: Allocator>(
         zones,
         items,
         below,
-        path.with(Step::Key(Key::Of)),
+        path.with(PathPart::Member(MemberName::Of)),
         seen,
     )?;
     let Headed {
@@ -275,7 +306,8 @@ fn nodes_at<A: Allocator + Copy, B: Allocator>(
 ) -> Result<Vec<Node<A>, A>, TextFault>
     requires { length path + 2 * levels ≤ 16 }
     ensures { Gives (λ nodes. (map node_view nodes.items, seen_view seen.new)) result
-        (each_at (node_at (map zone_of zones.now.entries) levels) path 0 (seen_view seen.old) (items_view items.now)) }
+        (each_at (node_at (map zone_of zones.now.entries) levels) path 0 (seen_view seen.old)
+        (items_view items.now)) }
 {
     let mut nodes = Vec::new(alloc);
     for (index, value) in items.iter().enumerate() {
@@ -284,7 +316,7 @@ fn nodes_at<A: Allocator + Copy, B: Allocator>(
             zones,
             value,
             levels,
-            path.with(Step::Item(index)),
+            path.with(PathPart::Item(index)),
             seen,
         )?;
         nodes.try_push(node)?;

@@ -6,11 +6,11 @@ ghost use Rattle.serde_json.specs.View.{view, items_view};
 ghost use Rattle.policy_documents.specs.Views.{zone_of};
 ghost use Rattle.policy_text.specs.Reading.{Gives, Shows, items_in, each_at, row_at};
 ghost use Rattle.policy_text.specs.declared.faults.TextFault.{TextFault};
-ghost use Rattle.policy_text.specs.declared.paths.Step.{Step};
+ghost use Rattle.policy_text.specs.declared.paths.PathPart.{PathPart};
 ghost use Rattle.policy_documents.specs.declared.zones.Zone.{Zone};
 
 use crate::faults::TextFault;
-use crate::paths::{Path, STEP_LIMIT, Step};
+use crate::paths::{PART_LIMIT, Path, PathPart};
 use memory::GrowVec;
 use policy_documents::{Items, Zones};
 use serde_json::Value;
@@ -20,10 +20,10 @@ use std::alloc::Allocator;
 pub(crate) trait Part<A: Allocator + Copy>: Drop {
     /// What a value is read as under these zones, with the count of matches and atoms after it, or
     /// its first fault.
-    ghost reads: { List Zone → List Step → ℕ → Data → Result (Self × ℕ) TextFault };
+    ghost reads: { List Zone → List PathPart → ℕ → Data → Result (Self × ℕ) TextFault };
 
-    /// The most steps from the part to a fault in it.
-    ghost steps: { ℕ };
+    /// How many parts a path has at most from here to a fault.
+    ghost depth: { ℕ };
 
     /// Reads the part at `path`; `tests` counts the matches and atoms before it.
     fn read<B: Allocator>(
@@ -33,7 +33,7 @@ pub(crate) trait Part<A: Allocator + Copy>: Drop {
         path: Path,
         tests: u32,
     ) -> Result<(Self, u32), TextFault>
-        requires { length path + steps ≤ STEP_LIMIT }
+        requires { length path + depth ≤ PART_LIMIT }
         ensures { Gives (λ r. (r.0, r.1)) result
             (reads (map zone_of zones.now.entries) path tests (view value.now)) };
 }
@@ -59,14 +59,14 @@ pub(crate) fn parts_at<T: Part<A>, A: Allocator + Copy, B: Allocator>(
     path: Path,
     tests: u32,
 ) -> Result<(Items<T, A>, u32), TextFault>
-    requires { length path + T.steps < STEP_LIMIT }
+    requires { length path + T.depth < PART_LIMIT }
     ensures { Gives (λ r. (r.0, r.1)) result
         (each_at (T.reads (map zone_of zones.now.entries)) path 0 tests (items_view items.now)) }
 {
     let mut parts = Vec::new(alloc);
     let mut tests = tests;
     for (index, value) in items.iter().enumerate() {
-        let (part, after) = T::read(alloc, zones, value, path.with(Step::Item(index)), tests)?;
+        let (part, after) = T::read(alloc, zones, value, path.with(PathPart::Item(index)), tests)?;
         parts.try_push(part)?;
         tests = after;
     }
@@ -76,7 +76,7 @@ pub(crate) fn parts_at<T: Part<A>, A: Allocator + Copy, B: Allocator>(
 impl<T: Part<A>, A: Allocator + Copy> Part<A> for Items<T, A> {
     ghost reads = { λ zones. row_at (T.reads zones) };
 
-    ghost steps = { suc T.steps };
+    ghost depth = { suc T.depth };
 
     fn read<B: Allocator>(
         alloc: A,

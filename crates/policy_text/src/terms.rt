@@ -9,63 +9,63 @@ ghost use Rattle.policy_text.specs.Reading.{match_in, known_in, match_at, term_i
 
 use crate::faults::TextFault;
 use crate::fields::{action_in, name_in, single_in, within};
-use crate::paths::{Key, Path, STEP_LIMIT, Step};
+use crate::paths::{MemberName, PART_LIMIT, Path, PathPart};
 use crate::targets::Part;
 use features::Name;
 use policy_documents::{Atom, Match, TEST_LIMIT, Term, ZoneName, Zones};
 use serde_json::Value;
 use std::alloc::Allocator;
 
-const MATCH_KEYS: [Key; 6] = [
-    Key::Role,
-    Key::Office,
-    Key::Class,
-    Key::Owner,
-    Key::Zone,
-    Key::Action,
+const MATCH_KEYS: [MemberName; 6] = [
+    MemberName::Role,
+    MemberName::Office,
+    MemberName::Class,
+    MemberName::Owner,
+    MemberName::Zone,
+    MemberName::Action,
 ];
 
-const TERM_KEYS: [Key; 7] = [
-    Key::Role,
-    Key::Office,
-    Key::Class,
-    Key::Owner,
-    Key::Zone,
-    Key::Action,
-    Key::Own,
+const TERM_KEYS: [MemberName; 7] = [
+    MemberName::Role,
+    MemberName::Office,
+    MemberName::Class,
+    MemberName::Owner,
+    MemberName::Zone,
+    MemberName::Action,
+    MemberName::Own,
 ];
 
-const ATOM_KEYS: [Key; 8] = [
-    Key::Role,
-    Key::Office,
-    Key::Class,
-    Key::Owner,
-    Key::Zone,
-    Key::Action,
-    Key::Own,
-    Key::Not,
+const ATOM_KEYS: [MemberName; 8] = [
+    MemberName::Role,
+    MemberName::Office,
+    MemberName::Class,
+    MemberName::Owner,
+    MemberName::Zone,
+    MemberName::Action,
+    MemberName::Own,
+    MemberName::Not,
 ];
 
 /// Reads the match of an object whose only key is a match's.
 #[tactic(auto, unfolding(crate::specs::Reading::match_in))]
 fn match_in(value: &Value, path: Path) -> Result<Match, TextFault>
-    requires { length path < STEP_LIMIT }
+    requires { length path < PART_LIMIT }
     ensures { result ≡ match_in path (view value.now) }
 {
-    if value.get(Key::Role.text()).is_some() {
-        return Ok(Match::Role(name_in(value, Key::Role, path)?));
+    if value.get(MemberName::Role.text()).is_some() {
+        return Ok(Match::Role(name_in(value, MemberName::Role, path)?));
     }
-    if value.get(Key::Office.text()).is_some() {
-        return Ok(Match::Office(name_in(value, Key::Office, path)?));
+    if value.get(MemberName::Office.text()).is_some() {
+        return Ok(Match::Office(name_in(value, MemberName::Office, path)?));
     }
-    if value.get(Key::Class.text()).is_some() {
-        return Ok(Match::Class(name_in(value, Key::Class, path)?));
+    if value.get(MemberName::Class.text()).is_some() {
+        return Ok(Match::Class(name_in(value, MemberName::Class, path)?));
     }
-    if value.get(Key::Owner.text()).is_some() {
-        return Ok(Match::Owner(name_in(value, Key::Owner, path)?));
+    if value.get(MemberName::Owner.text()).is_some() {
+        return Ok(Match::Owner(name_in(value, MemberName::Owner, path)?));
     }
-    if value.get(Key::Zone.text()).is_some() {
-        return Ok(Match::Zone(name_in(value, Key::Zone, path)?));
+    if value.get(MemberName::Zone.text()).is_some() {
+        return Ok(Match::Zone(name_in(value, MemberName::Zone, path)?));
     }
     Ok(Match::Action(action_in(value, path)?))
 }
@@ -96,7 +96,7 @@ fn known_in<A: Allocator>(zones: &Zones<A>, test: &Match) -> Result<(), TextFaul
 impl<A: Allocator + Copy> Part<A> for Match {
     ghost reads = { match_at };
 
-    ghost steps = { 1 };
+    ghost depth = { 1 };
 
     #[tactic(auto, unfolding(crate::specs::Reading::match_at))]
     fn read<B: Allocator>(
@@ -117,15 +117,15 @@ impl<A: Allocator + Copy> Part<A> for Match {
 /// Reads the term of an object whose only key is a term's.
 #[tactic(auto, unfolding(crate::specs::Reading::term_in))]
 fn term_in(value: &Value, path: Path) -> Result<Term, TextFault>
-    requires { length path < STEP_LIMIT }
+    requires { length path < PART_LIMIT }
     ensures { result ≡ term_in path (view value.now) }
 {
-    let Some(own) = value.get(Key::Own.text()) else {
+    let Some(own) = value.get(MemberName::Own.text()) else {
         return Ok(Term::Match(match_in(value, path)?));
     };
     match own.as_bool() {
         Some(true) => Ok(Term::Own),
-        _ => Err(TextFault::Form(path.with(Step::Key(Key::Own)))),
+        _ => Err(TextFault::Form(path.with(PathPart::Member(MemberName::Own)))),
     }
 }
 
@@ -148,7 +148,7 @@ fn term_of<A: Allocator>(
     path: Path,
     tests: u32,
 ) -> Result<(Term, u32), TextFault>
-    requires { length path < STEP_LIMIT }
+    requires { length path < PART_LIMIT }
     ensures { result ≡ term_of (map zone_of zones.now.entries) path tests (view value.now) }
 {
     let term = term_in(value, path)?;
@@ -165,7 +165,7 @@ fn term_at<A: Allocator>(
     path: Path,
     tests: u32,
 ) -> Result<(Term, u32), TextFault>
-    requires { length path < STEP_LIMIT }
+    requires { length path < PART_LIMIT }
     ensures { result ≡ term_at (map zone_of zones.now.entries) path tests (view value.now) }
 {
     single_in(value, &TERM_KEYS, path)?;
@@ -175,7 +175,7 @@ fn term_at<A: Allocator>(
 impl<A: Allocator + Copy> Part<A> for Atom {
     ghost reads = { atom_at };
 
-    ghost steps = { 2 };
+    ghost depth = { 2 };
 
     #[tactic(auto, unfolding(crate::specs::Reading::atom_at, crate::specs::Reading::atom_of))]
     fn read<B: Allocator>(
@@ -186,12 +186,17 @@ impl<A: Allocator + Copy> Part<A> for Atom {
         tests: u32,
     ) -> Result<(Self, u32), TextFault> {
         single_in(value, &ATOM_KEYS, path)?;
-        let Some(inner) = value.get(Key::Not.text()) else {
+        let Some(inner) = value.get(MemberName::Not.text()) else {
             let (term, tests) = term_of(zones, value, path, tests)?;
             return Ok((Atom::Is(term), tests));
         };
         let tests = within(TEST_LIMIT, tests)?;
-        let (term, tests) = term_at(zones, inner, path.with(Step::Key(Key::Not)), tests)?;
+        let (term, tests) = term_at(
+            zones,
+            inner,
+            path.with(PathPart::Member(MemberName::Not)),
+            tests,
+        )?;
         Ok((Atom::Not(term), tests))
     }
 }

@@ -5,10 +5,10 @@ ghost use Rattle.serde_json.specs.Data.{Data, array, string};
 ghost use Rattle.serde_json.specs.View.{view, items_of};
 ghost use Rattle.policy_text.specs.Printed.{match_data, term_data, atom_data, single};
 
-use crate::paths::Key;
+use crate::paths::MemberName;
 use crate::words::{action_word, name_value, single_value};
 use features::Name;
-use memory::{GrowVec, Refused, json_string};
+use memory::{GrowVec, NoMemory, json_string};
 use policy_documents::{Atom, Items, Match, Term};
 use serde_json::Value;
 use std::alloc::{Allocator, Global};
@@ -19,12 +19,12 @@ pub(crate) trait Printed {
     ghost printed: { Self → Data };
 
     /// The part's JSON value. Fails only when out of memory.
-    fn value(&self, heap: Global) -> Result<Value, Refused>
+    fn value(&self, heap: Global) -> Result<Value, NoMemory>
         ensures { IfOk result (λ v. view v ≡ printed self.now) };
 }
 
 /// The JSON values of parts, in their order. Fails only when out of memory.
-pub(crate) fn part_values<T: Printed>(heap: Global, parts: &[T]) -> Result<Vec<Value>, Refused>
+pub(crate) fn part_values<T: Printed>(heap: Global, parts: &[T]) -> Result<Vec<Value>, NoMemory>
     ensures { IfOk result (λ values. map view values.items ≡ map T.printed parts.now) }
 {
     let mut values = Vec::new(heap);
@@ -37,13 +37,13 @@ pub(crate) fn part_values<T: Printed>(heap: Global, parts: &[T]) -> Result<Vec<V
 impl<T: Printed, A: Allocator> Printed for Items<T, A> {
     ghost printed = { λ parts. array (items_of (map T.printed parts)) };
 
-    fn value(&self, heap: Global) -> Result<Value, Refused> {
+    fn value(&self, heap: Global) -> Result<Value, NoMemory> {
         Ok(Value::Array(part_values(heap, self.as_slice())?))
     }
 }
 
 /// An object with one member, a name. Fails only when out of memory.
-fn named_value(heap: Global, key: Key, name: &Name) -> Result<Value, Refused>
+fn named_value(heap: Global, key: MemberName, name: &Name) -> Result<Value, NoMemory>
     ensures { IfOk result (λ v. view v ≡ single key (string name.now)) }
 {
     single_value(heap, key, name_value(heap, name)?)
@@ -52,38 +52,38 @@ fn named_value(heap: Global, key: Key, name: &Name) -> Result<Value, Refused>
 impl Printed for Match {
     ghost printed = { match_data };
 
-    fn value(&self, heap: Global) -> Result<Value, Refused> {
+    fn value(&self, heap: Global) -> Result<Value, NoMemory> {
         match self {
-            Match::Role(name) => named_value(heap, Key::Role, name),
-            Match::Office(name) => named_value(heap, Key::Office, name),
-            Match::Class(name) => named_value(heap, Key::Class, name),
-            Match::Owner(name) => named_value(heap, Key::Owner, name),
-            Match::Zone(name) => named_value(heap, Key::Zone, name),
+            Match::Role(name) => named_value(heap, MemberName::Role, name),
+            Match::Office(name) => named_value(heap, MemberName::Office, name),
+            Match::Class(name) => named_value(heap, MemberName::Class, name),
+            Match::Owner(name) => named_value(heap, MemberName::Owner, name),
+            Match::Zone(name) => named_value(heap, MemberName::Zone, name),
             Match::Action(action) => {
                 let word = json_string(heap, action_word(*action))?;
-                single_value(heap, Key::Action, word)
+                single_value(heap, MemberName::Action, word)
             }
         }
     }
 }
 
 /// A term as a JSON value. Fails only when out of memory.
-fn term_value(heap: Global, term: &Term) -> Result<Value, Refused>
+fn term_value(heap: Global, term: &Term) -> Result<Value, NoMemory>
     ensures { IfOk result (λ v. view v ≡ term_data term.now) }
 {
     match term {
         Term::Match(test) => test.value(heap),
-        Term::Own => single_value(heap, Key::Own, Value::Bool(true)),
+        Term::Own => single_value(heap, MemberName::Own, Value::Bool(true)),
     }
 }
 
 impl Printed for Atom {
     ghost printed = { atom_data };
 
-    fn value(&self, heap: Global) -> Result<Value, Refused> {
+    fn value(&self, heap: Global) -> Result<Value, NoMemory> {
         match self {
             Atom::Is(term) => term_value(heap, term),
-            Atom::Not(term) => single_value(heap, Key::Not, term_value(heap, term)?),
+            Atom::Not(term) => single_value(heap, MemberName::Not, term_value(heap, term)?),
         }
     }
 }

@@ -6,9 +6,9 @@ ghost use Rattle.serde_json.specs.View.{view, items_view, members_view};
 ghost use Rattle.policy_text.specs.Printed.{algorithm_text, effect_text, action_text, single};
 ghost use Rattle.policy_text.specs.PrintedMembers.{put_items};
 
-use crate::paths::Key;
+use crate::paths::MemberName;
 use features::{Action, Name};
-use memory::{Refused, json_string, put_member};
+use memory::{NoMemory, json_string, put_member};
 use policy_documents::{Algorithm, Effect};
 use serde_json::{Map, Value};
 use std::alloc::Global;
@@ -56,14 +56,14 @@ fn name_text(name: &Name) -> &str
 }
 
 /// A name as a JSON string. Fails only when out of memory.
-pub(crate) fn name_value(heap: Global, name: &Name) -> Result<Value, Refused>
+pub(crate) fn name_value(heap: Global, name: &Name) -> Result<Value, NoMemory>
     ensures { IfOk result (λ v. view v ≡ string name.now) }
 {
     json_string(heap, name_text(name))
 }
 
 /// An object with one member. Fails only when out of memory.
-pub(crate) fn single_value(heap: Global, key: Key, value: Value) -> Result<Value, Refused>
+pub(crate) fn single_value(heap: Global, key: MemberName, value: Value) -> Result<Value, NoMemory>
     ensures { IfOk result (λ v. view v ≡ single key (view value)) }
 {
     let mut members = Map::new(heap);
@@ -75,9 +75,9 @@ pub(crate) fn single_value(heap: Global, key: Key, value: Value) -> Result<Value
 pub(crate) fn put_array(
     members: &mut Map<String, Value>,
     heap: Global,
-    key: Key,
+    key: MemberName,
     items: Vec<Value>,
-) -> Result<(), Refused>
+) -> Result<(), NoMemory>
     ensures { OnOk result
         (members_view members.new.entries
         ≡ put_items key (items_view items.items) (members_view members.old.entries)) }

@@ -26,4 +26,5 @@ with_numbers (number ∷ rest) numbers = with_numbers rest (with_number number n
 
 -- the new set is the union of the old one and `more`
 abbrev pub IsUnion : List ℕ → List ℕ → List ℕ → Type 0
-IsUnion old more new = (number : ℕ) → Contains new number ↔ (Contains old number ⊎ Contains more number)
+IsUnion old more new = (number : ℕ)
+    → Contains new number ↔ (Contains old number ⊎ Contains more number)

@@ -40,23 +40,30 @@ module _ {Q : Type 0} where
 
   -- the running search of the least number that is attached and whose query is accepted; `accepts`
   -- says what the test may return for a query
-  pub record IsFirstMeeting (accepts : Q → Bool → Type 0) (s : Searches Q) (attached : List ℕ) (number : ℕ) : Type 0 where
+  pub record IsFirstMeeting (accepts : Q → Bool → Type 0) (s : Searches Q) (attached : List ℕ)
+      (number : ℕ) : Type 0 where
     pub search : RunningSearch Q
     pub runs : search_at s number ≡ Some search
     pub is_attached : Contains attached number
     pub accepted : accepts search.query true
-    pub least : (other : ℕ) (smaller : RunningSearch Q) → other < number → search_at s other ≡ Some smaller → Contains attached other → accepts smaller.query false
+    pub least : (other : ℕ) (smaller : RunningSearch Q) → other < number
+        → search_at s other ≡ Some smaller → Contains attached other → accepts smaller.query false
 
   -- no query of a running search that is attached is accepted
   abbrev pub NoneMeets : (Q → Bool → Type 0) → Searches Q → List ℕ → Type 0
   NoneMeets accepts s attached =
-      (number : ℕ) (search : RunningSearch Q) → search_at s number ≡ Some search → Contains attached number → accepts search.query false
+      (number : ℕ) (search : RunningSearch Q) → search_at s number ≡ Some search
+      → Contains attached number → accepts search.query false
 
   -- `met` has the numbers of all attached running searches whose query is accepted, and no others
-  pub record AreMeeting (accepts : Q → Bool → Type 0) (s : Searches Q) (attached met : List ℕ) : Type 0 where
-    pub listed : (number : ℕ) → Contains met number → (search : RunningSearch Q) × (search_at s number ≡ Some search) × Contains attached number × accepts search.query true
-    pub missed : (number : ℕ) (search : RunningSearch Q) → search_at s number ≡ Some search → Contains attached number → (Contains met number → ⊥) → accepts search.query false
+  pub record AreMeeting (accepts : Q → Bool → Type 0) (s : Searches Q)
+      (attached met : List ℕ) : Type 0 where
+    pub listed : (number : ℕ) → Contains met number → (search : RunningSearch Q)
+        × (search_at s number ≡ Some search) × Contains attached number × accepts search.query true
+    pub missed : (number : ℕ) (search : RunningSearch Q) → search_at s number ≡ Some search
+        → Contains attached number → (Contains met number → ⊥) → accepts search.query false
 
   -- every running search began at or after this stamp
   abbrev pub AllBegunSince : Searches Q → ℕ → Type 0
-  AllBegunSince s stamp = (number : ℕ) (search : RunningSearch Q) → search_at s number ≡ Some search → stamp ≤ search.begun
+  AllBegunSince s stamp = (number : ℕ) (search : RunningSearch Q) → search_at s number ≡ Some search
+      → stamp ≤ search.begun

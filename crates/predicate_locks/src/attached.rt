@@ -3,7 +3,7 @@
 ghost use Rattle.std.specs.Prelude.{◌≡◌, ◌↔◌, ℕ, ◌+◌, ◌≤◌, ◌<◌, [], ◌∷◌, ◌++◌, length, filter, Contains, IsTrue, IsOk, IfOk, IfErr, OnOk, OnErr};
 ghost use Rattle.predicate_locks.specs.Numbers.{HasRoomFor, is_in, with_number, with_numbers, IsUnion};
 ghost use Rattle.predicate_locks.specs.Searches.{does_run};
-ghost use Rattle.memory.specs.Refused.{refused};
+ghost use Rattle.memory.specs.NoMemory.{out_of_memory};
 
 use crate::MAX_ROOM;
 use crate::fault::LockFault;
@@ -72,7 +72,7 @@ impl<A: Allocator + Copy> Attached<A> {
         ensures numbers { self.new.numbers ≡ self.old.numbers }
         ensures places { self.old.places ≤ self.new.places }
         ensures memory_only_where_room_was_missing { IfErr result
-            (λ fault. (fault ≡ LockFault.Memory refused)
+            (λ fault. (fault ≡ LockFault.Memory out_of_memory)
             × (self.old.places < length self.old.numbers + more)) }
         ensures err { OnErr result (self.new ≡ self.old) }
     {
@@ -87,7 +87,7 @@ impl<A: Allocator + Copy> Attached<A> {
         ensures union { OnOk result (IsUnion self.old.numbers (number ∷ []) self.new.numbers) }
         ensures certain { HasRoomFor self.old 1 → IsOk result }
         ensures places { self.old.places ≤ self.new.places }
-        ensures memory { IfErr result (λ fault. fault ≡ LockFault.Memory refused) }
+        ensures memory { IfErr result (λ fault. fault ≡ LockFault.Memory out_of_memory) }
         ensures err { OnErr result (self.new ≡ self.old) }
     {
         if self.holds(number) {
@@ -106,7 +106,7 @@ impl<A: Allocator + Copy> Attached<A> {
         ensures union { OnOk result (IsUnion self.old.numbers more.now self.new.numbers) }
         ensures certain { HasRoomFor self.old (length more.now) → IsOk result }
         ensures places { self.old.places ≤ self.new.places }
-        ensures memory { IfErr result (λ fault. fault ≡ LockFault.Memory refused) }
+        ensures memory { IfErr result (λ fault. fault ≡ LockFault.Memory out_of_memory) }
         ensures err { OnErr result (self.new ≡ self.old) }
     {
         self.make_room(more.len())?;
@@ -117,7 +117,7 @@ impl<A: Allocator + Copy> Attached<A> {
     /// A copy of the numbers. L3 where an allocation is refused.
     pub fn copy(&self) -> Result<Self, LockFault>
         ensures ok { IfOk result (λ made. made.numbers ≡ self.now.numbers) }
-        ensures memory { IfErr result (λ fault. fault ≡ LockFault.Memory refused) }
+        ensures memory { IfErr result (λ fault. fault ≡ LockFault.Memory out_of_memory) }
     {
         let numbers = copied(*self.numbers.allocator(), self.numbers.as_slice())?;
         Ok(Attached { numbers })

@@ -3,7 +3,7 @@
 ghost use Rattle.std.specs.Prelude.{◌≡◌, Some};
 ghost use Rattle.predicate_locks.specs.FaultCodes.{code_of};
 
-use memory::Refused;
+use memory::NoMemory;
 use std::error::Error;
 use std::fmt;
 
@@ -15,16 +15,16 @@ pub enum LockFault {
     /// L2: the next number is `u64::MAX`.
     Spent,
     /// L3: an allocation was refused.
-    Memory(Refused),
+    Memory(NoMemory),
 }
 
-impl From<Refused> for LockFault {
+impl From<NoMemory> for LockFault {
     ghost use Rattle.predicate_locks.specs.declared.fault.LockFault.TheVariants.{Memory};
 
-    ghost from_gives = { λ refused fault. fault ≡ Memory refused };
+    ghost from_gives = { λ no_memory fault. fault ≡ Memory no_memory };
 
-    fn from(refused: Refused) -> LockFault {
-        LockFault::Memory(refused)
+    fn from(no_memory: NoMemory) -> LockFault {
+        LockFault::Memory(no_memory)
     }
 }
 

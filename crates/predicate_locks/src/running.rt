@@ -5,13 +5,13 @@ ghost use Rattle.std.specs.Fn.{FnReturnsAt};
 ghost use Rattle.std.specs.List.Sorted.{IsStrictlyIncreasing};
 ghost use Rattle.predicate_locks.specs.Sound.{IsRising};
 ghost use Rattle.predicate_locks.specs.Searches.{last_number, find_number, search_at, does_run, IsEntered, IsLeft, IsFirstMeeting, NoneMeets, AreMeeting, AllBegunSince};
-ghost use Rattle.memory.specs.Refused.{refused};
+ghost use Rattle.memory.specs.NoMemory.{out_of_memory};
 
 use crate::MAX_RUNNING;
 use crate::attached::Attached;
 use crate::fault::LockFault;
 use arrayvec::ArrayVec;
-use memory::vec_with_places;
+use memory::vec_with_slots;
 use std::alloc::Allocator;
 use std::marker::Model;
 
@@ -51,9 +51,9 @@ impl<Q: Copy, A: Allocator> Running<Q, A> {
     /// where the allocation is refused.
     pub fn new(alloc: A, first_number: u64) -> Result<Self, LockFault>
         ensures ok { IfOk result (λ made. made ≡ record { running = []; next = first_number }) }
-        ensures memory { IfErr result (λ fault. fault ≡ LockFault.Memory refused) }
+        ensures memory { IfErr result (λ fault. fault ≡ LockFault.Memory out_of_memory) }
     {
-        let searches = vec_with_places(alloc, MAX_RUNNING)?;
+        let searches = vec_with_slots(alloc, MAX_RUNNING)?;
         Ok(Running {
             searches,
             next: first_number,

@@ -1,7 +1,7 @@
 -- What was found of a configuration.
 use Rattle.std.proofs.Common.{◌≡◌, ℕ, List, Option, IfSome, subst}
 use Rattle.std.specs.Io.KnownBytes.{Appends}
-use Rattle.configuration.specs.Checking.{IsCheckOf, IsWrong, checked_text, steps_of, wrong_text}
+use Rattle.configuration.specs.Checking.{IsCheckOf, IsWrong, checked_text, parts_of, wrong_text}
 use Rattle.configuration.specs.declared.checking.Checked.{Checked}
 use Rattle.configuration.specs.declared.checking.Checked.TheVariants.{Right, Wrong}
 use Rattle.configuration.specs.declared.config_faults.ConfigFault.{ConfigFault}
@@ -18,9 +18,9 @@ module _ {A : Type 0} (held before after : Option (List ℕ)) (checked : Checked
       → IsFoundWrong fault held before after
   found_wrong fault place is found written = by fault (subst (λ c. IfSome held (λ text. IsCheckOf text c)) is found) (subst (λ c. Appends before after (checked_text c)) is written)
     where
-      by : (fault : ConfigFault) → IfSome held (IsWrong fault (steps_of place)) → Appends before after (wrong_text fault (steps_of place)) → IsFoundWrong fault held before after
-      by NotJson f w = (steps_of place, f, w)
-      by Form f w = (steps_of place, f, w)
-      by (Subjects inner) f w = (steps_of place, f, w)
-      by (Policies inner) f w = (steps_of place, f, w)
+      by : (fault : ConfigFault) → IfSome held (IsWrong fault (parts_of place)) → Appends before after (wrong_text fault (parts_of place)) → IsFoundWrong fault held before after
+      by NotJson f w = (parts_of place, f, w)
+      by Form f w = (parts_of place, f, w)
+      by (Subjects inner) f w = (parts_of place, f, w)
+      by (Policies inner) f w = (parts_of place, f, w)
       by (Memory refused) f w = tt

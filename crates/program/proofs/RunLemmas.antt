@@ -10,7 +10,7 @@ use Rattle.line_streams.specs.declared.streams.ServeFault.TheVariants as reasons
 use Rattle.plain_world.specs.States.{WorldData}
 use Rattle.configuration.specs.ConfigFiles.{FileGives, IsConfigFault, IsConfigText}
 use Rattle.configuration.specs.Configs.{ConfigData, config_data}
-use Rattle.program.specs.Ends.{told_as}
+use Rattle.program.specs.Ends.{program_fault}
 use Rattle.program.specs.RunFaults.{BrokeOff, CameTo, IsOfRun}
 use Rattle.program.specs.Runs.{IsConfigOf, RanScript, Served, world_of}
 use Rattle.configuration.specs.declared.config_faults.ConfigFault.{ConfigFault}
@@ -76,7 +76,7 @@ came c end world last sessions input left before mid after opens ran keeps =
     }
 
 -- the fault by which it ended, as it is shown
-pub of_run : (c : ConfigData) (fault : ServeFault) (input before after : Option (List ℕ)) → CameTo c (Err fault) input before after → IsOfRun c input before after (told_as fault)
+pub of_run : (c : ConfigData) (fault : ServeFault) (input before after : Option (List ℕ)) → CameTo c (Err fault) input before after → IsOfRun c input before after (program_fault fault)
 of_run c (reasons.Read failed) input before after h = (refl, h)
 of_run c (reasons.Write failed) input before after h = (Err (reasons.Write failed), h)
 of_run c (reasons.TooManyTurns turns) input before after h = (refl, h)

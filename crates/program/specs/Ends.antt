@@ -13,9 +13,9 @@ use Rattle.plain_world.specs.FaultCodes.{fault_code}
 
 -- how the program shows the fault by which a run of lines ended: a failed write is always
 -- `CannotWrite`
-abbrev pub told_as : ServeFault → ProgramFault
-told_as (reasons.Write failed) = CannotWrite failed
-told_as fault = Run fault
+abbrev pub program_fault : ServeFault → ProgramFault
+program_fault (reasons.Write failed) = CannotWrite failed
+program_fault fault = Run fault
 
 -- the text shown for a fault: a phrase with the name after it if a file cannot be read, a socket
 -- bound, or a server reached; a phrase if something cannot be written; else a code

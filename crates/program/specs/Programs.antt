@@ -17,49 +17,66 @@ use Rattle.program.specs.declared.ends.Next.TheVariants as next
 use Rattle.program.specs.declared.ends.WantedServer.{WantedServer}
 use Rattle.program.specs.declared.faults.ProgramFault.{ProgramFault}
 use Rattle.program.specs.declared.faults.ProgramFault.TheVariants.{Words}
-use Rattle.command_line.specs.declared.commands.WordsRefused.{WordsRefused}
+use Rattle.command_line.specs.declared.commands.NoMemoryForWords.{NoMemoryForWords}
 use Rattle.command_line.specs.declared.shells.Shell.{Shell}
 use Rattle.command_line.specs.declared.words.ServeWords.{ServeWords}
 
 -- What these words ask for is done. `held` gives what the file of a name reads, if known.
-pub data IsDone (words : List (List ℕ)) (held : List ℕ → Option (List ℕ)) (before after : Option (List ℕ)) : Type 0 where
+pub data IsDone (words : List (List ℕ)) (held : List ℕ
+    → Option (List ℕ)) (before after : Option (List ℕ)) : Type 0 where
   -- they ask for a script, and it was served
-  serves : (script : List ℕ) → AskFor (codes "script") words → given_by words (codes "FILE") ≡ Some script
-      → RanScript held (given_by words (codes "config")) script before after → IsDone words held before after
+  serves : (script : List ℕ) → AskFor (codes "script") words
+      → given_by words (codes "FILE") ≡ Some script
+      → RanScript held (given_by words (codes "config")) script before after
+      → IsDone words held before after
   -- they ask for a look at a configuration, and it is right
-  checks : (name : List ℕ) → AskFor (codes "check") words → given_by words (codes "config") ≡ Some name → IsFoundRight (held name) before after
+  checks : (name : List ℕ) → AskFor (codes "check") words
+      → given_by words (codes "config") ≡ Some name → IsFoundRight (held name) before after
       → IsDone words held before after
   -- they ask for a drawing, and it was made
-  draws : (name : List ℕ) → AskFor (codes "draw") words → given_by words (codes "SCRIPT") ≡ Some name → IsDrawn held name before after → IsDone words held before after
+  draws : (name : List ℕ) → AskFor (codes "draw") words
+      → given_by words (codes "SCRIPT") ≡ Some name → IsDrawn held name before after
+      → IsDone words held before after
   -- they ask for a page, and it was printed
-  prints : (shell : Option Shell) → AskForPage words shell → IsWritten shell before after → IsDone words held before after
+  prints : (shell : Option Shell) → AskForPage words shell → IsWritten shell before after
+      → IsDone words held before after
   -- they ask for help
   helps : AskForHelp words → IsDone words held before after
 
 -- Why a run of the program with these words ended with a fault. `closed` holds for each name whose
 -- file was not opened. Running out of memory for the command line can happen with any words.
-pub data IsFault (words : List (List ℕ)) (held : List ℕ → Option (List ℕ)) (closed : List ℕ → Type 0) (before after : Option (List ℕ)) : ProgramFault → Type 0 where
+pub data IsFault (words : List (List ℕ)) (held : List ℕ → Option (List ℕ)) (closed : List ℕ
+    → Type 0) (before after : Option (List ℕ)) : ProgramFault → Type 0 where
   -- they ask for a script, and its run broke off
-  script : (name : List ℕ) (fault : ProgramFault) → AskFor (codes "script") words → given_by words (codes "FILE") ≡ Some name
-      → BrokeOff held closed (given_by words (codes "config")) name before after fault → IsFault words held closed before after fault
+  script : (name : List ℕ) (fault : ProgramFault) → AskFor (codes "script") words
+      → given_by words (codes "FILE") ≡ Some name
+      → BrokeOff held closed (given_by words (codes "config")) name before after fault
+      → IsFault words held closed before after fault
   -- they ask for a server, but there is no configuration
-  no_server : (fault : ProgramFault) → AskFor (codes "serve") words → IsOfConfig held closed (given_by words (codes "config")) fault → after ≡ before
+  no_server : (fault : ProgramFault) → AskFor (codes "serve") words
+      → IsOfConfig held closed (given_by words (codes "config")) fault → after ≡ before
       → IsFault words held closed before after fault
   -- they ask for a look at a configuration, and it is wrong, or was not looked at
-  check : (name : List ℕ) (fault : ProgramFault) → AskFor (codes "check") words → given_by words (codes "config") ≡ Some name
+  check : (name : List ℕ) (fault : ProgramFault) → AskFor (codes "check") words
+      → given_by words (codes "config") ≡ Some name
       → LookBroke held closed name before after fault → IsFault words held closed before after fault
   -- they ask for a drawing, but it was not made
-  undrawn : (name : List ℕ) (fault : ProgramFault) → AskFor (codes "draw") words → given_by words (codes "SCRIPT") ≡ Some name
+  undrawn : (name : List ℕ) (fault : ProgramFault) → AskFor (codes "draw") words
+      → given_by words (codes "SCRIPT") ≡ Some name
       → DrawBroke held closed name before after fault → IsFault words held closed before after fault
   -- they ask for a page, but it could not be printed
-  unprinted : (shell : Option Shell) (fault : ProgramFault) → AskForPage words shell → PageBroke shell before after fault → IsFault words held closed before after fault
+  unprinted : (shell : Option Shell) (fault : ProgramFault) → AskForPage words shell
+      → PageBroke shell before after fault → IsFault words held closed before after fault
   -- they ask for help, but it could not be written
-  help : (fault : ProgramFault) → AskForHelp words → IsUnwritten fault → IsFault words held closed before after fault
-  unread : (refused : WordsRefused) → after ≡ before → IsFault words held closed before after (Words refused)
+  help : (fault : ProgramFault) → AskForHelp words → IsUnwritten fault
+      → IsFault words held closed before after fault
+  unread : (refused : NoMemoryForWords) → after ≡ before
+      → IsFault words held closed before after (Words refused)
 
 -- These words ask for this server: its options are theirs, and its configuration is the built-in
 -- one or that of the file that they name.
-pub record WantServer (words : List (List ℕ)) (held : List ℕ → Option (List ℕ)) (server : WantedServer) : Type 0 where
+pub record WantServer (words : List (List ℕ)) (held : List ℕ
+    → Option (List ℕ)) (server : WantedServer) : Type 0 where
   pub asked : AskFor (codes "serve") words
   pub options : HasOptions (given_by words) server.options
   pub config : IsConfigOf held (given_by words (codes "config")) (config_data server.config)
@@ -70,27 +87,38 @@ WantTalk words path = AskFor (codes "connect") words × (given_by words (codes "
 
 -- this server has the given options and their configuration
 abbrev pub IsServerOf : (List ℕ → Option (List ℕ)) → ServeWords → WantedServer → Type 0
-IsServerOf held given server = (server.options ≡ given.options) × IsConfigOf held (option_map (λ name. name.now) given.config) (config_data server.config)
+IsServerOf held given server =
+    (server.options ≡ given.options)
+    × IsConfigOf held (option_map (λ name. name.now) given.config) (config_data server.config)
 
-abbrev pub IsServerFault : (List ℕ → Option (List ℕ)) → (List ℕ → Type 0) → ServeWords → ProgramFault → Type 0
-IsServerFault held closed given fault = IsOfConfig held closed (option_map (λ name. name.now) given.config) fault
+abbrev pub IsServerFault : (List ℕ → Option (List ℕ)) → (List ℕ → Type 0) → ServeWords
+    → ProgramFault → Type 0
+IsServerFault held closed given fault =
+    IsOfConfig held closed (option_map (λ name. name.now) given.config) fault
 
 -- what is answered where a configuration is looked at, a script drawn, and a page printed
-abbrev pub LookAnswered : (List ℕ → Option (List ℕ)) → (List ℕ → Type 0) → List ℕ → Option (List ℕ) → Option (List ℕ) → Result Answer ProgramFault → Type 0
-LookAnswered held closed name before after (Ok (answers.Done flushed)) = IsFoundRight (held name) before after
-LookAnswered held closed name before after (Err fault) = LookBroke held closed name before after fault
+abbrev pub LookAnswered : (List ℕ → Option (List ℕ)) → (List ℕ → Type 0) → List ℕ → Option (List ℕ)
+    → Option (List ℕ) → Result Answer ProgramFault → Type 0
+LookAnswered held closed name before after (Ok (answers.Done flushed)) =
+    IsFoundRight (held name) before after
+LookAnswered held closed name before after (Err fault) =
+    LookBroke held closed name before after fault
 LookAnswered held closed name before after (Ok (answers.Serve server)) = ⊥
 LookAnswered held closed name before after (Ok (answers.Connect path)) = ⊥
 LookAnswered held closed name before after (Ok (answers.Mistaken mistake)) = ⊥
 
-abbrev pub DrawAnswered : (List ℕ → Option (List ℕ)) → (List ℕ → Type 0) → List ℕ → Option (List ℕ) → Option (List ℕ) → Result Answer ProgramFault → Type 0
-DrawAnswered held closed name before after (Ok (answers.Done flushed)) = IsDrawn held name before after
-DrawAnswered held closed name before after (Err fault) = DrawBroke held closed name before after fault
+abbrev pub DrawAnswered : (List ℕ → Option (List ℕ)) → (List ℕ → Type 0) → List ℕ → Option (List ℕ)
+    → Option (List ℕ) → Result Answer ProgramFault → Type 0
+DrawAnswered held closed name before after (Ok (answers.Done flushed)) =
+    IsDrawn held name before after
+DrawAnswered held closed name before after (Err fault) =
+    DrawBroke held closed name before after fault
 DrawAnswered held closed name before after (Ok (answers.Serve server)) = ⊥
 DrawAnswered held closed name before after (Ok (answers.Connect path)) = ⊥
 DrawAnswered held closed name before after (Ok (answers.Mistaken mistake)) = ⊥
 
-abbrev pub PageAnswered : Option Shell → Option (List ℕ) → Option (List ℕ) → Result Answer ProgramFault → Type 0
+abbrev pub PageAnswered : Option Shell → Option (List ℕ) → Option (List ℕ)
+    → Result Answer ProgramFault → Type 0
 PageAnswered shell before after (Ok (answers.Done flushed)) = IsWritten shell before after
 PageAnswered shell before after (Err fault) = PageBroke shell before after fault
 PageAnswered shell before after (Ok (answers.Serve server)) = ⊥
@@ -100,25 +128,39 @@ PageAnswered shell before after (Ok (answers.Mistaken mistake)) = ⊥
 -- The result of these words, before anything is written to standard error: what they ask for is
 -- done; or nothing is done, because they ask for a server or a talk, or clap rejects them; or there
 -- was a fault.
-abbrev pub IsAnswer : {O : Type 0} → List (List ℕ) → (List ℕ → Option (List ℕ)) → (List ℕ → Type 0) → (O → Option (List ℕ)) → O → O → Result Answer ProgramFault → Type 0
-IsAnswer words held closed written output output_after (Ok (answers.Done flushed)) = IsDone words held (written output) (written output_after)
-IsAnswer words held closed written output output_after (Ok (answers.Serve server)) = WantServer words held server × (output_after ≡ output)
-IsAnswer words held closed written output output_after (Ok (answers.Connect path)) = WantTalk words path.now × (output_after ≡ output)
-IsAnswer words held closed written output output_after (Ok (answers.Mistaken mistake)) = AreTurnedDown words × (output_after ≡ output)
-IsAnswer words held closed written output output_after (Err fault) = IsFault words held closed (written output) (written output_after) fault
+abbrev pub IsAnswer : {O : Type 0} → List (List ℕ) → (List ℕ → Option (List ℕ)) → (List ℕ → Type 0)
+    → (O → Option (List ℕ)) → O → O → Result Answer ProgramFault → Type 0
+IsAnswer words held closed written output output_after (Ok (answers.Done flushed)) =
+    IsDone words held (written output) (written output_after)
+IsAnswer words held closed written output output_after (Ok (answers.Serve server)) =
+    WantServer words held server × (output_after ≡ output)
+IsAnswer words held closed written output output_after (Ok (answers.Connect path)) =
+    WantTalk words path.now × (output_after ≡ output)
+IsAnswer words held closed written output output_after (Ok (answers.Mistaken mistake)) =
+    AreTurnedDown words × (output_after ≡ output)
+IsAnswer words held closed written output output_after (Err fault) =
+    IsFault words held closed (written output) (written output_after) fault
 
 -- What a run of the program with these words writes, by how it ended. After success, standard error
 -- is unchanged; after a fault, it has the fault's line, or a prefix of the line if a write failed.
-abbrev pub IsRun : {O E : Type 0} → List (List ℕ) → (List ℕ → Option (List ℕ)) → (List ℕ → Type 0) → (O → Option (List ℕ)) → O → O → (E → Option (List ℕ)) → E → E → Ended → Type 0
-IsRun words held closed written output output_after told errors errors_after (Well flushed) = IsDone words held (written output) (written output_after) × (errors_after ≡ errors)
+abbrev pub IsRun : {O E : Type 0} → List (List ℕ) → (List ℕ → Option (List ℕ)) → (List ℕ → Type 0)
+    → (O → Option (List ℕ)) → O → O → (E → Option (List ℕ)) → E → E → Ended → Type 0
+IsRun words held closed written output output_after told errors errors_after (Well flushed) =
+    IsDone words held (written output) (written output_after) × (errors_after ≡ errors)
 IsRun words held closed written output output_after told errors errors_after (Failed fault line) =
-    IsFault words held closed (written output) (written output_after) fault × Took line (told errors) (told errors_after) (fault_line fault)
-IsRun words held closed written output output_after told errors errors_after TurnedDown = AreTurnedDown words × (output_after ≡ output)
+    IsFault words held closed (written output) (written output_after) fault
+    × Took line (told errors) (told errors_after) (fault_line fault)
+IsRun words held closed written output output_after told errors errors_after TurnedDown =
+    AreTurnedDown words × (output_after ≡ output)
 
 -- What is left to do after a run of the program with these words: exit, since the run has ended; or
 -- run the server, or talk with the one, that the words ask for. In the last two cases nothing was
 -- written.
-abbrev pub IsNext : {O E : Type 0} → List (List ℕ) → (List ℕ → Option (List ℕ)) → (List ℕ → Type 0) → (O → Option (List ℕ)) → O → O → (E → Option (List ℕ)) → E → E → Next → Type 0
-IsNext words held closed written output output_after told errors errors_after (next.Exit ended) = IsRun words held closed written output output_after told errors errors_after ended
-IsNext words held closed written output output_after told errors errors_after (next.Serve server) = WantServer words held server × (output_after ≡ output) × (errors_after ≡ errors)
-IsNext words held closed written output output_after told errors errors_after (next.Connect path) = WantTalk words path.now × (output_after ≡ output) × (errors_after ≡ errors)
+abbrev pub IsNext : {O E : Type 0} → List (List ℕ) → (List ℕ → Option (List ℕ)) → (List ℕ → Type 0)
+    → (O → Option (List ℕ)) → O → O → (E → Option (List ℕ)) → E → E → Next → Type 0
+IsNext words held closed written output output_after told errors errors_after (next.Exit ended) =
+    IsRun words held closed written output output_after told errors errors_after ended
+IsNext words held closed written output output_after told errors errors_after (next.Serve server) =
+    WantServer words held server × (output_after ≡ output) × (errors_after ≡ errors)
+IsNext words held closed written output output_after told errors errors_after (next.Connect path) =
+    WantTalk words path.now × (output_after ≡ output) × (errors_after ≡ errors)

@@ -19,11 +19,12 @@ world_of config =
     (record { steps = STEP_LIMIT; records = RECORD_LIMIT; features = FEATURE_LIMIT })
 
 -- the script text of these bytes, over the world that a configuration opens
-pub record Served (config : ConfigData) (script : List ℕ) (before after : Option (List ℕ)) : Type 0 where
-  pub said : List ℕ
-  pub end : WorldData
-  pub written : Appends before after said
-  pub text : IsScriptText (world_of config) script end said
+pub record Served (config : ConfigData) (script : List ℕ) (before after : Option (List ℕ)) : Type 0
+  where
+    pub said : List ℕ
+    pub end : WorldData
+    pub written : Appends before after said
+    pub text : IsScriptText (world_of config) script end said
 
 -- The configuration of a run: the built-in one, or that of the named file. `held` gives what the
 -- file of a name reads, if known.
@@ -32,7 +33,8 @@ IsConfigOf held None config = config ≡ built_in_config
 IsConfigOf held (Some name) config = IfSome (held name) (λ text. IsConfigText config text)
 
 -- the configuration is the requested one, and the script in the file of this name is served
-pub record RanScript (held : List ℕ → Option (List ℕ)) (config : Option (List ℕ)) (script : List ℕ) (before after : Option (List ℕ)) : Type 0 where
+pub record RanScript (held : List ℕ → Option (List ℕ)) (config : Option (List ℕ)) (script : List ℕ)
+    (before after : Option (List ℕ)) : Type 0 where
   pub configured : ConfigData
   pub is_config : IsConfigOf held config configured
   pub served : IfSome (held script) (λ text. Served configured text before after)

@@ -108,7 +108,7 @@ pub(crate) fn print_asked<'a, W: Write>(
 {
     match print_page(heap, shell, output) {
         Ok(flushed) => Ok(flushed),
-        Err(PageFault::Memory(refused)) => Err(ProgramFault::Memory(refused)),
+        Err(PageFault::Memory(no_memory)) => Err(ProgramFault::Memory(no_memory)),
         Err(PageFault::Write(failed)) => Err(ProgramFault::CannotWrite(failed)),
     }
 }

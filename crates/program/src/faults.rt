@@ -3,10 +3,10 @@
 ghost use Rattle.std.specs.Prelude.{◌≡◌};
 
 use byte_streams::WriteFailed;
-use command_line::WordsRefused;
+use command_line::NoMemoryForWords;
 use configuration::{ConfigFault, ReadFault};
 use drawing::DrawFault;
-use memory::Refused;
+use memory::NoMemory;
 use sessions::ServeFault;
 use std::fmt;
 use transactions::Fault;
@@ -24,9 +24,9 @@ pub enum ProgramFault<'a> {
     /// The program's output cannot be written.
     CannotWrite(WriteFailed),
     /// Out of memory for the command line. It is shown as V4.
-    Words(WordsRefused),
+    Words(NoMemoryForWords),
     /// Out of memory for the output's buffer. It is shown as V4.
-    Memory(Refused),
+    Memory(NoMemory),
     /// The configuration is faulty, or memory ran out while it was read.
     Config(ConfigFault),
     /// The world that the configuration describes cannot be opened.
@@ -102,9 +102,9 @@ impl From<WriteFailed> for ProgramFault<'_> {
 
 impl From<ServeFault> for ProgramFault<'_> {
     ghost use Rattle.std.specs.Prelude.{◌≡◌};
-    ghost use Rattle.program.specs.Ends.{told_as};
+    ghost use Rattle.program.specs.Ends.{program_fault};
 
-    ghost from_gives = { λ end fault. fault ≡ told_as end };
+    ghost from_gives = { λ end fault. fault ≡ program_fault end };
 
     fn from(end: ServeFault) -> Self {
         match end {

@@ -263,7 +263,7 @@ fn run_asked<'a, F: Folder, O: Write>(
             Err(fault) => Err(fault),
         },
         Ok(Asked::Mistake(mistake)) => Ok(Answer::Mistaken(mistake)),
-        Err(refused) => Err(ProgramFault::Words(refused)),
+        Err(no_memory) => Err(ProgramFault::Words(no_memory)),
     }
 }
 

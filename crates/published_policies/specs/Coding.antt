@@ -16,7 +16,8 @@ stored_list list = map deciders.stored list
 abbrev pub restored_list : StoredList → List DeciderData
 restored_list stored = map deciders.restored stored
 
-abbrev pub restored_list-stored_list : (list : List DeciderData) → restored_list (stored_list list) ≡ list
+abbrev pub restored_list-stored_list : (list : List DeciderData)
+    → restored_list (stored_list list) ≡ list
 restored_list-stored_list [] = refl
 restored_list-stored_list (decider ∷ later) =
     let first = deciders.restored-stored decider in
@@ -33,11 +34,14 @@ abbrev pub restored_seen : StoredSeen → SeenData
 restored_seen stored = seen_in stored.0 (restored_list stored.1)
 
 abbrev pub restored_seen-stored_seen : (seen : SeenData) → restored_seen (stored_seen seen) ≡ seen
-restored_seen-stored_seen seen = let list = restored_list-stored_list seen.list in λ i. seen_in seen.book (list i)
+restored_seen-stored_seen seen =
+    let list = restored_list-stored_list seen.list in λ i. seen_in seen.book (list i)
 
 -- Two optional deciders are equal in at most one way. A struct that keeps such an equation as a
 -- fact cites this.
 pub decider_set : (x y : Option DeciderData) → IsProp (x ≡ y)
 decider_set x y =
-    let decider_coded : Coded DeciderData = code_by deciders.Stored (Prim.hlevel codes) deciders.stored deciders.restored deciders.restored-stored in
+    let decider_coded : Coded DeciderData =
+    code_by deciders.Stored (Prim.hlevel codes) deciders.stored deciders.restored
+    deciders.restored-stored in
     Coded-set (coded_option decider_coded) x y

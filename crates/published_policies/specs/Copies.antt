@@ -14,7 +14,8 @@ Fits shown (Some known) = (known.book ≡ shown.book) × IsPrefix known.list sho
 
 -- what holds at any time, of the list that is shown and of what each of them knows
 abbrev pub AllFit : SeenData → List (Option SeenData) → Type 0
-AllFit shown views = (seat : ℕ) (known : Option SeenData) → get_elem? views seat ≡ some known → Fits shown known
+AllFit shown views = (seat : ℕ) (known : Option SeenData) → get_elem? views seat ≡ some known
+    → Fits shown known
 
 -- what was known before fits the list that is shown then, and that list is known afterwards
 pub record Learns (old : Option SeenData) (shown : SeenData) (new : Option SeenData) : Type 0 where

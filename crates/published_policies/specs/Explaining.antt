@@ -21,13 +21,15 @@ name_of_rule decider None = None
 name_of_rule decider (Some number) = rule_named number decider.document.root
 
 -- a decider's edition, its document's ruling, and the document's name of the rule that decided
-pub record ExplainsBy (decider : DeciderData) (question : Question) (explained : Explained) : Type 0 where
-  pub edition : explained.edition ≡ decider.edition
-  pub ruling : Rules decider.document question explained.ruling
-  pub rule : explained.rule ≡ name_of_rule decider (rule_in explained.ruling)
+pub record ExplainsBy (decider : DeciderData) (question : Question) (explained : Explained) : Type 0
+  where
+    pub edition : explained.edition ≡ decider.edition
+    pub ruling : Rules decider.document question explained.ruling
+    pub rule : explained.rule ≡ name_of_rule decider (rule_in explained.ruling)
 
 -- the same for the last decider of a list
-pub record Explains (list : List DeciderData) (question : Question) (explained : Explained) : Type 0 where
-  pub decider : DeciderData
-  pub last : last_or None list ≡ Some decider
-  pub explains : ExplainsBy decider question explained
+pub record Explains (list : List DeciderData) (question : Question) (explained : Explained) : Type 0
+  where
+    pub decider : DeciderData
+    pub last : last_or None list ≡ Some decider
+    pub explains : ExplainsBy decider question explained

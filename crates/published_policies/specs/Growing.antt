@@ -22,5 +22,7 @@ length_word book = record { tracked = true; key = 0; book = book }
 
 -- if the length was the expected one, the policy was added to all that had been seen; otherwise the
 -- list, of the length that was found, was seen
-abbrev pub Adds : Step DeciderData → pages.View DeciderData ℕ → ℕ → pages.View DeciderData ℕ → Type 0
-Adds step old found new = MatchBool (found == step.old) ((new.0 ≡ old.0 ++ step.ask ∷ []) × IsNumbered 1 new.0) ((length new.0 ≡ found) × IsNumbered 1 new.0)
+abbrev pub Adds : Step DeciderData → pages.View DeciderData ℕ → ℕ → pages.View DeciderData ℕ
+    → Type 0
+Adds step old found new = MatchBool (found == step.old) ((new.0 ≡ old.0 ++ step.ask ∷ [])
+    × IsNumbered 1 new.0) ((length new.0 ≡ found) × IsNumbered 1 new.0)

@@ -16,7 +16,8 @@ pub record IsPublished (list : List DeciderData) : Type 0 where
 
 -- the edition of a list's last policy
 abbrev pub IsLastEdition : ℕ → List DeciderData → Type 0
-IsLastEdition edition list = (decider : DeciderData) → last_or None list ≡ Some decider → edition ≡ decider.edition
+IsLastEdition edition list = (decider : DeciderData) → last_or None list ≡ Some decider
+    → edition ≡ decider.edition
 
 -- a prefix of a list that was seen, and the book of the list
 pub record SeenData : Type 0 where

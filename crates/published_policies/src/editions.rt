@@ -24,7 +24,8 @@ impl<L: ListName> Model for Edition<L> {
 
     ghost Value = { List DeciderData };
 
-    ghost coded = { code_by StoredList (Prim.hlevel codes) stored_list restored_list restored_list-stored_list };
+    ghost coded = { code_by StoredList (Prim.hlevel codes) stored_list restored_list
+        restored_list-stored_list };
 
     ghost view = { λ e. e.list.list };
 

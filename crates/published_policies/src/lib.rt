@@ -19,5 +19,5 @@ pub use editions::Edition;
 pub use explaining::Explained;
 pub use laws::told_then_explained;
 pub use lists::{EmptyList, ListName};
-pub use publishers::{NoMemory, Publisher};
+pub use publishers::{NoMemoryForPolicies, Publisher};
 pub use views::View;

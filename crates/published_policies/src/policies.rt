@@ -10,7 +10,7 @@ use crate::seen_lists::SeenList;
 use combining::Question;
 use decision::Decider;
 use left_right::Absorb;
-use memory::{Refused, another};
+use memory::{NoMemory, another};
 use std::alloc::AllocError;
 use std::marker::Model;
 use std::sync::Arc;
@@ -33,7 +33,8 @@ impl Model for Policy {
 
     ghost Value = { SeenData };
 
-    ghost coded = { code_by StoredSeen (Prim.hlevel codes) stored_seen restored_seen restored_seen-stored_seen };
+    ghost coded = { code_by StoredSeen (Prim.hlevel codes) stored_seen restored_seen
+        restored_seen-stored_seen };
 
     ghost view = { λ p. p.list };
 
@@ -51,7 +52,7 @@ impl Policy {
 
     /// The same policy again, over the same decider. Refused only where the decider has as many
     /// owners as can be counted.
-    pub(crate) fn again(&self) -> Result<Policy, Refused>
+    pub(crate) fn again(&self) -> Result<Policy, NoMemory>
         ensures { IfOk result (λ policy. policy ≡ self.now) }
     {
         Ok(Policy {

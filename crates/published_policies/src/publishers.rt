@@ -15,14 +15,14 @@ use std::sync::{Arc, Wait};
 
 /// No list was opened, since an allocation was refused. Only this crate makes one, and only then.
 #[derive(Debug, Drop, PartialEq, Eq)]
-pub struct NoMemory {
+pub struct NoMemoryForPolicies {
     seal: (),
 }
 
-impl NoMemory {
+impl NoMemoryForPolicies {
     /// Called only after a refused allocation.
     fn seen() -> Self {
-        NoMemory { seal: () }
+        NoMemoryForPolicies { seal: () }
     }
 }
 
@@ -44,7 +44,8 @@ impl<L: ListName, R: Wait + Drop> Model for Publisher<L, R> {
 
     ghost Value = { List DeciderData };
 
-    ghost coded = { code_by StoredList (Prim.hlevel codes) stored_list restored_list restored_list-stored_list };
+    ghost coded = { code_by StoredList (Prim.hlevel codes) stored_list restored_list
+        restored_list-stored_list };
 
     ghost view = { λ p. unwrap_or p.writer [] };
 
@@ -80,7 +81,7 @@ impl<L: ListName, R: Wait + Drop> Publisher<L, R> {
         list: EmptyList,
         first: Arc<Decider>,
         views: usize,
-    ) -> Result<Publisher<L, R>, NoMemory>
+    ) -> Result<Publisher<L, R>, NoMemoryForPolicies>
         requires list { list ≡ L.book }
         requires first { (arc_value first).edition ≡ 1 }
         requires views { (0 < views) × (views < 2 ^ 32) }
@@ -91,7 +92,7 @@ impl<L: ListName, R: Wait + Drop> Publisher<L, R> {
                 writer: Some(writer),
                 rt,
             }),
-            Err(_) => Err(NoMemory::seen()),
+            Err(_) => Err(NoMemoryForPolicies::seen()),
         }
     }
 

@@ -29,7 +29,8 @@ impl Model for SeenList {
 
     ghost Value = { SeenData };
 
-    ghost coded = { code_by StoredSeen (Prim.hlevel codes) stored_seen restored_seen restored_seen-stored_seen };
+    ghost coded = { code_by StoredSeen (Prim.hlevel codes) stored_seen restored_seen
+        restored_seen-stored_seen };
 
     ghost view = { λ s. seen_in s.seen.book s.seen.log };
 

@@ -41,7 +41,8 @@ impl<L: ListName> Model for View<L> {
 
     ghost Value = { List DeciderData };
 
-    ghost coded = { code_by StoredList (Prim.hlevel codes) stored_list restored_list restored_list-stored_list };
+    ghost coded = { code_by StoredList (Prim.hlevel codes) stored_list restored_list
+        restored_list-stored_list };
 
     ghost view = { λ v. v.list.list };
 

@@ -44,7 +44,8 @@ impl<L: ListName> Model for ListWriter<L> {
 
     ghost Value = { List DeciderData };
 
-    ghost coded = { code_by StoredList (Prim.hlevel codes) stored_list restored_list restored_list-stored_list };
+    ghost coded = { code_by StoredList (Prim.hlevel codes) stored_list restored_list
+        restored_list-stored_list };
 
     ghost view = { λ w. w.copies.desk.shown.value.list };
 

@@ -4,19 +4,19 @@ ghost use Rattle.std.specs.Prelude.{◌≡◌};
 
 use byte_streams::WriteFailed;
 use hall::{CloseFault, HallFault, OpenFault};
-use memory::Refused;
+use memory::NoMemory;
 use std::fmt;
 
 /// A channel was refused for lack of memory. Only this crate makes one, and only then.
 #[derive(Debug, Drop, PartialEq, Eq)]
-pub struct ChannelRefused {
+pub struct NoMemoryForChannel {
     seal: (),
 }
 
-impl ChannelRefused {
+impl NoMemoryForChannel {
     /// Called only where a channel was refused.
     pub(crate) fn seen() -> Self {
-        ChannelRefused { seal: () }
+        NoMemoryForChannel { seal: () }
     }
 }
 
@@ -29,7 +29,7 @@ pub enum ServerFault {
     Write(WriteFailed),
     /// H6: there is no memory for a channel: the one for streams that wait for a worker, or the one
     /// that stops the tending.
-    Channel(ChannelRefused),
+    Channel(NoMemoryForChannel),
     /// The hall was not opened.
     Open(OpenFault),
     /// The hall gave no view; or, as H6, there is no memory for the lists of views and of seats, or
@@ -68,14 +68,14 @@ impl fmt::Display for ServerFault {
     }
 }
 
-impl From<Refused> for ServerFault {
+impl From<NoMemory> for ServerFault {
     ghost use Rattle.hall.specs.declared.faults.HallFault.TheVariants.{Memory};
     ghost use Rattle.server.specs.declared.faults.ServerFault.TheVariants as faults;
 
-    ghost from_gives = { λ refused fault. fault ≡ faults.Hall (Memory refused) };
+    ghost from_gives = { λ no_memory fault. fault ≡ faults.Hall (Memory no_memory) };
 
-    fn from(refused: Refused) -> Self {
-        ServerFault::Hall(HallFault::Memory(refused))
+    fn from(no_memory: NoMemory) -> Self {
+        ServerFault::Hall(HallFault::Memory(no_memory))
     }
 }
 

@@ -8,7 +8,7 @@ mod stopping;
 mod streams;
 mod workers;
 
-pub use faults::{ChannelRefused, ServerFault};
+pub use faults::{NoMemoryForChannel, ServerFault};
 pub use hall::Closed;
 pub use sockets::{SocketOptions, serve_socket};
 pub use stopping::watch;

@@ -5,13 +5,13 @@ ghost use Rattle.std.specs.Iterator.{IsFinite};
 ghost use Rattle.std.specs.Thread.{IsSend, IsSync};
 ghost use Rattle.server.specs.Served.{IsServed};
 
-use crate::faults::{ChannelRefused, ServerFault};
+use crate::faults::{NoMemoryForChannel, ServerFault};
 use crate::workers::{tend, work};
 use crossbeam_channel::{Receiver, Sender, bounded};
 use features::Subjects;
 use hall::{Closed, Gate, Hall, ListName, Seat, Unnamed, VIEW_LIMIT, View};
 use log::{Log, warn};
-use memory::{GrowVec, vec_with_places};
+use memory::{GrowVec, vec_with_slots};
 use plain_world::SEAT_LIMIT;
 use policy_documents::Document;
 use std::alloc::Global;
@@ -48,7 +48,7 @@ pub struct Serving {
 fn channel<T: Drop>(heap: Global, room: usize) -> Result<(Sender<T>, Receiver<T>), ServerFault> {
     match bounded(heap, room) {
         Ok(ends) => Ok(ends),
-        Err(_) => Err(ServerFault::Channel(ChannelRefused::seen())),
+        Err(_) => Err(ServerFault::Channel(NoMemoryForChannel::seen())),
     }
 }
 
@@ -78,7 +78,7 @@ fn views_of<L: Ledger + ListName, H: Wait + Drop, R: Wait>(
 ) -> Result<Vec<View<L>>, ServerFault> {
     let mut views = Vec::new(heap);
     for _ in 0..workers {
-        views.make_place()?;
+        views.make_slot()?;
         views.push_reserved(hall.view(rt)?);
     }
     Ok(views)
@@ -157,7 +157,7 @@ where
     let (stop, stopped) = channel::<()>(heap, 1)?;
     // All seats that a hall may give have their places before anything is served, so none of them
     // is lost at the end.
-    let gathered = Mutex::new(vec_with_places(heap, SEAT_LIMIT)?);
+    let gathered = Mutex::new(vec_with_slots(heap, SEAT_LIMIT)?);
     let seats = &gathered;
     thread::scope(
         thread::scope_env(),

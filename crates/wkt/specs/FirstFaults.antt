@@ -36,5 +36,6 @@ pub record StopsAtEnd (ts : List Token) : Type 0 where
 
 -- the text stops being such a beginning at this place: at a token, or at the text's end
 pub data FirstFault (text : List ℕ) (at : ℕ) : Type 0 where
-  before_token : (front : List Token) (token : Token) (after : List Token) → token.0 ≡ at → StopsBefore (tokens 0 text) front token after → FirstFault text at
+  before_token : (front : List Token) (token : Token) (after : List Token) → token.0 ≡ at
+      → StopsBefore (tokens 0 text) front token after → FirstFault text at
   at_end : length text ≡ at → StopsAtEnd (tokens 0 text) → FirstFault text at

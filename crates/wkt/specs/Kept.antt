@@ -7,7 +7,8 @@ use Rattle.wkt.specs.declared.ring.TheConstants.{KEPT}
 use Rattle.wkt.specs.Tokens.{Token, OPENING}
 use Rattle.wkt.specs.Reading.{◌>>=◌, opening_at, mark_at, closing_at, end_at, ring_at, made}
 
-abbrev pub kept : Result (List Point × List Token) WktFault → Result (List Point × List Token) WktFault
+abbrev pub kept : Result (List Point × List Token) WktFault
+    → Result (List Point × List Token) WktFault
 kept reading = reading >>= λ ring. Ok (take KEPT ring.0, ring.1)
 
 -- the polygon of the points that are kept

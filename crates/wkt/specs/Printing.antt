@@ -17,4 +17,5 @@ abbrev pub printed : List Point → List ℕ
 printed [] = []
 printed (p ∷ []) = codes "POINT (" ++ pair_text p ++ codes ")"
 printed (p ∷ q ∷ []) = codes "LINESTRING (" ++ pair_text p ++ following_text q ++ codes ")"
-printed (p ∷ q ∷ r ∷ rest) = codes "POLYGON ((" ++ pair_text p ++ flat_map following_text (q ∷ r ∷ rest) ++ following_text p ++ codes "))"
+printed (p ∷ q ∷ r ∷ rest) = codes "POLYGON ((" ++ pair_text p ++ flat_map following_text
+    (q ∷ r ∷ rest) ++ following_text p ++ codes "))"

@@ -23,7 +23,8 @@ Gives view (Ok x) reading = reading ≡ Ok (view x)
 Gives view (Err e) reading = reading ≡ Err e
 
 -- what a token is read as, and the tokens after it
-abbrev pub with_rest : {A : Type 0} → Result A WktFault → List Token → Result (A × List Token) WktFault
+abbrev pub with_rest : {A : Type 0} → Result A WktFault → List Token
+    → Result (A × List Token) WktFault
 with_rest reading ts = reading >>= λ x. Ok (x, ts)
 
 -- the same word, in any ASCII letter case
@@ -40,11 +41,13 @@ is_the_mark mark bytes = bytes_eq bytes (mark ∷ [])
 -- the words for kinds of geometry that are not supported
 abbrev pub is_left_out_kind : List ℕ → Bool
 is_left_out_kind word =
-    is_word (codes "MULTIPOINT") word || is_word (codes "MULTILINESTRING") word || is_word (codes "MULTIPOLYGON") word || is_word (codes "GEOMETRYCOLLECTION") word
+    is_word (codes "MULTIPOINT") word || is_word (codes "MULTILINESTRING") word || is_word
+    (codes "MULTIPOLYGON") word || is_word (codes "GEOMETRYCOLLECTION") word
 
 -- the words that the standard allows after a keyword, and that are not supported
 abbrev pub is_left_out_form : List ℕ → Bool
-is_left_out_form word = is_word (codes "EMPTY") word || is_word (codes "Z") word || is_word (codes "M") word || is_word (codes "ZM") word
+is_left_out_form word = is_word (codes "EMPTY") word || is_word (codes "Z") word || is_word
+    (codes "M") word || is_word (codes "ZM") word
 
 -- the kind that the first word announces
 unfoldable pub kind_of : Token → Result Kind WktFault
@@ -124,15 +127,18 @@ pub data Due : Type 0 where
   mark : Due
 
 -- a point in front of those that are read after it
-abbrev pub with_front : Point → Result (List Point × List Token) WktFault → Result (List Point × List Token) WktFault
+abbrev pub with_front : Point → Result (List Point × List Token) WktFault
+    → Result (List Point × List Token) WktFault
 with_front p reading = reading >>= λ ring. Ok (p ∷ ring.0, ring.1)
 
 -- the points that are left to read in a ring, and the tokens after it
 unfoldable pub ring_from : Due → ℕ → List Token → Result (List Point × List Token) WktFault
 ring_from due end [] = Err (Syntax end)
 ring_from pair end (t ∷ ts) = number_of_token t >>= λ x. ring_from (second x) end ts
-ring_from (second x) end (t ∷ ts) = number_of_token t >>= λ y. with_front (record { x = x; y = y }) (ring_from mark end ts)
-ring_from mark end (t ∷ ts) = is_more t >>= λ more. if more then ring_from pair end ts else Ok ([], ts)
+ring_from (second x) end (t ∷ ts) =
+    number_of_token t >>= λ y. with_front (record { x = x; y = y }) (ring_from mark end ts)
+ring_from mark end (t ∷ ts) = is_more t >>= λ more. if more then ring_from pair end ts
+    else Ok ([], ts)
 
 -- the points of a ring, and the tokens after its closing bracket
 abbrev pub ring_at : ℕ → List Token → Result (List Point × List Token) WktFault

@@ -60,7 +60,8 @@ pub record SpellsPair (x y : Word) (p : Point) : Type 0 where
 abbrev pub SpellsPairs : List Word → List Point → Type 0
 SpellsPairs ws [] = ⊥
 SpellsPairs ws (p ∷ []) = (x : Word) × (y : Word) × (ws ≡ x ∷ y ∷ []) × SpellsPair x y p
-SpellsPairs ws (p ∷ q ∷ ps) = (x : Word) × (y : Word) × (more : List Word) × (ws ≡ x ∷ y ∷ mark_word COMMA ∷ more) × SpellsPair x y p × SpellsPairs more (q ∷ ps)
+SpellsPairs ws (p ∷ q ∷ ps) = (x : Word) × (y : Word) × (more : List Word)
+    × (ws ≡ x ∷ y ∷ mark_word COMMA ∷ more) × SpellsPair x y p × SpellsPairs more (q ∷ ps)
 
 -- ---- texts
 
@@ -88,7 +89,8 @@ pub record SpellsLineString (ws : List Word) (p q : Point) : Type 0 where
   pub y : Word
   pub u : Word
   pub v : Word
-  pub whole : ws ≡ keyword ∷ mark_word OPENING ∷ x ∷ y ∷ mark_word COMMA ∷ u ∷ v ∷ mark_word CLOSING ∷ []
+  pub whole : ws ≡ keyword ∷ mark_word OPENING ∷ x ∷ y ∷ mark_word COMMA ∷ u ∷ v ∷ mark_word
+      CLOSING ∷ []
   pub is_keyword : IsKeyword (codes "LINESTRING") keyword
   pub first : SpellsPair x y p
   pub second : SpellsPair u v q
@@ -96,7 +98,8 @@ pub record SpellsLineString (ws : List Word) (p q : Point) : Type 0 where
 pub record SpellsRing (ws : List Word) (ps : List Point) : Type 0 where
   pub keyword : Word
   pub pairs : List Word
-  pub whole : ws ≡ keyword ∷ mark_word OPENING ∷ mark_word OPENING ∷ (pairs ++ mark_word CLOSING ∷ mark_word CLOSING ∷ [])
+  pub whole : ws ≡ keyword ∷ mark_word OPENING ∷ mark_word
+      OPENING ∷ (pairs ++ mark_word CLOSING ∷ mark_word CLOSING ∷ [])
   pub is_keyword : IsKeyword (codes "POLYGON") keyword
   pub are_pairs : SpellsPairs pairs ps
 

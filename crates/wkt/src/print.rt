@@ -12,7 +12,7 @@ ghost use Rattle.wkt.specs.Spelling.{Spells};
 
 use arrayvec::ArrayString;
 use itoa::Buffer;
-use memory::Refused;
+use memory::NoMemory;
 use plane::{Point, Shape, corners};
 use std::alloc::Allocator;
 
@@ -110,7 +110,7 @@ pub fn shape_text(shape: &Shape) -> ArrayString<384>
 }
 
 /// The text of `shape_text` as a `String`. Fails only when out of memory.
-pub fn print_shape<A: Allocator>(alloc: A, shape: &Shape) -> Result<String<A>, Refused>
+pub fn print_shape<A: Allocator>(alloc: A, shape: &Shape) -> Result<String<A>, NoMemory>
     ensures { IfOk result (λ text. string_bytes text ≡ printed shape.now) }
 {
     memory::text(alloc, shape_text(shape).as_str())

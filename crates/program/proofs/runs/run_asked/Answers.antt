@@ -67,4 +67,4 @@ returns-in-Ok-Help g c =
     IsFault.help c.in-Err-show_help.fault (subst (IsAsked words) c.in-Ok-Help.field-0-is asked) c.in-Err-show_help.ensures
 
 pub returns : goal.returns
-returns g c = IsFault.unread c.in-Err.refused refl
+returns g c = IsFault.unread c.in-Err.no_memory refl

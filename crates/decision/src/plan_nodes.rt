@@ -8,7 +8,7 @@ use std::alloc::Allocator;
 
 /// One step of a plan. A set or a policy comes before the steps below it.
 #[derive(Debug, Drop)]
-pub(crate) enum Step<A: Allocator> {
+pub(crate) enum PlanNode<A: Allocator> {
     /// A rule with its number in document order, counted from 1.
     Rule {
         number: u32,
@@ -24,14 +24,14 @@ pub(crate) enum Step<A: Allocator> {
     },
 }
 
-impl<A: Allocator> Step<A> {
+impl<A: Allocator> PlanNode<A> {
     /// How many of the steps after this one are below it.
     pub fn count_below(&self) -> usize
         ensures { result ≡ count_below _ self.now }
     {
         match self {
-            Step::Rule { .. } => 0,
-            Step::Node { below, .. } => *below,
+            PlanNode::Rule { .. } => 0,
+            PlanNode::Node { below, .. } => *below,
         }
     }
 }
