@@ -14,6 +14,9 @@ use std::alloc::Allocator;
 /// it applies and has that effect, all sets and policies around it have that decision, and within
 /// first-applicable no earlier child was applicable. `rule` is `None` for NotApplicable, and for a
 /// Permit or a Deny that an algorithm gives by default. Allocates nothing.
+///
+/// The world rules by a compiled document (`decision::Decider`); this is the plain way, with which
+/// tests compare it.
 pub fn evaluate<A: Allocator>(document: &Document<A>, question: &Question) -> Verdict
     ensures { Answers document.now question.now result }
 {

@@ -13,7 +13,7 @@ use Rattle.std.specs.Result.{IsErr, IsErrAnd}
 use Rattle.byte_streams.specs.declared.failures.ReadFailed.{ReadFailed}
 use Rattle.byte_streams.specs.declared.failures.WriteFailed.{WriteFailed}
 use Rattle.line_streams.proofs.LeavingLemmas.{left_by}
-use Rattle.line_streams.specs.declared.streams.TheConstants.{HELD, LINE_LIMIT, READ_LIMIT}
+use Rattle.line_streams.specs.declared.streams.TheConstants.{HELD, LINE_LIMIT}
 use Rattle.line_streams.specs.declared.streams.ServeFault.{ServeFault}
 use Rattle.line_streams.specs.declared.streams.ServeFault.TheVariants.{Read, Write, TooManyTurns, Memory}
 use Rattle.line_streams.specs.declared.streams.Next.{Next}
@@ -22,7 +22,7 @@ use Rattle.line_streams.specs.declared.streams.Stop.{Stop}
 use Rattle.line_streams.specs.declared.streams.Stop.TheVariants.{Ended, Failed}
 use Rattle.byte_streams.specs.declared.reading.Turns.{Turns}
 use Rattle.line_streams.specs.Lines.{is_feed, is_too_long, ended, lines_of, whole_ended, whole_lines_of}
-use Rattle.line_streams.specs.Streams.{LinesTell, GoesOn, NeverEnds, StreamEnds, StreamTells, Answered, Stopped, Ran, RanSoFar, RanToEnd, RanToStop, RanWell, IsLine, held_of, held_with, fed, ArePieces, Passed, PassedToStop, Passes, StoppedAt, TookOne, TookLast, IsFlushed, Concludes}
+use Rattle.line_streams.specs.Streams.{LinesTell, GoesOn, NeverEnds, StreamEnds, StreamTells, Answered, Stopped, Ran, RanWithin, RanSoFar, RanToEnd, RanToStop, RanWell, IsLine, held_of, held_with, fed, ArePieces, Passed, PassedToStop, Passes, StoppedAt, TookOne, TookLast, IsFlushed, Concludes}
 use Rattle.byte_streams.specs.Written.{Took}
 use Rattle.byte_streams.proofs.WrittenLemmas.{appends_then}
 
@@ -452,23 +452,23 @@ module _ {S : Type 0} (tell : List ℕ → S → S → List ℕ → Next → Typ
   }
 
   -- a read failed, and the run returns that fault
-  pub read_failed : {T : Type 0} (r : Result T ServeFault) (failed : ReadFailed) (old new : S) (held : List ℕ) (turns : ℕ) (start left next a b c : Option (List ℕ)) → IsErrAnd r (λ fault. fault ≡ Read failed)
-      → Standing old new held turns start left a b → Keeps b c → Keeps left next → Ran tell r old new start next a c
-  read_failed {T} r failed old new held turns start left next a b c is stands flushed kept =
-      left_by r (Read failed) (λ (r : Result T ServeFault). Ran tell r old new start next a c) is
+  pub read_failed : {T : Type 0} (reads : ℕ) (r : Result T ServeFault) (failed : ReadFailed) (old new : S) (held : List ℕ) (turns : ℕ) (start left next a b c : Option (List ℕ)) → IsErrAnd r (λ fault. fault ≡ Read failed)
+      → Standing old new held turns start left a b → Keeps b c → Keeps left next → RanWithin reads tell r old new start next a c
+  read_failed {T} reads r failed old new held turns start left next a b c is stands flushed kept =
+      left_by r (Read failed) (λ (r : Result T ServeFault). RanWithin reads tell r old new start next a c) is
       (ran_so_far old new held turns start left next a c (stands_kept old new held turns start left a b c stands flushed) kept)
 
   -- a flush before a read failed
-  pub flush_failed : {T : Type 0} (r : Result T ServeFault) (failed : WriteFailed) (old new : S) (held : List ℕ) (turns : ℕ) (start left a b c : Option (List ℕ)) → IsErrAnd r (λ fault. fault ≡ Write failed)
-      → Standing old new held turns start left a b → Keeps b c → Ran tell r old new start left a c
-  flush_failed {T} r failed old new held turns start left a b c is stands kept =
-      left_by r (Write failed) (λ (r : Result T ServeFault). Ran tell r old new start left a c) is
+  pub flush_failed : {T : Type 0} (reads : ℕ) (r : Result T ServeFault) (failed : WriteFailed) (old new : S) (held : List ℕ) (turns : ℕ) (start left a b c : Option (List ℕ)) → IsErrAnd r (λ fault. fault ≡ Write failed)
+      → Standing old new held turns start left a b → Keeps b c → RanWithin reads tell r old new start left a c
+  flush_failed {T} reads r failed old new held turns start left a b c is stands kept =
+      left_by r (Write failed) (λ (r : Result T ServeFault). RanWithin reads tell r old new start left a c) is
       (inr (inl (ran_so_far old new held turns start left left a c (stands_kept old new held turns start left a b c stands kept) (keeps_none left))))
 
-  pub gave_up : (turns : Turns) (old new : S) (held : List ℕ) (count : ℕ) (start left a b c : Option (List ℕ)) → Standing old new held count start left a b → Keeps b c → turns.made ≡ count → count ≤ READ_LIMIT → READ_LIMIT ≤ count
-      → (run : RanSoFar tell old new start left a c) × (READ_LIMIT ≤ length run.text) × (turns.made ≡ READ_LIMIT)
+  pub gave_up : (reads : ℕ) (turns : Turns) (old new : S) (held : List ℕ) (count : ℕ) (start left a b c : Option (List ℕ)) → Standing old new held count start left a b → Keeps b c → turns.made ≡ count → count ≤ reads → reads ≤ count
+      → (run : RanSoFar tell old new start left a c) × (reads ≤ length run.text) × (turns.made ≡ reads)
   unfolding ran_so_far stands_kept
-  gave_up turns old new held count start left a b c stands kept made within all_turns = (
+  gave_up reads turns old new held count start left a b c stands kept made within all_turns = (
     ran_so_far old new held count start left left a c (stands_kept old new held count start left a b c stands kept) (keeps_none left),
     omega (arith, stands.enough, all_turns),
     omega (arith, made, within, all_turns),
@@ -563,19 +563,19 @@ module _ {S : Type 0} (tell : List ℕ → S → S → List ℕ → Next → Typ
   well_kept old new input left a b c (inl run) kept = inl (end_kept old new input left a b c run kept)
   well_kept old new input left a b c (inr run) kept = inr (stop_kept Ended old new input left a b c run kept)
 
-  by_flush : {T : Type 0} (r : Result T ServeFault) (old new : S) (input left a b c : Option (List ℕ)) → RanWell tell old new input left a b → IsFlushed r b c → Ran tell r old new input left a c
-  by_flush (Ok done) old new input left a b c run kept = well_kept old new input left a b c run kept
-  by_flush (Err (Write failed)) old new input left a b c run kept = inr (inr (well_kept old new input left a b c run kept))
-  by_flush (Err (Read failed)) old new input left a b c run kept = absurd kept
-  by_flush (Err (TooManyTurns turns)) old new input left a b c run kept = absurd kept
-  by_flush (Err (Memory refused)) old new input left a b c run kept = absurd kept
+  by_flush : {T : Type 0} (reads : ℕ) (r : Result T ServeFault) (old new : S) (input left a b c : Option (List ℕ)) → RanWell tell old new input left a b → IsFlushed r b c → RanWithin reads tell r old new input left a c
+  by_flush reads (Ok done) old new input left a b c run kept = well_kept old new input left a b c run kept
+  by_flush reads (Err (Write failed)) old new input left a b c run kept = inr (inr (well_kept old new input left a b c run kept))
+  by_flush reads (Err (Read failed)) old new input left a b c run kept = absurd kept
+  by_flush reads (Err (TooManyTurns turns)) old new input left a b c run kept = absurd kept
+  by_flush reads (Err (Memory refused)) old new input left a b c run kept = absurd kept
 
   -- the run ends after its last line
-  pub concluded : {T : Type 0} (end : Result (Unit {0}) Stop) (r : Result T ServeFault) (old new : S) (input left a b c : Option (List ℕ)) → Ends end old new input left a b → Concludes end r b c → Ran tell r old new input left a c
-  concluded (Ok u) r old new input left a b c run done = by_flush r old new input left a b c (inl run) done
-  concluded (Err Ended) r old new input left a b c run done = by_flush r old new input left a b c (inr run) done
-  concluded {T} (Err (Failed failed)) r old new input left a b c run done =
-      subst (λ (r : Result T ServeFault). Ran tell r old new input left a c) (sym done.0) (inl (stop_kept (Failed failed) old new input left a b c run done.1))
+  pub concluded : {T : Type 0} (reads : ℕ) (end : Result (Unit {0}) Stop) (r : Result T ServeFault) (old new : S) (input left a b c : Option (List ℕ)) → Ends end old new input left a b → Concludes end r b c → RanWithin reads tell r old new input left a c
+  concluded reads (Ok u) r old new input left a b c run done = by_flush reads r old new input left a b c (inl run) done
+  concluded reads (Err Ended) r old new input left a b c run done = by_flush reads r old new input left a b c (inr run) done
+  concluded {T} reads (Err (Failed failed)) r old new input left a b c run done =
+      subst (λ (r : Result T ServeFault). RanWithin reads tell r old new input left a c) (sym done.0) (inl (stop_kept (Failed failed) old new input left a b c run done.1))
 
   -- ---- the answers of a stream
 

@@ -130,24 +130,32 @@ RanWell tell old new input left before after =
     RanToEnd tell old new input left before after
     ⊎ RanToStop tell Ended old new input left before after
 
--- What holds when a run has ended, by how it ended: for the states, and for the known bytes of the
--- reader and the writer, before and after. If a write failed, it was at a line, or it was a flush
--- after the whole lines of what was read, or after all lines that the run has to answer.
--- `TooManyTurns` means that `READ_LIMIT` reads were made.
-abbrev pub Ran : {S T : Type 0} → (List ℕ → S → S → List ℕ → Next → Type 0) → Result T ServeFault
-    → S → S → Option (List ℕ) → Option (List ℕ) → Option (List ℕ) → Option (List ℕ) → Type 0
-Ran tell (Ok done) old new input left before after = RanWell tell old new input left before after
-Ran tell (Err (Read failed)) old new input left before after =
+-- What holds when a run of at most so many reads has ended, by how it ended: for the states, and for
+-- the known bytes of the reader and the writer, before and after. If a write failed, it was at a
+-- line, or it was a flush after the whole lines of what was read, or after all lines that the run
+-- has to answer. `TooManyTurns` means that all these reads were made.
+abbrev pub RanWithin : {S T : Type 0} → ℕ → (List ℕ → S → S → List ℕ → Next → Type 0)
+    → Result T ServeFault → S → S → Option (List ℕ) → Option (List ℕ) → Option (List ℕ)
+    → Option (List ℕ) → Type 0
+RanWithin reads tell (Ok done) old new input left before after =
+    RanWell tell old new input left before after
+RanWithin reads tell (Err (Read failed)) old new input left before after =
     RanSoFar tell old new input left before after
-Ran tell (Err (Write failed)) old new input left before after =
+RanWithin reads tell (Err (Write failed)) old new input left before after =
     RanToStop tell (Failed failed) old new input left before after
     ⊎ (RanSoFar tell old new input left before after
     ⊎ RanWell tell old new input left before after)
-Ran tell (Err (TooManyTurns turns)) old new input left before after =
-    (run : RanSoFar tell old new input left before after) × (READ_LIMIT ≤ length run.text)
-    × (turns.made ≡ READ_LIMIT)
-Ran tell (Err (Memory refused)) old new input left before after =
+RanWithin reads tell (Err (TooManyTurns turns)) old new input left before after =
+    (run : RanSoFar tell old new input left before after) × (reads ≤ length run.text)
+    × (turns.made ≡ reads)
+RanWithin reads tell (Err (Memory refused)) old new input left before after =
     (new ≡ old) × (left ≡ input) × (after ≡ before)
+
+-- what holds when a run has ended that makes at most `READ_LIMIT` reads
+abbrev pub Ran : {S T : Type 0} → (List ℕ → S → S → List ℕ → Next → Type 0) → Result T ServeFault
+    → S → S → Option (List ℕ) → Option (List ℕ) → Option (List ℕ) → Option (List ℕ) → Type 0
+Ran tell result old new input left before after =
+    RanWithin READ_LIMIT tell result old new input left before after
 
 -- what holds if the run was out of memory
 abbrev pub OnMemory : ServeFault → Type 0 → Type 0

@@ -3,4 +3,4 @@
 
 mod streams;
 
-pub use streams::{LINE_LIMIT, LineDesk, Next, READ_LIMIT, ServeFault, run_lines};
+pub use streams::{LINE_LIMIT, LineDesk, Next, READ_LIMIT, ServeFault, run_lines, run_lines_within};

@@ -3,7 +3,7 @@ ghost use Rattle.std.specs.Prelude.{◌≡◌, ℕ, ◌≤◌, ◌++◌, ◌∷�
 ghost use Rattle.std.specs.Io.BufRead.{strip_last};
 ghost use Rattle.byte_streams.specs.Written.{Took};
 ghost use Rattle.line_streams.specs.Lines.{is_too_long, lines_of};
-ghost use Rattle.line_streams.specs.Streams.{Concludes, IsLine, OnMemory, Passes, Ran, TookLast, TookLine, TookOne, held_of, held_with};
+ghost use Rattle.line_streams.specs.Streams.{Concludes, IsLine, OnMemory, Passes, Ran, RanWithin, TookLast, TookLine, TookOne, held_of, held_with};
 ghost use Rattle.line_streams.specs.declared.streams.TheConstants.{HELD};
 
 use byte_streams::{Flushed, ReadFailed, Turns, WriteFailed, flush};
@@ -309,10 +309,28 @@ pub fn run_lines<D: LineDesk, A: Allocator, R: Read, W: Write>(
     ensures untouched { IfErr result
         (λ fault. OnMemory fault ((reader.new ≡ reader.old) × (writer.new ≡ writer.old))) }
 {
+    run_lines_within(READ_LIMIT, alloc, desk, world, reader, writer)
+}
+
+/// `run_lines` with another limit of reads: `TooManyTurns` comes after so many.
+pub fn run_lines_within<D: LineDesk, A: Allocator, R: Read, W: Write>(
+    reads: u32,
+    alloc: A,
+    desk: &mut D,
+    world: &mut D::World,
+    reader: &mut R,
+    writer: &mut W,
+) -> Result<Flushed, ServeFault>
+    ensures ran { RanWithin reads D.tells result (world.old, desk.old) (world.new, desk.new)
+        (R.remaining reader.old) (R.remaining reader.new) (W.contents writer.old)
+        (W.contents writer.new) }
+    ensures untouched { IfErr result
+        (λ fault. OnMemory fault ((reader.new ≡ reader.old) × (writer.new ≡ writer.old))) }
+{
     let mut held = Held::new(alloc)?;
     let mut chunk = [0; CHUNK];
     let mut turns = Turns::none();
-    for _ in 0..READ_LIMIT {
+    for _ in 0..reads {
         flush(writer)?;
         let count = turns.read_some(reader, &mut chunk)?;
         if count == 0 {

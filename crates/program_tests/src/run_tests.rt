@@ -4,7 +4,7 @@ use crate::running::{
 };
 use byte_streams::NotOpened;
 use configuration::{CONFIG_LIMIT, ConfigFault};
-use failing_streams::{CountingReader, FailingWriter, Failure, LongReader};
+use failing_streams::{FailingWriter, Failure, LongReader};
 use program::{Ended, Folder, Next, ProgramFault, built_in_config, run_file, run_program, tell};
 use refusing::Refusing;
 use std::alloc::{AllocError, Global};
@@ -15,28 +15,6 @@ use std::test::Fail;
 /// The replies to `FIRST_POINT`.
 const FIRST_REPLIES: &str =
     "n: hello north\nn: staged\nn: applied 1\nn: rows 1\nn: 1 1 north mast POINT (3 4)\nn: rows 0\n";
-
-/// A folder whose files never end.
-#[derive(Drop)]
-struct Endless;
-
-impl Folder for Endless {
-    ghost use Rattle.std.specs.Prelude.{None};
-
-    type File = CountingReader;
-
-    ghost holds = { λ folder name. None };
-
-    ghost closed = { λ folder name. Unit {0} };
-
-    fn open_file(&self, _name: &str) -> Result<CountingReader, NotOpened> {
-        Ok(CountingReader {
-            gives: b'\n',
-            left: u64::MAX,
-            calls: 0,
-        })
-    }
-}
 
 /// A writer that fails this way.
 fn writer(alloc: Global, fails_at: u64, with: Failure) -> FailingWriter {
@@ -337,14 +315,6 @@ fn a_read_fails(rt: HostRuntime) -> Result<(), Fail> {
         &folder,
         1,
         ("n: hello north\n", "landmap: V1\n"),
-    )?;
-    check(
-        &rt,
-        rt.alloc(),
-        &["script", "a.map"],
-        &Endless,
-        1,
-        ("", "landmap: V3\n"),
     )?;
     Ok(())
 }

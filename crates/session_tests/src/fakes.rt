@@ -1,5 +1,5 @@
 //! Worked scripts with their replies, and readers and writers for tests.
-pub use failing_streams::{CountingReader, FailingReader, FailingWriter, Failure, LongReader};
+pub use failing_streams::{FailingReader, FailingWriter, Failure, LongReader};
 
 /// The worked script of a point that is added and found again.
 pub const FIRST_POINT: &str =
@@ -8,6 +8,12 @@ pub const FIRST_POINT: &str =
 /// Its replies.
 pub const FIRST_REPLIES: &str =
     "n: hello north\nn: staged\nn: applied 1\nn: rows 1\nn: 1 1 north mast POINT (3 4)\nn: rows 0\n";
+
+/// A session for each of the built-in subjects.
+pub const HELLOS: &str = "n: HELLO north\ns: HELLO south\nc: HELLO chief\n";
+
+/// The replies to `HELLOS`.
+pub const HELLO_REPLIES: &str = "n: hello north\ns: hello south\nc: hello chief\n";
 
 /// Sixteen committed features in a row, and one more that is staged.
 pub const SIXTEEN: &str =

@@ -1,6 +1,6 @@
 //! What a run that ends with a fault has written and changed.
 use crate::fakes::{
-    CountingReader, FIRST_POINT, FIRST_REPLIES, FailingReader, FailingWriter, Failure, LongReader,
+    FIRST_POINT, FIRST_REPLIES, FailingReader, FailingWriter, Failure, LongReader,
 };
 use crate::worlds::{opened, replies};
 use refusing::Refusing;
@@ -218,39 +218,16 @@ fn writes_go_on(rt: HostRuntime) {
     }
 }
 
-/// Runs an input of this many bytes, one per read, and checks the code of the fault and the number
-/// of reads.
-fn run_bytes(rt: &impl Abort, alloc: Global, bytes: u64, code: Option<&str>, calls: u64) {
-    let mut world = opened(rt, alloc, alloc);
-    let mut output = Vec::new(alloc);
-    let mut reader = CountingReader {
-        gives: b'\n',
-        left: bytes,
-        calls: 0,
-    };
-    let ended = run_script(alloc, alloc, &mut world, &mut reader, &mut output);
-    assert_eq!(rt; ended.err().map(|fault| fault.code()), code);
-    assert_eq!(rt; reader.calls, calls);
-    assert_eq!(rt; output.len(), 0);
-}
-
-/// An input with more bytes than the limit of reads is served if each read returns many bytes.
-fn run_long(rt: &impl Abort, alloc: Global) {
-    let mut world = opened(rt, alloc, alloc);
-    let mut output = Vec::new(alloc);
+/// An input with more bytes than the limit of reads is served, since a read returns many of them.
+#[test]
+fn more_bytes_than_reads(rt: HostRuntime) {
+    assert_eq!(rt; READ_LIMIT, 16_777_216);
+    let mut world = opened(&rt, rt.alloc(), rt.alloc());
+    let mut output = Vec::new(rt.alloc());
     let mut reader = LongReader { left: 17_000_000 };
-    let ended = run_script(alloc, alloc, &mut world, &mut reader, &mut output);
+    let ended = run_script(rt.alloc(), rt.alloc(), &mut world, &mut reader, &mut output);
     assert!(rt; ended.is_ok());
     assert_eq!(rt; (reader.left, output.len()), (0, 0));
-}
-
-#[test]
-fn a_reader_that_does_not_end(rt: HostRuntime) {
-    assert_eq!(rt; READ_LIMIT, 16_777_216);
-    let reads = READ_LIMIT as u64;
-    run_bytes(&rt, rt.alloc(), reads - 1, None, reads);
-    run_bytes(&rt, rt.alloc(), reads, Some("V3"), reads);
-    run_long(&rt, rt.alloc());
 }
 
 #[test]

@@ -14,6 +14,8 @@ mod line_end_tests;
 #[cfg(test)]
 mod line_tests;
 #[cfg(test)]
+mod read_limit_tests;
+#[cfg(test)]
 mod script_lines;
 #[cfg(test)]
 mod script_tests;

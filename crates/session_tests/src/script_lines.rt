@@ -1,7 +1,7 @@
 //! Scripts with their replies, as text. A line that begins with `=== ` begins a case and says what
 //! it shows, one that begins with `> ` is a line of its script, and one that begins with `< ` is a
 //! reply.
-use crate::fakes::{SIXTEEN, SIXTEEN_TOLD};
+use crate::fakes::{HELLO_REPLIES, HELLOS, SIXTEEN, SIXTEEN_TOLD};
 use crate::worlds::{opened, opened_at, replies};
 use std::alloc::{AllocError, Global};
 use std::process::Abort;
@@ -22,8 +22,8 @@ pub const AT_ONCE: Opening = Opening {
 
 /// A seat for each of the built-in subjects.
 pub const SEATED: Opening = Opening {
-    lines: "n: HELLO north\ns: HELLO south\nc: HELLO chief\n",
-    replies: "n: hello north\ns: hello south\nc: hello chief\n",
+    lines: HELLOS,
+    replies: HELLO_REPLIES,
 };
 
 /// Sixteen points, and one more that is staged.

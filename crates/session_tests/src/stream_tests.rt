@@ -2,9 +2,9 @@
 //! ends the stream.
 use crate::worlds::opened;
 use byte_streams::let_go;
-use failing_streams::{CountingReader, FailingReader, FailingWriter, Failure};
+use failing_streams::{FailingReader, FailingWriter, Failure};
 use refusing::Refusing;
-use sessions::{READ_LIMIT, ServeFault, serve_world};
+use sessions::{ServeFault, serve_world};
 use std::alloc::Global;
 use std::cell::RefCell;
 use std::io;
@@ -159,22 +159,6 @@ fn nothing_is_read_behind_bye(rt: HostRuntime) {
         assert!(rt; output.ends_with(b"bye\n"), "{lines}");
         assert_eq!(rt; reader.fails_at, 1, "{lines}");
     }
-}
-
-/// A line without an end is read up to the limit of reads, and not once more.
-#[test]
-fn a_client_that_does_not_end(rt: HostRuntime) {
-    let mut world = opened(&rt, rt.alloc(), rt.alloc());
-    let mut output = Vec::new(rt.alloc());
-    let mut reader = CountingReader {
-        gives: b'#',
-        left: u64::MAX,
-        calls: 0,
-    };
-    let end = serve_world(rt.alloc(), rt.alloc(), &mut world, &mut reader, &mut output);
-    assert!(rt; matches!(end, Err(ServeFault::TooManyTurns(_))));
-    assert_eq!(rt; reader.calls, READ_LIMIT as u64);
-    assert_eq!(rt; output.len(), 0);
 }
 
 /// If the line buffer cannot be allocated, nothing is read.

@@ -1,6 +1,6 @@
 use Rattle.std.proofs.Common.{◌≡◌}
 use Rattle.line_streams.proofs.StreamLemmas.{Standing}
-use Rattle.line_streams.proofs.streams.run_lines.Given as goal
+use Rattle.line_streams.proofs.streams.run_lines_within.Given as goal
 
 abbrev pub invariant-loop : goal.invariant-loop
 invariant-loop g l = record {
