@@ -82,4 +82,7 @@ def main():
             print(f"{subject}: BYE")
 
 
-main()
+try:
+    main()
+except (OSError, ValueError, KeyError) as fault:
+    sys.exit(f"refill: {type(fault).__name__}: {fault}")
