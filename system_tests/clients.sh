@@ -13,7 +13,7 @@ wrong() { echo "clients: $*"; exit 1; }
 serves() {
     "$program" serve --socket "$PWD/socket" --connections "$1" > said 2> warnings < /dev/null &
     server=$!
-    for _ in $(seq 100); do grep -qs listening said && return; sleep 0.1; done
+    for _ in $(seq 300); do grep -qs listening said && return; sleep 0.1; done
     wrong "the server does not listen"
 }
 closes() {
@@ -49,7 +49,7 @@ W
 # prints_it COMMAND..: a client that gets the lines, and has to print the replies.
 prints_it() {
     serves 1
-    timeout 20 "$@" < lines > got || wrong "$1 ended with status $?"
+    timeout 60 "$@" < lines > got || wrong "$1 ended with status $?"
     cmp wanted got || wrong "$1 prints other replies"
     closes
 }
@@ -66,7 +66,7 @@ fi
 command -v python3 > /dev/null || { echo "clients: the client in Python is skipped: there is no python3"; exit 0; }
 prints_it python3 "$top/examples/client.py" "$PWD/socket"
 serves 3
-PYTHONDONTWRITEBYTECODE=1 PYTHONPATH=$top/examples timeout 20 python3 - "$PWD/socket" <<'P' || wrong "the session in Python is wrong"
+PYTHONDONTWRITEBYTECODE=1 PYTHONPATH=$top/examples timeout 60 python3 - "$PWD/socket" <<'P' || wrong "the session in Python is wrong"
 import sys
 from client import Session
 

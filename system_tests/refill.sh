@@ -43,7 +43,7 @@ cmp wanted <(tail -n 37 again.replies) || wrong "the script's answers differ"
 # Over a socket.
 "$program" serve --socket "$PWD/socket" --config "$config" --connections 11 --workers 8 > said 2> warnings < /dev/null &
 server=$!
-for _ in $(seq 100); do grep -qs listening said && break; sleep 0.1; done
+for _ in $(seq 300); do grep -qs listening said && break; sleep 0.1; done
 refill --socket "$PWD/socket" piece1 piece2 piece3 piece4
 for name in "${subjects[@]}"; do
     { echo "HELLO $name"; questions; echo BYE; } | "$program" connect --socket "$PWD/socket" | sed "s/^/$name: /"
