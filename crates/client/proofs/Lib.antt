@@ -1,7 +1,6 @@
 pub mod ByteLemmas
 pub mod LineLemmas
 pub mod PassLemmas
-pub mod ReplyLemmas
 pub mod SendLemmas
 pub mod TalkLemmas
 pub mod TurnLemmas

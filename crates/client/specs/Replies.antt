@@ -1,20 +1,20 @@
 -- A server's reply to a line.
-use Rattle.std.specs.Prelude.{◌≡◌, ◌≢◌, ◌⊎◌, ℕ, ◌<◌, ◌^◌, ◌&&◌, nat_lt, List, ◌++◌, length, take, drop, codes, All, if◌then◌else◌}
+use Rattle.std.specs.Prelude.{◌≡◌, ◌≢◌, ◌⊎◌, ℕ, ◌<◌, List, ◌++◌, length, take, drop, codes, All, if◌then◌else◌}
 use Rattle.std.specs.List.{flat_map}
-use Rattle.std.specs.Str.{all_ascii_digits, bytes_eq}
-use Rattle.std.specs.Str.Parse.{digits_value}
+use Rattle.std.specs.Option.{unwrap_or}
+use Rattle.std.specs.Str.{bytes_eq}
 use Rattle.line_streams.specs.Streams.{IsLine, fed}
+use Rattle.line_words.specs.Words.{number_of}
 
--- the number that digits spell; 0 if the text is not a number below 2 ^ 64
-abbrev pub number_of : List ℕ → ℕ
-number_of text = if all_ascii_digits text && nat_lt 0 (length text) && nat_lt (digits_value 10 text)
-    (2 ^ 64) then digits_value 10 text else 0
+-- the number that a text spells, or 0 if it spells none
+abbrev pub count_in : List ℕ → ℕ
+count_in text = unwrap_or (number_of text) 0
 
 -- how many lines follow the first line of a reply: N after `rows N` and `rolled N`
 abbrev pub rows_behind : List ℕ → ℕ
 rows_behind head =
-    if bytes_eq (take 5 head) (codes "rows ") then number_of (drop 5 head)
-    else if bytes_eq (take 7 head) (codes "rolled ") then number_of (drop 7 head)
+    if bytes_eq (take 5 head) (codes "rows ") then count_in (drop 5 head)
+    else if bytes_eq (take 7 head) (codes "rolled ") then count_in (drop 7 head)
     else 0
 
 -- A whole reply: its first line and the lines that it announces, each with its line feed.

@@ -1,28 +1,15 @@
 //! How many lines a reply has.
 
 ghost use Rattle.std.specs.Prelude.{◌≡◌, IsTrue, ◌↔◌, codes};
-ghost use Rattle.std.specs.Char.{is_ascii_digit};
-ghost use Rattle.std.specs.List.{list_all};
-ghost use Rattle.client.specs.Replies.{number_of, rows_behind};
+ghost use Rattle.client.specs.Replies.{count_in, rows_behind};
 
-/// Whether all bytes are digits.
-fn are_digits(text: &[u8]) -> bool
-    ensures { result ≡ list_all is_ascii_digit text.now }
-{
-    text.iter().all(|byte| byte.is_ascii_digit())
-}
+use line_words::read_number;
 
-/// The number that digits spell; 0 if the text is not a number below 2^64.
-fn number(text: &[u8]) -> u64
-    ensures { result ≡ number_of text.now }
+/// The number that a text spells; 0 if it spells none.
+fn count(text: &[u8]) -> u64
+    ensures { result ≡ count_in text.now }
 {
-    if !are_digits(text) {
-        return 0;
-    }
-    match str::from_utf8(text) {
-        Ok(digits) => digits.parse().unwrap_or(0),
-        Err(_) => 0,
-    }
+    read_number(text).unwrap_or(0)
 }
 
 /// How many lines follow the first line of a reply, given here without its line feed: N after `rows
@@ -30,11 +17,11 @@ fn number(text: &[u8]) -> u64
 pub(crate) fn rows_of(head: &[u8]) -> u64
     ensures { result ≡ rows_behind head.now }
 {
-    if let Some(count) = head.strip_prefix(b"rows ") {
-        return number(count);
+    if let Some(rows) = head.strip_prefix(b"rows ") {
+        return count(rows);
     }
     match head.strip_prefix(b"rolled ") {
-        Some(count) => number(count),
+        Some(rows) => count(rows),
         None => 0,
     }
 }

@@ -1,4 +1,3 @@
-pub mod Words
 pub mod Marks
 pub mod Faults
 pub mod Gathering

@@ -1,6 +1,6 @@
 -- What a line shows.
-use Rattle.std.specs.Prelude.{ℕ, ◌==◌, ◌+◌, ◌≤◌, ◌||◌, Bool, not, nat_lt, List, [], ◌∷◌, codes, length, take, drop, Option, None, Some, Result, Ok, Err, if◌then◌else◌}
-use Rattle.std.specs.List.{flat_map, prefix_len}
+use Rattle.std.specs.Prelude.{ℕ, ◌≤◌, ◌||◌, Bool, not, List, [], ◌∷◌, codes, length, Option, None, Some, Result, Ok, Err, if◌then◌else◌}
+use Rattle.std.specs.List.{flat_map}
 use Rattle.std.specs.Str.{bytes_eq}
 use Rattle.plane.specs.declared.point.Point.{Point}
 use Rattle.wkt.specs.declared.fault.WktFault.{WktFault}
@@ -10,7 +10,8 @@ use Rattle.line_streams.specs.Lines.{is_too_long, lines_of}
 use Rattle.drawing.specs.declared.marks.Mark.{Mark}
 use Rattle.drawing.specs.declared.marks.Mark.TheVariants.{Window, Row}
 use Rattle.drawing.specs.declared.reading.TheConstants.{MARK_LIMIT}
-use Rattle.drawing.specs.Words.{next_word, number_of}
+use Rattle.line_words.specs.Labels.{parts_of}
+use Rattle.line_words.specs.Words.{next_word, number_of}
 
 infixl 10 ◌>>=◌
 abbrev pub ◌>>=◌ : {A B : Type 0} → Option A → (A → Option B) → Option B
@@ -21,15 +22,6 @@ None >>= f = None
 abbrev pub mark_shape : Mark → List Point
 mark_shape (Window corners) = corners
 mark_shape (Row feature) = feature.shape
-
-abbrev pub is_not_colon : ℕ → Bool
-is_not_colon b = not (b == 58)
-
--- the text before the first colon and the text after it
-unfoldable pub parts_of : List ℕ → Option (List ℕ × List ℕ)
-parts_of line =
-    let len = prefix_len is_not_colon line in
-    if nat_lt len (length line) then Some (take len line, drop (len + 1) line) else None
 
 -- what is read of a line: the text after the colon, if there is a name before it
 abbrev pub behind_name : Option (List ℕ) → List ℕ → List ℕ → List ℕ

@@ -9,7 +9,6 @@ mod laws;
 mod marks;
 mod pictures;
 mod reading;
-mod words;
 mod writing;
 
 pub use drawings::draw;

@@ -1,11 +1,10 @@
 //! What a line shows: a feature or a window.
 
-ghost use Rattle.std.specs.Prelude.{◌≡◌, ◌≤◌, length, option_map};
-ghost use Rattle.std.specs.List.{prefix_len};
-ghost use Rattle.drawing.specs.Marks.{is_not_colon, is_window_word, mark_of, mark_shape, parts_of, row_at, unlabelled, window_of};
+ghost use Rattle.std.specs.Prelude.{◌≡◌};
+ghost use Rattle.drawing.specs.Marks.{is_window_word, mark_of, mark_shape, row_at, unlabelled, window_of};
 
-use crate::words::{next_word, read_number};
 use features::{Feature, Name};
+use line_words::{next_word, read_number, split_label};
 use plane::Shape;
 use wkt::read_shape;
 
@@ -27,28 +26,6 @@ impl Mark {
             Mark::Window(shape) => shape,
             Mark::Row(feature) => &feature.shape,
         }
-    }
-}
-
-/// The number of bytes before the first colon, or of all bytes if there is none.
-#[tactic(auto, using(wkt::proofs::DigitsLemmas::prefix_fits))]
-fn label_len(line: &[u8]) -> usize
-    ensures value { result ≡ prefix_len is_not_colon line.now }
-    ensures fits { result ≤ length line.now }
-{
-    line.iter().take_while(|byte| **byte != b':').count()
-}
-
-/// The text before the first colon and the text after it; `None` if there is no colon.
-#[tactic(auto, unfolding(crate::specs::Marks::parts_of))]
-fn split_label(line: &[u8]) -> Option<(&[u8], &[u8])>
-    ensures { option_map (λ parts. (parts.0.now, parts.1.now)) result ≡ parts_of line.now }
-{
-    let len = label_len(line);
-    if len < line.len() {
-        Some((&line[..len], &line[len + 1..]))
-    } else {
-        None
     }
 }
 

@@ -12,7 +12,8 @@ use Rattle.session_lines.specs.declared.commands.Verb.{Verb}
 use Rattle.session_lines.specs.declared.commands.Verb.TheVariants as verbs
 use Rattle.session_lines.specs.declared.faults.LineFault.{LineFault}
 use Rattle.session_lines.specs.declared.faults.LineFault.TheVariants.{Command as CommandFault, Number, Name, BeforeHello, HelloAgain, Shape}
-use Rattle.session_lines.specs.Words.{action_of, next_word, number_of}
+use Rattle.line_words.specs.Words.{next_word, number_of}
+use Rattle.session_lines.specs.Actions.{action_of}
 
 infixl 10 ◌>>=◌
 abbrev pub ◌>>=◌ : {A B : Type 0} → Result A LineFault → (A → Result B LineFault)

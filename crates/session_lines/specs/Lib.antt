@@ -1,5 +1,5 @@
 pub mod Faults
-pub mod Words
+pub mod Actions
 pub mod Commands
 pub mod Replies
 pub mod Services

@@ -2,12 +2,14 @@
 
 ghost use Rattle.std.specs.Prelude.{◌≡◌};
 ghost use Rattle.features.specs.Names.{name_of};
-ghost use Rattle.session_lines.specs.Words.{action_of, number_of};
+ghost use Rattle.line_words.specs.Words.{number_of};
+ghost use Rattle.session_lines.specs.Actions.{action_of};
 ghost use Rattle.session_lines.specs.Commands.{Gives, verb_of, verb_at, verb_for, allowed, or_fault, word_at, shape_at, end_at, hello_at, add_at, reshape_at, delete_at, explain_at, alone_at, arguments_at};
 
+use crate::actions::action_named;
 use crate::faults::LineFault;
-use crate::words::{action_named, next_word, read_number};
 use features::{Action, Change, Name};
+use line_words::{next_word, read_number};
 use plane::Shape;
 use wkt::read_shape;
 

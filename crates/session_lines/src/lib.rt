@@ -1,6 +1,7 @@
 //! Session lines over any service: commands, replies, and one session by itself.
 #![tactic(auto)]
 
+mod actions;
 mod commands;
 mod desks;
 mod faults;
@@ -8,7 +9,6 @@ mod lists;
 mod replies;
 mod services;
 mod serving;
-mod words;
 mod writing;
 
 pub use commands::{as_number, as_shape, due_word, end};
@@ -17,5 +17,4 @@ pub use faults::LineFault;
 pub use replies::{Reply, Said, fault_reply, outcome_reply, visit_reply};
 pub use services::Service;
 pub use serving::serve;
-pub use words::next_word;
 pub use writing::{LEAD_LIMIT, write_line, write_said};

@@ -17,7 +17,8 @@ use Rattle.sessions.specs.declared.stepping.StepCommand.{StepCommand}
 use Rattle.sessions.specs.declared.stepping.StepCommand.TheVariants as commands
 use Rattle.sessions.specs.declared.stepping.StepVerb.{StepVerb}
 use Rattle.sessions.specs.Indexed.{AllShut, IndexedScript, LineRuns, ServesThere, Shuts, with_index, without_index}
-use Rattle.sessions.specs.Scripts.{IsRefused, LabelTells, LineTells, LineTellsIn, ObeysStep, OnlyTells, Script, SessionAnswers, SessionTells, TakesPlain, TakesStep, desk_of, fresh, is_skipped, keeps_seat, parts_of, place, plainly, script, with_label}
+use Rattle.sessions.specs.Scripts.{IsRefused, LabelTells, LineTells, LineTellsIn, ObeysStep, OnlyTells, Script, SessionAnswers, SessionTells, TakesPlain, TakesStep, desk_of, fresh, is_skipped, keeps_seat, place, plainly, script, with_label}
+use Rattle.line_words.specs.Labels.{parts_of}
 use Rattle.sessions.specs.Services.{ServesCall, solo_subject}
 use Rattle.sessions.specs.States.{SessionIn, SessionState, session_in}
 use Rattle.sessions.specs.Stepping.{AllDrop, Drops, step_command_at, step_verb_at}

@@ -33,7 +33,8 @@ use Rattle.line_streams.specs.declared.streams.ServeFault.{ServeFault}
 use Rattle.line_streams.specs.Lines.{is_too_long}
 use Rattle.session_lines.specs.Printed.{reply_text}
 use Rattle.session_lines.specs.Replies.{SaidData}
-use Rattle.sessions.specs.Scripts.{Script, Ends, IsRefused, LabelTells, LineTells, ObeysStep, OnlyTells, Opens, SessionAnswers, SessionTells, Steps, TakesPlain, TakesStep, desk_of, fresh, is_skipped, keeps_seat, parts_of, place, plainly, script, with_label}
+use Rattle.sessions.specs.Scripts.{Script, Ends, IsRefused, LabelTells, LineTells, ObeysStep, OnlyTells, Opens, SessionAnswers, SessionTells, Steps, TakesPlain, TakesStep, desk_of, fresh, is_skipped, keeps_seat, place, plainly, script, with_label}
+use Rattle.line_words.specs.Labels.{parts_of}
 use Rattle.sessions.specs.Services.{ServesCall, is_overrun_reply, solo_subject}
 use Rattle.session_lines.specs.Serving.{IsPassedOver, DeskTells as AloneTells, Replies}
 use Rattle.session_lines.specs.Desks.{Desk}

@@ -1,9 +1,8 @@
 -- What a line of a script makes of its sessions and their world, in worlds of any kind; and the
 -- script text, the replies to a list of lines over a plain world.
-use Rattle.std.specs.Prelude.{◌≡◌, ℕ, ◌+◌, ◌==◌, Bool, true, false, not, take, drop, nat_eq, nat_lt, List, [], ◌∷◌, ◌++◌, codes, length, slice_index_or, slice_set, Option, None, Some, MatchOption, Result, MatchResult, if◌then◌else◌}
+use Rattle.std.specs.Prelude.{◌≡◌, ℕ, ◌+◌, ◌==◌, Bool, true, false, drop, nat_eq, nat_lt, List, [], ◌∷◌, ◌++◌, codes, length, slice_index_or, slice_set, Option, None, Some, MatchOption, Result, MatchResult, if◌then◌else◌}
 use Rattle.std.specs.Bool.{MatchBool}
 use Rattle.std.specs.Cmp.Lexicographic.{pointwise}
-use Rattle.std.specs.List.{prefix_len}
 use Rattle.plane.specs.declared.point.Point.{Point}
 use Rattle.features.specs.Names.{name_of}
 use Rattle.features.specs.declared.actors.Subject.{Subject}
@@ -20,6 +19,7 @@ use Rattle.sessions.specs.declared.stepping.StepVerb.{StepVerb}
 use Rattle.session_lines.specs.Desks.{Answers, Desk, desk}
 use Rattle.session_lines.specs.Services.{Call}
 use Rattle.line_streams.specs.Lines.{is_too_long, lines_of}
+use Rattle.line_words.specs.Labels.{parts_of}
 use Rattle.session_lines.specs.Printed.{led, reply_text, said_text}
 use Rattle.session_lines.specs.Replies.{SaidData, line, rows, told, visit_reply}
 use Rattle.sessions.specs.Services.{ServesCall, solo_subject}
@@ -60,15 +60,6 @@ desk_of s = desk s.session.staged (solo s.world s.session.seat)
 abbrev pub is_skipped : List ℕ → Bool
 is_skipped [] = true
 is_skipped (b ∷ bs) = b == 35
-
-abbrev pub is_not_colon : ℕ → Bool
-is_not_colon b = not (b == 58)
-
--- the text before the first colon of a line, and the text after it
-unfoldable pub parts_of : List ℕ → Option (List ℕ × List ℕ)
-parts_of text =
-    let len = prefix_len is_not_colon text in
-    if nat_lt len (length text) then Some (take len text, drop (len + 1) text) else None
 
 -- the place of the label's session; the number of sessions if there is none
 abbrev pub place : List ℕ → List SessionState → ℕ

@@ -22,7 +22,7 @@ use Rattle.sessions.specs.declared.stepping.StepVerb.TheVariants as verbs
 use Rattle.session_lines.specs.Commands.{◌>>=◌, end_at, or_fault, shape_at, word_at}
 use Rattle.sessions.specs.Services.{is_overrun_reply}
 use Rattle.sessions.specs.States.{SessionState}
-use Rattle.session_lines.specs.Words.{next_word, number_of}
+use Rattle.line_words.specs.Words.{next_word, number_of}
 
 -- What a line asks.
 

@@ -1,9 +1,8 @@
 //! Scripts: lines of many sessions, each with its session's label, and the table of these sessions.
-ghost use Rattle.std.specs.Prelude.{◌≡◌, ◌≤◌, ◌<◌, ◌+◌, ◌++◌, [], List, None, OnOk, IfOk, IfErr, IfSome, codes, length, option_map, slice_set, slice_index_or, vec_len, vec_capacity, ℕ, Result};
+ghost use Rattle.std.specs.Prelude.{◌≡◌, ◌≤◌, ◌<◌, ◌+◌, [], List, None, OnOk, IfOk, IfErr, IfSome, codes, length, slice_set, slice_index_or, vec_len, vec_capacity, ℕ, Result};
 ghost use Rattle.std.specs.Io.KnownBytes.{Appends};
-ghost use Rattle.std.specs.List.{prefix_len};
 ghost use Rattle.sessions.specs.Indexed.{AllShut, LineRuns, indexed, with_index};
-ghost use Rattle.sessions.specs.Scripts.{IsScriptText, LabelTells, LineTells, LineTellsIn, SessionAnswers, is_not_colon, is_skipped, parts_of, place, script, with_label};
+ghost use Rattle.sessions.specs.Scripts.{IsScriptText, LabelTells, LineTells, LineTellsIn, SessionAnswers, is_skipped, place, script, with_label};
 ghost use Rattle.session_lines.specs.Printed.{led, reply_text};
 ghost use Rattle.session_lines.specs.Replies.{said_view};
 ghost use Rattle.plain_world.specs.Events.{Happens, Tend, Tended, reply_of};
@@ -24,6 +23,7 @@ use crate::script_sessions::Session;
 use byte_streams::{Flushed, WriteFailed};
 use features::Name;
 use line_streams::{LINE_LIMIT, LineDesk, Next, ServeFault, run_lines};
+use line_words::split_label;
 use memory::{NoMemory, vec_with_room};
 use session_lines::{LineFault, Reply, Said, write_line, write_said};
 use std::alloc::{Allocator, Global};
@@ -51,28 +51,6 @@ fn is_to_skip(line: &[u8]) -> bool
     match line {
         [] => true,
         [first, ..] => *first == b'#',
-    }
-}
-
-/// The number of bytes before the first colon, or of all bytes if there is none.
-#[tactic(auto, using(wkt::proofs::DigitsLemmas::prefix_fits))]
-fn label_len(line: &[u8]) -> usize
-    ensures value { result ≡ prefix_len is_not_colon line.now }
-    ensures fits { result ≤ length line.now }
-{
-    line.iter().take_while(|byte| **byte != b':').count()
-}
-
-/// The text before the first colon and the text after it; `None` if there is no colon.
-#[tactic(auto, unfolding(crate::specs::Scripts::parts_of))]
-fn split_label(line: &[u8]) -> Option<(&[u8], &[u8])>
-    ensures { option_map (λ parts. (parts.0.now, parts.1.now)) result ≡ parts_of line.now }
-{
-    let len = label_len(line);
-    if len < line.len() {
-        Some((&line[..len], &line[len + 1..]))
-    } else {
-        None
     }
 }
 

@@ -8,8 +8,9 @@ ghost use Rattle.sessions.specs.Services.{is_overrun_reply};
 ghost use Rattle.sessions.specs.Stepping.{FinishesLine, GoesOn, VisitsOn, count_at, left_open, step_command_at, step_count, step_verb_at, step_verb_of};
 
 use crate::calls::seek;
+use line_words::next_word;
 use plane::Shape;
-use session_lines::{LineFault, as_number, as_shape, due_word, end, next_word};
+use session_lines::{LineFault, as_number, as_shape, due_word, end};
 use std::alloc::Allocator;
 use transactions::{Answer, Fault as WorldFault, STEP_LIMIT, TreeFault, Visit, World};
 
