@@ -34,7 +34,7 @@ module _ (L R : RattleType) (g : Ghosts L.Denot) (n : Naming L.Denot) (name_send
   pub hall_sync : IsSync (Hall.the_row L R heap n g ghosts)
   hall_sync =
       recorded_sync _ _ _ (Hall.the_type L R heap n g ghosts).to_one (struct_sync (shape (Hall.the_type L R heap n g ghosts))
-      (mutex.the_sync _ guarded_send, (condvar.the_field_sync, (std.sync, (memory.the_field_sync, tt)))))
+      (mutex.the_sync _ guarded_send, (condvar.the_field_sync, (condvar.the_field_sync, (std.sync, (memory.the_field_sync, tt))))))
 
   pub seat_send : (ℓ : NamedLft) → IsSend (Seat.the_row ℓ L R heap n g ghosts)
   seat_send ℓ =

@@ -1,156 +1,115 @@
 //! Committing a list of a seat.
 
-ghost use Rattle.std.specs.Prelude.{◌≡◌, IfOk, OnErr};
+ghost use Rattle.std.specs.Prelude.{◌≡◌, ◌<◌, ◌+◌, IfOk, OnOk, OnErr};
+ghost use Rattle.std.specs.Arc.{arc_value};
+ghost use Rattle.plain_world.specs.Laws.{deed_of};
 ghost use Rattle.hall.specs.Calls.{IsCommitted};
 
 use crate::faults::HallFault;
+use crate::guarded::Guarded;
 use crate::halls::Hall;
-use crate::seats::{Gate, Seat};
-use features::Change;
+use crate::seats::Seat;
+use crate::sections::{Committing, Pause, TRY_LIMIT, Unfinished, events_in_section};
+use audit_trail::Record;
+use features::{Change, Subject};
 use memory::GrowVec;
 use published_policies::ListName;
 use std::alloc::Allocator;
-use std::sync::Wait;
-use std::sync::ledger::Ledger;
-use transactions::{Advance, Fault, Outcome, TreeFault};
+use std::sync::ledger::{Ledger, Share};
+use std::sync::{Arc, MutexGuard, Wait};
+use transactions::{Fault, Outcome, TreeFault};
 
-/// The most tries of a list that searches hold back.
-pub const TRY_LIMIT: u32 = 64;
-
-/// The result of one step of placing a list.
-enum Placing {
-    /// A walk has made a step.
-    Walking,
-    /// All shapes are placed.
-    AllPlaced,
-    /// A search held the list back; the transaction is aborted.
-    Held,
-}
-
-/// Aborts a transaction, if it is still open.
-fn give_up<L: Ledger + ListName, R: Wait + Drop, A: Allocator, W: Wait>(
+/// Ends a try of a list that is refused. S3 waits first, in this critical section, until a search
+/// ends, X15 until a transaction ends. The list's transaction is aborted then, and whoever waits
+/// for its end is woken. Ok where the list may be tried again: it waited, and `tries` leaves one
+/// more. H4 for S3.
+fn wait_or_give_up<L: Ledger + ListName, R: Wait + Drop, A: Allocator, W: Wait>(
     rt: &W,
     hall: &Hall<L, R, A>,
+    guarded: MutexGuard<'_, Guarded<L, R, A>>,
     seat: u32,
-    number: u64,
-) {
-    hall.lock.lock(rt).abort(seat, number);
-}
-
-/// Stages each of the changes. Calls the gate before each of them, without the lock.
-fn stage_all<L: Ledger + ListName, R: Wait + Drop, A: Allocator, W: Wait, G: Gate>(
-    rt: &W,
-    hall: &Hall<L, R, A>,
-    seat: u32,
-    number: u64,
-    changes: &[Change],
-    gate: &mut G,
+    committing: Committing,
+    fault: Fault,
+    tries: &mut u32,
 ) -> Result<(), HallFault> {
-    for change in changes {
-        gate.between();
-        let staged = hall.lock.lock(rt).chronicle.stage(seat, number, *change);
-        staged?;
+    let waits = matches!(fault, Fault::TooMany | Fault::Tree(TreeFault::Held(_)));
+    let mut guarded = match &fault {
+        Fault::Tree(TreeFault::Held(_)) => hall.search_ended.wait(rt, guarded),
+        Fault::TooMany => hall.transaction_ended.wait(rt, guarded),
+        _ => guarded,
+    };
+    let ended = guarded.abort(seat, committing);
+    drop(guarded);
+    if ended {
+        hall.transaction_ended.notify_all();
     }
-    Ok(())
-}
-
-/// Makes a step of a walk. If a search holds the list back, waits until a search ends, and then
-/// aborts the transaction. The wait begins in the same critical section, so it misses no search's
-/// end.
-fn place_one<L: Ledger + ListName, R: Wait + Drop, A: Allocator + Copy, W: Wait>(
-    rt: &W,
-    hall: &Hall<L, R, A>,
-    seat: u32,
-    number: u64,
-) -> Result<Placing, HallFault> {
-    let mut guarded = hall.lock.lock(rt);
-    match guarded.advance(seat, number) {
-        Ok(Advance::Walked(_)) => Ok(Placing::Walking),
-        Ok(Advance::AllPlaced) => Ok(Placing::AllPlaced),
-        Err(Fault::Tree(TreeFault::Held(_))) => {
-            let mut guarded = hall.search_ended.wait(rt, guarded);
-            guarded.abort(seat, number);
-            Ok(Placing::Held)
-        }
-        Err(fault) => Err(HallFault::from(fault)),
+    *tries = tries.saturating_sub(1);
+    if waits && *tries > 0 {
+        return Ok(());
+    }
+    match fault {
+        Fault::Tree(TreeFault::Held(_)) => Err(HallFault::Held),
+        fault => Err(HallFault::from(fault)),
     }
 }
 
-/// Places what the list brings, step by step. Returns whether all is placed; if not, a search held
-/// it back, and the transaction is aborted. Calls the gate before each step, without the lock.
-fn place_all<L: Ledger + ListName, R: Wait + Drop, A: Allocator + Copy, W: Wait, G: Gate>(
+/// Commits a list of a seat of this subject, in one critical section after another. The record is
+/// counted in the seat's share. A list that searches hold back, or that finds as many transactions
+/// open as may be, waits until one of them ends; H4 or X15 after `TRY_LIMIT` tries. After a fault
+/// no transaction is open.
+fn committed<L: Ledger + ListName, R: Wait + Drop, A: Allocator + Copy, W: Wait, P: Pause>(
     rt: &W,
     hall: &Hall<L, R, A>,
     seat: u32,
-    number: u64,
-    gate: &mut G,
-) -> Result<bool, HallFault> {
+    subject: &Subject,
+    share: &mut Share<L>,
+    changes: &[Change],
+    pause: &mut P,
+) -> Result<(Outcome, Arc<Record<A>, A>), HallFault>
+    requires { 0 < share.old.parts }
+    ensures receipt { IfOk result
+        (λ done. arc_value done.1
+        ≡ record { seat = seat; deed = deed_of subject.now changes.now done.0 }) }
+    ensures amount { OnOk result (share.new.amount ≡ share.old.amount + 1) }
+    ensures err { OnErr result (share.new.amount ≡ share.old.amount) }
+    ensures parts { share.new.parts ≡ share.old.parts }
+{
+    let events = events_in_section(pause);
+    let mut committing = Committing::New;
+    let mut tries = TRY_LIMIT;
     for _ in rt.forever() {
-        gate.between();
-        match place_one(rt, hall, seat, number)? {
-            Placing::Walking => {}
-            Placing::AllPlaced => return Ok(true),
-            Placing::Held => return Ok(false),
+        let mut guarded = hall.lock.lock(rt);
+        match guarded.commit_on(rt, seat, subject, share, changes, &mut committing, events) {
+            Ok(done) => {
+                drop(guarded);
+                hall.transaction_ended.notify_all();
+                return Ok(done);
+            }
+            Err(Unfinished::More) => drop(guarded),
+            Err(Unfinished::Refused(fault)) => {
+                wait_or_give_up(rt, hall, guarded, seat, committing, fault, &mut tries)?;
+                committing = Committing::New;
+            }
         }
+        pause.between();
     }
     unreachable!()
 }
 
-/// Begins a transaction, and stages and places the list in it. `None` where a search held the list
-/// back. The transaction is aborted then, and after a fault.
-fn try_once<L: Ledger + ListName, R: Wait + Drop, A: Allocator + Copy, W: Wait, G: Gate>(
-    rt: &W,
-    hall: &Hall<L, R, A>,
-    seat: u32,
-    changes: &[Change],
-    gate: &mut G,
-) -> Result<Option<u64>, HallFault> {
-    let begun = hall.lock.lock(rt).chronicle.begin(seat);
-    let number = begun?;
-    if let Err(fault) = stage_all(rt, hall, seat, number, changes, gate) {
-        give_up(rt, hall, seat, number);
-        return Err(fault);
-    }
-    match place_all(rt, hall, seat, number, gate) {
-        Ok(true) => Ok(Some(number)),
-        Ok(false) => Ok(None),
-        Err(fault) => {
-            give_up(rt, hall, seat, number);
-            Err(fault)
-        }
-    }
-}
-
-/// The transaction in which the list is placed, after at most `TRY_LIMIT` tries. H4 where searches
-/// held back each of them.
-fn placed<L: Ledger + ListName, R: Wait + Drop, A: Allocator + Copy, W: Wait, G: Gate>(
-    rt: &W,
-    hall: &Hall<L, R, A>,
-    seat: u32,
-    changes: &[Change],
-    gate: &mut G,
-) -> Result<u64, HallFault> {
-    for _ in 0..TRY_LIMIT {
-        if let Some(number) = try_once(rt, hall, seat, changes, gate)? {
-            return Ok(number);
-        }
-        gate.between();
-    }
-    Err(HallFault::Held)
-}
-
 impl<'h, L: Ledger + ListName, R: Wait + Drop, A: Allocator + Copy> Seat<'h, L, R, A> {
     /// Commits a list of changes, all or none. A list that a search holds back waits until a search
-    /// ends, and is then tried again; H4 after `TRY_LIMIT` tries. H6 where there is no memory for
-    /// the receipt's place. H5 with X15 where 64 transactions are open, X5 or X6 where the list
-    /// cannot be staged, S4 to S7 where the index does not place a shape, X10 where the trail is
-    /// full, X8 where a number is at its end, X11 where there would be more features than the
-    /// limit, X12 where an allocation is refused. A fault leaves the seat unchanged.
-    pub fn commit<W: Wait, G: Gate>(
+    /// ends, one that finds 64 transactions open until a transaction ends; it is then tried again,
+    /// at most `TRY_LIMIT` times in all. H4 where a search held it back at the last try. H6 where
+    /// there is no memory for the receipt's place. H5 with X15 where 64 transactions are open at the
+    /// last try, X5 or X6 where the list cannot be staged, S4 to S7 where the index does not place a
+    /// shape, X10 where the trail is full, X8 where a number is at its end, X11 where there would be
+    /// more features than the limit, X12 where an allocation is refused. A fault leaves the seat
+    /// unchanged.
+    pub fn commit<W: Wait, P: Pause>(
         &mut self,
         rt: &W,
         changes: &[Change],
-        gate: &mut G,
+        pause: &mut P,
     ) -> Result<Outcome, HallFault>
         ensures ok { IfOk result (λ outcome. IsCommitted changes.now outcome self.old self.new) }
         ensures err { OnErr result (self.new ≡ self.old) }
@@ -158,20 +117,20 @@ impl<'h, L: Ledger + ListName, R: Wait + Drop, A: Allocator + Copy> Seat<'h, L, 
         self.receipts.make_slot()?;
         let hall = self.hall;
         let seat = self.number;
-        let number = placed(rt, hall, seat, changes, gate)?;
-        gate.between();
-        let mut guarded = hall.lock.lock(rt);
-        let committed = guarded.commit(rt, seat, &self.subject, &mut self.share, number, changes);
-        drop(guarded);
-        match committed {
+        match committed(
+            rt,
+            hall,
+            seat,
+            &self.subject,
+            &mut self.share,
+            changes,
+            pause,
+        ) {
             Ok((outcome, receipt)) => {
                 self.receipts.push_reserved(receipt);
                 Ok(outcome)
             }
-            Err(fault) => {
-                give_up(rt, hall, seat, number);
-                Err(HallFault::from(fault))
-            }
+            Err(fault) => Err(fault),
         }
     }
 }

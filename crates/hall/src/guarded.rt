@@ -1,16 +1,22 @@
 //! What the lock guards.
 
-ghost use Rattle.std.specs.Prelude.{◌≡◌, ◌<◌, ◌+◌, [], ◌∷◌, false, length, slice_get, None, Some, Ok, IfOk, OnOk, OnErr};
+ghost use Rattle.std.specs.Prelude.{◌≡◌, ◌<◌, ◌+◌, [], ◌∷◌, false, length, slice_get, None, Some, Ok, IfOk, IfErr, OnOk, OnErr, All};
 ghost use Rattle.std.specs.Arc.{arc_value};
 ghost use Rattle.std.specs.List.{last_or};
 ghost use Rattle.audit_trail.specs.Records.{governed};
-ghost use Rattle.chronicle.specs.Chronicles.{subject_given};
+ghost use Rattle.chronicle.specs.Chronicles.{IsSoundChronicle, subject_given};
 ghost use Rattle.chronicle.specs.Noting.{told_answer};
 ghost use Rattle.plain_world.specs.Laws.{deed_of};
 ghost use Rattle.published_policies.specs.Coding.{decider_set};
 ghost use Rattle.hall.specs.Calls.{IsNext, put_in_force};
+ghost use Rattle.hall.specs.Closing.{IsCause};
+ghost use Rattle.hall.specs.Seats.{IsKeptBy, receipts_of};
+ghost use Rattle.hall.specs.declared.guarded.TheConstants.{LEDGER_PARTS};
 
-use crate::faults::HallFault;
+use crate::closing::{Closed, gather, mismatch};
+use crate::faults::{CloseFault, HallFault};
+use crate::seats::Seat;
+use crate::sections::{Committing, Searching, Unfinished};
 use crate::upkeep::Upkeep;
 use audit_trail::Record;
 use chronicle::Chronicle;
@@ -23,33 +29,33 @@ use published_policies::{Edition, ListName, Publisher, View};
 use std::alloc::{Allocator, Global};
 use std::sync::ledger::{Blank, Book, Ledger, Share};
 use std::sync::{Arc, Wait};
-use transactions::{Advance, Answer, Fault, Outcome, Rolled};
+use transactions::{Advance, Answer, Fault, Outcome, Rolled, SEAT_LIMIT, Visit};
 
 /// The parts of a hall's ledger: one for each seat that may be given, and one that stays.
-pub const LEDGER_PARTS: u64 = 1_025;
+pub const LEDGER_PARTS: u64 = SEAT_LIMIT as u64 + 1;
 
 /// What the lock guards: the world with all its records, the published policies that views read,
 /// and the number of records in a ledger, in which each seat has its share. Whoever gets the lock
 /// knows the facts below, and those of a chronicle.
 #[derive(Drop)]
 pub(crate) struct Guarded<L: Ledger + ListName, R: Wait + Drop, A: Allocator> {
-    pub(crate) chronicle: Chronicle<A>,
-    pub(crate) publisher: Publisher<L, R>,
+    chronicle: Chronicle<A>,
+    publisher: Publisher<L, R>,
     /// How many views may still be given.
-    pub(crate) views_left: usize,
+    views_left: usize,
     /// How many records there are.
-    pub(crate) book: Book<L>,
+    book: Book<L>,
     /// The parts for the seats that are not given yet.
-    pub(crate) spare: Share<L>,
+    spare: Share<L>,
     /// No seat and no view is given any more, and nothing is tended.
-    pub(crate) closed: bool,
+    closed: bool,
     /// Seats were given, and all of them were handed in.
-    pub(crate) gathered: bool,
-    pub(crate) upkeep: Upkeep,
+    gathered: bool,
+    upkeep: Upkeep,
     pub ghost ends: { closed ≡ false → gathered ≡ false },
     pub ghost counted: { book.total ≡ length chronicle.records },
     pub ghost idle: { gathered ≡ false → spare.amount ≡ 0 },
-    pub ghost cut: { gathered ≡ false → spare.parts + length chronicle.seats ≡ 1025 },
+    pub ghost cut: { gathered ≡ false → spare.parts + length chronicle.seats ≡ LEDGER_PARTS },
     pub ghost edition: { length publisher ≡ chronicle.decider.edition },
     pub ghost begins: { slice_get publisher 0 ≡ Some chronicle.opening } by { decider_set _ _ },
     pub ghost in_force: { last_or None publisher ≡ Some chronicle.decider } by { decider_set _ _ },
@@ -137,7 +143,7 @@ impl<L: Ledger + ListName, R: Wait + Drop, A: Allocator> Guarded<L, R, A> {
         blank: Blank,
     ) -> Self
         requires name { blank.name ≡ L.name }
-        requires parts { (blank.parts ≡ L.parts) × (L.parts ≡ 1025) }
+        requires parts { (blank.parts ≡ L.parts) × (L.parts ≡ LEDGER_PARTS) }
         requires empty { (chronicle.records ≡ []) × (chronicle.seats ≡ []) }
         requires in_force { chronicle.decider ≡ chronicle.opening }
         requires first { chronicle.opening.edition ≡ 1 }
@@ -205,16 +211,33 @@ impl<L: Ledger + ListName, R: Wait + Drop, A: Allocator> Guarded<L, R, A> {
         Ok(view)
     }
 
-    /// Drops a search, if it is still open.
-    pub(crate) fn drop_search(&mut self, seat: u32, number: u64) {
-        let _ = self.chronicle.drop_search(seat, number);
-        self.upkeep.search_ended();
+    /// Drops a search that is still open. Returns whether it was opened.
+    pub(crate) fn drop_search(&mut self, seat: u32, searching: Searching) -> bool {
+        match searching {
+            Searching::New => false,
+            Searching::Open(number) | Searching::Ready(number) => {
+                let _ = self.chronicle.drop_search(seat, number);
+                self.upkeep.search_ended();
+                true
+            }
+        }
     }
 
-    /// Aborts a transaction, if it is still open.
-    pub(crate) fn abort(&mut self, seat: u32, number: u64) {
-        let _ = self.chronicle.abort(seat, number);
-        self.upkeep.changed();
+    /// Stages a change in a transaction.
+    fn stage(&mut self, seat: u32, number: u64, change: Change) -> Result<(), Fault> {
+        self.chronicle.stage(seat, number, change)
+    }
+
+    /// Aborts a list's transaction that is still open. Returns whether it was begun.
+    pub(crate) fn abort(&mut self, seat: u32, committing: Committing) -> bool {
+        match committing {
+            Committing::New => false,
+            Committing::Open(number, _) | Committing::Placed(number) => {
+                let _ = self.chronicle.abort(seat, number);
+                self.upkeep.changed();
+                true
+            }
+        }
     }
 
     /// How many slots a round of tending has, if one is due; 0 if none is. H3 where the hall is
@@ -240,16 +263,141 @@ impl<L: Ledger + ListName, R: Wait + Drop, A: Allocator> Guarded<L, R, A> {
     }
 }
 
+impl<L: Ledger + ListName, R: Wait + Drop, A: Allocator> Guarded<L, R, A> {
+    /// A fact for callers, without effect: all records are one legal trail.
+    pub(crate) fn sound(&self)
+        ensures { IsSoundChronicle self.now.chronicle }
+    {
+        self.chronicle.sound();
+    }
+
+    /// Closes the hall, and takes the seats' shares back. C1 where the receipts of a seat are not
+    /// its records; C2 where fewer or more seats are handed in than were given, or they were handed
+    /// in before. A fault returns the seats.
+    pub(crate) fn settle<'h>(
+        &mut self,
+        seats: Vec<Seat<'h, L, R, A>, A>,
+    ) -> Result<Closed, (CloseFault, Vec<Seat<'h, L, R, A>, A>)>
+        requires { L.parts ≡ LEDGER_PARTS }
+        ensures same { self.new.chronicle ≡ self.old.chronicle }
+        ensures kept { IfOk result
+            (λ _. All (IsKeptBy self.old.chronicle.records) seats.entry.items) }
+        ensures records { IfOk result
+            (λ closed. closed.records ≡ length self.old.chronicle.records) }
+        ensures sum { IfOk result (λ closed. closed.records ≡ receipts_of seats.entry.items) }
+        ensures seats { IfOk result (λ closed. closed.seats ≡ length seats.entry.items) }
+        ensures given { IfOk result (λ closed. closed.seats ≡ length self.old.chronicle.seats) }
+        ensures back { IfErr result (λ e. e.1.items ≡ seats.entry.items) }
+        ensures cause { IfErr result
+            (λ e. IsCause self.old.chronicle self.old.gathered seats.entry.items e.0) }
+    {
+        let Guarded {
+            chronicle,
+            book,
+            spare,
+            closed,
+            gathered,
+            ..
+        } = self;
+        if let Some(fault) = mismatch(chronicle, &seats) {
+            return Err((fault, seats));
+        }
+        if *gathered || seats.len() != chronicle.seats_given() {
+            return Err((CloseFault::SeatOut, seats));
+        }
+        let account = Closed {
+            records: chronicle.len(),
+            seats: seats.len(),
+        };
+        gather(spare, seats);
+        book.audit(spare);
+        *closed = true;
+        *gathered = account.seats > 0;
+        Ok(account)
+    }
+}
+
 impl<L: Ledger + ListName, R: Wait + Drop, A: Allocator + Copy> Guarded<L, R, A> {
+    /// Opens a search.
+    fn open_search(&mut self, seat: u32, window: Shape) -> Result<u64, Fault> {
+        self.chronicle.open_search(seat, window)
+    }
+
+    /// Makes a step of a search.
+    fn visit(&mut self, seat: u32, number: u64) -> Result<Visit, Fault> {
+        self.chronicle.visit(seat, number)
+    }
+
+    /// Opens a search unless it is open, and visits it, with so many events in all at most. Returns
+    /// its number once it is ready.
+    fn visit_up_to(
+        &mut self,
+        seat: u32,
+        window: &Shape,
+        searching: &mut Searching,
+        events: u32,
+    ) -> Result<u64, Unfinished> {
+        for _ in 0..events {
+            match *searching {
+                Searching::New => {
+                    let number = self.open_search(seat, *window)?;
+                    *searching = Searching::Open(number);
+                }
+                Searching::Open(number) => match self.visit(seat, number)? {
+                    Visit::More => {}
+                    Visit::Ready => *searching = Searching::Ready(number),
+                },
+                Searching::Ready(number) => return Ok(number),
+            }
+        }
+        Err(Unfinished::More)
+    }
+
+    /// Begins a transaction.
+    fn begin(&mut self, seat: u32) -> Result<u64, Fault> {
+        self.chronicle.begin(seat)
+    }
+
     /// Makes a step of a transaction's walk.
-    pub(crate) fn advance(&mut self, seat: u32, number: u64) -> Result<Advance, Fault> {
+    fn advance(&mut self, seat: u32, number: u64) -> Result<Advance, Fault> {
         self.upkeep.changed();
         self.chronicle.advance(seat, number)
     }
 
+    /// Begins a list's transaction unless it is begun, stages its changes and places their shapes,
+    /// with so many events in all at most. Returns the transaction's number once all are placed.
+    fn place_up_to(
+        &mut self,
+        seat: u32,
+        changes: &[Change],
+        committing: &mut Committing,
+        events: u32,
+    ) -> Result<u64, Unfinished> {
+        for _ in 0..events {
+            match *committing {
+                Committing::New => {
+                    let number = self.begin(seat)?;
+                    *committing = Committing::Open(number, 0);
+                }
+                Committing::Open(number, staged) => match changes.get(staged) {
+                    Some(change) => {
+                        self.stage(seat, number, *change)?;
+                        *committing = Committing::Open(number, staged + 1);
+                    }
+                    None => match self.advance(seat, number)? {
+                        Advance::Walked(_) => {}
+                        Advance::AllPlaced => *committing = Committing::Placed(number),
+                    },
+                },
+                Committing::Placed(number) => return Ok(number),
+            }
+        }
+        Err(Unfinished::More)
+    }
+
     /// Finishes a search of a seat of this subject for a window. The record is counted in the
     /// seat's share.
-    pub(crate) fn finish<W: Wait>(
+    fn finish<W: Wait>(
         &mut self,
         rt: &W,
         seat: u32,
@@ -279,8 +427,36 @@ impl<L: Ledger + ListName, R: Wait + Drop, A: Allocator + Copy> Guarded<L, R, A>
         Ok((answer, receipt(rt, chronicle, book, share)))
     }
 
+    /// Goes on with a search of a seat of this subject for a window, with so many events at most,
+    /// its finish among them.
+    pub(crate) fn search_on<W: Wait>(
+        &mut self,
+        rt: &W,
+        seat: u32,
+        subject: &Subject,
+        share: &mut Share<L>,
+        window: &Shape,
+        searching: &mut Searching,
+        events: u32,
+    ) -> Result<(Answer<A>, Arc<Record<A>, A>), Unfinished>
+        requires { 0 < share.old.parts }
+        ensures subject { IfOk result (λ done. done.0.subject ≡ subject.now) }
+        ensures window { IfOk result (λ done. done.0.window ≡ window.now) }
+        ensures receipt { IfOk result
+            (λ done. arc_value done.1 ≡ record { seat = seat; deed = told_answer done.0 }) }
+        ensures amount { OnOk result (share.new.amount ≡ share.old.amount + 1) }
+        ensures err { OnErr result (share.new.amount ≡ share.old.amount) }
+        ensures parts { share.new.parts ≡ share.old.parts }
+    {
+        let number = self.visit_up_to(seat, window, searching, events)?;
+        match self.finish(rt, seat, subject, share, number, window) {
+            Ok(done) => Ok(done),
+            Err(fault) => Err(Unfinished::Refused(fault)),
+        }
+    }
+
     /// Commits a list of a seat of this subject. The record is counted in the seat's share.
-    pub(crate) fn commit<W: Wait>(
+    fn commit<W: Wait>(
         &mut self,
         rt: &W,
         seat: u32,
@@ -307,6 +483,33 @@ impl<L: Ledger + ListName, R: Wait + Drop, A: Allocator + Copy> Guarded<L, R, A>
         let outcome = chronicle.commit(seat, number, changes)?;
         upkeep.changed();
         Ok((outcome, receipt(rt, chronicle, book, share)))
+    }
+
+    /// Goes on with a list of a seat of this subject, with so many events at most, its commit among
+    /// them.
+    pub(crate) fn commit_on<W: Wait>(
+        &mut self,
+        rt: &W,
+        seat: u32,
+        subject: &Subject,
+        share: &mut Share<L>,
+        changes: &[Change],
+        committing: &mut Committing,
+        events: u32,
+    ) -> Result<(Outcome, Arc<Record<A>, A>), Unfinished>
+        requires { 0 < share.old.parts }
+        ensures receipt { IfOk result
+            (λ done. arc_value done.1
+            ≡ record { seat = seat; deed = deed_of subject.now changes.now done.0 }) }
+        ensures amount { OnOk result (share.new.amount ≡ share.old.amount + 1) }
+        ensures err { OnErr result (share.new.amount ≡ share.old.amount) }
+        ensures parts { share.new.parts ≡ share.old.parts }
+    {
+        let number = self.place_up_to(seat, changes, committing, events)?;
+        match self.commit(rt, seat, subject, share, number, changes) {
+            Ok(done) => Ok(done),
+            Err(fault) => Err(Unfinished::Refused(fault)),
+        }
     }
 
     /// Puts a document in force for a seat, publishes it, and returns the list that ends with it.

@@ -4,18 +4,20 @@ ghost use Rattle.std.specs.Prelude.{◌≡◌, [], ◌∷◌, ◌≤◌, IfOk, I
 ghost use Rattle.hall.specs.Closing.{IsClosed};
 ghost use Rattle.hall.specs.Seats.{receipts_of};
 
-use crate::closing::{Closed, settle};
+use crate::closing::Closed;
 use crate::faults::{CloseFault, HallFault, OpenFault};
 use crate::guarded::{Guarded, LEDGER_PARTS};
 use crate::seats::Seat;
+use audit_trail::RECORD_LIMIT;
 use chronicle::Chronicle;
-use features::{Name, Subjects};
+use features::{FEATURE_LIMIT, Name, Subjects};
 use memory::another;
 use policy_documents::Document;
 use published_policies::{EmptyList, ListName, Publisher, View};
 use std::alloc::{Allocator, Global};
 use std::sync::ledger::{Blank, Ledger};
 use std::sync::{Condvar, Mutex, Wait};
+use transactions::{Limits, STEP_LIMIT, Starts};
 
 /// The most views that a hall gives.
 pub const VIEW_LIMIT: usize = 64;
@@ -32,7 +34,7 @@ pub struct Unnamed {
 impl Unnamed {
     /// A new ledger, with the parts that a hall needs, and a new list.
     pub fn new() -> Self
-        ensures { result.ledger.parts ≡ 1025 }
+        ensures { result.ledger.parts ≡ LEDGER_PARTS }
     {
         Unnamed {
             ledger: Blank::new(LEDGER_PARTS),
@@ -60,13 +62,17 @@ fn publish_first<L: ListName, R: Wait + Drop, A: Allocator>(
     Ok(Publisher::open(rt, heap, list, first, readers)?)
 }
 
-/// One world that many threads share. Each event is one critical section of its one lock. Calls of
-/// the world are made through a seat.
+/// One world that many threads share. Each event is made in a critical section of its one lock.
+/// Calls of the world are made through a seat.
 #[derive(Drop)]
 pub struct Hall<L: Ledger + ListName, R: Wait + Drop, A: Allocator> {
     pub(crate) lock: Mutex<Guarded<L, R, A>>,
-    /// Notified when a search has ended: a list that it held back may be tried again.
+    /// Notified when a search has ended: a list that it held back may be tried again, and a search
+    /// that found as many open as may be.
     pub(crate) search_ended: Condvar,
+    /// Notified when a transaction has ended: a list that found as many open as may be may be
+    /// tried again.
+    pub(crate) transaction_ended: Condvar,
     pub(crate) alloc: A,
     pub(crate) heap: Global,
 }
@@ -76,7 +82,7 @@ impl<L: Ledger + ListName, R: Wait + Drop, A: Allocator + Copy> Hall<L, R, A> {
     /// views. `rt` is the hall's own handle, with which it publishes policies. `alloc` keeps
     /// features, records and receipts; `heap` keeps documents, the lines of a trail and what views
     /// read. H2 where more than `VIEW_LIMIT` views are asked for; H6, or the world's X12, where an
-    /// allocation is refused. A fault returns the document.
+    /// allocation is refused. A fault returns the document. The limits are the greatest.
     pub fn open(
         rt: R,
         alloc: A,
@@ -87,8 +93,32 @@ impl<L: Ledger + ListName, R: Wait + Drop, A: Allocator + Copy> Hall<L, R, A> {
         views: usize,
     ) -> Result<Self, (Document<Global>, OpenFault)>
         requires name { unnamed.ledger.name ≡ L.name }
-        requires parts { (unnamed.ledger.parts ≡ L.parts) × (L.parts ≡ 1025) }
+        requires parts { (unnamed.ledger.parts ≡ L.parts) × (L.parts ≡ LEDGER_PARTS) }
         requires list { unnamed.list ≡ L.book }
+        ensures { IfErr result (λ e. e.0 ≡ document) }
+    {
+        let limits = Limits::GREATEST;
+        Hall::open_within(rt, alloc, heap, unnamed, subjects, document, views, limits)
+    }
+
+    /// The same within other limits, for tests of what happens at them. No limit is above that of
+    /// `Limits::GREATEST`.
+    pub fn open_within(
+        rt: R,
+        alloc: A,
+        heap: Global,
+        unnamed: Unnamed,
+        subjects: Subjects,
+        document: Document<Global>,
+        views: usize,
+        limits: Limits,
+    ) -> Result<Self, (Document<Global>, OpenFault)>
+        requires name { unnamed.ledger.name ≡ L.name }
+        requires parts { (unnamed.ledger.parts ≡ L.parts) × (L.parts ≡ LEDGER_PARTS) }
+        requires list { unnamed.list ≡ L.book }
+        requires records { limits.records ≤ RECORD_LIMIT }
+        requires features { limits.features ≤ FEATURE_LIMIT }
+        requires steps { limits.steps ≤ STEP_LIMIT }
         ensures { IfErr result (λ e. e.0 ≡ document) }
     {
         if views > VIEW_LIMIT {
@@ -100,7 +130,8 @@ impl<L: Ledger + ListName, R: Wait + Drop, A: Allocator + Copy> Hall<L, R, A> {
             Ok(copy) => copy,
             Err(no_memory) => return Err((document, OpenFault::Memory(no_memory))),
         };
-        let chronicle = match Chronicle::open(alloc, heap, subjects, document) {
+        let starts = Starts::FIRST;
+        let chronicle = match Chronicle::open_at(alloc, heap, subjects, document, starts, limits) {
             Ok(chronicle) => chronicle,
             Err((document, fault)) => return Err((document, OpenFault::Core(fault))),
         };
@@ -111,6 +142,7 @@ impl<L: Ledger + ListName, R: Wait + Drop, A: Allocator + Copy> Hall<L, R, A> {
         Ok(Hall {
             lock: Mutex::new(Guarded::new(chronicle, publisher, views, ledger)),
             search_ended: Condvar::new(),
+            transaction_ended: Condvar::new(),
             alloc,
             heap,
         })
@@ -159,7 +191,7 @@ impl<L: Ledger + ListName, R: Wait + Drop, A: Allocator + Copy> Hall<L, R, A> {
         rt: &W,
         seats: Vec<Seat<'h, L, R, A>, A>,
     ) -> Result<Closed, (CloseFault, Vec<Seat<'h, L, R, A>, A>)>
-        requires { L.parts ≡ 1025 }
+        requires { L.parts ≡ LEDGER_PARTS }
         ensures records { IfOk result (λ closed. closed.records ≡ receipts_of seats.entry.items) }
         ensures seats { IfOk result (λ closed. closed.seats ≡ length seats.entry.items) }
         ensures trail { IfOk result
@@ -167,7 +199,7 @@ impl<L: Ledger + ListName, R: Wait + Drop, A: Allocator + Copy> Hall<L, R, A> {
         ensures back { IfErr result (λ e. e.1.items ≡ seats.entry.items) }
     {
         let mut guarded = self.lock.lock(rt);
-        guarded.chronicle.sound();
-        settle(&mut *guarded, seats)
+        guarded.sound();
+        guarded.settle(seats)
     }
 }

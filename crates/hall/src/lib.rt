@@ -10,12 +10,13 @@ mod guarded;
 mod halls;
 mod searching;
 mod seats;
+mod sections;
 mod upkeep;
 
 pub use closing::Closed;
-pub use committing::TRY_LIMIT;
 pub use faults::{CloseFault, HallFault, OpenFault};
 pub use guarded::LEDGER_PARTS;
 pub use halls::{Hall, Unnamed, VIEW_LIMIT};
 pub use published_policies::{Edition, Explained, ListName, View};
-pub use seats::{Gate, NoGate, Seat};
+pub use seats::Seat;
+pub use sections::{NoPause, Pause, SECTION_EVENTS, TRY_LIMIT};

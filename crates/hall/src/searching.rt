@@ -1,60 +1,108 @@
 //! Searches of a seat.
 
-ghost use Rattle.std.specs.Prelude.{◌≡◌, IfOk, OnErr};
+ghost use Rattle.std.specs.Prelude.{◌≡◌, ◌<◌, ◌+◌, IfOk, OnOk, OnErr};
+ghost use Rattle.std.specs.Arc.{arc_value};
+ghost use Rattle.chronicle.specs.Noting.{told_answer};
 ghost use Rattle.hall.specs.Calls.{IsSearched};
 
 use crate::faults::HallFault;
+use crate::guarded::Guarded;
 use crate::halls::Hall;
-use crate::seats::{Gate, Seat};
+use crate::seats::Seat;
+use crate::sections::{Pause, Searching, TRY_LIMIT, Unfinished, events_in_section};
+use audit_trail::Record;
+use features::Subject;
 use memory::GrowVec;
 use plane::Shape;
 use published_policies::ListName;
 use std::alloc::Allocator;
-use std::sync::Wait;
-use std::sync::ledger::Ledger;
-use transactions::{Answer, Visit};
+use std::sync::ledger::{Ledger, Share};
+use std::sync::{Arc, MutexGuard, Wait};
+use transactions::{Answer, Fault, TreeFault};
 
-/// Visits a search until it is ready. Calls the gate before each visit, without the lock.
-fn visit_all<L: Ledger + ListName, R: Wait + Drop, A: Allocator + Copy, W: Wait, G: Gate>(
+/// Ends a call of a search that is refused. S2 waits first, in this critical section, until a search
+/// ends; any other fault drops the search, and wakes whoever waits for its end. Ok where the search
+/// may be tried again: it waited, and `tries` leaves one more.
+fn wait_or_give_up<L: Ledger + ListName, R: Wait + Drop, A: Allocator, W: Wait>(
+    rt: &W,
+    hall: &Hall<L, R, A>,
+    guarded: MutexGuard<'_, Guarded<L, R, A>>,
+    seat: u32,
+    searching: Searching,
+    fault: Fault,
+    tries: &mut u32,
+) -> Result<(), HallFault> {
+    if let Fault::Tree(TreeFault::TooMany) = &fault {
+        drop(hall.search_ended.wait(rt, guarded));
+        *tries = tries.saturating_sub(1);
+        if *tries > 0 {
+            return Ok(());
+        }
+    } else {
+        let mut guarded = guarded;
+        let ended = guarded.drop_search(seat, searching);
+        drop(guarded);
+        if ended {
+            hall.search_ended.notify_all();
+        }
+    }
+    Err(HallFault::from(fault))
+}
+
+/// Searches a window for a seat of this subject, in one critical section after another. The record
+/// is counted in the seat's share. A search that finds as many open as may be waits until one ends;
+/// S2 after `TRY_LIMIT` tries. After a fault no search is open.
+fn searched<L: Ledger + ListName, R: Wait + Drop, A: Allocator + Copy, W: Wait, P: Pause>(
     rt: &W,
     hall: &Hall<L, R, A>,
     seat: u32,
-    number: u64,
-    gate: &mut G,
-) -> Result<(), HallFault> {
+    subject: &Subject,
+    share: &mut Share<L>,
+    window: &Shape,
+    pause: &mut P,
+) -> Result<(Answer<A>, Arc<Record<A>, A>), HallFault>
+    requires { 0 < share.old.parts }
+    ensures subject { IfOk result (λ done. done.0.subject ≡ subject.now) }
+    ensures window { IfOk result (λ done. done.0.window ≡ window.now) }
+    ensures receipt { IfOk result
+        (λ done. arc_value done.1 ≡ record { seat = seat; deed = told_answer done.0 }) }
+    ensures amount { OnOk result (share.new.amount ≡ share.old.amount + 1) }
+    ensures err { OnErr result (share.new.amount ≡ share.old.amount) }
+    ensures parts { share.new.parts ≡ share.old.parts }
+{
+    let events = events_in_section(pause);
+    let mut searching = Searching::New;
+    let mut tries = TRY_LIMIT;
     for _ in rt.forever() {
-        gate.between();
-        let visit = hall.lock.lock(rt).chronicle.visit(seat, number);
-        match visit? {
-            Visit::More => {}
-            Visit::Ready => return Ok(()),
+        let mut guarded = hall.lock.lock(rt);
+        match guarded.search_on(rt, seat, subject, share, window, &mut searching, events) {
+            Ok(done) => {
+                drop(guarded);
+                hall.search_ended.notify_all();
+                return Ok(done);
+            }
+            Err(Unfinished::More) => drop(guarded),
+            Err(Unfinished::Refused(fault)) => {
+                wait_or_give_up(rt, hall, guarded, seat, searching, fault, &mut tries)?;
+            }
         }
+        pause.between();
     }
     unreachable!()
 }
 
-/// Drops a search, if it is still open, and wakes the callers whose lists it held back.
-fn give_up<L: Ledger + ListName, R: Wait + Drop, A: Allocator, W: Wait>(
-    rt: &W,
-    hall: &Hall<L, R, A>,
-    seat: u32,
-    number: u64,
-) {
-    hall.lock.lock(rt).drop_search(seat, number);
-    hall.search_ended.notify_all();
-}
-
 impl<'h, L: Ledger + ListName, R: Wait + Drop, A: Allocator + Copy> Seat<'h, L, R, A> {
     /// Searches a window: lists what meets it and the seat's subject may read, when the search
-    /// finishes. H6 where there is no memory for the receipt's place; H5 with S2 where 16 searches
-    /// are open, S6 where the numbers of searches are at their end, S7 where the search takes too
-    /// many steps, X10 where the trail is full, X12 where an allocation is refused. A fault leaves
-    /// the seat unchanged.
-    pub fn search<W: Wait, G: Gate>(
+    /// finishes. Where 16 searches are open, it waits until one ends, and is then tried again, at
+    /// most `TRY_LIMIT` times. H6 where there is no memory for the receipt's place; H5 with S2
+    /// where 16 searches are open at each try, S6 where the numbers of searches are at their end,
+    /// S7 where the search takes too many steps, X10 where the trail is full, X12 where an
+    /// allocation is refused. A fault leaves the seat unchanged.
+    pub fn search<W: Wait, P: Pause>(
         &mut self,
         rt: &W,
         window: Shape,
-        gate: &mut G,
+        pause: &mut P,
     ) -> Result<Answer<A>, HallFault>
         ensures ok { IfOk result (λ answer. IsSearched window answer self.old self.new) }
         ensures err { OnErr result (self.new ≡ self.old) }
@@ -62,26 +110,20 @@ impl<'h, L: Ledger + ListName, R: Wait + Drop, A: Allocator + Copy> Seat<'h, L, 
         self.receipts.make_slot()?;
         let hall = self.hall;
         let seat = self.number;
-        let opened = hall.lock.lock(rt).chronicle.open_search(seat, window);
-        let number = opened?;
-        if let Err(fault) = visit_all(rt, hall, seat, number, gate) {
-            give_up(rt, hall, seat, number);
-            return Err(fault);
-        }
-        gate.between();
-        let mut guarded = hall.lock.lock(rt);
-        let finished = guarded.finish(rt, seat, &self.subject, &mut self.share, number, &window);
-        drop(guarded);
-        match finished {
+        match searched(
+            rt,
+            hall,
+            seat,
+            &self.subject,
+            &mut self.share,
+            &window,
+            pause,
+        ) {
             Ok((answer, receipt)) => {
-                hall.search_ended.notify_all();
                 self.receipts.push_reserved(receipt);
                 Ok(answer)
             }
-            Err(fault) => {
-                give_up(rt, hall, seat, number);
-                Err(HallFault::from(fault))
-            }
+            Err(fault) => Err(fault),
         }
     }
 }

@@ -1,4 +1,4 @@
-//! Seats, and gates between two events of a call.
+//! Seats.
 
 ghost use Rattle.std.specs.Prelude.{◌≡◌, map};
 ghost use Rattle.std.specs.Arc.{arc_value};
@@ -11,20 +11,6 @@ use std::alloc::Allocator;
 use std::marker::Model;
 use std::sync::ledger::{Ledger, Share};
 use std::sync::{Arc, Wait};
-
-/// What a caller does between two events of a call, while the lock is free.
-pub trait Gate {
-    /// Called between two events of a call, without the lock.
-    fn between(&mut self);
-}
-
-/// A gate that does nothing.
-#[derive(Clone, Copy, Debug)]
-pub struct NoGate;
-
-impl Gate for NoGate {
-    fn between(&mut self) {}
-}
 
 /// A seat of a hall, for one session. It keeps a receipt for each of its calls that is recorded:
 /// another owner of the record itself. Contracts see its number, its subject and its receipts.

@@ -5,7 +5,7 @@ ghost use Rattle.std.specs.Prelude.{◌≡◌, length};
 use crate::replies::{explained_reply, hall_reply};
 use combining::Question;
 use features::{Change, Name, Subject};
-use hall::{Gate, Hall, HallFault, ListName, Seat, View};
+use hall::{Hall, HallFault, ListName, Pause, Seat, View};
 use memory::GrowVec;
 use plane::Shape;
 use policy_documents::Document;
@@ -16,27 +16,27 @@ use std::sync::ledger::Ledger;
 
 /// A session over a hall. HELLO takes a seat, and appends it to those of the worker's earlier
 /// sessions. It stays there when the session ends, since a hall is closed with all its seats. The
-/// gate is called between two events of a call. EXPLAIN asks the worker's view, which needs no seat
+/// pause is that of its calls. EXPLAIN asks the worker's view, which needs no seat
 /// and no lock; the view is told of each document that the session puts in force.
 #[derive(Drop)]
-pub struct Attended<'a, 'h, L: Ledger + ListName, R: Wait + Drop, A: Allocator, W: Wait, G: Gate> {
+pub struct Attended<'a, 'h, L: Ledger + ListName, R: Wait + Drop, A: Allocator, W: Wait, P: Pause> {
     rt: &'a W,
     hall: &'h Hall<L, R, A>,
     seats: &'a mut Vec<Seat<'h, L, R, A>, A>,
     view: &'a mut View<L>,
-    gate: &'a mut G,
+    pause: &'a mut P,
     /// How many seats are before the session's own.
     earlier: usize,
 }
 
-impl<'a, 'h, L: Ledger + ListName, R: Wait + Drop, A: Allocator + Copy, W: Wait, G: Gate> Attended<
+impl<'a, 'h, L: Ledger + ListName, R: Wait + Drop, A: Allocator + Copy, W: Wait, P: Pause> Attended<
     'a,
     'h,
     L,
     R,
     A,
     W,
-    G,
+    P,
 > {
     /// A session before HELLO. `seats` are those of the worker's earlier sessions, `view` is the
     /// worker's.
@@ -45,7 +45,7 @@ impl<'a, 'h, L: Ledger + ListName, R: Wait + Drop, A: Allocator + Copy, W: Wait,
         hall: &'h Hall<L, R, A>,
         seats: &'a mut Vec<Seat<'h, L, R, A>, A>,
         view: &'a mut View<L>,
-        gate: &'a mut G,
+        pause: &'a mut P,
     ) -> Self
         ensures same_seats { result.seats.ghost_name ≡ seats.entry.ghost_name }
         ensures seats { result.seats.now ≡ seats.old }
@@ -59,14 +59,14 @@ impl<'a, 'h, L: Ledger + ListName, R: Wait + Drop, A: Allocator + Copy, W: Wait,
             hall,
             seats,
             view,
-            gate,
+            pause,
             earlier,
         }
     }
 }
 
-impl<'a, 'h, L: Ledger + ListName, R: Wait + Drop, A: Allocator + Copy, W: Wait, G: Gate> Service
-    for Attended<'a, 'h, L, R, A, W, G> {
+impl<'a, 'h, L: Ledger + ListName, R: Wait + Drop, A: Allocator + Copy, W: Wait, P: Pause> Service
+    for Attended<'a, 'h, L, R, A, W, P> {
     ghost use Rattle.std.specs.Prelude.{◌≡◌};
     ghost use Rattle.hall_sessions.specs.Services.{ServesInHall};
     ghost use Rattle.hall_sessions.specs.Sessions.{session, session_subject};
@@ -102,7 +102,7 @@ impl<'a, 'h, L: Ledger + ListName, R: Wait + Drop, A: Allocator + Copy, W: Wait,
         let Some(seat) = self.seats.get_mut(self.earlier) else {
             return Said::Line(Reply::Error(LineFault::BeforeHello));
         };
-        match seat.search(self.rt, window, self.gate) {
+        match seat.search(self.rt, window, self.pause) {
             Ok(answer) => Said::Rows(answer),
             Err(fault) => Said::Line(hall_reply(fault)),
         }
@@ -112,7 +112,7 @@ impl<'a, 'h, L: Ledger + ListName, R: Wait + Drop, A: Allocator + Copy, W: Wait,
         let Some(seat) = self.seats.get_mut(self.earlier) else {
             return Reply::Error(LineFault::BeforeHello);
         };
-        match seat.commit(self.rt, changes, self.gate) {
+        match seat.commit(self.rt, changes, self.pause) {
             Ok(outcome) => outcome_reply(&outcome),
             Err(fault) => hall_reply(fault),
         }

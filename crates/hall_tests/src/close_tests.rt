@@ -3,7 +3,7 @@ ghost use Rattle.std.specs.Prelude.{◌≡◌};
 
 use crate::halls::{ROADS, applied, document, name, opened, road, rows, seat, square};
 use features::Change;
-use hall::{Closed, Hall, HallFault, ListName, NoGate, Seat, Unnamed};
+use hall::{Closed, Hall, HallFault, LEDGER_PARTS, ListName, NoPause, Seat, Unnamed};
 use std::alloc::Global;
 use std::marker::Brand;
 use std::process::Abort;
@@ -23,7 +23,7 @@ fn refuse_one<L: Ledger + ListName, H: Wait + Drop, R: Wait + Abort>(
     assert!(rt; matches!(refused, Err(HallFault::Core(Fault::NotSteward))));
     assert!(rt; matches!(north.roll(rt), Err(HallFault::Core(Fault::NotSteward))));
     let twice = [road(rt, 1, 1, 1), road(rt, 1, 2, 2)];
-    let refused = north.commit(rt, &twice, &mut NoGate);
+    let refused = north.commit(rt, &twice, &mut NoPause);
     assert!(rt; matches!(refused, Err(HallFault::Core(Fault::NamedTwice))));
     assert_eq!(rt; north.receipts().len(), 0);
 }
@@ -35,15 +35,15 @@ fn tend_all<L: Ledger + ListName, H: Wait + Drop, R: Wait + Abort>(
     north: &mut Seat<'_, L, H, Global>,
 ) {
     for id in 1..41 {
-        assert!(rt; applied(rt, north, road(rt, id, 1, 1), &mut NoGate).is_some());
+        assert!(rt; applied(rt, north, road(rt, id, 1, 1), &mut NoPause).is_some());
     }
-    assert_eq!(rt; rows(rt, north, square(rt), &mut NoGate), Some(40));
+    assert_eq!(rt; rows(rt, north, square(rt), &mut NoPause), Some(40));
     for id in 1..41 {
         let gone = Change::Delete { id, version: id };
-        assert!(rt; applied(rt, north, gone, &mut NoGate).is_some());
+        assert!(rt; applied(rt, north, gone, &mut NoPause).is_some());
         assert!(rt; hall.tend_round(rt) == Ok(()));
     }
-    assert_eq!(rt; rows(rt, north, square(rt), &mut NoGate), Some(0));
+    assert_eq!(rt; rows(rt, north, square(rt), &mut NoPause), Some(0));
     assert_eq!(rt; north.receipts().len(), 82);
 }
 
@@ -54,7 +54,7 @@ fn close_one<'h, L: Ledger + ListName, H: Wait + Drop, R: Wait + Abort>(
     hall: &'h Hall<L, H, Global>,
     seat: Seat<'h, L, H, Global>,
 )
-    requires { L.parts ≡ 1025 }
+    requires { L.parts ≡ LEDGER_PARTS }
 {
     let mut seats = Vec::new(heap);
     assert!(rt; seats.push(seat).is_ok());
@@ -79,7 +79,7 @@ fn opens_and_closes_in<L: Ledger + ListName, H: Wait + Drop, R: Wait + Abort>(
     unnamed: Unnamed,
 )
     requires name { unnamed.ledger.name ≡ L.name }
-    requires parts { (unnamed.ledger.parts ≡ L.parts) × (L.parts ≡ 1025) }
+    requires parts { (unnamed.ledger.parts ≡ L.parts) × (L.parts ≡ LEDGER_PARTS) }
     requires list { unnamed.list ≡ L.book }
 {
     let hall = opened::<L, H>(rt, own, heap, unnamed, 0);
@@ -103,7 +103,7 @@ fn empty_in<L: Ledger + ListName, H: Wait + Drop, R: Wait + Abort>(
     unnamed: Unnamed,
 )
     requires name { unnamed.ledger.name ≡ L.name }
-    requires parts { (unnamed.ledger.parts ≡ L.parts) × (L.parts ≡ 1025) }
+    requires parts { (unnamed.ledger.parts ≡ L.parts) × (L.parts ≡ LEDGER_PARTS) }
     requires list { unnamed.list ≡ L.book }
 {
     let hall = opened::<L, H>(rt, own, heap, unnamed, 0);

@@ -1,9 +1,10 @@
 //! Halls, and what is done in them.
-ghost use Rattle.std.specs.Prelude.{◌≡◌};
+ghost use Rattle.std.specs.Prelude.{◌≡◌, ◌≤◌};
 
+use audit_trail::RECORD_LIMIT;
 use combining::Question;
-use features::{Action, Change, Name, Subject, Subjects};
-use hall::{Closed, Gate, Hall, ListName, Seat, Unnamed, View};
+use features::{Action, Change, FEATURE_LIMIT, Name, Subject, Subjects};
+use hall::{Closed, Hall, LEDGER_PARTS, ListName, Pause, Seat, Unnamed, View};
 use plane::{Point, Shape};
 use policy_text::{Document, read_document};
 use std::alloc::{Allocator, Global};
@@ -12,7 +13,7 @@ use std::sync::Wait;
 use std::sync::atomic::{AtomicU64, Ordering};
 use std::sync::ledger::Ledger;
 use std::thread;
-use transactions::Outcome;
+use transactions::{Limits, Outcome, STEP_LIMIT};
 
 /// A document that permits everything.
 pub const OPEN: &str =
@@ -97,7 +98,7 @@ pub fn opened<L: Ledger + ListName, H: Wait + Drop>(
     views: usize,
 ) -> Hall<L, H, Global>
     requires name { unnamed.ledger.name ≡ L.name }
-    requires parts { (unnamed.ledger.parts ≡ L.parts) × (L.parts ≡ 1025) }
+    requires parts { (unnamed.ledger.parts ≡ L.parts) × (L.parts ≡ LEDGER_PARTS) }
     requires list { unnamed.list ≡ L.book }
 {
     opened_in(rt, own, heap, heap, unnamed, views)
@@ -113,11 +114,34 @@ pub fn opened_in<L: Ledger + ListName, H: Wait + Drop, A: Allocator + Copy>(
     views: usize,
 ) -> Hall<L, H, A>
     requires name { unnamed.ledger.name ≡ L.name }
-    requires parts { (unnamed.ledger.parts ≡ L.parts) × (L.parts ≡ 1025) }
+    requires parts { (unnamed.ledger.parts ≡ L.parts) × (L.parts ≡ LEDGER_PARTS) }
     requires list { unnamed.list ≡ L.book }
 {
     let document = document(rt, heap, OPEN);
     match Hall::open(own, alloc, heap, unnamed, subjects(rt), document, views) {
+        Ok(hall) => hall,
+        Err(_) => panic!(rt; "no hall"),
+    }
+}
+
+/// A hall in which everything is permitted, with no views, within these limits.
+pub fn opened_within<L: Ledger + ListName, H: Wait + Drop>(
+    rt: &impl Abort,
+    own: H,
+    heap: Global,
+    unnamed: Unnamed,
+    limits: Limits,
+) -> Hall<L, H, Global>
+    requires name { unnamed.ledger.name ≡ L.name }
+    requires parts { (unnamed.ledger.parts ≡ L.parts) × (L.parts ≡ LEDGER_PARTS) }
+    requires list { unnamed.list ≡ L.book }
+    requires records { limits.records ≤ RECORD_LIMIT }
+    requires features { limits.features ≤ FEATURE_LIMIT }
+    requires steps { limits.steps ≤ STEP_LIMIT }
+{
+    let document = document(rt, heap, OPEN);
+    let subjects = subjects(rt);
+    match Hall::open_within(own, heap, heap, unnamed, subjects, document, 0, limits) {
         Ok(hall) => hall,
         Err(_) => panic!(rt; "no hall"),
     }
@@ -158,32 +182,32 @@ pub fn seat<'h, L: Ledger + ListName, H: Wait + Drop, A: Allocator + Copy>(
 }
 
 /// Commits a list of one change. Returns its version, or `None` if it is not applied.
-pub fn applied<L: Ledger + ListName, H: Wait + Drop, A: Allocator + Copy, G: Gate>(
+pub fn applied<L: Ledger + ListName, H: Wait + Drop, A: Allocator + Copy, P: Pause>(
     rt: &impl Wait,
     seat: &mut Seat<'_, L, H, A>,
     change: Change,
-    gate: &mut G,
+    pause: &mut P,
 ) -> Option<u64> {
-    match seat.commit(rt, &[change], gate) {
+    match seat.commit(rt, &[change], pause) {
         Ok(Outcome::Applied(version)) => Some(version),
         _ => None,
     }
 }
 
 /// How many rows a search returns; `None` if it fails.
-pub fn rows<L: Ledger + ListName, H: Wait + Drop, A: Allocator + Copy, G: Gate>(
+pub fn rows<L: Ledger + ListName, H: Wait + Drop, A: Allocator + Copy, P: Pause>(
     rt: &impl Wait,
     seat: &mut Seat<'_, L, H, A>,
     window: Shape,
-    gate: &mut G,
+    pause: &mut P,
 ) -> Option<usize> {
-    match seat.search(rt, window, gate) {
+    match seat.search(rt, window, pause) {
         Ok(answer) => Some(answer.rows().len()),
         Err(_) => None,
     }
 }
 
-/// A gate that sets `mine` at its second call, which is after the first visit of a search, and
+/// A pause that wants steps, and sets `mine` at its second call, which is after the first visit of a search, and
 /// waits there for `other`.
 #[derive(Drop)]
 struct Meeting<'a> {
@@ -213,7 +237,7 @@ pub fn wait_for(flag: &AtomicU64) -> bool {
     false
 }
 
-impl Gate for Meeting<'_> {
+impl Pause for Meeting<'_> {
     fn between(&mut self) {
         self.calls = self.calls.saturating_add(1);
         if self.calls == 2 {
@@ -222,6 +246,10 @@ impl Gate for Meeting<'_> {
                 self.mine.store(2, Ordering::SeqCst);
             }
         }
+    }
+
+    fn wants_steps(&self) -> bool {
+        true
     }
 }
 
@@ -234,8 +262,8 @@ pub fn search_meeting<'h, L: Ledger + ListName, H: Wait + Drop, R: Wait + Abort>
     done: &AtomicU64,
 ) -> (Seat<'h, L, H, Global>, Option<usize>) {
     let mut seat = seat;
-    let mut gate = Meeting::new(seen, done);
-    let found = rows(rt, &mut seat, square(rt), &mut gate);
+    let mut pause = Meeting::new(seen, done);
+    let found = rows(rt, &mut seat, square(rt), &mut pause);
     (seat, found)
 }
 
@@ -248,7 +276,7 @@ pub fn close_two<'h, L: Ledger + ListName, H: Wait + Drop, R: Wait + Abort>(
     two: Seat<'h, L, H, Global>,
     records: u64,
 )
-    requires { L.parts ≡ 1025 }
+    requires { L.parts ≡ LEDGER_PARTS }
 {
     let mut seats = Vec::new(heap);
     assert!(rt; seats.push(one).is_ok());

@@ -2,7 +2,9 @@
 ghost use Rattle.std.specs.Prelude.{◌≡◌};
 
 use crate::halls::{TURNS, applied, opened, point, road, rows, search_meeting, seat, wait_for};
-use hall::{CloseFault, Hall, HallFault, ListName, NoGate, Seat, TRY_LIMIT, Unnamed};
+use hall::{
+    CloseFault, Hall, HallFault, LEDGER_PARTS, ListName, NoPause, Seat, TRY_LIMIT, Unnamed,
+};
 use std::alloc::Global;
 use std::marker::Brand;
 use std::process::Abort;
@@ -30,7 +32,7 @@ fn commit_held<'h, L: Ledger + ListName, H: Wait + Drop, R: Wait + Abort>(
     let mut seat = seat;
     let met = wait_for(seen);
     let held = matches!(
-        seat.commit(rt, &[road(rt, 2, 2, 2)], &mut NoGate),
+        seat.commit(rt, &[road(rt, 2, 2, 2)], &mut NoPause),
         Err(HallFault::Held)
     );
     answered.store(if met && held { HELD } else { OTHER }, Ordering::SeqCst);
@@ -50,7 +52,7 @@ fn search_elsewhere<'h, L: Ledger + ListName, H: Wait + Drop, R: Wait + Abort>(
         if answered.load(Ordering::SeqCst) != OPEN {
             break;
         }
-        if rows(rt, &mut seat, point(rt, 100, 100), &mut NoGate) == Some(0) {
+        if rows(rt, &mut seat, point(rt, 100, 100), &mut NoPause) == Some(0) {
             searches = searches.saturating_add(1);
         }
     }
@@ -125,7 +127,7 @@ fn held_sixty_four_times_in<
     R: Threads + Wait + Abort + Sync,
 >(rt: &R, own: H, heap: Global, unnamed: Unnamed)
     requires name { unnamed.ledger.name ≡ L.name }
-    requires parts { (unnamed.ledger.parts ≡ L.parts) × (L.parts ≡ 1025) }
+    requires parts { (unnamed.ledger.parts ≡ L.parts) × (L.parts ≡ LEDGER_PARTS) }
     requires list { unnamed.list ≡ L.book }
 {
     let hall = opened::<L, H>(rt, own, heap, unnamed, 0);
@@ -134,7 +136,7 @@ fn held_sixty_four_times_in<
     assert!(rt; others.push(seat(rt, &hall, "south")).is_ok());
     assert!(rt; others.push(seat(rt, &hall, "north")).is_ok());
     assert_eq!(rt;
-        applied(rt, &mut first, road(rt, 1, 1, 1), &mut NoGate),
+        applied(rt, &mut first, road(rt, 1, 1, 1), &mut NoPause),
         Some(1)
     );
     let (seen, answered) = (AtomicU64::new(0), AtomicU64::new(OPEN));
@@ -143,7 +145,7 @@ fn held_sixty_four_times_in<
     let third = last_of(rt, &mut others);
     let mut second = last_of(rt, &mut others);
     assert_eq!(rt;
-        applied(rt, &mut second, road(rt, 2, 2, 2), &mut NoGate),
+        applied(rt, &mut second, road(rt, 2, 2, 2), &mut NoPause),
         Some(2)
     );
     close_three(rt, heap, &hall, first, second, third);
@@ -158,7 +160,7 @@ fn close_three<'h, L: Ledger + ListName, H: Wait + Drop, R: Wait + Abort>(
     second: Seat<'h, L, H, Global>,
     third: Seat<'h, L, H, Global>,
 )
-    requires { L.parts ≡ 1025 }
+    requires { L.parts ≡ LEDGER_PARTS }
 {
     let mut seats = Vec::new(heap);
     assert!(rt; seats.push(first).is_ok());
@@ -181,7 +183,7 @@ fn close_all<'h, L: Ledger + ListName, H: Wait + Drop, R: Wait + Abort>(
     hall: &'h Hall<L, H, Global>,
     seats: Vec<Seat<'h, L, H, Global>>,
 )
-    requires { L.parts ≡ 1025 }
+    requires { L.parts ≡ LEDGER_PARTS }
 {
     match hall.close(rt, seats) {
         Ok(closed) => assert_eq!(rt; closed.seats, 3),

@@ -3,7 +3,7 @@ ghost use Rattle.std.specs.Prelude.{◌≡◌};
 
 use crate::halls::{ROADS, applied, document, name, opened_in, road, rows, seat, square};
 use features::Change;
-use hall::{Hall, HallFault, ListName, NoGate, Seat, Unnamed};
+use hall::{Hall, HallFault, LEDGER_PARTS, ListName, NoPause, Seat, Unnamed};
 use refusing::Refusing;
 use std::alloc::Global;
 use std::marker::Brand;
@@ -33,10 +33,10 @@ fn call<L: Ledger + ListName, H: Wait + Drop, R: Wait + Abort>(
     taking: Taking,
 ) -> Option<HallFault> {
     match taking {
-        Taking::Search => chief.search(rt, square(rt), &mut NoGate).err(),
-        Taking::Apply => chief.commit(rt, &[road(rt, 2, 2, 2)], &mut NoGate).err(),
+        Taking::Search => chief.search(rt, square(rt), &mut NoPause).err(),
+        Taking::Apply => chief.commit(rt, &[road(rt, 2, 2, 2)], &mut NoPause).err(),
         Taking::TurnAway => chief
-            .commit(rt, &[Change::Delete { id: 9, version: 1 }], &mut NoGate)
+            .commit(rt, &[Change::Delete { id: 9, version: 1 }], &mut NoPause)
             .err(),
         Taking::Govern => chief.govern(rt, document(rt, heap, ROADS)).err(),
         Taking::Roll => chief.roll(rt).err(),
@@ -74,7 +74,7 @@ fn is_refused<L: Ledger + ListName, H: Wait + Drop, R: Wait + Abort>(
         Some(fault) => {
             assert!(rt; reached && is_memory(&fault), "{taking:?} {at}: {fault}");
             assert_eq!(rt; chief.receipts().len(), 0);
-            assert_eq!(rt; rows(rt, north, square(rt), &mut NoGate), Some(1));
+            assert_eq!(rt; rows(rt, north, square(rt), &mut NoPause), Some(1));
             assert!(rt;
                 call(rt, heap, chief, taking).is_none(),
                 "{taking:?} {at}: again"
@@ -92,7 +92,7 @@ fn close_two<'h, 'm, L: Ledger + ListName, H: Wait + Drop, R: Wait + Abort>(
     one: Seat<'h, L, H, &'m Refusing<Global>>,
     two: Seat<'h, L, H, &'m Refusing<Global>>,
 )
-    requires { L.parts ≡ 1025 }
+    requires { L.parts ≡ LEDGER_PARTS }
 {
     let mut seats = Vec::new(memory);
     assert!(rt; seats.push(one).is_ok());
@@ -114,14 +114,14 @@ fn refused_in<L: Ledger + ListName, H: Wait + Drop, R: Wait + Abort>(
     at: u64,
 ) -> bool
     requires name { unnamed.ledger.name ≡ L.name }
-    requires parts { (unnamed.ledger.parts ≡ L.parts) × (L.parts ≡ 1025) }
+    requires parts { (unnamed.ledger.parts ≡ L.parts) × (L.parts ≡ LEDGER_PARTS) }
     requires list { unnamed.list ≡ L.book }
 {
     let memory = Refusing::new(heap, 0);
     let hall: Hall<L, H, &Refusing<Global>> = opened_in(rt, own, &memory, heap, unnamed, 0);
     let mut chief = seat(rt, &hall, "chief");
     let mut north = seat(rt, &hall, "north");
-    assert!(rt; applied(rt, &mut north, road(rt, 1, 1, 1), &mut NoGate).is_some());
+    assert!(rt; applied(rt, &mut north, road(rt, 1, 1, 1), &mut NoPause).is_some());
     let reached = is_refused(rt, heap, &memory, &mut chief, &mut north, taking, at);
     close_two(rt, &memory, &hall, chief, north);
     reached
@@ -167,7 +167,7 @@ fn seat_refused_in<L: Ledger + ListName, H: Wait + Drop, R: Wait + Abort>(
     at: u64,
 ) -> bool
     requires name { unnamed.ledger.name ≡ L.name }
-    requires parts { (unnamed.ledger.parts ≡ L.parts) × (L.parts ≡ 1025) }
+    requires parts { (unnamed.ledger.parts ≡ L.parts) × (L.parts ≡ LEDGER_PARTS) }
     requires list { unnamed.list ≡ L.book }
 {
     let memory = Refusing::new(heap, 0);

@@ -2,7 +2,7 @@
 ghost use Rattle.std.specs.Prelude.{◌≡◌};
 
 use crate::halls::{TURNS, applied, close_two, opened, road, rows, seat, square};
-use hall::{ListName, NoGate, Seat, Unnamed};
+use hall::{LEDGER_PARTS, ListName, NoPause, Seat, Unnamed};
 use std::alloc::Global;
 use std::marker::Brand;
 use std::process::Abort;
@@ -33,9 +33,9 @@ fn work<'h, L: Ledger + ListName, H: Wait + Drop, R: Wait + Abort>(
 ) -> (Seat<'h, L, H, Global>, u64) {
     let mut seat = seat;
     for round in 1..MOST {
-        let version = applied(rt, &mut seat, road(rt, round, 1, 1), &mut NoGate);
+        let version = applied(rt, &mut seat, road(rt, round, 1, 1), &mut NoPause);
         assert_eq!(rt; version, Some(round));
-        let found = rows(rt, &mut seat, square(rt), &mut NoGate);
+        let found = rows(rt, &mut seat, square(rt), &mut NoPause);
         assert_eq!(rt; found, Some(round as usize));
         rounds.store(round, Ordering::SeqCst);
         // Lets the steward get the lock, too.
@@ -125,7 +125,7 @@ fn rolls_beside_work_in<
     R: Threads + Wait + Abort + Sync,
 >(rt: &R, own: H, heap: Global, unnamed: Unnamed)
     requires name { unnamed.ledger.name ≡ L.name }
-    requires parts { (unnamed.ledger.parts ≡ L.parts) × (L.parts ≡ 1025) }
+    requires parts { (unnamed.ledger.parts ≡ L.parts) × (L.parts ≡ LEDGER_PARTS) }
     requires list { unnamed.list ≡ L.book }
 {
     let hall = opened::<L, H>(rt, own, heap, unnamed, 0);

@@ -6,7 +6,7 @@ use crate::halls::{
     view, wait_for,
 };
 use decision::Ruling;
-use hall::{Hall, ListName, NoGate, Seat, Unnamed};
+use hall::{Hall, LEDGER_PARTS, ListName, NoPause, Seat, Unnamed};
 use std::alloc::Global;
 use std::marker::Brand;
 use std::process::Abort;
@@ -26,7 +26,7 @@ fn commit_meeting<'h, L: Ledger + ListName, H: Wait + Drop, R: Wait + Abort>(
 ) -> (Seat<'h, L, H, Global>, Option<u64>) {
     let mut seat = seat;
     let met = wait_for(seen);
-    let version = applied(rt, &mut seat, road(rt, 2, 100, 100), &mut NoGate);
+    let version = applied(rt, &mut seat, road(rt, 2, 100, 100), &mut NoPause);
     done.store(1, Ordering::SeqCst);
     (seat, if met { version } else { None })
 }
@@ -62,20 +62,20 @@ fn two_threads_in<
     R: Threads + Wait + Abort + Sync,
 >(rt: &R, own: H, heap: Global, unnamed: Unnamed)
     requires name { unnamed.ledger.name ≡ L.name }
-    requires parts { (unnamed.ledger.parts ≡ L.parts) × (L.parts ≡ 1025) }
+    requires parts { (unnamed.ledger.parts ≡ L.parts) × (L.parts ≡ LEDGER_PARTS) }
     requires list { unnamed.list ≡ L.book }
 {
     let hall = opened::<L, H>(rt, own, heap, unnamed, 1);
     let chief = seat(rt, &hall, "chief");
     let mut north = seat(rt, &hall, "north");
     assert_eq!(rt;
-        applied(rt, &mut north, road(rt, 1, 1, 1), &mut NoGate),
+        applied(rt, &mut north, road(rt, 1, 1, 1), &mut NoPause),
         Some(1)
     );
     let (seen, done) = (AtomicU64::new(0), AtomicU64::new(0));
     let (mut chief, north) = meet(rt, chief, north, &seen, &done);
     assert_eq!(rt;
-        rows(rt, &mut chief, point(rt, 100, 100), &mut NoGate),
+        rows(rt, &mut chief, point(rt, 100, 100), &mut NoPause),
         Some(1)
     );
     assert_told(rt, heap, &hall, &mut chief);

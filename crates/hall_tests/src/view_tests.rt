@@ -4,7 +4,9 @@ ghost use Rattle.std.specs.Prelude.{◌≡◌};
 use crate::halls::{OPEN, ROADS, document, opened, question, seat, subjects, view};
 use combining::Question;
 use decision::Ruling;
-use hall::{Explained, Hall, HallFault, ListName, OpenFault, Seat, Unnamed, VIEW_LIMIT, View};
+use hall::{
+    Explained, Hall, HallFault, LEDGER_PARTS, ListName, OpenFault, Seat, Unnamed, VIEW_LIMIT, View,
+};
 use std::alloc::{AllocError, Global};
 use std::marker::Brand;
 use std::process::Abort;
@@ -127,7 +129,7 @@ where
     H: Wait + Drop + Send,
     R: Threads + Wait + Abort + Sync,
     requires name { unnamed.ledger.name ≡ L.name }
-    requires parts { (unnamed.ledger.parts ≡ L.parts) × (L.parts ≡ 1025) }
+    requires parts { (unnamed.ledger.parts ≡ L.parts) × (L.parts ≡ LEDGER_PARTS) }
     requires list { unnamed.list ≡ L.book }
 {
     let hall = opened::<L, H>(rt, own, heap, unnamed, VIEWS);
@@ -159,7 +161,7 @@ fn views_are_given_in<L: Ledger + ListName, H: Wait + Drop, R: Wait + Abort>(
     unnamed: Unnamed,
 )
     requires name { unnamed.ledger.name ≡ L.name }
-    requires parts { (unnamed.ledger.parts ≡ L.parts) × (L.parts ≡ 1025) }
+    requires parts { (unnamed.ledger.parts ≡ L.parts) × (L.parts ≡ LEDGER_PARTS) }
     requires list { unnamed.list ≡ L.book }
 {
     let hall = opened::<L, H>(rt, own, heap, unnamed, 2);
@@ -188,7 +190,7 @@ fn no_views_in<L: Ledger + ListName, H: Wait + Drop, R: Wait + Abort>(
     unnamed: Unnamed,
 )
     requires name { unnamed.ledger.name ≡ L.name }
-    requires parts { (unnamed.ledger.parts ≡ L.parts) × (L.parts ≡ 1025) }
+    requires parts { (unnamed.ledger.parts ≡ L.parts) × (L.parts ≡ LEDGER_PARTS) }
     requires list { unnamed.list ≡ L.book }
 {
     let hall = opened::<L, H>(rt, own, heap, unnamed, 0);
@@ -208,7 +210,7 @@ fn too_many_views_in<L: Ledger + ListName, H: Wait + Drop>(
     unnamed: Unnamed,
 )
     requires name { unnamed.ledger.name ≡ L.name }
-    requires parts { (unnamed.ledger.parts ≡ L.parts) × (L.parts ≡ 1025) }
+    requires parts { (unnamed.ledger.parts ≡ L.parts) × (L.parts ≡ LEDGER_PARTS) }
     requires list { unnamed.list ≡ L.book }
 {
     let document = document(rt, heap, OPEN);

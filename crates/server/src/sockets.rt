@@ -6,7 +6,7 @@ ghost use Rattle.server.specs.Served.{IsServed};
 use crate::faults::ServerFault;
 use crate::listening::{listen, tell_ready};
 use crate::streams::{Serving, serve_streams};
-use hall::{Closed, NoGate};
+use hall::{Closed, NoPause};
 use log::{Log, warn};
 use std::alloc::Global;
 use std::fs::Files;
@@ -87,16 +87,16 @@ fn patience(idle: Option<u64>) -> Option<Duration> {
     }
 }
 
-/// A stream as its reader, its writer and a gate that does nothing. Its calls wait at most
+/// A stream as its reader, its writer and a pause that does nothing. Its calls wait at most
 /// `patience`.
 fn parted(
     stream: UnixStream,
     patience: Option<Duration>,
-) -> io::Result<(UnixStream, UnixStream, NoGate)> {
+) -> io::Result<(UnixStream, UnixStream, NoPause)> {
     stream.set_read_timeout(patience)?;
     stream.set_write_timeout(patience)?;
     let reader = stream.try_clone()?;
-    Ok((reader, stream, NoGate))
+    Ok((reader, stream, NoPause))
 }
 
 /// Writes the line `listening PATH`, and serves the connections that come.

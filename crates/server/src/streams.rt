@@ -9,7 +9,7 @@ use crate::faults::{NoMemoryForChannel, ServerFault};
 use crate::workers::{tend, work};
 use crossbeam_channel::{Receiver, Sender, bounded};
 use features::Subjects;
-use hall::{Closed, Gate, Hall, ListName, Seat, Unnamed, VIEW_LIMIT, View};
+use hall::{Closed, Hall, LEDGER_PARTS, ListName, Pause, Seat, Unnamed, VIEW_LIMIT, View};
 use log::{Log, warn};
 use memory::{GrowVec, vec_with_slots};
 use plain_world::SEAT_LIMIT;
@@ -99,7 +99,7 @@ where
     R: Threads + Wait + Log + Sync,
     I: Read + Drop + Send,
     O: Write + Drop + Send,
-    G: Gate + Drop + Send,
+    G: Pause + Drop + Send,
     S: Iterator<Item = (I, O, G)> + Drop,
     requires can { S.can_next incoming }
     requires ends { IsFinite (S.remaining incoming) }
@@ -148,7 +148,7 @@ where
     R: Threads + Wait + Clock + Log + Sync,
     I: Read + Drop + Send,
     O: Write + Drop + Send,
-    G: Gate + Drop + Send,
+    G: Pause + Drop + Send,
     S: Iterator<Item = (I, O, G)> + Drop,
     requires can { S.can_next incoming }
     requires ends { IsFinite (S.remaining incoming) }
@@ -194,10 +194,10 @@ where
     R: Threads + Wait + Clock + Log + Sync,
     I: Read + Drop + Send,
     O: Write + Drop + Send,
-    G: Gate + Drop + Send,
+    G: Pause + Drop + Send,
     S: Iterator<Item = (I, O, G)> + Drop,
     requires name { unnamed.ledger.name ≡ L.name }
-    requires parts { (unnamed.ledger.parts ≡ L.parts) × (L.parts ≡ 1025) }
+    requires parts { (unnamed.ledger.parts ≡ L.parts) × (L.parts ≡ LEDGER_PARTS) }
     requires list { unnamed.list ≡ L.book }
     requires can { S.can_next incoming }
     requires ends { IsFinite (S.remaining incoming) }
@@ -241,7 +241,7 @@ where
     R: Threads + Wait + Clock + Log + Sync,
     I: Read + Drop + Send,
     O: Write + Drop + Send,
-    G: Gate + Drop + Send,
+    G: Pause + Drop + Send,
     S: Iterator<Item = (I, O, G)> + Drop,
     requires can { S.can_next incoming }
     requires ends { IsFinite (S.remaining incoming) }

@@ -2,7 +2,7 @@
 
 use byte_streams::let_go;
 use crossbeam_channel::{Receiver, RecvTimeoutError};
-use hall::{Gate, Hall, ListName, Seat, View};
+use hall::{Hall, ListName, Pause, Seat, View};
 use hall_sessions::Attended;
 use line_streams::ServeFault;
 use log::{Log, warn};
@@ -26,7 +26,7 @@ fn serve_buffered<
     R: Wait,
     I: Read,
     O: Write + Drop,
-    G: Gate,
+    G: Pause,
 >(
     rt: &R,
     heap: Global,
@@ -35,10 +35,10 @@ fn serve_buffered<
     view: &mut View<L>,
     reader: &mut I,
     writer: O,
-    gate: &mut G,
+    pause: &mut G,
 ) -> Result<(), ServeFault> {
     let mut writer = buffered(heap, writer)?;
-    let mut attended = Attended::new(rt, hall, seats, view, gate);
+    let mut attended = Attended::new(rt, hall, seats, view, pause);
     match serve(heap, heap, &mut attended, reader, &mut writer) {
         Ok(_) => Ok(()),
         Err(fault) => {
@@ -56,7 +56,7 @@ fn serve_stream<
     R: Wait + Log,
     I: Read + Drop,
     O: Write + Drop,
-    G: Gate + Drop,
+    G: Pause + Drop,
 >(
     rt: &R,
     heap: Global,
@@ -65,8 +65,8 @@ fn serve_stream<
     view: &mut View<L>,
     stream: (I, O, G),
 ) {
-    let (mut reader, writer, mut gate) = stream;
-    let ended = serve_buffered(rt, heap, hall, seats, view, &mut reader, writer, &mut gate);
+    let (mut reader, writer, mut pause) = stream;
+    let ended = serve_buffered(rt, heap, hall, seats, view, &mut reader, writer, &mut pause);
     if let Err(fault) = ended {
         warn!(rt; target: "landmap", "a session ended by {fault}");
     }
@@ -81,7 +81,7 @@ pub(crate) fn work<
     R: Wait + Log,
     I: Read + Drop,
     O: Write + Drop,
-    G: Gate + Drop,
+    G: Pause + Drop,
 >(
     rt: &R,
     heap: Global,

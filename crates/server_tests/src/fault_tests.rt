@@ -2,7 +2,7 @@
 use crate::memory_streams::{Replies, failing, whole};
 use crate::servers::closed_by;
 use failing_streams::{FailingReader, FailingWriter, Failure};
-use hall::{Closed, NoGate};
+use hall::{Closed, NoPause};
 use log::Log;
 use std::alloc::Global;
 use std::process::Abort;
@@ -54,8 +54,8 @@ where
         fails_at: 0,
     };
     let streams = vec![in heap;
-        (first, Replies::kept_in(rt, told), NoGate),
-        (next, Replies::kept_in(rt, found), NoGate),
+        (first, Replies::kept_in(rt, told), NoPause),
+        (next, Replies::kept_in(rt, found), NoPause),
     ];
     match streams {
         Ok(streams) => closed_by(rt, own, heap, 1, streams),

@@ -29,7 +29,7 @@ const ELSEWHERE: [Step; 2] = [
     Step::Repeats("SEARCH POINT (100 100)\n"),
 ];
 
-/// A client that takes these steps. Its gate lets `passes` calls pass, then waits once, for
+/// A client that takes these steps. Its pause lets `passes` calls pass, then waits once, for
 /// `answered`.
 fn client<'a, R: Wait>(
     rt: &'a R,
@@ -44,12 +44,12 @@ fn client<'a, R: Wait>(
         seen,
         answered,
     };
-    let gate = Meeting {
+    let pause = Meeting {
         passes,
         mine: seen,
         other: answered,
     };
-    (client, Replies::kept_in(rt, told), gate)
+    (client, Replies::kept_in(rt, told), pause)
 }
 
 /// How many searches were answered with no rows.

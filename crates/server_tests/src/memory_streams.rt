@@ -1,6 +1,6 @@
-//! Streams in memory, and gates and clients that wait for each other.
+//! Streams in memory, and pauses and clients that wait for each other.
 use failing_streams::{FailingWriter, Failure};
-use hall::Gate;
+use hall::Pause;
 use std::alloc::Global;
 use std::io::{Read, Write};
 use std::process::Abort;
@@ -67,8 +67,8 @@ fn wait_for(flag: &AtomicU64) -> bool {
     false
 }
 
-/// A gate that lets the first `passes` calls pass. The next call sets the flag `mine` and waits
-/// until the flag `other` is set; all later calls pass.
+/// A pause that wants steps, and lets the first `passes` calls pass. The next call sets the flag
+/// `mine` and waits until the flag `other` is set; all later calls pass.
 #[derive(Drop)]
 pub struct Meeting<'a> {
     pub passes: u64,
@@ -81,7 +81,7 @@ impl Meeting<'_> {
     pub const MET: u64 = 2;
 }
 
-impl Gate for Meeting<'_> {
+impl Pause for Meeting<'_> {
     fn between(&mut self) {
         if self.passes > 0 {
             self.passes -= 1;
@@ -91,6 +91,10 @@ impl Gate for Meeting<'_> {
                 self.mine.store(Meeting::MET, Ordering::SeqCst);
             }
         }
+    }
+
+    fn wants_steps(&self) -> bool {
+        true
     }
 }
 

@@ -1,6 +1,6 @@
 //! What the tests serve.
 use features::{Name, Subject, Subjects};
-use hall::{Closed, Gate};
+use hall::{Closed, Pause};
 use log::Log;
 use policy_text::{Document, read_document};
 use server::{Serving, WORKER_COUNT, serve_streams};
@@ -74,7 +74,7 @@ where
     R: Threads + Wait + Clock + Log + Abort + Sync,
     I: Read + Drop + Send,
     O: Write + Drop + Send,
-    G: Gate + Drop + Send,
+    G: Pause + Drop + Send,
 {
     match serve_streams(
         rt,

@@ -2,7 +2,7 @@
 use crate::memory_streams::{Meeting, Replies, check_told, failing, whole};
 use crate::servers::closed_by;
 use failing_streams::Failure;
-use hall::{Closed, NoGate};
+use hall::{Closed, NoPause};
 use server::WORKER_COUNT;
 use std::alloc::Global;
 use std::sync::atomic::{AtomicU64, Ordering};
@@ -67,14 +67,14 @@ fn each_ends_by_itself(rt: HostRuntime) -> Result<(), Fail> {
         (
             b"HELLO north\nADD 1 mast POINT (3 4)\nCOMMIT\n".as_slice(),
             Replies::kept_in(&rt, &first),
-            NoGate
+            NoPause
         ),
         (
             b"HELLO chief\nSEARCH POINT (50 50)\n".as_slice(),
             Replies::kept_in(&rt, &refused),
-            NoGate
+            NoPause
         ),
-        (long.as_slice(), Replies::kept_in(&rt, &second), NoGate),
+        (long.as_slice(), Replies::kept_in(&rt, &second), NoPause),
     ]?;
     let closed = closed_by(&rt, rt, heap, WORKER_COUNT, streams);
     assert_eq!(rt;
@@ -102,7 +102,7 @@ fn lines_of_a_session(rt: HostRuntime) -> Result<(), Fail> {
         "error E7\nerror D2\nerror X7\nstaged\nabsent change 1\naborted\nerror E2\nbye\n"
     );
     let told = whole(heap);
-    let streams = vec![in heap; (lines.as_bytes(), Replies::kept_in(&rt, &told), NoGate)]?;
+    let streams = vec![in heap; (lines.as_bytes(), Replies::kept_in(&rt, &told), NoPause)]?;
     let closed = closed_by(&rt, rt, heap, WORKER_COUNT, streams);
     assert_eq!(rt;
         closed,
@@ -121,7 +121,7 @@ fn a_steward_governs_and_rolls(rt: HostRuntime) -> Result<(), Fail> {
     let lines =
         "HELLO chief\nPOLICY {\"root\":{\"combine\":\"first-applicable\",\"policy\":\"none\",\"rules\":[]}}\nROLL\nROLL\nBYE\n";
     let told = whole(heap);
-    let streams = vec![in heap; (lines.as_bytes(), Replies::kept_in(&rt, &told), NoGate)]?;
+    let streams = vec![in heap; (lines.as_bytes(), Replies::kept_in(&rt, &told), NoPause)]?;
     let closed = closed_by(&rt, rt, heap, 1, streams);
     assert_eq!(rt;
         closed,
@@ -152,7 +152,7 @@ fn one_worker_serves_many(rt: HostRuntime) -> Result<(), Fail> {
         streams.push((
             b"HELLO south\nBYE\n".as_slice(),
             Replies::kept_in(&rt, &told),
-            NoGate,
+            NoPause,
         ))?;
     }
     // Zero workers are asked for, and one is started.
@@ -179,7 +179,7 @@ fn one_worker_serves_many(rt: HostRuntime) -> Result<(), Fail> {
 fn nobody_comes(rt: HostRuntime) -> Result<(), Fail> {
     let heap: Global = rt.alloc();
     let told = whole(heap);
-    let mut streams = vec![in heap; (b"".as_slice(), Replies::kept_in(&rt, &told), NoGate)]?;
+    let mut streams = vec![in heap; (b"".as_slice(), Replies::kept_in(&rt, &told), NoPause)]?;
     streams.clear();
     let closed = closed_by(&rt, rt, heap, WORKER_COUNT, streams);
     assert_eq!(rt;
