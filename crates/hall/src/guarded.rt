@@ -11,7 +11,6 @@ ghost use Rattle.published_policies.specs.Coding.{decider_set};
 ghost use Rattle.hall.specs.Calls.{IsNext, put_in_force};
 
 use crate::faults::HallFault;
-use crate::upkeep::Upkeep;
 use audit_trail::Record;
 use chronicle::Chronicle;
 use decision::Decider;
@@ -27,6 +26,9 @@ use transactions::{Advance, Answer, Fault, Outcome, Rolled};
 
 /// The parts of a hall's ledger: one for each seat that may be given, and one that stays.
 pub const LEDGER_PARTS: u64 = 1_025;
+
+/// How many slots are tended in one critical section.
+pub(crate) const SLOTS_AT_ONCE: u32 = 16;
 
 /// What the lock guards: the world with all its records, the published policies that views read,
 /// and the number of records in a ledger, in which each seat has its share. Whoever gets the lock
@@ -45,7 +47,6 @@ pub(crate) struct Guarded<L: Ledger + ListName, R: Wait + Drop, A: Allocator> {
     pub(crate) closed: bool,
     /// Seats were given, and all of them were handed in.
     pub(crate) gathered: bool,
-    pub(crate) upkeep: Upkeep,
     pub ghost ends: { closed ≡ false → gathered ≡ false },
     pub ghost counted: { book.total ≡ length chronicle.records },
     pub ghost idle: { gathered ≡ false → spare.amount ≡ 0 },
@@ -153,7 +154,6 @@ impl<L: Ledger + ListName, R: Wait + Drop, A: Allocator> Guarded<L, R, A> {
             spare,
             closed: false,
             gathered: false,
-            upkeep: Upkeep::new(),
         }
     }
 
@@ -208,25 +208,11 @@ impl<L: Ledger + ListName, R: Wait + Drop, A: Allocator> Guarded<L, R, A> {
     /// Drops a search, if it is still open.
     pub(crate) fn drop_search(&mut self, seat: u32, number: u64) {
         let _ = self.chronicle.drop_search(seat, number);
-        self.upkeep.search_ended();
     }
 
     /// Aborts a transaction, if it is still open.
     pub(crate) fn abort(&mut self, seat: u32, number: u64) {
         let _ = self.chronicle.abort(seat, number);
-        self.upkeep.changed();
-    }
-
-    /// How many slots a round of tending has, if one is due; 0 if none is. H3 where the hall is
-    /// closed.
-    pub(crate) fn begin_round(&mut self) -> Result<u32, HallFault> {
-        if self.closed {
-            Err(HallFault::Closed)
-        } else if self.upkeep.begin_round() {
-            Ok(self.chronicle.slots())
-        } else {
-            Ok(0)
-        }
     }
 
     /// Tends a slot. H3 where the hall is closed, H5 where the index's counter is at its end (S6).
@@ -234,16 +220,51 @@ impl<L: Ledger + ListName, R: Wait + Drop, A: Allocator> Guarded<L, R, A> {
         if self.closed {
             return Err(HallFault::Closed);
         }
-        let tending = self.chronicle.tend(slot)?;
-        self.upkeep.tended(tending);
+        self.chronicle.tend(slot)?;
         Ok(())
+    }
+
+    /// Tends some of the slots that may have something to do, and returns how many: 0 if none is
+    /// known. H3 where the hall is closed, H5 where the index's counter is at its end (S6).
+    pub(crate) fn tend_due(&mut self) -> Result<u32, HallFault> {
+        if self.closed {
+            return Err(HallFault::Closed);
+        }
+        for tended in 0..SLOTS_AT_ONCE {
+            let Some(slot) = self.chronicle.next_due() else {
+                return Ok(tended);
+            };
+            self.tend(slot)?;
+        }
+        Ok(SLOTS_AT_ONCE)
+    }
+
+    /// How many slots a round over all slots has, if one is wanted; 0 if none is. H3 where the hall
+    /// is closed.
+    pub(crate) fn begin_round(&mut self) -> Result<u32, HallFault> {
+        if self.closed {
+            Err(HallFault::Closed)
+        } else if self.chronicle.begin_round() {
+            Ok(self.chronicle.slots())
+        } else {
+            Ok(0)
+        }
+    }
+
+    /// Tends the next slots from `first` on, all of them below `slots`, and returns how many. H3
+    /// where the hall is closed, H5 where the index's counter is at its end (S6).
+    pub(crate) fn tend_from(&mut self, first: u32, slots: u32) -> Result<u32, HallFault> {
+        let end = slots.min(first.saturating_add(SLOTS_AT_ONCE));
+        for slot in first..end {
+            self.tend(slot)?;
+        }
+        Ok(end.saturating_sub(first))
     }
 }
 
 impl<L: Ledger + ListName, R: Wait + Drop, A: Allocator + Copy> Guarded<L, R, A> {
     /// Makes a step of a transaction's walk.
     pub(crate) fn advance(&mut self, seat: u32, number: u64) -> Result<Advance, Fault> {
-        self.upkeep.changed();
         self.chronicle.advance(seat, number)
     }
 
@@ -270,12 +291,10 @@ impl<L: Ledger + ListName, R: Wait + Drop, A: Allocator + Copy> Guarded<L, R, A>
         let Guarded {
             chronicle,
             book,
-            upkeep,
             ..
         } = self;
         is_seat_of(chronicle, seat, subject)?;
         let answer = chronicle.finish(seat, number, window)?;
-        upkeep.search_ended();
         Ok((answer, receipt(rt, chronicle, book, share)))
     }
 
@@ -300,12 +319,10 @@ impl<L: Ledger + ListName, R: Wait + Drop, A: Allocator + Copy> Guarded<L, R, A>
         let Guarded {
             chronicle,
             book,
-            upkeep,
             ..
         } = self;
         is_seat_of(chronicle, seat, subject)?;
         let outcome = chronicle.commit(seat, number, changes)?;
-        upkeep.changed();
         Ok((outcome, receipt(rt, chronicle, book, share)))
     }
 

@@ -10,7 +10,6 @@ mod guarded;
 mod halls;
 mod searching;
 mod seats;
-mod upkeep;
 
 pub use closing::Closed;
 pub use committing::TRY_LIMIT;

@@ -12,6 +12,8 @@ mod memory_tests;
 #[cfg(test)]
 mod roll_tests;
 #[cfg(test)]
+mod tending_tests;
+#[cfg(test)]
 mod thread_tests;
 #[cfg(test)]
 mod view_tests;
