@@ -15,6 +15,7 @@ use Rattle.plain_world.proofs.CrossingLemmas.{answer_send, denial_send, outcome_
 use Rattle.plain_world.specs.contracts.answers.Answer as Answer
 use Rattle.plain_world.specs.contracts.rolling.Rolled as Rolled
 use Rattle.transactions.proofs.CrossingLemmas.{world_send}
+use Rattle.chronicle.proofs.due_slots.DueSlots.TheSendSync as due
 use Rattle.chronicle.specs.contracts.chronicles.Chronicle as Chronicle
 use Rattle.chronicle.specs.contracts.chronicles.Chronicle.TheInside as inside
 
@@ -23,7 +24,7 @@ module _ (A : RattleType) (g : Ghosts A.Denot) (s : IsSend A) (y : IsSync A) (f 
   chronicle_send =
       let piece = arc.the_send _ A g (rolled_send A g s y f) s (rolled_sync A g s y f) y f in
       let pieces = vec.the_send _ A g piece s f in
-      model_send (inside.the_type A g) (world_send A g s y f & pieces & u32_send & tt)
+      model_send (inside.the_type A g) (world_send A g s y f & pieces & u32_send & due.the_field_send & tt)
 
 -- the same in the heap, without premises
 pub heap_record_send : IsSend (Record.the_row heap ghosts)

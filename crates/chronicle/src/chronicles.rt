@@ -4,6 +4,7 @@ ghost use Rattle.std.specs.Prelude.{◌≡◌, ◌≤◌, IfOk, IfErr};
 ghost use Rattle.chronicle.specs.Chronicles.{IsSoundChronicle, opened_by};
 ghost use Rattle.memory.specs.NoMemory.{out_of_memory};
 
+use crate::due_slots::DueSlots;
 use audit_trail::RECORD_LIMIT;
 use features::{FEATURE_LIMIT, Subjects};
 use policy_documents::Document;
@@ -19,6 +20,7 @@ pub struct Chronicle<A: Allocator> {
     pub(crate) world: World<A>,
     pub(crate) pieces: Vec<Arc<Rolled<A>, A>, A>,
     pub(crate) first: u32,
+    pub(crate) due: DueSlots,
 }
 
 impl<A: Allocator> Model for Chronicle<A> {
@@ -98,6 +100,7 @@ impl<A: Allocator + Copy> Chronicle<A> {
             world,
             pieces: Vec::new(alloc),
             first,
+            due: DueSlots::none(),
         })
     }
 }

@@ -1,4 +1,4 @@
-//! Transactions, and tending the index.
+//! Transactions.
 
 ghost use Rattle.std.specs.Prelude.{◌≡◌, IfOk, OnErr};
 ghost use Rattle.chronicle.specs.Noting.{IsEndedBy};
@@ -6,7 +6,7 @@ ghost use Rattle.chronicle.specs.Noting.{IsEndedBy};
 use crate::chronicles::Chronicle;
 use features::{Change, same_changes};
 use std::alloc::Allocator;
-use transactions::{Advance, Fault, Outcome, Tending};
+use transactions::{Advance, Fault, Outcome};
 
 impl<A: Allocator> Chronicle<A> {
     /// Stages a change. X1 where the seat was not given or no such transaction is open, X2 where it
@@ -23,15 +23,8 @@ impl<A: Allocator> Chronicle<A> {
     pub fn abort(&mut self, seat: u32, number: u64) -> Result<(), Fault>
         ensures { self.new ≡ self.old }
     {
+        self.due.note_new(&self.world, self.world.staged(number));
         self.world.abort(seat, number)
-    }
-
-    /// Tends a slot of the index: removes what is there and no longer needed. X9 where the index's
-    /// counter is at its end (S6). Takes no memory.
-    pub fn tend(&mut self, slot: u32) -> Result<Tending, Fault>
-        ensures { self.new ≡ self.old }
-    {
-        self.world.tend(slot)
     }
 }
 
@@ -51,7 +44,10 @@ impl<A: Allocator + Copy> Chronicle<A> {
     pub fn advance(&mut self, seat: u32, number: u64) -> Result<Advance, Fault>
         ensures { self.new ≡ self.old }
     {
-        self.world.advance(seat, number)
+        let advanced = self.world.advance(seat, number);
+        self.due
+            .advanced(&advanced, self.world.slot_left_of(number));
+        advanced
     }
 
     /// Commits the transaction that has staged this list, all or none, ends it, and records the
@@ -64,7 +60,10 @@ impl<A: Allocator + Copy> Chronicle<A> {
         ensures err { OnErr result (self.new ≡ self.old) }
     {
         if same_changes(self.world.staged(number), changes) {
-            self.world.commit(seat, number)
+            self.due.note_old(&self.world, changes);
+            let committed = self.world.commit(seat, number);
+            self.due.committed(&self.world, changes, &committed);
+            committed
         } else {
             Err(Fault::NoSuch)
         }

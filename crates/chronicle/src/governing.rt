@@ -45,14 +45,14 @@ impl<A: Allocator + Copy> Chronicle<A> {
         self.world.govern_by(seat, decider)
     }
 
-    /// Takes the present trail out, and keeps it as a piece: all records stay. X12 where there is
-    /// no memory for one more piece; X1 where the seat was not given, X7 where its subject is no
-    /// steward, X8 where the numbers of the new trail would not fit, X12 where an allocation is
-    /// refused.
+    /// Takes the present trail out, and keeps it as a piece: all records stay. X1 where the seat was
+    /// not given, X7 where its subject is no steward, X8 where the numbers of the new trail would not
+    /// fit, X12 where an allocation is refused, in this order.
     pub fn roll(&mut self, heap: Global, seat: u32) -> Result<(), Fault>
         ensures { self.new ≡ self.old }
     {
         self.world.fact_sound();
+        self.world.may_roll(seat)?;
         self.pieces.make_slot()?;
         let piece = self.world.roll(heap, seat)?;
         self.pieces.push_reserved(piece);

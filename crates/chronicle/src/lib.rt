@@ -5,8 +5,10 @@
 mod chronicles;
 mod committing;
 mod comparing;
+mod due_slots;
 mod governing;
 mod reading;
 mod searching;
+mod tending;
 
 pub use chronicles::Chronicle;

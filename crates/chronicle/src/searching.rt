@@ -24,7 +24,9 @@ impl<A: Allocator> Chronicle<A> {
     pub fn drop_search(&mut self, seat: u32, number: u64) -> Result<(), Fault>
         ensures { self.new ≡ self.old }
     {
-        self.world.drop_search(seat, number)
+        let dropped = self.world.drop_search(seat, number);
+        self.due.search_ended();
+        dropped
     }
 }
 
@@ -44,7 +46,9 @@ impl<A: Allocator + Copy> Chronicle<A> {
     pub fn visit(&mut self, seat: u32, number: u64) -> Result<Visit, Fault>
         ensures { self.new ≡ self.old }
     {
-        self.world.visit(seat, number)
+        let visited = self.world.visit(seat, number);
+        self.due.visited(&visited);
+        visited
     }
 
     /// Finishes the search of a window, and records its answer in the trail. X1 where the seat was
@@ -58,7 +62,9 @@ impl<A: Allocator + Copy> Chronicle<A> {
         let search = self.world.search_of(seat, number)?;
         if search.window == *window {
             let mut meter = Meter::new();
-            self.world.finish(seat, number, &mut meter)
+            let finished = self.world.finish(seat, number, &mut meter);
+            self.due.search_ended();
+            finished
         } else {
             Err(Fault::NoSuch)
         }

@@ -18,7 +18,6 @@ use Rattle.std.proofs.sync.Condvar.TheSendSync as condvar
 use Rattle.features.proofs.actors.Subject.TheSendSync as subject
 use Rattle.policy_documents.proofs.CrossingLemmas.{◌&◌, u32_send, model_send}
 use Rattle.chronicle.proofs.CrossingLemmas.{heap_chronicle_send, heap_record_send, heap_record_sync}
-use Rattle.hall.proofs.upkeep.Upkeep.TheSendSync as upkeep
 use Rattle.hall.specs.contracts.guarded.Guarded as Guarded
 use Rattle.hall.specs.contracts.halls.Hall as Hall
 use Rattle.hall.specs.contracts.seats.Seat.TheInside as inside
@@ -29,7 +28,7 @@ module _ (L R : RattleType) (g : Ghosts L.Denot) (n : Naming L.Denot) (name_send
   guarded_send =
       recorded_send _ _ _ (Guarded.the_type L R heap n g ghosts).to_one (struct_send (shape (Guarded.the_type L R heap n g ghosts))
       (heap_chronicle_send & publisher_send L n name_send R handle_send & plain_send _ _ _ _ _ & book.the_send L g & share.the_send L g
-      & plain_send _ _ _ _ _ & plain_send _ _ _ _ _ & upkeep.the_field_send & tt))
+      & plain_send _ _ _ _ _ & plain_send _ _ _ _ _ & tt))
 
   pub hall_sync : IsSync (Hall.the_row L R heap n g ghosts)
   hall_sync =

@@ -17,7 +17,6 @@ use crate::closing::{Closed, gather, mismatch};
 use crate::faults::{CloseFault, HallFault};
 use crate::seats::Seat;
 use crate::sections::{Committing, Searching, Unfinished};
-use crate::upkeep::Upkeep;
 use audit_trail::Record;
 use chronicle::Chronicle;
 use decision::Decider;
@@ -33,6 +32,9 @@ use transactions::{Advance, Answer, Fault, Outcome, Rolled, SEAT_LIMIT, Visit};
 
 /// The parts of a hall's ledger: one for each seat that may be given, and one that stays.
 pub const LEDGER_PARTS: u64 = SEAT_LIMIT as u64 + 1;
+
+/// How many slots are tended in one critical section.
+pub(crate) const SLOTS_AT_ONCE: u32 = 16;
 
 /// What the lock guards: the world with all its records, the published policies that views read,
 /// and the number of records in a ledger, in which each seat has its share. Whoever gets the lock
@@ -51,7 +53,6 @@ pub(crate) struct Guarded<L: Ledger + ListName, R: Wait + Drop, A: Allocator> {
     closed: bool,
     /// Seats were given, and all of them were handed in.
     gathered: bool,
-    upkeep: Upkeep,
     pub ghost ends: { closed ≡ false → gathered ≡ false },
     pub ghost counted: { book.total ≡ length chronicle.records },
     pub ghost idle: { gathered ≡ false → spare.amount ≡ 0 },
@@ -159,7 +160,6 @@ impl<L: Ledger + ListName, R: Wait + Drop, A: Allocator> Guarded<L, R, A> {
             spare,
             closed: false,
             gathered: false,
-            upkeep: Upkeep::new(),
         }
     }
 
@@ -217,7 +217,6 @@ impl<L: Ledger + ListName, R: Wait + Drop, A: Allocator> Guarded<L, R, A> {
             Searching::New => false,
             Searching::Open(number) | Searching::Ready(number) => {
                 let _ = self.chronicle.drop_search(seat, number);
-                self.upkeep.search_ended();
                 true
             }
         }
@@ -234,21 +233,8 @@ impl<L: Ledger + ListName, R: Wait + Drop, A: Allocator> Guarded<L, R, A> {
             Committing::New => false,
             Committing::Open(number, _) | Committing::Placed(number) => {
                 let _ = self.chronicle.abort(seat, number);
-                self.upkeep.changed();
                 true
             }
-        }
-    }
-
-    /// How many slots a round of tending has, if one is due; 0 if none is. H3 where the hall is
-    /// closed.
-    pub(crate) fn begin_round(&mut self) -> Result<u32, HallFault> {
-        if self.closed {
-            Err(HallFault::Closed)
-        } else if self.upkeep.begin_round() {
-            Ok(self.chronicle.slots())
-        } else {
-            Ok(0)
         }
     }
 
@@ -257,9 +243,50 @@ impl<L: Ledger + ListName, R: Wait + Drop, A: Allocator> Guarded<L, R, A> {
         if self.closed {
             return Err(HallFault::Closed);
         }
-        let tending = self.chronicle.tend(slot)?;
-        self.upkeep.tended(tending);
+        self.chronicle.tend(slot)?;
         Ok(())
+    }
+
+    /// Tends some of the slots that may have something to do, and returns how many: 0 if none is
+    /// known. H3 where the hall is closed, H5 where the index's counter is at its end (S6).
+    pub(crate) fn tend_due(&mut self) -> Result<u32, HallFault> {
+        if self.closed {
+            return Err(HallFault::Closed);
+        }
+        for tended in 0..SLOTS_AT_ONCE {
+            let Some(slot) = self.chronicle.next_due() else {
+                return Ok(tended);
+            };
+            self.tend(slot)?;
+        }
+        Ok(SLOTS_AT_ONCE)
+    }
+
+    /// How many slots a round over all slots has, if one is wanted; 0 if none is. H3 where the hall
+    /// is closed.
+    pub(crate) fn begin_round(&mut self) -> Result<u32, HallFault> {
+        if self.closed {
+            Err(HallFault::Closed)
+        } else if self.chronicle.begin_round() {
+            Ok(self.chronicle.slots())
+        } else {
+            Ok(0)
+        }
+    }
+
+    /// Asks for a round over all slots, if anything has changed since the last one.
+    pub(crate) fn want_round(&mut self) {
+        self.chronicle.want_round();
+    }
+
+    /// Tends the next slots from `first` on, all of them below `slots`, and returns how many. H3
+    /// where the hall is closed, H5 where the index's counter is at its end (S6).
+    pub(crate) fn tend_from(&mut self, first: u32, slots: u32) -> Result<u32, HallFault> {
+        let end = slots.min(first.saturating_add(SLOTS_AT_ONCE));
+        for slot in first..end {
+            self.tend(slot)?;
+        }
+        Ok(end.saturating_sub(first))
     }
 }
 
@@ -360,7 +387,6 @@ impl<L: Ledger + ListName, R: Wait + Drop, A: Allocator + Copy> Guarded<L, R, A>
 
     /// Makes a step of a transaction's walk.
     fn advance(&mut self, seat: u32, number: u64) -> Result<Advance, Fault> {
-        self.upkeep.changed();
         self.chronicle.advance(seat, number)
     }
 
@@ -418,12 +444,10 @@ impl<L: Ledger + ListName, R: Wait + Drop, A: Allocator + Copy> Guarded<L, R, A>
         let Guarded {
             chronicle,
             book,
-            upkeep,
             ..
         } = self;
         is_seat_of(chronicle, seat, subject)?;
         let answer = chronicle.finish(seat, number, window)?;
-        upkeep.search_ended();
         Ok((answer, receipt(rt, chronicle, book, share)))
     }
 
@@ -476,12 +500,10 @@ impl<L: Ledger + ListName, R: Wait + Drop, A: Allocator + Copy> Guarded<L, R, A>
         let Guarded {
             chronicle,
             book,
-            upkeep,
             ..
         } = self;
         is_seat_of(chronicle, seat, subject)?;
         let outcome = chronicle.commit(seat, number, changes)?;
-        upkeep.changed();
         Ok((outcome, receipt(rt, chronicle, book, share)))
     }
 

@@ -6,7 +6,7 @@ ghost use Rattle.hall.specs.Seats.{receipts_of};
 
 use crate::closing::Closed;
 use crate::faults::{CloseFault, HallFault, OpenFault};
-use crate::guarded::{Guarded, LEDGER_PARTS};
+use crate::guarded::{Guarded, LEDGER_PARTS, SLOTS_AT_ONCE};
 use crate::seats::Seat;
 use audit_trail::RECORD_LIMIT;
 use chronicle::Chronicle;
@@ -21,6 +21,9 @@ use transactions::{Limits, STEP_LIMIT, Starts};
 
 /// The most views that a hall gives.
 pub const VIEW_LIMIT: usize = 64;
+
+/// The most critical sections in which `tend_round` tends what is due.
+const SECTIONS: u32 = 64;
 
 /// What proofs name a hall by: a new ledger, and a list of policies that has no policy yet. It is
 /// made before the function that opens, uses and closes the hall is called, so that this function's
@@ -171,16 +174,36 @@ impl<L: Ledger + ListName, R: Wait + Drop, A: Allocator + Copy> Hall<L, R, A> {
         self.lock.lock(rt).view()
     }
 
-    /// Tends each slot of the index once, each in a critical section of its own: removes what is
-    /// there and no longer needed. There is no round if nothing has changed since one that found
-    /// nothing to do. H3 where the hall is closed, H5 where the index's counter is at its end (S6).
-    /// Takes no memory.
-    pub fn tend_round<W: Wait>(&self, rt: &W) -> Result<(), HallFault> {
-        let slots = self.lock.lock(rt).begin_round()?;
-        for slot in 0..slots {
-            self.lock.lock(rt).tend(slot)?;
+    /// Tends the slots of the index that may have something to do, as far as the events so far tell:
+    /// removes what is there and no longer needed. Then, if a round over all slots is wanted, tends
+    /// each slot once. Returns how many slots it has tended. A critical section tends 16 slots at
+    /// most. H3 where the hall is closed, H5 where the index's counter is at its end (S6). Takes no
+    /// memory.
+    ///
+    /// A round over all slots is wanted if `want_round` asked for one, or if more was to be tended
+    /// than the hall has noted.
+    pub fn tend_round<W: Wait>(&self, rt: &W) -> Result<u32, HallFault> {
+        let mut tended: u32 = 0;
+        for _ in 0..SECTIONS {
+            let more = self.lock.lock(rt).tend_due()?;
+            if more == 0 {
+                break;
+            }
+            tended = tended.saturating_add(more);
         }
-        Ok(())
+        let slots = self.lock.lock(rt).begin_round()?;
+        for first in (0..slots).step_by(SLOTS_AT_ONCE as usize) {
+            let more = self.lock.lock(rt).tend_from(first, slots)?;
+            tended = tended.saturating_add(more);
+        }
+        Ok(tended)
+    }
+
+    /// Asks for a round over all slots, if anything has changed since the last one. The next
+    /// `tend_round` makes it. What `tend_round` tends without it comes from a hint, which may miss a
+    /// slot: so a server asks for such a round at long intervals.
+    pub fn want_round<W: Wait>(&self, rt: &W) {
+        self.lock.lock(rt).want_round();
     }
 
     /// Closes the hall, if all seats that were given are handed in and the receipts of each are

@@ -11,7 +11,6 @@ mod halls;
 mod searching;
 mod seats;
 mod sections;
-mod upkeep;
 
 pub use closing::Closed;
 pub use faults::{CloseFault, HallFault, OpenFault};

@@ -41,7 +41,7 @@ fn tend_all<L: Ledger + ListName, H: Wait + Drop, R: Wait + Abort>(
     for id in 1..41 {
         let gone = Change::Delete { id, version: id };
         assert!(rt; applied(rt, north, gone, &mut NoPause).is_some());
-        assert!(rt; hall.tend_round(rt) == Ok(()));
+        assert!(rt; hall.tend_round(rt).is_ok());
     }
     assert_eq!(rt; rows(rt, north, square(rt), &mut NoPause), Some(0));
     assert_eq!(rt; north.receipts().len(), 82);

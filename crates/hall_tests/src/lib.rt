@@ -20,6 +20,8 @@ mod seat_tests;
 #[cfg(test)]
 mod section_tests;
 #[cfg(test)]
+mod tending_tests;
+#[cfg(test)]
 mod thread_tests;
 #[cfg(test)]
 mod view_tests;

@@ -1,7 +1,10 @@
 //! Calls of a seat, with each of their allocations refused in turn.
-ghost use Rattle.std.specs.Prelude.{◌≡◌};
+ghost use Rattle.std.specs.Prelude.{◌≡◌, ◌≤◌};
 
-use crate::halls::{ROADS, applied, document, name, opened_in, road, rows, seat, square};
+use crate::halls::{
+    OPEN, ROADS, applied, document, name, opened_in, road, rows, seat, square, subjects,
+};
+use chronicle::Chronicle;
 use features::Change;
 use hall::{Hall, HallFault, LEDGER_PARTS, ListName, NoPause, Seat, Unnamed};
 use refusing::Refusing;
@@ -10,7 +13,7 @@ use std::marker::Brand;
 use std::process::Abort;
 use std::sync::Wait;
 use std::sync::ledger::Ledger;
-use transactions::{Fault, TreeFault};
+use transactions::{Fault, Limits, ROLLED_LIMIT, Starts, TreeFault, Visit};
 
 /// More allocations than any of the calls makes.
 const MOST: u64 = 100;
@@ -201,4 +204,65 @@ fn seat_refusals<H: Wait + Drop + Copy, R: Wait + Abort>(rt: &R, own: H, heap: G
 fn each_allocation_of_a_seat_refused(rt: HostRuntime) {
     let count = seat_refusals(&rt, rt, rt.alloc());
     assert!(rt; 0 < count && count < MOST, "{count}");
+}
+
+/// Opens a chronicle out of which this many records were rolled, with seats for north and chief.
+fn begun<'m>(
+    rt: &impl Abort,
+    memory: &'m Refusing<Global>,
+    heap: Global,
+    rolled: u32,
+) -> Chronicle<&'m Refusing<Global>>
+    requires { rolled ≤ ROLLED_LIMIT }
+{
+    let starts = Starts {
+        rolled,
+        ..Starts::FIRST
+    };
+    let document = document(rt, heap, OPEN);
+    let opened = Chronicle::open_at(
+        memory,
+        heap,
+        subjects(rt),
+        document,
+        starts,
+        Limits::GREATEST,
+    );
+    assert!(rt; opened.is_ok());
+    let mut chronicle = opened.ok().unwrap();
+    assert!(rt; chronicle.seat(name(rt, "north")) == Ok(1));
+    assert!(rt; chronicle.seat(name(rt, "chief")) == Ok(2));
+    chronicle
+}
+
+/// Answers a search of the chief, which leaves a record.
+fn search(rt: &impl Abort, chronicle: &mut Chronicle<&Refusing<Global>>) {
+    let opened = chronicle.open_search(2, square(rt));
+    assert!(rt; opened.is_ok());
+    let number = opened.unwrap();
+    assert!(rt; chronicle.visit(2, number) == Ok(Visit::Ready));
+    assert!(rt; chronicle.finish(2, number, &square(rt)).is_ok());
+}
+
+/// A roll that the world refuses asks for no memory.
+#[test]
+fn rolls_are_refused_in_order(rt: HostRuntime) {
+    let memory = Refusing::new(rt.alloc(), 0);
+    let heap = rt.alloc();
+    let mut chronicle = begun(&rt, &memory, heap, ROLLED_LIMIT);
+    search(&rt, &mut chronicle);
+    memory.refuse(1);
+    assert!(&rt; chronicle.roll(heap, 3) == Err(Fault::NoSuch));
+    assert!(&rt; chronicle.roll(heap, 1) == Err(Fault::NotSteward));
+    assert!(&rt; chronicle.roll(heap, 2) == Err(Fault::Spent));
+    assert!(&rt; !memory.has_refused());
+    memory.refuse(0);
+    let mut chronicle = begun(&rt, &memory, heap, 0);
+    search(&rt, &mut chronicle);
+    memory.refuse(1);
+    assert!(&rt; chronicle.roll(heap, 1) == Err(Fault::NotSteward));
+    assert!(&rt; matches!(chronicle.roll(heap, 2), Err(Fault::Memory(_))));
+    assert!(&rt; memory.has_refused());
+    memory.refuse(0);
+    assert!(&rt; chronicle.roll(heap, 2) == Ok(()));
 }

@@ -215,8 +215,10 @@ impl<A: Allocator> PlainWorld<A> {
         Ok(subject)
     }
 
-    /// Whether a seat may roll the trail. X1, X7 and X8, in this order.
-    pub(crate) fn may_roll(&self, seat: u32) -> Result<(), Fault>
+    /// Whether a seat may roll the trail. X1 where the seat was not given, X7 where its subject is no
+    /// steward, X8 where the new trail's first number would be above `FIRST_LIMIT`, in this order. It
+    /// takes no memory.
+    pub fn may_roll(&self, seat: u32) -> Result<(), Fault>
         ensures value { result ≡ may_roll seat self.now }
         ensures left { OnOk result (self.now.first + length self.now.trail ≤ FIRST_LIMIT) }
     {

@@ -5,6 +5,7 @@ ghost use Rattle.std.specs.Arc.{arc_value};
 ghost use Rattle.memory.specs.NoMemory.{out_of_memory};
 ghost use Rattle.audit_trail.specs.Legal.{IsLegal, replay};
 ghost use Rattle.audit_trail.specs.Judging.{AreDistinct};
+ghost use Rattle.features.specs.Rows.{feature_with};
 ghost use Rattle.plain_world.specs.Staging.{staged_in};
 ghost use Rattle.plain_world.specs.States.{IsSoundWorld, opened};
 
@@ -14,7 +15,7 @@ use crate::open_transactions::{Transaction, staged_in};
 use crate::settings::{CHANGE_LIMIT, Limits, ROLLED_LIMIT, SEAT_LIMIT, STEP_LIMIT, Starts};
 use audit_trail::{RECORD_LIMIT, Trail};
 use decision::Decider;
-use features::{Change, FEATURE_LIMIT, Feature, Store, Subject, Subjects};
+use features::{Change, FEATURE_LIMIT, Feature, Meter, Store, Subject, Subjects};
 use memory::{NoMemory, another, shared};
 use policy_documents::Document;
 use std::alloc::{Allocator, Global};
@@ -147,6 +148,14 @@ impl<A: Allocator> PlainWorld<A> {
         ensures { result ≡ length self.now.state.features }
     {
         self.store.len()
+    }
+
+    /// The feature of an id, if there is one. It takes no memory.
+    pub fn feature(&self, id: u64) -> Option<Feature>
+        ensures { result ≡ feature_with id self.now.state.features }
+    {
+        let mut meter = Meter::new();
+        self.store.get(id, &mut meter).copied()
     }
 
     /// How many seats were given: `SEAT_LIMIT` at most.

@@ -19,3 +19,4 @@ pub mod DueLemmas
 pub mod SplitSteps
 pub mod GrowSteps
 pub mod OneCase
+pub mod FindingLemmas

@@ -10,3 +10,4 @@ pub mod Cases
 pub mod Nexts
 pub mod Advances
 pub mod Answering
+pub mod Finding

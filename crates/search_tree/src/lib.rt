@@ -4,6 +4,7 @@
 
 mod advancing;
 mod descents;
+mod finding;
 mod growing;
 mod installing;
 mod joining;
@@ -20,6 +21,7 @@ mod tree;
 mod visiting;
 mod walk;
 
+pub use finding::{Crowded, NAMED_SLOTS};
 pub use laws::steps_answer_alike;
 pub use tree::Tree;
 pub use tree_answers::{Keeper, MAX_STEPS, Step, Tending, TreeFault, Visit};

@@ -17,6 +17,9 @@ use std::time::{Clock, Duration};
 /// The pause between two rounds of tending, in milliseconds.
 const PAUSE: u64 = 20;
 
+/// After how many pauses a round over all slots of the index is asked for: 30 seconds.
+const PAUSES: u32 = 1_500;
+
 /// Serves a session whose replies are buffered. If it ends with a fault, what is left in the buffer
 /// is not written.
 fn serve_buffered<
@@ -103,18 +106,25 @@ pub(crate) fn work<
     }
 }
 
-/// Tends in rounds, until the sender of `ends` is dropped. A round that is refused is the last,
-/// with a warning.
+/// Tends in rounds, until the sender of `ends` is dropped: what is due, and at long intervals all
+/// slots. A round that is refused is the last, with a warning.
 pub(crate) fn tend<L: Ledger + ListName, H: Wait + Drop, R: Wait + Clock + Log>(
     rt: &R,
     hall: &Hall<L, H, Global>,
     ends: Receiver<()>,
 ) {
+    let mut pauses = 0;
     for _ in rt.forever() {
         match ends.recv_timeout(rt, Duration::from_millis(PAUSE)) {
             Ok(()) => {}
             Err(RecvTimeoutError::Disconnected) => return,
             Err(RecvTimeoutError::Timeout) => {
+                if pauses < PAUSES {
+                    pauses += 1;
+                } else {
+                    pauses = 0;
+                    hall.want_round(rt);
+                }
                 if let Err(fault) = hall.tend_round(rt) {
                     warn!(rt; target: "landmap", "the index is no longer tended: {fault}");
                     return;

@@ -11,7 +11,9 @@ use Rattle.plain_world.specs.declared.advances.Advance.TheVariants.{Walked}
 use Rattle.plain_world.specs.Admitting.{map_ok, may_step}
 use Rattle.plain_world.specs.Staging.{next_placement}
 use Rattle.search_tree.specs.Advances.{IsAdvance, MayWalk, is_placed}
+use Rattle.node_arena.specs.Slots.{value_at}
 use Rattle.search_tree.specs.Cases.{TakesStep}
+use Rattle.search_tree.specs.Finding.{left_slot_at}
 use Rattle.search_tree.specs.Trees.{PlainWalk}
 use Rattle.tree_answers.specs.declared.answers.Step.{Step}
 use Rattle.tree_answers.specs.declared.fault.TreeFault.{TreeFault}
@@ -35,6 +37,11 @@ walk_at_root index placement =
 abbrev pub next_walk : ℕ → ℕ × List Point → Index → List JourneyData → PlainWalk (List Point)
 next_walk number placement index walks =
     unwrap_or (walk_of number walks) (walk_at_root index placement)
+
+-- where a walk is at a node without an entry, the slot of the node to the left of it
+abbrev pub slot_left_of_walk : Index → Option (PlainWalk (List Point)) → Option ℕ
+slot_left_of_walk index None = None
+slot_left_of_walk index (Some walk) = left_slot_at (value_at index.nodes walk.at)
 
 -- the index's answer to a step, as the world's
 abbrev pub told_step : Result Step TreeFault → Result Advance Fault

@@ -4,6 +4,7 @@
 
 mod committing;
 mod faults;
+mod finding;
 mod governing;
 mod kept_slots;
 mod open_walks;
@@ -22,6 +23,6 @@ pub use plain_world::{
     policy_in_force_is_the_last, records_are_added_alone, runs_go_on,
     what_is_under_way_is_in_order, what_is_under_way_was_asked,
 };
-pub use search_tree::{Step, Tending, TreeFault, Visit};
+pub use search_tree::{Crowded, NAMED_SLOTS, Step, Tending, TreeFault, Visit};
 pub use worked_run::{Call, answer_after};
 pub use worlds::World;

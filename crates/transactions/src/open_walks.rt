@@ -1,6 +1,6 @@
 //! The walks of open transactions.
 
-ghost use Rattle.std.specs.Prelude.{◌≡◌, ◌<◌, [], None, Some, length, IfOk};
+ghost use Rattle.std.specs.Prelude.{◌≡◌, ◌<◌, [], None, Some, length, option_map, IfOk};
 ghost use Rattle.transactions.specs.Walks.{walk_begun, walk_ended, walk_of, with_walk};
 
 use memory::{NoMemory, vec_with_room};
@@ -30,6 +30,12 @@ impl Journey {
         ensures { result ≡ self.now.number }
     {
         self.number
+    }
+
+    fn walk(&self) -> Option<&Walk<Shape>>
+        ensures { option_map (λ walk. walk.now) result ≡ self.now.walk }
+    {
+        self.walk.as_ref()
     }
 
     /// Replaces the walk; returns the old one.
@@ -86,6 +92,13 @@ impl<A: Allocator> Walks<A> {
         self.journeys.retain(|journey| journey.number() != number);
     }
 
+    /// The walk of a transaction.
+    pub fn get(&self, number: u64) -> Option<&Walk<Shape>>
+        ensures { option_map (λ walk. walk.now) result ≡ walk_of number self.now }
+    {
+        walk_in(&self.journeys, number)
+    }
+
     /// Takes out the walk of a transaction.
     pub fn take(&mut self, number: u64) -> Option<Walk<Shape>>
         ensures walk { result ≡ walk_of number self.old }
@@ -99,6 +112,20 @@ impl<A: Allocator> Walks<A> {
         ensures { self.new ≡ with_walk number (Some walk) self.old }
     {
         replace_in(&mut self.journeys, number, Some(walk));
+    }
+}
+
+/// The walk of a transaction.
+fn walk_in(journeys: &[Journey], number: u64) -> Option<&Walk<Shape>>
+    ensures { option_map (λ walk. walk.now) result ≡ walk_of number journeys.now }
+{
+    let Some((first, rest)) = journeys.split_first() else {
+        return None;
+    };
+    if first.number() == number {
+        first.walk()
+    } else {
+        walk_in(rest, number)
     }
 }
 

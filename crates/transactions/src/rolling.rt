@@ -2,12 +2,23 @@
 
 ghost use Rattle.std.specs.Prelude.{◌≡◌};
 ghost use Rattle.std.specs.Arc.{arc_value};
+ghost use Rattle.plain_world.specs.Admitting.{may_roll};
 ghost use Rattle.plain_world.specs.Events.{Happens, Roll, TakenOut, reply_of};
 
 use crate::worlds::World;
 use plain_world::{Fault, Rolled};
 use std::alloc::{Allocator, Global};
 use std::sync::Arc;
+
+impl<A: Allocator> World<A> {
+    /// Whether a seat may roll the trail. X1 where the seat was not given, X7 where its subject is no
+    /// steward, X8 where the numbers of the new trail would not fit, in this order. Takes no memory.
+    pub fn may_roll(&self, seat: u32) -> Result<(), Fault>
+        ensures { result ≡ may_roll seat self.now.plain }
+    {
+        self.plain.may_roll(seat)
+    }
+}
 
 impl<A: Allocator + Copy> World<A> {
     /// Takes out the whole trail, with its lines. The new trail begins at the present state, with

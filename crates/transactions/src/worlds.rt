@@ -5,6 +5,7 @@ ghost use Rattle.std.specs.Arc.{arc_value};
 ghost use Rattle.memory.specs.NoMemory.{out_of_memory};
 ghost use Rattle.audit_trail.specs.Judging.{AreDistinct};
 ghost use Rattle.audit_trail.specs.Legal.{IsLegal, replay, subject_of};
+ghost use Rattle.features.specs.Rows.{feature_with};
 ghost use Rattle.node_arena.specs.Slots.{taken_count};
 ghost use Rattle.plain_world.specs.Admitting.{map_ok, may_go_on, may_govern, subject_at};
 ghost use Rattle.plain_world.specs.Laws.{IsOrdered, IsUnderWay};
@@ -19,7 +20,7 @@ use crate::kept_slots::KeptSlots;
 use crate::open_walks::Walks;
 use audit_trail::{RECORD_LIMIT, Trail};
 use decision::Decider;
-use features::{Change, FEATURE_LIMIT, Subject, Subjects};
+use features::{Change, FEATURE_LIMIT, Feature, Subject, Subjects};
 use frame_keys::Frames;
 use memory::NoMemory;
 use plain_world::{
@@ -124,6 +125,13 @@ impl<A: Allocator> World<A> {
         ensures { result ≡ length self.now.plain.state.features }
     {
         self.plain.len()
+    }
+
+    /// The feature of an id, if there is one. Takes no memory.
+    pub fn feature(&self, id: u64) -> Option<Feature>
+        ensures { result ≡ feature_with id self.now.plain.state.features }
+    {
+        self.plain.feature(id)
     }
 
     /// How many slots of the index there are to tend. It takes no memory.

@@ -6,6 +6,8 @@ mod node_arena_tests;
 #[cfg(test)]
 mod predicate_locks_tests;
 #[cfg(test)]
+mod search_tree_finding;
+#[cfg(test)]
 mod search_tree_refusals;
 #[cfg(test)]
 mod search_tree_runs;

@@ -14,19 +14,19 @@ pub invariant_of-self : goal.invariant_of-self
 invariant_of-self g c =
     let event = Finish c.args.seat c.args.number in
     let old = c.self.inside.world.plain in
-    let new = c.finish.new.self.plain in
-    let reply = reply_of Rows c.finish.result in
-    let happens = c.finish.ensures.happens in
-    let base = base_answered c.args.seat c.args.number old new c.finish.result (adds_alone event old new reply happens) in
+    let new = c.finish-finished.new.self.plain in
+    let reply = reply_of Rows c.finish-finished.result in
+    let happens = c.finish-finished.ensures.happens in
+    let base = base_answered c.args.seat c.args.number old new c.finish-finished.result (adds_alone event old new reply happens) in
     leads_on event old new reply c.self.inside.first (records_in (map arc_value c.self.inside.pieces.items)) happens base.0 base.1 c.self.invariant
 
 pub returns-then-eq-clause-ok : goal.returns-then-eq-clause-ok
 returns-then-eq-clause-ok g c =
     let rolled = records_in (map arc_value c.self.inside.pieces.items) in
     let old = c.self.inside.world.plain in
-    let new = c.finish.new.self.plain in
+    let new = c.finish-finished.new.self.plain in
     let search = c.in_ok-search.search in
     let same : search.window ≡ c.args.window.now = c.eq.ensures.exact.0 c.if-eq.true in
-    subst (λ (d : ChronicleData). IfOk c.finish.result (λ answer. IsAnswered c.args.seat c.args.window.now answer d (seen rolled new))) c.self.view_is
-    (subst (λ (w : List Point). IfOk c.finish.result (λ answer. IsAnswered c.args.seat w answer (seen rolled old) (seen rolled new))) same
-    (search_answered c.self.inside.first rolled c.args.seat c.args.number search old new c.finish.result (sym c.in_ok-search.ensures) c.finish.ensures.happens c.self.invariant))
+    subst (λ (d : ChronicleData). IfOk c.finish-finished.result (λ answer. IsAnswered c.args.seat c.args.window.now answer d (seen rolled new))) c.self.view_is
+    (subst (λ (w : List Point). IfOk c.finish-finished.result (λ answer. IsAnswered c.args.seat w answer (seen rolled old) (seen rolled new))) same
+    (search_answered c.self.inside.first rolled c.args.seat c.args.number search old new c.finish-finished.result (sym c.in_ok-search.ensures) c.finish-finished.ensures.happens c.self.invariant))

@@ -10,9 +10,9 @@ pub invariant_of-self : goal.invariant_of-self
 invariant_of-self g c =
     let event = Tend c.args.slot in
     let old = c.self.inside.world.plain in
-    let new = c.tend.new.self.plain in
-    let reply = reply_of Tended c.tend.result in
-    let happens = c.tend.ensures.happens in
+    let new = c.tend-tended.new.self.plain in
+    let reply = reply_of Tended c.tend-tended.result in
+    let happens = c.tend-tended.ensures.happens in
     (stands event old new reply c.self.inside.first (records_in (map arc_value c.self.inside.pieces.items)) tt happens
     (adds_alone event old new reply happens) c.self.invariant).1
 
@@ -20,9 +20,9 @@ pub returns : goal.returns
 returns g c =
     let event = Tend c.args.slot in
     let old = c.self.inside.world.plain in
-    let new = c.tend.new.self.plain in
-    let reply = reply_of Tended c.tend.result in
-    let happens = c.tend.ensures.happens in
+    let new = c.tend-tended.new.self.plain in
+    let reply = reply_of Tended c.tend-tended.result in
+    let happens = c.tend-tended.ensures.happens in
     (stands event old new reply c.self.inside.first (records_in (map arc_value c.self.inside.pieces.items)) tt happens
     (adds_alone event old new reply happens) c.self.invariant).0
     ∙ c.self.view_is
