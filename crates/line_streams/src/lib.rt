@@ -3,4 +3,6 @@
 
 mod streams;
 
-pub use streams::{LINE_LIMIT, LineDesk, Next, READ_LIMIT, ServeFault, run_lines, run_lines_within};
+pub use streams::{
+    LINE_LIMIT, LineDesk, Next, READ_LIMIT, ServeFault, run_lines, run_lines_within,
+};

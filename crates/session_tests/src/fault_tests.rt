@@ -1,7 +1,5 @@
 //! What a run that ends with a fault has written and changed.
-use crate::fakes::{
-    FIRST_POINT, FIRST_REPLIES, FailingReader, FailingWriter, Failure, LongReader,
-};
+use crate::fakes::{FIRST_POINT, FIRST_REPLIES, FailingReader, FailingWriter, Failure, LongReader};
 use crate::worlds::{opened, replies};
 use refusing::Refusing;
 use sessions::{READ_LIMIT, ServeFault, run_script};
