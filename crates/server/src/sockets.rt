@@ -17,13 +17,16 @@ use std::sync::Wait;
 use std::sync::atomic::{AtomicU64, Ordering};
 use std::thread::Threads;
 use std::time::{Clock, Duration};
-use std::{fs, io};
+use std::{fs, io, thread};
+
+/// For how many seconds nobody is accepted after a connection that was not accepted.
+const ACCEPT_PAUSE: u64 = 1;
 
 /// How a socket is served.
 #[derive(Clone, Copy)]
 pub struct SocketOptions<'a> {
-    /// How many connections are accepted; one whose accepting fails counts too. After the last one
-    /// nobody listens any more.
+    /// How many connections are accepted; one whose accepting fails counts too, and for a second
+    /// behind it no other is accepted. After the last one nobody listens any more.
     pub connections: u16,
     /// How many seconds a session may wait for its client to send or to take something, before it
     /// ends with a fault. `None` and 0 set no bound.
@@ -126,6 +129,7 @@ where
             Ok(stream) => Some(stream),
             Err(error) => {
                 warn!(rt; target: "landmap", "a connection was not accepted: {error}");
+                thread::sleep(rt, Duration::from_secs(ACCEPT_PAUSE));
                 None
             }
         }
