@@ -10,7 +10,7 @@ use memory::{NoMemory, another, buffered, shared, text};
 use program::{HostFolder, Next, ProgramFault, WantedServer, run_program, tell};
 use server::{Closed, ServerFault, Serving, SocketOptions, serve_socket, watch};
 use std::alloc::Global;
-use std::fs::Files;
+use std::fs::{File, Files};
 use std::io::{IsTerminal, Print, Read, Stderr, Stdin, Write};
 use std::net::Net;
 use std::os::unix::net::UnixStream;
@@ -120,7 +120,7 @@ fn planned(heap: Global, server: WantedServer<'_>) -> Result<Plan, NoMemory> {
 fn serve<H, R>(rt: &R, own: H, heap: Global, plan: Plan, errors: &mut Stderr) -> ExitCode
 where
     H: Wait + Drop + Send,
-    R: Threads + Wait + Clock + Log + Files + Net + Print + Sync,
+    R: Threads + Wait + Clock + Log + Files<File = File> + Net + Print + Sync,
 {
     let Plan {
         serving,

@@ -3,6 +3,7 @@
 
 mod faults;
 mod listening;
+mod socket_files;
 mod sockets;
 mod stopping;
 mod streams;

@@ -4,12 +4,13 @@ ghost use Rattle.std.specs.Prelude.{IfOk};
 ghost use Rattle.server.specs.Served.{IsServed};
 
 use crate::faults::ServerFault;
-use crate::listening::{listen, tell_ready};
+use crate::listening::{Bound, listen, tell_ready};
+use crate::socket_files::remove_own;
 use crate::streams::{Serving, serve_streams};
 use hall::{Closed, NoGate};
 use log::{Log, warn};
 use std::alloc::Global;
-use std::fs::Files;
+use std::fs::{File, Files};
 use std::io::Print;
 use std::net::Net;
 use std::os::unix::net::{UnixListener, UnixStream};
@@ -17,7 +18,7 @@ use std::sync::Wait;
 use std::sync::atomic::{AtomicU64, Ordering};
 use std::thread::Threads;
 use std::time::{Clock, Duration};
-use std::{fs, io, thread};
+use std::{io, thread};
 
 /// For how many seconds nobody is accepted after a connection that was not accepted.
 const ACCEPT_PAUSE: u64 = 1;
@@ -110,7 +111,7 @@ fn serve_listener<H, R>(
     path: &str,
     serving: Serving,
     options: SocketOptions<'_>,
-    listener: UnixListener,
+    bound: Bound,
 ) -> Result<Closed, ServerFault>
 where
     H: Wait + Drop + Send,
@@ -119,7 +120,7 @@ where
 {
     tell_ready(rt, heap, path)?;
     let arrivals = Arrivals {
-        listener: Some(listener),
+        listener: Some(bound.listener),
         left: options.connections,
         ends: options.ends,
     };
@@ -138,9 +139,10 @@ where
 }
 
 /// Binds a Unix socket, writes the line `listening PATH` to standard output, serves the connections
-/// that come, and removes the path. Faults: `Bind` where the path is not bound; `Write` where the
-/// line is not written, and H6 where there is no memory for its buffer; then those of
-/// `serve_streams`. The path is removed after each fault but `Bind`.
+/// that come, and removes the path, unless another server has replaced its socket. Faults: `Bind`
+/// where the path is not bound; `Write` where the line is not written, and H6 where there is no
+/// memory for its buffer; then those of `serve_streams`. The path is removed after each fault but
+/// `Bind`.
 pub fn serve_socket<H, R>(
     rt: &R,
     own: H,
@@ -151,11 +153,12 @@ pub fn serve_socket<H, R>(
 ) -> Result<Closed, ServerFault>
 where
     H: Wait + Drop + Send,
-    R: Threads + Wait + Clock + Log + Files + Net + Print + Sync,
+    R: Threads + Wait + Clock + Log + Files<File = File> + Net + Print + Sync,
     ensures { IfOk result IsServed }
 {
-    let listener = listen(rt, path, options.takeover)?;
-    let served = serve_listener(rt, own, heap, path, serving, options, listener);
-    let _ = fs::remove_file(rt, path);
+    let bound = listen(rt, path, options.takeover)?;
+    let file = bound.file;
+    let served = serve_listener(rt, own, heap, path, serving, options, bound);
+    remove_own(rt, path, file);
     served
 }
