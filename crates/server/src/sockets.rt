@@ -6,6 +6,7 @@ ghost use Rattle.server.specs.Served.{IsServed};
 use crate::faults::ServerFault;
 use crate::listening::{Bound, listen, tell_ready};
 use crate::socket_files::remove_own;
+use crate::stopping::Stop;
 use crate::streams::{Serving, serve_streams};
 use hall::{Closed, NoGate};
 use log::{Log, warn};
@@ -15,7 +16,6 @@ use std::io::Print;
 use std::net::Net;
 use std::os::unix::net::{UnixListener, UnixStream};
 use std::sync::Wait;
-use std::sync::atomic::{AtomicU64, Ordering};
 use std::thread::Threads;
 use std::time::{Clock, Duration};
 use std::{io, thread};
@@ -34,9 +34,8 @@ pub struct SocketOptions<'a> {
     pub idle: Option<u64>,
     /// Whether a socket that nobody listens on is replaced.
     pub takeover: bool,
-    /// A flag that `watch` sets. Once it is not 0 and one more connection comes, no connection is
-    /// accepted any more.
-    pub ends: Option<&'a AtomicU64>,
+    /// How the server is told to accept no more connections, as `watch` tells it.
+    pub stop: Option<&'a Stop>,
 }
 
 /// Accepts connections, and stops listening after the last one.
@@ -44,13 +43,13 @@ pub struct SocketOptions<'a> {
 struct Arrivals<'a> {
     listener: Option<UnixListener>,
     left: u16,
-    ends: Option<&'a AtomicU64>,
+    stop: Option<&'a Stop>,
 }
 
-/// Whether no connection is to be accepted any more.
-fn has_ended(ends: Option<&AtomicU64>) -> bool {
-    match ends {
-        Some(flag) => flag.load(Ordering::SeqCst) != 0,
+/// Whether the server was told to accept no more connections.
+fn is_stopped(stop: Option<&Stop>) -> bool {
+    match stop {
+        Some(stop) => stop.is_asked(),
         None => false,
     }
 }
@@ -63,12 +62,12 @@ impl Iterator for Arrivals<'_> {
     ghost remaining = { λ arrivals. at_most arrivals.left };
 
     fn next(&mut self) -> Option<io::Result<UnixStream>> {
-        if self.left == 0 || has_ended(self.ends) {
+        if self.left == 0 || is_stopped(self.stop) {
             return None;
         }
         self.left -= 1;
         let accepted = self.listener.as_ref()?.accept();
-        if has_ended(self.ends) {
+        if is_stopped(self.stop) {
             self.left = 0;
             self.listener = None;
             return None;
@@ -119,10 +118,13 @@ where
     ensures { IfOk result IsServed }
 {
     tell_ready(rt, heap, path)?;
+    if let Some(stop) = options.stop {
+        stop.listens_on(bound.file);
+    }
     let arrivals = Arrivals {
         listener: Some(bound.listener),
         left: options.connections,
-        ends: options.ends,
+        stop: options.stop,
     };
     let patience = patience(options.idle);
     let incoming = arrivals.filter_map(|arrived| {

@@ -1,12 +1,13 @@
-//! Servers that follow each other on one path.
-use crate::clients::{Talk, told};
+//! Servers that follow each other on one path, and servers that are stopped.
+use crate::clients::{Talk, connected, told};
 use crate::servers::serving;
+use failing_streams::InterruptedReader;
 use hall::Closed;
 use log::Log;
-use server::{ServerFault, SocketOptions, serve_socket};
+use server::{ServerFault, SocketOptions, Stop, serve_socket, watch};
 use std::alloc::Global;
 use std::fs::{File, Files};
-use std::io::Print;
+use std::io::{ErrorKind, Print};
 use std::net::Net;
 use std::os::unix::net::UnixListener;
 use std::process::Abort;
@@ -37,7 +38,7 @@ fn takes_over(connections: u16) -> SocketOptions<'static> {
         connections,
         idle: None,
         takeover: true,
-        ends: None,
+        stop: None,
     }
 }
 
@@ -155,5 +156,83 @@ fn two_takeovers_at_once(rt: HostRuntime) -> Result<(), Fail> {
         assert!(rt; one != other, "one of the two serves");
         assert_eq!(rt; told.ok_or("told")?.as_str(), "hello north\nbye\n");
     }
+    Ok(())
+}
+
+/// A server that waits for its second connection ends with the input of `watch`, without one.
+#[test]
+fn the_end_of_an_input_stops_a_server(rt: HostRuntime) {
+    let heap: Global = rt.alloc();
+    let path = "server_stopped.sock";
+    let _ = fs::remove_file(&rt, path);
+    let stop = Stop::new();
+    let options = SocketOptions {
+        connections: 9,
+        idle: None,
+        takeover: false,
+        stop: Some(&stop),
+    };
+    let (closed, told) = thread::join(
+        &rt,
+        || serve_socket(&rt, rt, heap, path, serving(&rt, heap), options),
+        || {
+            let told = told(&rt, heap, path, b"HELLO north\nBYE\n");
+            let mut input = InterruptedReader::new(b"some lines\n", 3);
+            watch(&rt, &mut input, path, &stop);
+            told
+        },
+    );
+    assert_eq!(rt; closed, closed_with(1));
+    assert!(rt; told.is_some(), "the first client is served");
+    assert!(rt;
+        fs::symlink_metadata(&rt, path).is_err(),
+        "the path is free"
+    );
+}
+
+/// A server that is told to stop while it waits for a connection does not serve the one that comes.
+#[test]
+fn nobody_is_served_behind_a_stop(rt: HostRuntime) {
+    let heap: Global = rt.alloc();
+    let path = "server_told_to_stop.sock";
+    let _ = fs::remove_file(&rt, path);
+    let stop = Stop::new();
+    let options = SocketOptions {
+        connections: 9,
+        idle: None,
+        takeover: false,
+        stop: Some(&stop),
+    };
+    let (closed, replies) = thread::join(
+        &rt,
+        || serve_socket(&rt, rt, heap, path, serving(&rt, heap), options),
+        || {
+            let _ = told(&rt, heap, path, b"HELLO north\nBYE\n");
+            stop.ask();
+            told(&rt, heap, path, b"HELLO south\nBYE\n")
+        },
+    );
+    assert_eq!(rt; closed, closed_with(1));
+    // The client may not have been able to send its lines, or to read on.
+    if let Some(replies) = replies {
+        assert_eq!(rt; replies.as_str(), "");
+    }
+}
+
+/// `watch` connects to no socket but that of its own server.
+#[test]
+fn another_server_is_left_alone(rt: HostRuntime) -> Result<(), Fail> {
+    let path = "server_of_another.sock";
+    let _ = fs::remove_file(&rt, path);
+    let listener = UnixListener::bind(&rt, path)?;
+    listener.set_nonblocking(true)?;
+    let stop = Stop::new();
+    watch(&rt, &mut b"".as_slice(), path, &stop);
+    match listener.accept() {
+        Ok(_) => panic!(rt; "a connection came"),
+        Err(error) => assert_eq!(rt; error.kind(), ErrorKind::WouldBlock),
+    }
+    assert!(rt; connected(&rt, path).is_some(), "a client can connect");
+    fs::remove_file(&rt, path)?;
     Ok(())
 }
