@@ -5,24 +5,29 @@ ghost use Rattle.std.specs.Io.KnownBytes.{ReadConsumes};
 ghost use Rattle.std.specs.Io.{ReadsAtMost};
 
 use crate::failures::ReadFailed;
-use std::io::Read;
+use std::io::{ErrorKind, Read};
 
-/// Calls the reader once, and returns how many bytes it gave: 0 only at the end of its input, or
-/// for an empty buffer. `ReadFailed` if the reader returns an error; the known rest of its input is
-/// then unchanged.
+/// Makes one read, and returns how many bytes the reader gave: 0 only at the end of its input, or
+/// for an empty buffer. A call that is interrupted is repeated. `ReadFailed` if the reader returns
+/// another error, or has been interrupted in 2^64 - 1 calls; the known rest of its input is then
+/// unchanged.
 pub fn read_some<R: Read>(reader: &mut R, buffer: &mut [u8]) -> Result<usize, ReadFailed>
     ensures bound { ReadsAtMost result buffer.new }
     ensures bytes { ReadConsumes (R.remaining reader.old) (R.remaining reader.new) result
         buffer.new }
 {
-    match reader.read(buffer) {
-        Ok(count) => Ok(count),
-        Err(_) => Err(ReadFailed::seen()),
+    for _ in 0..u64::MAX {
+        match reader.read(buffer) {
+            Ok(count) => return Ok(count),
+            Err(error) if error.kind() == ErrorKind::Interrupted => {}
+            Err(_) => return Err(ReadFailed::seen()),
+        }
     }
+    Err(ReadFailed::seen())
 }
 
-/// How many reads were made. Only this crate counts them, and only by calling a reader, so that no
-/// count in a fault is invented.
+/// How many reads were made; one that was interrupted and repeated counts once. Only this crate
+/// counts them, and only by calling a reader, so that no count in a fault is invented.
 #[derive(Debug, Drop, PartialEq, Eq)]
 pub struct Turns {
     made: u32,

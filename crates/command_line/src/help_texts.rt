@@ -165,8 +165,8 @@ pub(crate) const SERVE_EXAMPLES: &str = r#"Examples:
 Exit status:
   0  all sessions have ended, and their records are those of the trail
   1  one line on standard error says why: `landmap: cannot read FILE`,
-     `landmap: cannot bind PATH`, `landmap: cannot write`, or `landmap: CODE`,
-     where CODE is
+     `landmap: cannot bind PATH`, `landmap: cannot start a worker`,
+     `landmap: cannot write`, or `landmap: CODE`, where CODE is
 
        B1, B2, N1 to N3, D2 to D8
                  the configuration is at fault: `landmap script --help` has how

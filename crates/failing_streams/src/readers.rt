@@ -1,4 +1,4 @@
-//! Readers that fail, that count their calls, or that have very long contents.
+//! Readers that fail, are interrupted, count their calls, or have very long contents.
 use std::io;
 use std::io::{ErrorKind, Read};
 
@@ -17,6 +17,42 @@ impl Read for FailingReader<'_> {
         if fails {
             return Err(ErrorKind::Other.into());
         }
+        if self.bytes.is_empty() || buf.is_empty() {
+            return Ok(0);
+        }
+        buf[0] = self.bytes[0];
+        self.bytes = &self.bytes[1..];
+        Ok(1)
+    }
+}
+
+/// A reader that returns one byte a call, and is interrupted before each byte, and before it tells
+/// the end, in so many calls.
+#[derive(Drop)]
+pub struct InterruptedReader<'a> {
+    bytes: &'a [u8],
+    times: u64,
+    left: u64,
+}
+
+impl<'a> InterruptedReader<'a> {
+    /// A reader of these bytes.
+    pub fn new(bytes: &'a [u8], times: u64) -> Self {
+        InterruptedReader {
+            bytes,
+            times,
+            left: times,
+        }
+    }
+}
+
+impl Read for InterruptedReader<'_> {
+    fn read(&mut self, buf: &mut [u8]) -> io::Result<usize> {
+        if self.left > 0 {
+            self.left -= 1;
+            return Err(ErrorKind::Interrupted.into());
+        }
+        self.left = self.times;
         if self.bytes.is_empty() || buf.is_empty() {
             return Ok(0);
         }

@@ -5,17 +5,16 @@
 use byte_streams::{WriteFailed, flush, let_go, write_shown};
 use client::{End, TalkFault, talk};
 use command_line::{WordsFault, host_words};
-use log::Log;
+use log::{Log, warn};
 use memory::{NoMemory, another, buffered, shared, text};
 use program::{HostFolder, Next, ProgramFault, WantedServer, run_program, tell};
-use server::{Closed, ServerFault, Serving, SocketOptions, serve_socket, watch};
+use server::{Closed, ServerFault, Serving, SocketOptions, Stop, serve_socket, watch};
 use std::alloc::Global;
-use std::fs::Files;
+use std::fs::{File, Files};
 use std::io::{IsTerminal, Print, Read, Stderr, Stdin, Write};
 use std::net::Net;
 use std::os::unix::net::UnixStream;
 use std::process::ExitCode;
-use std::sync::atomic::AtomicU64;
 use std::sync::{Arc, Wait};
 use std::thread::Threads;
 use std::time::Clock;
@@ -74,27 +73,27 @@ struct Plan {
     connections: u16,
     idle: Option<u64>,
     takeover: bool,
-    /// When this is not 0, no more connections are accepted.
-    ends: Arc<AtomicU64>,
+    /// How the server is told to accept no more connections.
+    stop: Arc<Stop>,
     /// For the thread that waits for the end of standard input, if the command line asks for one.
     stopping: Option<Stopping>,
 }
 
-/// What the thread that waits for the end of standard input shares with the server: the flag that
-/// it sets, and the path to which it connects afterwards.
+/// What the thread that waits for the end of standard input takes along: how it tells the server,
+/// and the path to which it connects afterwards.
 #[derive(Drop)]
 struct Stopping {
-    ends: Arc<AtomicU64>,
+    stop: Arc<Stop>,
     path: String,
 }
 
 /// The server that the command line asks for.
 fn planned(heap: Global, server: WantedServer<'_>) -> Result<Plan, NoMemory> {
     let WantedServer { options, config } = server;
-    let ends = shared(heap, AtomicU64::new(0))?;
+    let stop = shared(heap, Stop::new())?;
     let stopping = if options.until_stdin_ends {
         Some(Stopping {
-            ends: another(&ends)?,
+            stop: another(&stop)?,
             path: text(heap, options.socket)?,
         })
     } else {
@@ -110,7 +109,7 @@ fn planned(heap: Global, server: WantedServer<'_>) -> Result<Plan, NoMemory> {
         connections: options.connections,
         idle: options.idle_seconds.map(u64::from),
         takeover: options.takeover,
-        ends,
+        stop,
         stopping,
     })
 }
@@ -120,7 +119,7 @@ fn planned(heap: Global, server: WantedServer<'_>) -> Result<Plan, NoMemory> {
 fn serve<H, R>(rt: &R, own: H, heap: Global, plan: Plan, errors: &mut Stderr) -> ExitCode
 where
     H: Wait + Drop + Send,
-    R: Threads + Wait + Clock + Log + Files + Net + Print + Sync,
+    R: Threads + Wait + Clock + Log + Files<File = File> + Net + Print + Sync,
 {
     let Plan {
         serving,
@@ -128,14 +127,14 @@ where
         connections,
         idle,
         takeover,
-        ends,
+        stop,
         stopping: _stopping,
     } = plan;
     let socket_options = SocketOptions {
         connections,
         idle,
         takeover,
-        ends: Some(&ends),
+        stop: Some(&stop),
     };
     match serve_socket(rt, own, heap, path.as_str(), serving, socket_options) {
         Ok(closed) => conclude(rt, heap, closed, errors),
@@ -246,9 +245,12 @@ fn main(rt: HostRuntime) -> ExitCode {
             Ok(plan) => {
                 let mut plan = plan;
                 if let Some(stopping) = plan.stopping.take() {
-                    let _ = thread::spawn(&rt, move || {
-                        watch(&rt, stopping.path.as_str(), &stopping.ends)
-                    });
+                    let watches = move || {
+                        watch(&rt, &mut rt.stdin(), stopping.path.as_str(), &stopping.stop)
+                    };
+                    if thread::spawn(&rt, watches).is_err() {
+                        warn!(&rt; target: "landmap", "the end of standard input is not seen");
+                    }
                 }
                 serve(&rt, rt, rt.alloc(), plan, &mut errors)
             }

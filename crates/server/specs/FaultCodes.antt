@@ -8,6 +8,7 @@ abbrev pub server_code : ServerFault → List ℕ
 server_code faults.Bind = codes "cannot bind"
 server_code (faults.Write failed) = codes "cannot write"
 server_code (faults.Channel refused) = codes "H6"
+server_code faults.NoWorker = codes "cannot start a worker"
 server_code (faults.Open fault) = open_code fault
 server_code (faults.Hall fault) = hall_code fault
 server_code (faults.Close fault) = close_code fault

@@ -30,6 +30,8 @@ pub enum ServerFault {
     /// H6: there is no memory for a channel: the one for streams that wait for a worker, or the one
     /// that stops the tending.
     Channel(NoMemoryForChannel),
+    /// None of the workers could be started, so nothing was served.
+    NoWorker,
     /// The hall was not opened.
     Open(OpenFault),
     /// The hall gave no view; or, as H6, there is no memory for the lists of views and of seats, or
@@ -50,6 +52,7 @@ impl ServerFault {
             ServerFault::Bind => "cannot bind",
             ServerFault::Write(_) => "cannot write",
             ServerFault::Channel(_) => "H6",
+            ServerFault::NoWorker => "cannot start a worker",
             ServerFault::Open(fault) => fault.code(),
             ServerFault::Hall(fault) => fault.code(),
             ServerFault::Close(fault) => fault.code(),

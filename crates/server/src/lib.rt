@@ -3,6 +3,7 @@
 
 mod faults;
 mod listening;
+mod socket_files;
 mod sockets;
 mod stopping;
 mod streams;
@@ -11,5 +12,5 @@ mod workers;
 pub use faults::{NoMemoryForChannel, ServerFault};
 pub use hall::Closed;
 pub use sockets::{SocketOptions, serve_socket};
-pub use stopping::watch;
+pub use stopping::{Stop, watch};
 pub use streams::{Serving, WORKER_COUNT, WORKER_LIMIT, serve_streams};

@@ -3,14 +3,16 @@
 ghost use Rattle.std.specs.Prelude.{◌++◌, codes};
 
 use crate::faults::ServerFault;
+use crate::socket_files::{SocketFile, locked_folder};
 use byte_streams::{WriteFailed, flush, let_go, write_shown};
 use memory::buffered;
 use std::alloc::Global;
-use std::fs::{Files, Permissions};
+use std::fs::{File, Files, Permissions};
 use std::io::{ErrorKind, Print, Write};
 use std::net::Net;
 use std::os::unix::fs::{FileTypeExt, PermissionsExt};
 use std::os::unix::net::{UnixListener, UnixStream};
+use std::time::Clock;
 use std::{fmt, fs, io};
 
 /// Who may connect: the owner of the socket's file, and its group.
@@ -41,15 +43,33 @@ fn bind_again<R: Files + Net>(rt: &R, path: &str) -> io::Result<UnixListener> {
     }
 }
 
+/// A socket on which a server listens, and the file that it has at its path.
+#[derive(Drop)]
+pub(crate) struct Bound {
+    pub(crate) listener: UnixListener,
+    pub(crate) file: SocketFile,
+}
+
+/// Sets the permissions of the socket's file, and notes which file it is.
+fn opened_up<R: Files>(rt: &R, path: &str) -> Option<SocketFile> {
+    if fs::set_permissions(rt, path, Permissions::from_mode(MODE)).is_err() {
+        let _ = fs::remove_file(rt, path);
+        return None;
+    }
+    SocketFile::at(rt, path)
+}
+
 /// Listens on a path, to which its owner and group may connect. With `takeover`, a socket that
-/// nobody listens on is replaced. `Bind` where anything else is at the path, or its permissions
-/// cannot be set.
-pub(crate) fn listen<R: Files + Net>(
+/// nobody listens on is replaced: under the lock of its folder, so that of two servers one finds
+/// the other listening. `Bind` where anything else is at the path, where its permissions cannot be
+/// set, and where a socket is to be replaced and its folder cannot be locked.
+pub(crate) fn listen<R: Files<File = File> + Net + Clock>(
     rt: &R,
     path: &str,
     takeover: bool,
-) -> Result<UnixListener, ServerFault> {
-    let bound = if takeover {
+) -> Result<Bound, ServerFault> {
+    let locked = locked_folder(rt, path);
+    let bound = if takeover && locked.is_some() {
         bind_again(rt, path)
     } else {
         UnixListener::bind(rt, path)
@@ -57,11 +77,10 @@ pub(crate) fn listen<R: Files + Net>(
     let Ok(listener) = bound else {
         return Err(ServerFault::Bind);
     };
-    if fs::set_permissions(rt, path, Permissions::from_mode(MODE)).is_err() {
-        let _ = fs::remove_file(rt, path);
-        return Err(ServerFault::Bind);
+    match opened_up(rt, path) {
+        Some(file) => Ok(Bound { listener, file }),
+        None => Err(ServerFault::Bind),
     }
-    Ok(listener)
 }
 
 /// The line `listening PATH`.

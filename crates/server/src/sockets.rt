@@ -4,35 +4,38 @@ ghost use Rattle.std.specs.Prelude.{IfOk};
 ghost use Rattle.server.specs.Served.{IsServed};
 
 use crate::faults::ServerFault;
-use crate::listening::{listen, tell_ready};
+use crate::listening::{Bound, listen, tell_ready};
+use crate::socket_files::remove_own;
+use crate::stopping::Stop;
 use crate::streams::{Serving, serve_streams};
 use hall::{Closed, NoPause};
 use log::{Log, warn};
 use std::alloc::Global;
-use std::fs::Files;
+use std::fs::{File, Files};
 use std::io::Print;
 use std::net::Net;
 use std::os::unix::net::{UnixListener, UnixStream};
 use std::sync::Wait;
-use std::sync::atomic::{AtomicU64, Ordering};
 use std::thread::Threads;
 use std::time::{Clock, Duration};
-use std::{fs, io};
+use std::{io, thread};
+
+/// For how many seconds nobody is accepted after a connection that was not accepted.
+const ACCEPT_PAUSE: u64 = 1;
 
 /// How a socket is served.
 #[derive(Clone, Copy)]
 pub struct SocketOptions<'a> {
-    /// How many connections are accepted; one whose accepting fails counts too. After the last one
-    /// nobody listens any more.
+    /// How many connections are accepted; one whose accepting fails counts too, and for a second
+    /// behind it no other is accepted. After the last one nobody listens any more.
     pub connections: u16,
     /// How many seconds a session may wait for its client to send or to take something, before it
     /// ends with a fault. `None` and 0 set no bound.
     pub idle: Option<u64>,
     /// Whether a socket that nobody listens on is replaced.
     pub takeover: bool,
-    /// A flag that `watch` sets. Once it is not 0 and one more connection comes, no connection is
-    /// accepted any more.
-    pub ends: Option<&'a AtomicU64>,
+    /// How the server is told to accept no more connections, as `watch` tells it.
+    pub stop: Option<&'a Stop>,
 }
 
 /// Accepts connections, and stops listening after the last one.
@@ -40,13 +43,13 @@ pub struct SocketOptions<'a> {
 struct Arrivals<'a> {
     listener: Option<UnixListener>,
     left: u16,
-    ends: Option<&'a AtomicU64>,
+    stop: Option<&'a Stop>,
 }
 
-/// Whether no connection is to be accepted any more.
-fn has_ended(ends: Option<&AtomicU64>) -> bool {
-    match ends {
-        Some(flag) => flag.load(Ordering::SeqCst) != 0,
+/// Whether the server was told to accept no more connections.
+fn is_stopped(stop: Option<&Stop>) -> bool {
+    match stop {
+        Some(stop) => stop.is_asked(),
         None => false,
     }
 }
@@ -59,12 +62,12 @@ impl Iterator for Arrivals<'_> {
     ghost remaining = { λ arrivals. at_most arrivals.left };
 
     fn next(&mut self) -> Option<io::Result<UnixStream>> {
-        if self.left == 0 || has_ended(self.ends) {
+        if self.left == 0 || is_stopped(self.stop) {
             return None;
         }
         self.left -= 1;
         let accepted = self.listener.as_ref()?.accept();
-        if has_ended(self.ends) {
+        if is_stopped(self.stop) {
             self.left = 0;
             self.listener = None;
             return None;
@@ -107,7 +110,7 @@ fn serve_listener<H, R>(
     path: &str,
     serving: Serving,
     options: SocketOptions<'_>,
-    listener: UnixListener,
+    bound: Bound,
 ) -> Result<Closed, ServerFault>
 where
     H: Wait + Drop + Send,
@@ -115,10 +118,13 @@ where
     ensures { IfOk result IsServed }
 {
     tell_ready(rt, heap, path)?;
+    if let Some(stop) = options.stop {
+        stop.listens_on(bound.file);
+    }
     let arrivals = Arrivals {
-        listener: Some(listener),
+        listener: Some(bound.listener),
         left: options.connections,
-        ends: options.ends,
+        stop: options.stop,
     };
     let patience = patience(options.idle);
     let incoming = arrivals.filter_map(|arrived| {
@@ -126,6 +132,7 @@ where
             Ok(stream) => Some(stream),
             Err(error) => {
                 warn!(rt; target: "landmap", "a connection was not accepted: {error}");
+                thread::sleep(rt, Duration::from_secs(ACCEPT_PAUSE));
                 None
             }
         }
@@ -134,9 +141,10 @@ where
 }
 
 /// Binds a Unix socket, writes the line `listening PATH` to standard output, serves the connections
-/// that come, and removes the path. Faults: `Bind` where the path is not bound; `Write` where the
-/// line is not written, and H6 where there is no memory for its buffer; then those of
-/// `serve_streams`. The path is removed after each fault but `Bind`.
+/// that come, and removes the path, unless another server has replaced its socket. Faults: `Bind`
+/// where the path is not bound; `Write` where the line is not written, and H6 where there is no
+/// memory for its buffer; then those of `serve_streams`. The path is removed after each fault but
+/// `Bind`.
 pub fn serve_socket<H, R>(
     rt: &R,
     own: H,
@@ -147,11 +155,12 @@ pub fn serve_socket<H, R>(
 ) -> Result<Closed, ServerFault>
 where
     H: Wait + Drop + Send,
-    R: Threads + Wait + Clock + Log + Files + Net + Print + Sync,
+    R: Threads + Wait + Clock + Log + Files<File = File> + Net + Print + Sync,
     ensures { IfOk result IsServed }
 {
-    let listener = listen(rt, path, options.takeover)?;
-    let served = serve_listener(rt, own, heap, path, serving, options, listener);
-    let _ = fs::remove_file(rt, path);
+    let bound = listen(rt, path, options.takeover)?;
+    let file = bound.file;
+    let served = serve_listener(rt, own, heap, path, serving, options, bound);
+    remove_own(rt, path, file);
     served
 }

@@ -85,6 +85,7 @@ fn views_of<L: Ledger + ListName, H: Wait + Drop, R: Wait>(
 }
 
 /// Serves what comes in by workers, one for each view, and returns when all of it is served.
+/// `NoWorker` where none of them could be started.
 fn serve_all<'h, L: Ledger + ListName + Send + Sync, H, R, I, O, G, S>(
     rt: &R,
     heap: Global,
@@ -93,7 +94,7 @@ fn serve_all<'h, L: Ledger + ListName + Send + Sync, H, R, I, O, G, S>(
     views: Vec<View<L>>,
     ends: (Sender<(I, O, G)>, Receiver<(I, O, G)>),
     incoming: S,
-)
+) -> Result<(), ServerFault>
 where
     H: Wait + Drop + Send,
     R: Threads + Wait + Log + Sync,
@@ -115,6 +116,7 @@ where
             requires crosses { IsSend I.row × IsSend O.row × IsSend G.row }
             requires hall { IsSend L.row × IsSend H.row }
         {
+            let mut started = false;
             for view in views {
                 let Ok(streams) = from.clone() else {
                     break;
@@ -126,16 +128,21 @@ where
                     warn!(rt; target: "landmap", "a worker could not be started");
                     break;
                 }
+                started = true;
             }
-            // If there is no worker, a send now fails instead of waiting for one.
+            if !started {
+                return Err(ServerFault::NoWorker);
+            }
+            // Where all workers have ended, a send now fails instead of waiting for one.
             drop(from);
             hand_out(rt, incoming, to);
+            Ok(())
         },
-    );
+    )
 }
 
 /// Serves what comes in by workers, one for each view, beside one thread that tends the index.
-/// Returns the seats of all sessions.
+/// Returns the seats of all sessions; `NoWorker` where none of the workers could be started.
 fn serve_tended<'h, L: Ledger + ListName + Send + Sync, H, R, I, O, G, S>(
     rt: &R,
     heap: Global,
@@ -159,7 +166,7 @@ where
     // is lost at the end.
     let gathered = Mutex::new(vec_with_slots(heap, SEAT_LIMIT)?);
     let seats = &gathered;
-    thread::scope(
+    let served = thread::scope(
         thread::scope_env(),
         rt,
         |scope|
@@ -172,11 +179,13 @@ where
             if scope.spawn(move || tend(rt, hall, stopped)).is_err() {
                 warn!(rt; target: "landmap", "the index is not tended");
             }
-            serve_all(rt, heap, hall, seats, views, streams, incoming);
+            let served = serve_all(rt, heap, hall, seats, views, streams, incoming);
             // This ends the tending.
             drop(stop);
+            served
         },
     );
+    served?;
     Ok(gathered.into_inner())
 }
 
@@ -227,8 +236,8 @@ where
 /// after another, each as one session to its end. Returns when all streams that came in are served.
 /// A session that ends with a fault ends alone, with a warning; a stream for which there is no
 /// worker is dropped, with a warning. `own` is the hall's own handle, with which it publishes
-/// policies. Faults: `Channel`, `Open` and `Hall` before anything is served; `Close` where the
-/// receipts of a seat are not its records, or a seat is lost.
+/// policies. Faults: `Channel`, `Open`, `Hall` and `NoWorker` before anything is served; `Close`
+/// where the receipts of a seat are not its records, or a seat is lost.
 pub fn serve_streams<H, R, I, O, G, S>(
     rt: &R,
     own: H,

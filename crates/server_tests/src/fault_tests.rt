@@ -1,7 +1,7 @@
 //! Sessions over a hall with failing streams: what is written, and what the next session finds.
-use crate::memory_streams::{Replies, failing, whole};
+use crate::memory_streams::{Replies, check_told, failing, whole};
 use crate::servers::closed_by;
-use failing_streams::{FailingReader, FailingWriter, Failure};
+use failing_streams::{FailingReader, FailingWriter, Failure, InterruptedReader};
 use hall::{Closed, NoPause};
 use log::Log;
 use std::alloc::Global;
@@ -106,6 +106,35 @@ fn each_read_fails(rt: HostRuntime) {
         }
     }
     assert_eq!(rt; lines, 6);
+}
+
+/// Serves the lines through a reader that is interrupted so many times before each byte, and checks
+/// that this is not noticed.
+fn check_interrupted<H, R>(rt: &R, own: H, heap: Global, times: u64)
+where
+    H: Wait + Drop + Send,
+    R: Threads + Wait + Clock + Log + Abort + Sync,
+{
+    let told = whole(heap);
+    let reader = InterruptedReader::new(LINES.as_bytes(), times);
+    let closed = match vec![in heap; (reader, Replies::kept_in(rt, &told), NoPause)] {
+        Ok(streams) => closed_by(rt, own, heap, 1, streams),
+        Err(_) => panic!(rt; "no memory"),
+    };
+    check_told(rt, told, ALL_REPLIES);
+    assert_eq!(rt;
+        closed,
+        Closed {
+            records: 2,
+            seats: 1
+        }
+    );
+}
+
+#[test]
+fn interrupted_reads_are_repeated(rt: HostRuntime) {
+    check_interrupted(&rt, rt, rt.alloc(), 1);
+    check_interrupted(&rt, rt, rt.alloc(), 300);
 }
 
 /// How many lines were answered when a write fails after this many bytes of the replies.

@@ -19,3 +19,5 @@ mod stranger_lines;
 mod stranger_tests;
 #[cfg(test)]
 mod stream_tests;
+#[cfg(test)]
+mod takeover_tests;

@@ -2,14 +2,13 @@
 use crate::clients::{connected, told};
 use crate::servers::serving;
 use hall::Closed;
-use server::{ServerFault, SocketOptions, serve_socket};
+use server::{ServerFault, SocketOptions, Stop, serve_socket};
 use std::alloc::Global;
 use std::fs::Files;
 use std::io::Read;
 use std::net::Net;
 use std::os::unix::net::UnixListener;
 use std::process::Abort;
-use std::sync::atomic::AtomicU64;
 use std::test::Fail;
 use std::{fs, thread};
 
@@ -18,7 +17,7 @@ const ONE: SocketOptions<'static> = SocketOptions {
     connections: 1,
     idle: None,
     takeover: false,
-    ends: None,
+    stop: None,
 };
 
 /// Checks that the path is free again.
@@ -99,7 +98,7 @@ fn a_path_that_is_taken(rt: HostRuntime) -> Result<(), Fail> {
         connections: 1,
         idle: None,
         takeover: true,
-        ends: None,
+        stop: None,
     };
     assert_eq!(rt;
         serve_socket(&rt, rt, heap, path, serving(&rt, heap), ONE),
@@ -126,13 +125,14 @@ fn a_socket_is_taken_over(rt: HostRuntime) -> Result<(), Fail> {
     let path = "server_left_behind.sock";
     let _ = fs::remove_file(&rt, path);
     drop(UnixListener::bind(&rt, path)?);
-    // Nobody is served, because the flag is set.
-    let flag = AtomicU64::new(1);
+    // Nobody is served, because the server is told so.
+    let stop = Stop::new();
+    stop.ask();
     let options = SocketOptions {
         connections: 9,
         idle: None,
         takeover: true,
-        ends: Some(&flag),
+        stop: Some(&stop),
     };
     assert_eq!(rt;
         serve_socket(&rt, rt, heap, path, serving(&rt, heap), options),
@@ -154,7 +154,7 @@ fn a_file_is_not_taken_over(rt: HostRuntime) -> Result<(), Fail> {
         connections: 1,
         idle: None,
         takeover: true,
-        ends: None,
+        stop: None,
     };
     assert_eq!(rt;
         serve_socket(&rt, rt, heap, path, serving(&rt, heap), options),
@@ -183,7 +183,7 @@ fn a_silent_client_is_left(rt: HostRuntime) -> Result<(), Fail> {
         connections: 1,
         idle: Some(1),
         takeover: false,
-        ends: None,
+        stop: None,
     };
     let (served, left) = thread::join(
         &rt,

@@ -19,7 +19,7 @@ fn connections(count: u16) -> SocketOptions<'static> {
         connections: count,
         idle: None,
         takeover: false,
-        ends: None,
+        stop: None,
     }
 }
 
