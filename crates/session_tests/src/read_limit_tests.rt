@@ -27,6 +27,8 @@ impl LineDesk for Counter {
         *lines += 1;
         Ok(Next::Line)
     }
+
+    ghost long_alike = { λ line other old new said next long longer told. told };
 }
 
 /// Runs an input of this byte, so many times, one a read, with a limit of 100 reads. Checks the code
