@@ -1,0 +1,161 @@
+#!/usr/bin/env python3
+"""Times mixed work over the socket of `landmap serve`: 100,000 points, searches of ten rows, and commits of one feature.
+
+    bench/serve_bench/mixed_sockets.py [--features 100000] [--seconds 3] [PROGRAM]
+
+Three parts: one client that searches alone; the same while another client commits one feature every 100 ms, and while one commits without
+pause; and 1, 4 and 16 clients each of which makes nine searches and then a commit of one feature, again and again. Each row: requests a
+second (a commit is one, with its ADD), the 50th and 99th percentile of a search in microseconds, and the processor's share of the server.
+A last row: 20,000 RESHAPEs of one client, and how much the server's memory has grown by them.
+"""
+import argparse
+import math
+import os
+import random
+import socket
+import subprocess
+import tempfile
+import threading
+import time
+
+TOP = os.path.dirname(os.path.dirname(os.path.dirname(os.path.abspath(__file__))))
+HERE = os.path.dirname(os.path.abspath(__file__))
+SIZE = 10_000_000
+
+
+def square(chance, part):
+    side = round(2 * SIZE * math.sqrt(part))
+    x, y = chance.randint(-SIZE, SIZE - side), chance.randint(-SIZE, SIZE - side)
+    return f"POLYGON (({x} {y}, {x + side} {y}, {x + side} {y + side}, {x} {y + side}, {x} {y}))"
+
+
+def point(chance):
+    return f"POINT ({chance.randint(-SIZE, SIZE)} {chance.randint(-SIZE, SIZE)})"
+
+
+class Session:
+    def __init__(self, path):
+        self.socket = socket.socket(socket.AF_UNIX, socket.SOCK_STREAM)
+        self.socket.connect(path)
+        self.lines = self.socket.makefile("r", encoding="ascii")
+        assert self.ask("HELLO north", 1) == ["hello north"]
+
+    def ask(self, text, replies):
+        self.socket.sendall((text + "\n").encode("ascii"))
+        return [self.lines.readline().rstrip("\n") for _ in range(replies)]
+
+
+def load(path, features):
+    chance = random.Random(1)
+    session = Session(path)
+    for start in range(1, features + 1, 16):
+        lines = [f"ADD {number} mast {point(chance)}" for number in range(start, min(start + 16, features + 1))]
+        assert session.ask("\n".join(lines + ["COMMIT"]), len(lines) + 1)[-1].startswith("applied ")
+    session.ask("BYE", 1)
+
+
+def processor(server):
+    with open(f"/proc/{server.pid}/stat", encoding="ascii") as file:
+        words = file.read().rsplit(") ", 1)[1].split()
+    return (int(words[11]) + int(words[12])) / os.sysconf("SC_CLK_TCK")
+
+
+def memory(server):
+    with open(f"/proc/{server.pid}/status", encoding="ascii") as file:
+        return next(int(line.split()[1]) for line in file if line.startswith("VmRSS"))
+
+
+def committing(path, pause, first, stop, counts):
+    """Adds one feature after another, with a pause between two, until it is told to stop."""
+    chance, session, number = random.Random(first), Session(path), first
+    while not stop.is_set():
+        assert session.ask(f"ADD {number} mast {point(chance)}\nCOMMIT", 2)[1].startswith("applied ")
+        number += 1
+        if pause:
+            time.sleep(pause)
+    counts.append(number - first)
+    session.ask("BYE", 1)
+
+
+def asker(path, seconds, file):
+    words = [os.path.join(WORK, "asker"), path, "1", str(seconds), "1", file, "HELLO north"]
+    return subprocess.Popen(words, stdout=subprocess.PIPE, text=True)
+
+
+def searches(features, count):
+    chance = random.Random(2)
+    return [f"SEARCH {square(chance, 10 / features)}" for _ in range(count)]
+
+
+def written(name, lines):
+    file = os.path.join(WORK, name)
+    with open(file, "w", encoding="ascii") as out:
+        out.write("\n".join(lines) + "\n")
+    return file
+
+
+def told(name, server, seconds, askers, before, extra=""):
+    answers = [[float(word) for word in asker.communicate()[0].split()] for asker in askers]
+    share = (processor(server) - before) / seconds
+    rate = sum(answer[0] for answer in answers)
+    middle, late = (sorted(answer[at] for answer in answers)[len(answers) // 2] for at in (1, 2))
+    print(f"{name:44} {rate:8.0f} lines a second, {middle:7.1f} us, {late:8.1f} us, {share:4.2f} processors{extra}", flush=True)
+
+
+def main():
+    global WORK
+    parser = argparse.ArgumentParser(description=__doc__, formatter_class=argparse.RawDescriptionHelpFormatter)
+    parser.add_argument("--features", type=int, default=100_000)
+    parser.add_argument("--seconds", type=float, default=3)
+    parser.add_argument("program", nargs="?", default=os.path.join(TOP, "crates", "landmap", "out", "landmap"))
+    arguments = parser.parse_args()
+    WORK = tempfile.mkdtemp()
+    subprocess.run(["cc", "-O2", "-pthread", "-o", os.path.join(WORK, "asker"), os.path.join(HERE, "asker.c")], check=True)
+    path = os.path.join(WORK, "landmap.sock")
+    server = subprocess.Popen([arguments.program, "serve", "--socket", path, "--connections", "1024", "--workers", "20"],
+                              stdout=subprocess.PIPE, text=True)
+    assert server.stdout.readline() == f"listening {path}\n"
+    load(path, arguments.features)
+    time.sleep(1)
+    seconds = arguments.seconds
+    alone = written("searches", searches(arguments.features, 5000))
+    told("one client searches alone", server, seconds, [asker(path, seconds, alone)], processor(server))
+    for name, pause, first in (("beside a commit every 100 ms", 0.1, 20_000_000), ("beside commits without pause", 0, 30_000_000)):
+        stop, counts = threading.Event(), []
+        other = threading.Thread(target=committing, args=(path, pause, first, stop, counts))
+        other.start()
+        before = processor(server)
+        time.sleep(1)
+        lone = (processor(server) - before)
+        told(name, server, seconds, [asker(path, seconds, alone)], processor(server), f"; {lone:4.2f} by those commits alone")
+        stop.set()
+        other.join()
+    for clients in (1, 4, 16):
+        files = []
+        for client in range(clients):
+            chance, lines = random.Random(client), []
+            nine = searches(arguments.features, 5000)
+            for at in range(20_000):
+                lines += nine[(9 * at) % 4991:(9 * at) % 4991 + 9]
+                lines += [f"ADD {100_000_000 * (clients * 20 + client + 1) + at} mast {point(chance)}", "COMMIT"]
+            files.append(written(f"mixed{client}", lines))
+        before = processor(server)
+        told(f"{clients} clients, nine searches to one commit", server, seconds, [asker(path, seconds, file) for file in files], before)
+    session, chance, version = Session(path), random.Random(9), None
+    assert session.ask("ADD 99 mast POINT (0 0)\nCOMMIT", 2)
+    session.ask("ABORT", 1)
+    assert session.ask(f"ADD 77777777 mast POINT (0 0)\nCOMMIT", 2)[1].startswith("applied ")
+    version = int(session.ask("SEARCH POINT (0 0)", 2)[1].split()[1])
+    grown, begun = memory(server), time.time()
+    for _ in range(20_000):
+        reply = session.ask(f"RESHAPE 77777777 {version} {point(chance)}\nCOMMIT", 2)[1]
+        version = int(reply.split()[1])
+    print(f"20000 RESHAPEs in {time.time() - begun:.1f} s; memory grew by {memory(server) - grown} KiB (records stay: 190 bytes each)")
+    time.sleep(2)
+    before = processor(server)
+    time.sleep(3)
+    print(f"idle: {(processor(server) - before) * 1000:.0f} ms of the processor in 3 s; memory {memory(server)} KiB")
+    server.kill()
+
+
+main()
