@@ -110,3 +110,38 @@ fn views_have_places_and_an_end(rt: HostRuntime) -> Result<(), Fail> {
     places_and_end::<Brand, _>(&rt, rt, rt.alloc(), EmptyList::new());
     Ok(())
 }
+
+/// Views are given at any time, up to as many as were asked for, and each knows all that is
+/// published.
+fn views_between_policies<L: ListName, W: Wait + Drop>(
+    rt: &impl Abort,
+    own: W,
+    heap: Global,
+    list: EmptyList,
+)
+    requires { list ≡ L.book }
+{
+    let Ok(mut publisher) = Publisher::<L, W>::open(own, heap, list, policy(rt, heap, 1), 64) else {
+        panic!(rt; "not opened")
+    };
+    let mut views = Vec::new(heap);
+    for edition in 1..5 {
+        for _ in 0..16 {
+            let view = view_of(rt, &mut publisher, edition);
+            views.push(view).expect(rt, "memory");
+        }
+        let _edition = publisher.publish(policy(rt, heap, edition + 1));
+    }
+    assert!(rt; publisher.view().is_none());
+    let question = question(rt);
+    for view in &mut views {
+        assert_explains(rt, view, &question, 5);
+    }
+    drop(publisher);
+}
+
+#[test]
+fn sixty_four_views_between_policies(rt: HostRuntime) -> Result<(), Fail> {
+    views_between_policies::<Brand, _>(&rt, rt, rt.alloc(), EmptyList::new());
+    Ok(())
+}
