@@ -1,10 +1,10 @@
 #!/usr/bin/env python3
-"""Times mixed work over the socket of `landmap serve`: 100,000 points, searches of ten rows, and commits of one feature.
+"""Times mixed work over the socket of `landmap serve`: 70,000 points, searches of ten rows, and commits of one feature.
 
-    bench/serve_bench/mixed_sockets.py [--features 100000] [--seconds 3] [PROGRAM]
+    bench/serve_bench/mixed_sockets.py [--features 70000] [--seconds 3] [PROGRAM]
 
 Three parts: one client that searches alone; the same while another client commits one feature every 100 ms, and while one commits without
-pause; and 1, 4 and 16 clients each of which makes nine searches and then a commit of one feature, again and again. Each row: requests a
+pause (additions and deletions in turn); and 1, 4 and 16 clients each of which makes nine searches and then a commit of one feature, again and again. Each row: requests a
 second (a commit is one, with its ADD), the 50th and 99th percentile of a search in microseconds, and the processor's share of the server.
 A last row: 20,000 RESHAPEs of one client, and how much the server's memory has grown by them.
 """
@@ -65,15 +65,16 @@ def memory(server):
         return next(int(line.split()[1]) for line in file if line.startswith("VmRSS"))
 
 
-def committing(path, pause, first, stop, counts):
-    """Adds one feature after another, with a pause between two, until it is told to stop."""
-    chance, session, number = random.Random(first), Session(path), first
+def committing(path, pause, first, stop):
+    """Adds one feature and deletes it again, with a pause between two lists, until it is told to stop."""
+    chance, session, number, version = random.Random(first), Session(path), first, None
     while not stop.is_set():
-        assert session.ask(f"ADD {number} mast {point(chance)}\nCOMMIT", 2)[1].startswith("applied ")
-        number += 1
+        line = f"ADD {number} mast {point(chance)}" if version is None else f"DELETE {number} {version}"
+        reply = session.ask(line + "\nCOMMIT", 2)[1]
+        assert reply.startswith("applied "), reply
+        version = reply.split()[1] if version is None else None
         if pause:
             time.sleep(pause)
-    counts.append(number - first)
     session.ask("BYE", 1)
 
 
@@ -105,7 +106,7 @@ def told(name, server, seconds, askers, before, extra=""):
 def main():
     global WORK
     parser = argparse.ArgumentParser(description=__doc__, formatter_class=argparse.RawDescriptionHelpFormatter)
-    parser.add_argument("--features", type=int, default=100_000)
+    parser.add_argument("--features", type=int, default=70_000)
     parser.add_argument("--seconds", type=float, default=3)
     parser.add_argument("program", nargs="?", default=os.path.join(TOP, "crates", "landmap", "out", "landmap"))
     arguments = parser.parse_args()
@@ -114,15 +115,21 @@ def main():
     path = os.path.join(WORK, "landmap.sock")
     server = subprocess.Popen([arguments.program, "serve", "--socket", path, "--connections", "1024", "--workers", "20"],
                               stdout=subprocess.PIPE, text=True)
+    try:
+        measure(path, server, arguments.features, arguments.seconds)
+    finally:
+        server.kill()
+
+
+def measure(path, server, features, seconds):
     assert server.stdout.readline() == f"listening {path}\n"
-    load(path, arguments.features)
+    load(path, features)
     time.sleep(1)
-    seconds = arguments.seconds
-    alone = written("searches", searches(arguments.features, 5000))
+    alone = written("searches", searches(features, 5000))
     told("one client searches alone", server, seconds, [asker(path, seconds, alone)], processor(server))
     for name, pause, first in (("beside a commit every 100 ms", 0.1, 20_000_000), ("beside commits without pause", 0, 30_000_000)):
-        stop, counts = threading.Event(), []
-        other = threading.Thread(target=committing, args=(path, pause, first, stop, counts))
+        stop = threading.Event()
+        other = threading.Thread(target=committing, args=(path, pause, first, stop))
         other.start()
         before = processor(server)
         time.sleep(1)
@@ -134,18 +141,17 @@ def main():
         files = []
         for client in range(clients):
             chance, lines = random.Random(client), []
-            nine = searches(arguments.features, 5000)
+            nine = searches(features, 5000)
             for at in range(20_000):
                 lines += nine[(9 * at) % 4991:(9 * at) % 4991 + 9]
                 lines += [f"ADD {100_000_000 * (clients * 20 + client + 1) + at} mast {point(chance)}", "COMMIT"]
             files.append(written(f"mixed{client}", lines))
         before = processor(server)
         told(f"{clients} clients, nine searches to one commit", server, seconds, [asker(path, seconds, file) for file in files], before)
-    session, chance, version = Session(path), random.Random(9), None
-    assert session.ask("ADD 99 mast POINT (0 0)\nCOMMIT", 2)
-    session.ask("ABORT", 1)
-    assert session.ask(f"ADD 77777777 mast POINT (0 0)\nCOMMIT", 2)[1].startswith("applied ")
-    version = int(session.ask("SEARCH POINT (0 0)", 2)[1].split()[1])
+    session, chance = Session(path), random.Random(9)
+    reply = session.ask("ADD 77777777 mast POINT (0 0)\nCOMMIT", 2)[1]
+    assert reply.startswith("applied "), reply
+    version = int(reply.split()[1])
     grown, begun = memory(server), time.time()
     for _ in range(20_000):
         reply = session.ask(f"RESHAPE 77777777 {version} {point(chance)}\nCOMMIT", 2)[1]
@@ -155,7 +161,6 @@ def main():
     before = processor(server)
     time.sleep(3)
     print(f"idle: {(processor(server) - before) * 1000:.0f} ms of the processor in 3 s; memory {memory(server)} KiB")
-    server.kill()
 
 
 main()
