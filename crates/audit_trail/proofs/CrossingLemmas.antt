@@ -12,7 +12,7 @@ use Rattle.features.proofs.actors.Subject.TheSendSync as subject
 use Rattle.features.proofs.rows.Change.TheSendSync as change
 use Rattle.policy_documents.proofs.CrossingLemmas.{◌&◌, u32_send, u32_sync, u64_send, u64_sync, model_send, model_sync}
 use Rattle.decision.proofs.CrossingLemmas.{shared_decider_send, shared_decider_sync}
-use Rattle.audit_trail.proofs.causes.Refusal.TheSendSync as refusal
+use Rattle.judging.proofs.causes.Refusal.TheSendSync as refusal
 use Rattle.audit_trail.specs.contracts.records.Deed as Deed
 use Rattle.audit_trail.specs.contracts.records.Record as Record
 use Rattle.audit_trail.specs.contracts.records.Record.TheInside as record_inside

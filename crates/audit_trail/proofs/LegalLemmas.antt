@@ -1,7 +1,8 @@
 -- Legal trails in two parts, and with more seats.
 use Rattle.std.proofs.Common.{◌≡◌, ℕ, zero, suc, ◌-◌, ◌==◌, List, [], ◌∷◌, ◌++◌, slice_get, None, Some, if◌then◌else◌, Bool, true, false, refl}
 use Rattle.features.specs.declared.actors.Subject.{Subject}
-use Rattle.audit_trail.specs.Records.{PlainState, DeedData, answered, applied, turned_away, governed, RecordData}
+use Rattle.audit_trail.specs.Records.{DeedData, answered, applied, turned_away, governed, RecordData}
+use Rattle.judging.specs.States.{PlainState}
 use Rattle.audit_trail.specs.Legal.{subject_of, after_deed, replay, IsLegalDeed, IsLegal}
 
 -- the replay of two parts is the replay of the second from that of the first

@@ -10,8 +10,8 @@ use Rattle.serde_json.specs.Written.{has_float, items_have_float, members_have_f
 use Rattle.features.specs.declared.rows.Change.{Change}
 use Rattle.features.specs.declared.rows.Change.TheVariants.{Add, Reshape, Delete}
 use Rattle.policy_text.proofs.PrintedPlain.{document-plain}
-use Rattle.audit_trail.specs.declared.causes.Cause.{Cause}
-use Rattle.audit_trail.specs.declared.causes.Cause.TheVariants.{Denied, Exists, Absent, Stale}
+use Rattle.judging.specs.declared.causes.Cause.{Cause}
+use Rattle.judging.specs.declared.causes.Cause.TheVariants.{Denied, Exists, Absent, Stale}
 use Rattle.audit_trail.specs.Records.{DeedData, answered, applied, turned_away, governed, RecordData}
 use Rattle.audit_trail.specs.JsonLines.{Fields, with_fields, change_fields, change_data, numeral, cause_fields, deed_fields, line_fields, line_of, IsDocumented}
 

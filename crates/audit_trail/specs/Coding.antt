@@ -7,7 +7,7 @@ use Rattle.features.specs.declared.actors.Subject.{Subject}
 use Rattle.features.specs.declared.rows.Change.{Change}
 use Rattle.decision.specs.Deciders as deciders
 use Rattle.decision.specs.Deciders.{DeciderData}
-use Rattle.audit_trail.specs.declared.causes.Refusal.{Refusal}
+use Rattle.judging.specs.declared.causes.Refusal.{Refusal}
 use Rattle.audit_trail.specs.Records.{DeedData, answered, applied, turned_away, governed, RecordData, TrailData}
 
 pub data StoredDeed : Type 0 where

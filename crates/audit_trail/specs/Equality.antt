@@ -12,9 +12,9 @@ use Rattle.features.specs.declared.actors.Subject.{Subject}
 use Rattle.features.specs.declared.rows.Change.{Change}
 use Rattle.features.specs.Equality.{same_subject, same_subject_decides, same_changes, same_changes_decides}
 use Rattle.decision.specs.Equality.{same_decider, same_decider_decides}
-use Rattle.audit_trail.specs.declared.causes.Cause.{Cause}
-use Rattle.audit_trail.specs.declared.causes.Cause.TheVariants.{Denied, Exists, Absent, Stale}
-use Rattle.audit_trail.specs.declared.causes.Refusal.{Refusal}
+use Rattle.judging.specs.declared.causes.Cause.{Cause}
+use Rattle.judging.specs.declared.causes.Cause.TheVariants.{Denied, Exists, Absent, Stale}
+use Rattle.judging.specs.declared.causes.Refusal.{Refusal}
 use Rattle.audit_trail.specs.Records.{DeedData, answered, applied, turned_away, governed, RecordData}
 
 same_number-itself : (n : ℕ) → (n == n) ≡ true

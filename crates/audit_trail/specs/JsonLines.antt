@@ -10,8 +10,8 @@ use Rattle.features.specs.declared.rows.Change.{Change}
 use Rattle.features.specs.declared.rows.Change.TheVariants.{Add, Reshape, Delete}
 use Rattle.policy_documents.specs.Documents.{IsDocument}
 use Rattle.policy_text.specs.Printed.{document_data}
-use Rattle.audit_trail.specs.declared.causes.Cause.{Cause}
-use Rattle.audit_trail.specs.declared.causes.Cause.TheVariants.{Denied, Exists, Absent, Stale}
+use Rattle.judging.specs.declared.causes.Cause.{Cause}
+use Rattle.judging.specs.declared.causes.Cause.TheVariants.{Denied, Exists, Absent, Stale}
 use Rattle.audit_trail.specs.Records.{DeedData, answered, applied, turned_away, governed, RecordData}
 
 -- the fields of an object: keys with values

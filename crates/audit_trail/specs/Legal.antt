@@ -4,10 +4,11 @@ use Rattle.features.specs.declared.actors.Subject.{Subject}
 use Rattle.features.specs.declared.rows.Feature.{Feature}
 use Rattle.features.specs.Changes.{after}
 use Rattle.combining.specs.declared.questions.Question.{Question}
-use Rattle.audit_trail.specs.declared.causes.Judgement.TheVariants.{Accepted, Refused}
-use Rattle.audit_trail.specs.Judging.{Judged}
-use Rattle.audit_trail.specs.Listing.{Listed}
-use Rattle.audit_trail.specs.Records.{PlainState, DeedData, answered, applied, turned_away, governed, RecordData}
+use Rattle.judging.specs.declared.causes.Judgement.TheVariants.{Accepted, Refused}
+use Rattle.judging.specs.Judging.{Judged}
+use Rattle.judging.specs.Listing.{Listed}
+use Rattle.audit_trail.specs.Records.{DeedData, answered, applied, turned_away, governed, RecordData}
+use Rattle.judging.specs.States.{PlainState}
 
 -- the state after a deed: only applied lists and documents put in force change it
 abbrev pub after_deed : DeedData → PlainState → PlainState

@@ -1,8 +1,6 @@
 pub mod Records
 pub mod Coding
 pub mod Views
-pub mod Listing
-pub mod Judging
 pub mod Legal
 pub mod Calls
 pub mod FaultCodes

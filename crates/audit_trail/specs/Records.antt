@@ -1,17 +1,10 @@
--- The plain data of records, and the plain state that they change.
+-- The plain data of records.
 use Rattle.std.specs.Prelude.{ℕ, ◌-◌, nat_lt, List, slice_get, Option, None, if◌then◌else◌}
 use Rattle.plane.specs.declared.point.Point.{Point}
 use Rattle.features.specs.declared.actors.Subject.{Subject}
 use Rattle.features.specs.declared.rows.Change.{Change}
-use Rattle.features.specs.declared.rows.Feature.{Feature}
 use Rattle.decision.specs.Deciders.{DeciderData}
-use Rattle.audit_trail.specs.declared.causes.Refusal.{Refusal}
-
--- the features, sorted by id; the last version; and the document in force, with its edition
-pub record PlainState : Type 0 where
-  pub features : List Feature
-  pub version : ℕ
-  pub decider : DeciderData
+use Rattle.judging.specs.declared.causes.Refusal.{Refusal}
 
 -- the deed of a record: a search answered, a list applied, a list rejected, a document put in force
 pub data DeedData : Type 0 where

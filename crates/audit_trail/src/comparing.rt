@@ -5,10 +5,10 @@ ghost use Rattle.audit_trail.specs.Equality.{same_rule, same_cause, same_refusal
 ghost use Rattle.audit_trail.specs.Records.{answered, applied, turned_away, governed};
 ghost use Rattle.audit_trail.specs.Views.{deed_view};
 
-use crate::causes::{Cause, Refusal};
 use crate::records::{Deed, Record};
 use decision::Decider;
 use features::{Change, Subject, same_changes};
+use judging::{Cause, Refusal};
 use plane::Shape;
 use std::alloc::Allocator;
 

@@ -10,11 +10,11 @@ ghost use Rattle.audit_trail.specs.JsonLines.{with_fields, numeral, change_field
 ghost use Rattle.audit_trail.specs.Records.{record_at, applied, turned_away, governed};
 ghost use Rattle.audit_trail.specs.Views.{deed_view};
 
-use crate::causes::{Cause, Refusal};
 use crate::records::{Deed, Record};
 use crate::trails::{FIRST_LIMIT, RECORD_LIMIT, Trail, TrailFault};
 use decision::Decider;
 use features::{Change, Name, Subject};
+use judging::{Cause, Refusal};
 use memory::{GrowVec, NoMemory, json_string, json_text, put_member, text};
 use plane::Shape;
 use policy_text::document_value;

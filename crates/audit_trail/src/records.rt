@@ -2,9 +2,9 @@
 
 ghost use Rattle.std.specs.Prelude.{◌≡◌};
 
-use crate::causes::Refusal;
 use decision::Decider;
 use features::{Change, Subject};
+use judging::Refusal;
 use plane::Shape;
 use std::alloc::Allocator;
 use std::marker::Model;

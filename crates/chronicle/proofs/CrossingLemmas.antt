@@ -14,7 +14,7 @@ use Rattle.audit_trail.specs.contracts.records.Record as Record
 use Rattle.plain_world.proofs.CrossingLemmas.{answer_send, denial_send, outcome_send, rolled_send, rolled_sync}
 use Rattle.plain_world.specs.contracts.answers.Answer as Answer
 use Rattle.plain_world.specs.contracts.rolling.Rolled as Rolled
-use Rattle.transactions.proofs.CrossingLemmas.{world_send}
+use Rattle.world.proofs.CrossingLemmas.{world_send}
 use Rattle.chronicle.proofs.due_slots.DueSlots.TheSendSync as due
 use Rattle.chronicle.specs.contracts.chronicles.Chronicle as Chronicle
 use Rattle.chronicle.specs.contracts.chronicles.Chronicle.TheInside as inside

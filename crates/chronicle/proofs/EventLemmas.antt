@@ -3,7 +3,8 @@ use Rattle.std.proofs.Common.{◌≡◌, ◌⊎◌, ◌≤◌, ℕ, ◌+◌, Lis
 use Rattle.features.specs.declared.actors.Subject.{Subject}
 use Rattle.decision.specs.Deciders.{DeciderData}
 use Rattle.audit_trail.specs.Legal.{IsLegal, replay, after_deed}
-use Rattle.audit_trail.specs.Records.{PlainState, DeedData, RecordData}
+use Rattle.audit_trail.specs.Records.{DeedData, RecordData}
+use Rattle.judging.specs.States.{PlainState}
 use Rattle.audit_trail.proofs.LegalLemmas.{legal-append, legal_seated, replay-append}
 use Rattle.plain_world.specs.Events.{Event, TakeSeat, OpenSearch, VisitNext, Finish, DropSearch, Begin, Stage, AdvanceWalk, Commit, Abort, Govern, Tend, Roll, Reply, Number, TakenOut, Happens}
 use Rattle.plain_world.specs.Laws.{AddsAlone, AreAskedSeats, HasOneMore, LeadsOn, StandsAs}

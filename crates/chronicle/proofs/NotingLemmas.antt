@@ -10,7 +10,8 @@ use Rattle.features.specs.Subjects.{subject_named}
 use Rattle.policy_documents.specs.Documents.{DocumentData}
 use Rattle.decision.specs.Deciders.{DeciderData}
 use Rattle.audit_trail.specs.Legal.{IsSeated, after_deed}
-use Rattle.audit_trail.specs.Records.{DeedData, answered, governed, PlainState, RecordData}
+use Rattle.audit_trail.specs.Records.{DeedData, answered, governed, RecordData}
+use Rattle.judging.specs.States.{PlainState}
 use Rattle.plain_world.specs.Admitting.{given, may_go_on, may_sit, own_search, owned, placed, search_with, subject_at}
 use Rattle.plain_world.specs.Answers.{AnswerData}
 use Rattle.plain_world.specs.Events.{Commit, Ended, Finish, Govern, Happens, Number, Failed, Reply, Roll, Rows, TakenOut, TakeSeat, reply_of}

@@ -4,7 +4,8 @@ use Rattle.std.specs.Prelude.{◌≡◌, ◌≤◌, ◌+◌, ℕ, List, [], ◌�
 use Rattle.features.specs.declared.actors.Subject.{Subject}
 use Rattle.decision.specs.Deciders.{DeciderData}
 use Rattle.audit_trail.specs.Legal.{IsLegal, replay, subject_of}
-use Rattle.audit_trail.specs.Records.{PlainState, DeedData, RecordData, governed}
+use Rattle.audit_trail.specs.Records.{DeedData, RecordData, governed}
+use Rattle.judging.specs.States.{PlainState}
 use Rattle.plain_world.specs.Admitting.{given}
 use Rattle.plain_world.specs.Rolls.{RolledData}
 use Rattle.plain_world.specs.States.{WorldData, opening_state}

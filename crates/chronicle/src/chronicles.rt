@@ -6,12 +6,13 @@ ghost use Rattle.memory.specs.NoMemory.{out_of_memory};
 
 use crate::due_slots::DueSlots;
 use audit_trail::RECORD_LIMIT;
-use features::{FEATURE_LIMIT, Subjects};
+use feature_store::FEATURE_LIMIT;
+use features::Subjects;
 use policy_documents::Document;
 use std::alloc::{Allocator, Global};
 use std::marker::Model;
 use std::sync::Arc;
-use transactions::{Fault, Limits, ROLLED_LIMIT, Rolled, STEP_LIMIT, Starts, World};
+use world::{Fault, Limits, ROLLED_LIMIT, Rolled, STEP_LIMIT, Starts, World};
 
 /// A world and the pieces that were rolled out of it. Contracts see the opening decider, the
 /// subjects of the seats, all records and the decider in force.

@@ -6,7 +6,7 @@ ghost use Rattle.chronicle.specs.Noting.{IsEndedBy};
 use crate::chronicles::Chronicle;
 use features::{Change, same_changes};
 use std::alloc::Allocator;
-use transactions::{Advance, Fault, Outcome};
+use world::{Advance, Fault, Outcome};
 
 impl<A: Allocator> Chronicle<A> {
     /// Stages a change. X1 where the seat was not given or no such transaction is open, X2 where it

@@ -10,7 +10,7 @@ use crate::chronicles::Chronicle;
 use audit_trail::{Record, Trail};
 use std::alloc::Allocator;
 use std::sync::Arc;
-use transactions::Rolled;
+use world::Rolled;
 
 impl<A: Allocator> Chronicle<A> {
     /// The first place, counted from 0, at which the records of a seat and its receipts differ;

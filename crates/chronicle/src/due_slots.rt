@@ -4,9 +4,7 @@ use arrayvec::ArrayVec;
 use features::Change;
 use plane::Shape;
 use std::alloc::Allocator;
-use transactions::{
-    Advance, Crowded, Fault, NAMED_SLOTS, Outcome, Tending, TreeFault, Visit, World,
-};
+use world::{Advance, Crowded, Fault, NAMED_SLOTS, Outcome, Tending, TreeFault, Visit, World};
 
 /// The most slots that are noted.
 const DUE_LIMIT: usize = 256;

@@ -9,7 +9,7 @@ use decision::Decider;
 use memory::GrowVec;
 use std::alloc::{Allocator, Global};
 use std::sync::Arc;
-use transactions::{Fault, Rolled};
+use world::{Fault, Rolled};
 
 impl<A: Allocator> Chronicle<A> {
     /// The edition under which a seat may put a document in force next. X1 where the seat was not

@@ -11,7 +11,7 @@ use decision::Decider;
 use features::Subject;
 use std::alloc::Allocator;
 use std::sync::Arc;
-use transactions::{Fault, Rolled, SEAT_LIMIT};
+use world::{Fault, Rolled, SEAT_LIMIT};
 
 impl<A: Allocator> Chronicle<A> {
     /// How many records there are, with those that were rolled out.

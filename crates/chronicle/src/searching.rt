@@ -4,10 +4,11 @@ ghost use Rattle.std.specs.Prelude.{◌≡◌, IfOk, OnErr};
 ghost use Rattle.chronicle.specs.Noting.{IsAnswered, IsSeatGiven};
 
 use crate::chronicles::Chronicle;
-use features::{Meter, Name};
+use feature_store::Meter;
+use features::Name;
 use plane::Shape;
 use std::alloc::Allocator;
-use transactions::{Answer, Fault, Visit};
+use world::{Answer, Fault, Visit};
 
 impl<A: Allocator> Chronicle<A> {
     /// Gives a seat to the subject of a name, and returns its number, from 1. X13 where there is no

@@ -4,7 +4,7 @@ ghost use Rattle.std.specs.Prelude.{◌≡◌};
 
 use crate::chronicles::Chronicle;
 use std::alloc::Allocator;
-use transactions::{Fault, Tending};
+use world::{Fault, Tending};
 
 impl<A: Allocator> Chronicle<A> {
     /// Tends a slot of the index: removes what is there and no longer needed. X9 where the index's

@@ -1,10 +1,6 @@
 pub mod Names
 pub mod Subjects
-pub mod Ticks
 pub mod Rows
 pub mod Changes
 pub mod Equality
-pub mod Places
-pub mod Blocks
-pub mod Tables
 pub mod FaultCodes

@@ -17,7 +17,7 @@ use published_policies::ListName;
 use std::alloc::Allocator;
 use std::sync::ledger::{Ledger, Share};
 use std::sync::{Arc, MutexGuard, Wait};
-use transactions::{Fault, Outcome, TreeFault};
+use world::{Fault, Outcome, TreeFault};
 
 /// Ends a try of a list that is refused. S3 waits first, in this critical section, until a search
 /// ends, X15 until a transaction ends. The list's transaction is aborted then, and whoever waits

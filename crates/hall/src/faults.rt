@@ -5,7 +5,7 @@ ghost use Rattle.std.specs.Prelude.{◌≡◌};
 use memory::NoMemory;
 use published_policies::NoMemoryForPolicies;
 use std::fmt;
-use transactions::Fault;
+use world::Fault;
 
 /// Why a hall refuses a call. A refused call leaves no record, no open search and no open
 /// transaction.

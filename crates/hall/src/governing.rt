@@ -11,7 +11,7 @@ use published_policies::{Edition, ListName};
 use std::alloc::{Allocator, Global};
 use std::sync::ledger::Ledger;
 use std::sync::{Arc, Wait};
-use transactions::Rolled;
+use world::Rolled;
 
 impl<'h, L: Ledger + ListName, R: Wait + Drop, A: Allocator + Copy> Seat<'h, L, R, A> {
     /// Puts a document in force, and returns its edition, which a view may be told. H6 where there

@@ -28,7 +28,7 @@ use published_policies::{Edition, ListName, Publisher, View};
 use std::alloc::{Allocator, Global};
 use std::sync::ledger::{Blank, Book, Ledger, Share};
 use std::sync::{Arc, Wait};
-use transactions::{Advance, Answer, Fault, Outcome, Rolled, SEAT_LIMIT, Visit};
+use world::{Advance, Answer, Fault, Outcome, Rolled, SEAT_LIMIT, Visit};
 
 /// The parts of a hall's ledger: one for each seat that may be given, and one that stays.
 pub const LEDGER_PARTS: u64 = SEAT_LIMIT as u64 + 1;

@@ -10,14 +10,15 @@ use crate::guarded::{Guarded, LEDGER_PARTS, SLOTS_AT_ONCE};
 use crate::seats::Seat;
 use audit_trail::RECORD_LIMIT;
 use chronicle::Chronicle;
-use features::{FEATURE_LIMIT, Name, Subjects};
+use feature_store::FEATURE_LIMIT;
+use features::{Name, Subjects};
 use memory::another;
 use policy_documents::Document;
 use published_policies::{EmptyList, ListName, Publisher, View};
 use std::alloc::{Allocator, Global};
 use std::sync::ledger::{Blank, Ledger};
 use std::sync::{Condvar, Mutex, Wait};
-use transactions::{Limits, STEP_LIMIT, Starts};
+use world::{Limits, STEP_LIMIT, Starts};
 
 /// The most views that a hall gives.
 pub const VIEW_LIMIT: usize = 64;

@@ -18,7 +18,7 @@ use published_policies::ListName;
 use std::alloc::Allocator;
 use std::sync::ledger::{Ledger, Share};
 use std::sync::{Arc, MutexGuard, Wait};
-use transactions::{Answer, Fault, TreeFault};
+use world::{Answer, Fault, TreeFault};
 
 /// Ends a call of a search that is refused. S2 waits first, in this critical section, until a search
 /// ends; any other fault drops the search, and wakes whoever waits for its end. Ok where the search

@@ -1,6 +1,6 @@
 //! The critical sections of a call, and the pauses between them.
 
-use transactions::Fault;
+use world::Fault;
 
 /// The most events of a call in one critical section.
 pub const SECTION_EVENTS: u32 = 4_096;

@@ -125,7 +125,7 @@ impl<'a, 'h, L: Ledger + ListName, R: Wait + Drop, A: Allocator + Copy, W: Wait,
         match seat.govern(self.rt, document) {
             Ok(edition) => {
                 let number = edition.number();
-                self.view.told(edition);
+                self.view.catch_up(edition);
                 Reply::Edition(number)
             }
             Err(fault) => hall_reply(fault),

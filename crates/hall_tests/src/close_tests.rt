@@ -9,7 +9,7 @@ use std::marker::Brand;
 use std::process::Abort;
 use std::sync::Wait;
 use std::sync::ledger::Ledger;
-use transactions::Fault;
+use world::Fault;
 
 /// A refused call leaves no receipt.
 fn refuse_one<L: Ledger + ListName, H: Wait + Drop, R: Wait + Abort>(

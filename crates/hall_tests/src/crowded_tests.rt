@@ -11,7 +11,7 @@ use std::sync::Wait;
 use std::sync::atomic::{AtomicU64, Ordering};
 use std::sync::ledger::Ledger;
 use std::thread::{Threads, join, yield_now};
-use transactions::{SEARCH_LIMIT, TRANSACTION_LIMIT};
+use world::{SEARCH_LIMIT, TRANSACTION_LIMIT};
 
 /// How many turns the others have to come and wait, while as many calls as may be are open.
 const PATIENCE: u32 = 50_000;

@@ -3,7 +3,8 @@ ghost use Rattle.std.specs.Prelude.{◌≡◌, ◌≤◌};
 
 use audit_trail::RECORD_LIMIT;
 use combining::Question;
-use features::{Action, Change, FEATURE_LIMIT, Name, Subject, Subjects};
+use feature_store::FEATURE_LIMIT;
+use features::{Action, Change, Name, Subject, Subjects};
 use hall::{Closed, Hall, LEDGER_PARTS, ListName, Pause, Seat, Unnamed, View};
 use plane::{Point, Shape};
 use policy_text::{Document, read_document};
@@ -13,7 +14,7 @@ use std::sync::Wait;
 use std::sync::atomic::{AtomicU64, Ordering};
 use std::sync::ledger::Ledger;
 use std::thread;
-use transactions::{Limits, Outcome, STEP_LIMIT};
+use world::{Limits, Outcome, STEP_LIMIT};
 
 /// A document that permits everything.
 pub const OPEN: &str =

@@ -13,7 +13,7 @@ use std::marker::Brand;
 use std::process::Abort;
 use std::sync::Wait;
 use std::sync::ledger::Ledger;
-use transactions::{Fault, Limits, ROLLED_LIMIT, Starts, TreeFault, Visit};
+use world::{Fault, Limits, ROLLED_LIMIT, Starts, TreeFault, Visit};
 
 /// More allocations than any of the calls makes.
 const MOST: u64 = 100;

@@ -11,7 +11,7 @@ use std::marker::Brand;
 use std::process::Abort;
 use std::sync::Wait;
 use std::sync::ledger::Ledger;
-use transactions::{Denial, Outcome, SEAT_LIMIT};
+use world::{Denial, Outcome, SEAT_LIMIT};
 
 fn all_seats_in<L: Ledger + ListName, H: Wait + Drop, R: Wait + Abort>(
     rt: &R,

@@ -13,7 +13,7 @@ use std::sync::Wait;
 use std::sync::atomic::{AtomicU64, Ordering};
 use std::sync::ledger::Ledger;
 use std::thread::{Threads, join};
-use transactions::Outcome;
+use world::Outcome;
 
 /// A list of sixteen roads at points of a line, with ids from `first` on.
 fn sixteen(rt: &impl Abort, first: u64, x: i32) -> [Change; 16] {

@@ -11,7 +11,7 @@ use std::marker::Brand;
 use std::process::Abort;
 use std::sync::Wait;
 use std::sync::ledger::Ledger;
-use transactions::{Advance, Outcome, Tending, Visit};
+use world::{Advance, Outcome, Tending, Visit};
 
 /// More than the steps of a search or of the walks of a list, and more than the slots that are due.
 const MOST: u32 = 100_000;

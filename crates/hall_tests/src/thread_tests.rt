@@ -95,7 +95,7 @@ fn assert_told<L: Ledger + ListName, H: Wait + Drop, R: Wait + Abort>(
     match chief.govern(rt, document(rt, heap, ROADS)) {
         Ok(edition) => {
             assert_eq!(rt; edition.number(), 2);
-            view.told(edition);
+            view.catch_up(edition);
         }
         Err(fault) => panic!(rt; "not in force: {fault}"),
     }

@@ -15,7 +15,7 @@ use std::sync::Wait;
 use std::sync::atomic::{AtomicU64, Ordering};
 use std::sync::ledger::Ledger;
 use std::thread::{Threads, join};
-use transactions::{Fault, Limits, Outcome, TreeFault};
+use world::{Fault, Limits, Outcome, TreeFault};
 
 /// How a call of a thread ended.
 #[derive(Debug, Drop, PartialEq, Eq)]

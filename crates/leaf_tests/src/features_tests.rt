@@ -3,10 +3,8 @@
 ghost use Rattle.std.specs.Prelude.{◌≡◌};
 ghost use Rattle.features.specs.Changes.{change_id};
 
-use features::{
-    Change, FEATURE_LIMIT, Feature, Meter, Name, Store, StoreFault, Subject, Subjects,
-    SubjectsFault,
-};
+use feature_store::{FEATURE_LIMIT, Meter, Store, StoreFault};
+use features::{Change, Feature, Name, Subject, Subjects, SubjectsFault};
 use plane::{Point, Shape};
 use refusing::Refusing;
 use std::alloc::{AllocError, Allocator, Global};

@@ -11,11 +11,11 @@ use Rattle.plane.proofs.shape.Shape.TheSendSync as area
 use Rattle.features.proofs.actors.Subject.TheSendSync as subject
 use Rattle.features.proofs.actors.Subjects.TheSendSync as subjects
 use Rattle.features.proofs.rows.Feature.TheSendSync as feature
-use Rattle.features.proofs.stores.Store.TheSendSync as store
+use Rattle.feature_store.proofs.stores.Store.TheSendSync as store
 use Rattle.policy_documents.proofs.CrossingLemmas.{◌&◌, u32_send, u64_send, u64_sync, model_send, model_sync}
 use Rattle.combining.proofs.questions.Question.TheSendSync as question
 use Rattle.decision.proofs.CrossingLemmas.{shared_decider_send, shared_decider_sync}
-use Rattle.audit_trail.proofs.causes.Refusal.TheSendSync as refusal
+use Rattle.judging.proofs.causes.Refusal.TheSendSync as refusal
 use Rattle.audit_trail.proofs.CrossingLemmas.{trail_send, trail_sync}
 use Rattle.plain_world.proofs.open_searches.Searches.TheSendSync as searches
 use Rattle.plain_world.proofs.settings.Limits.TheSendSync as limits

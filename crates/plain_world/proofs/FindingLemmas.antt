@@ -10,10 +10,10 @@ use Rattle.plane.specs.declared.point.Point.{Point}
 use Rattle.plane.specs.Rows.{Meet}
 use Rattle.features.specs.declared.actors.Subject.{Subject}
 use Rattle.features.specs.declared.rows.Feature.{Feature}
-use Rattle.features.specs.Places.{IsLess, AreRising}
+use Rattle.feature_store.specs.Places.{IsLess, AreRising}
 use Rattle.features.specs.Rows.{feature_with, IsBelowAll, IsSortedById}
 use Rattle.policy_documents.specs.Documents.{DocumentData}
-use Rattle.audit_trail.specs.Listing.{IsListed}
+use Rattle.judging.specs.Listing.{IsListed}
 use Rattle.plain_world.specs.Finding.{NamesAll, FindsAll}
 
 -- Ids that rise, by recursion.

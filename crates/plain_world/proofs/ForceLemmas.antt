@@ -4,7 +4,7 @@ use Rattle.features.specs.declared.actors.Subject.{Subject}
 use Rattle.features.specs.declared.rows.Change.{Change}
 use Rattle.decision.specs.Deciders.{DeciderData}
 use Rattle.audit_trail.specs.Legal.{after_deed}
-use Rattle.audit_trail.specs.Records.{PlainState}
+use Rattle.judging.specs.States.{PlainState}
 use Rattle.plain_world.specs.declared.outcomes.Outcome.{Outcome}
 use Rattle.plain_world.specs.declared.outcomes.Outcome.TheVariants as outcomes
 use Rattle.plain_world.specs.Events.{Event, Finish, Commit, Govern, Roll, Reply, Number, Rows, Ended, TakenOut, Run}

@@ -5,10 +5,11 @@ use Rattle.plane.specs.declared.point.Point.{Point}
 use Rattle.features.specs.declared.actors.Subject.{Subject}
 use Rattle.features.specs.declared.rows.Change.{Change}
 use Rattle.features.specs.Changes.{after}
-use Rattle.audit_trail.specs.declared.causes.Judgement.{Judgement}
-use Rattle.audit_trail.specs.declared.causes.Judgement.TheVariants as judgements
+use Rattle.judging.specs.declared.causes.Judgement.{Judgement}
+use Rattle.judging.specs.declared.causes.Judgement.TheVariants as judgements
 use Rattle.audit_trail.specs.Legal.{IsLegal, replay}
-use Rattle.audit_trail.specs.Records.{PlainState, RecordData, applied}
+use Rattle.audit_trail.specs.Records.{RecordData, applied}
+use Rattle.judging.specs.States.{PlainState}
 use Rattle.audit_trail.proofs.LegalLemmas.{legal-append, legal_seated, replay-append}
 use Rattle.plain_world.specs.declared.faults.Fault.TheVariants as faults
 use Rattle.tree_answers.specs.declared.fault.TreeFault.TheVariants as tree

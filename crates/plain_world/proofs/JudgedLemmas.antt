@@ -4,12 +4,12 @@ use Rattle.std.specs.Bool.{MatchBool}
 use Rattle.features.specs.declared.actors.Subject.{Subject}
 use Rattle.features.specs.declared.rows.Change.{Change}
 use Rattle.features.specs.Changes.{after}
-use Rattle.audit_trail.specs.declared.causes.Judgement.{Judgement}
-use Rattle.audit_trail.specs.declared.causes.Judgement.TheVariants as judgements
-use Rattle.audit_trail.specs.Judging.{Judged}
+use Rattle.judging.specs.declared.causes.Judgement.{Judgement}
+use Rattle.judging.specs.declared.causes.Judgement.TheVariants as judgements
+use Rattle.judging.specs.Judging.{Judged}
 use Rattle.audit_trail.specs.Legal.{IsSeated}
 use Rattle.audit_trail.specs.Records.{applied}
-use Rattle.audit_trail.proofs.JudgingLemmas.{JudgedFrom-one}
+use Rattle.judging.proofs.JudgingLemmas.{JudgedFrom-one}
 use Rattle.plain_world.specs.declared.faults.Fault.{Fault}
 use Rattle.plain_world.specs.declared.faults.Fault.TheVariants as faults
 use Rattle.plain_world.specs.declared.outcomes.Outcome.TheVariants as outcomes

@@ -8,15 +8,15 @@ use Rattle.features.specs.declared.rows.Change.TheVariants.{Add, Reshape, Delete
 use Rattle.features.specs.declared.rows.Feature.{Feature}
 use Rattle.features.specs.Changes.{after, after_change, change_id, IsUnnamed, CanChange, CanApply}
 use Rattle.features.specs.Rows.{IsSortedById}
-use Rattle.features.proofs.ChangeLemmas.{can_apply_rest}
-use Rattle.features.proofs.RowLemmas.{sorted_with_row, sorted_with_shape, sorted_without}
+use Rattle.feature_store.proofs.ChangeLemmas.{can_apply_rest}
+use Rattle.feature_store.proofs.RowLemmas.{sorted_with_row, sorted_with_shape, sorted_without}
 use Rattle.decision.specs.Deciders.{DeciderData}
-use Rattle.audit_trail.specs.declared.causes.Judgement.{Judgement}
-use Rattle.audit_trail.specs.declared.causes.Judgement.TheVariants as judgements
-use Rattle.audit_trail.specs.Judging.{Judged, AreDistinct}
+use Rattle.judging.specs.declared.causes.Judgement.{Judgement}
+use Rattle.judging.specs.declared.causes.Judgement.TheVariants as judgements
+use Rattle.judging.specs.Judging.{Judged, AreDistinct}
 use Rattle.audit_trail.specs.Records.{applied}
-use Rattle.audit_trail.proofs.AcceptedLemmas.{can_apply, distinct_push}
-use Rattle.audit_trail.proofs.ListingLemmas.{listed_sorted}
+use Rattle.judging.proofs.AcceptedLemmas.{can_apply, distinct_push}
+use Rattle.judging.proofs.ListingLemmas.{listed_sorted}
 use Rattle.plain_world.specs.declared.faults.Fault.TheVariants as faults
 use Rattle.tree_answers.specs.declared.fault.TreeFault.TheVariants as tree
 use Rattle.plain_world.specs.declared.outcomes.Outcome.TheVariants as outcomes

@@ -6,13 +6,13 @@ use Rattle.features.specs.declared.rows.Change.{Change}
 use Rattle.features.specs.Changes.{after}
 use Rattle.combining.specs.declared.questions.Question.{Question}
 use Rattle.decision.specs.Deciders.{DeciderData}
-use Rattle.audit_trail.specs.declared.causes.Cause.{Cause}
-use Rattle.audit_trail.specs.declared.causes.Cause.TheVariants.{Denied, Exists, Absent, Stale}
-use Rattle.audit_trail.specs.declared.causes.Judgement.{Judgement}
-use Rattle.audit_trail.specs.declared.causes.Judgement.TheVariants as judgements
-use Rattle.audit_trail.specs.Judging.{Judged, IsFounded}
+use Rattle.judging.specs.declared.causes.Cause.{Cause}
+use Rattle.judging.specs.declared.causes.Cause.TheVariants.{Denied, Exists, Absent, Stale}
+use Rattle.judging.specs.declared.causes.Judgement.{Judgement}
+use Rattle.judging.specs.declared.causes.Judgement.TheVariants as judgements
+use Rattle.judging.specs.Judging.{Judged, IsFounded}
 use Rattle.audit_trail.specs.Records.{applied}
-use Rattle.audit_trail.proofs.JudgingLemmas.{JudgedFrom_founded}
+use Rattle.judging.proofs.JudgingLemmas.{JudgedFrom_founded}
 use Rattle.plain_world.specs.declared.faults.Fault.TheVariants as faults
 use Rattle.plain_world.specs.declared.outcomes.Outcome.{Outcome}
 use Rattle.plain_world.specs.declared.outcomes.Outcome.TheVariants as outcomes

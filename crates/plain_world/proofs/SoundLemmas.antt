@@ -3,7 +3,8 @@ use Rattle.std.proofs.Common.{◌<◌, List, [], ◌∷◌, ◌++◌, length, ar
 use Rattle.features.specs.declared.actors.Subject.{Subject}
 use Rattle.audit_trail.proofs.LegalLemmas.{replay-append, legal-append, legal_seated}
 use Rattle.audit_trail.specs.Legal.{after_deed, IsLegalDeed}
-use Rattle.audit_trail.specs.Records.{PlainState, RecordData}
+use Rattle.audit_trail.specs.Records.{RecordData}
+use Rattle.judging.specs.States.{PlainState}
 use Rattle.plain_world.specs.declared.settings.Limits.{Limits}
 use Rattle.plain_world.specs.declared.settings.TheConstants.{SEAT_LIMIT}
 use Rattle.plain_world.specs.States.{IsSound, Keeps}

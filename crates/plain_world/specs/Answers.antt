@@ -7,9 +7,9 @@ use Rattle.features.specs.Rows.{IsSortedById}
 use Rattle.combining.specs.declared.questions.Question.{Question}
 use Rattle.decision.specs.Deciders.{DeciderData}
 use Rattle.decision.specs.Rulings.{Denies}
-use Rattle.audit_trail.specs.declared.causes.Cause.{Cause}
-use Rattle.audit_trail.specs.declared.causes.Cause.TheVariants.{Denied, Exists, Absent, Stale}
-use Rattle.audit_trail.specs.Listing.{AreShown}
+use Rattle.judging.specs.declared.causes.Cause.{Cause}
+use Rattle.judging.specs.declared.causes.Cause.TheVariants.{Denied, Exists, Absent, Stale}
+use Rattle.judging.specs.Listing.{AreShown}
 
 pub record AnswerData : Type 0 where
   pub subject : Subject

@@ -9,7 +9,7 @@ use Rattle.combining.specs.declared.questions.Question.{Question}
 use Rattle.decision.specs.Deciders as deciders
 use Rattle.decision.specs.Deciders.{DeciderData}
 use Rattle.audit_trail.specs.Coding as trails
-use Rattle.audit_trail.specs.Records.{PlainState}
+use Rattle.judging.specs.States.{PlainState}
 use Rattle.plain_world.specs.declared.open_searches.Search.{Search}
 use Rattle.plain_world.specs.declared.settings.Limits.{Limits}
 use Rattle.plain_world.specs.declared.settings.Starts.{Starts}

@@ -9,11 +9,11 @@ use Rattle.features.specs.declared.rows.Feature.{Feature}
 use Rattle.features.specs.Changes.{after}
 use Rattle.policy_documents.specs.Documents.{DocumentData}
 use Rattle.decision.specs.Deciders.{DeciderData}
-use Rattle.audit_trail.specs.declared.causes.Judgement.{Judgement}
-use Rattle.audit_trail.specs.declared.causes.Judgement.TheVariants as judgements
-use Rattle.audit_trail.specs.Judging.{Judged}
+use Rattle.judging.specs.declared.causes.Judgement.{Judgement}
+use Rattle.judging.specs.declared.causes.Judgement.TheVariants as judgements
+use Rattle.judging.specs.Judging.{Judged}
 use Rattle.audit_trail.specs.Legal.{after_deed}
-use Rattle.audit_trail.specs.Listing.{Listed}
+use Rattle.judging.specs.Listing.{Listed}
 use Rattle.audit_trail.specs.Records.{DeedData, answered, applied, turned_away, governed}
 use Rattle.plain_world.specs.declared.faults.Fault.{Fault}
 use Rattle.plain_world.specs.declared.faults.Fault.TheVariants as faults

@@ -7,14 +7,15 @@ use Rattle.features.specs.Rows.{IsSortedById}
 use Rattle.features.specs.Subjects.{subject_named}
 use Rattle.policy_documents.specs.Documents.{DocumentData}
 use Rattle.decision.specs.Deciders.{DeciderData}
-use Rattle.audit_trail.specs.declared.causes.Cause.{Cause}
-use Rattle.audit_trail.specs.declared.causes.Cause.TheVariants.{Denied, Exists, Absent, Stale}
-use Rattle.audit_trail.specs.declared.causes.Judgement.{Judgement}
-use Rattle.audit_trail.specs.declared.causes.Judgement.TheVariants as judgements
-use Rattle.audit_trail.specs.Judging.{Judged, AreDistinct}
+use Rattle.judging.specs.declared.causes.Cause.{Cause}
+use Rattle.judging.specs.declared.causes.Cause.TheVariants.{Denied, Exists, Absent, Stale}
+use Rattle.judging.specs.declared.causes.Judgement.{Judgement}
+use Rattle.judging.specs.declared.causes.Judgement.TheVariants as judgements
+use Rattle.judging.specs.Judging.{Judged, AreDistinct}
 use Rattle.audit_trail.specs.Legal.{IsSeated, after_deed, IsLegal, replay}
-use Rattle.audit_trail.specs.Listing.{Listed}
-use Rattle.audit_trail.specs.Records.{PlainState, DeedData, answered, applied, turned_away, governed, RecordData}
+use Rattle.judging.specs.Listing.{Listed}
+use Rattle.audit_trail.specs.Records.{DeedData, answered, applied, turned_away, governed, RecordData}
+use Rattle.judging.specs.States.{PlainState}
 use Rattle.combining.specs.declared.questions.Question.{Question}
 use Rattle.plain_world.specs.declared.faults.Fault.{Fault}
 use Rattle.plain_world.specs.declared.faults.Fault.TheVariants as faults

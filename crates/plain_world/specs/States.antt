@@ -3,9 +3,10 @@ use Rattle.std.specs.Prelude.{◌≡◌, ℕ, ◌≤◌, ◌+◌, List, [], leng
 use Rattle.features.specs.declared.actors.Subject.{Subject}
 use Rattle.decision.specs.Deciders.{DeciderData}
 use Rattle.audit_trail.specs.Legal.{replay, IsLegal}
-use Rattle.audit_trail.specs.Records.{PlainState, RecordData}
+use Rattle.audit_trail.specs.Records.{RecordData}
+use Rattle.judging.specs.States.{PlainState}
 use Rattle.audit_trail.specs.declared.trails.TheConstants.{RECORD_LIMIT}
-use Rattle.features.specs.declared.tables.TheConstants.{FEATURE_LIMIT}
+use Rattle.feature_store.specs.declared.tables.TheConstants.{FEATURE_LIMIT}
 use Rattle.plain_world.specs.declared.open_searches.Search.{Search}
 use Rattle.plain_world.specs.declared.settings.Limits.{Limits}
 use Rattle.plain_world.specs.declared.settings.Starts.{Starts}

@@ -1,6 +1,6 @@
 -- The world's fault for a fault of its store.
-use Rattle.features.specs.declared.stores.StoreFault.{StoreFault}
-use Rattle.features.specs.declared.stores.StoreFault.TheVariants as store
+use Rattle.feature_store.specs.declared.stores.StoreFault.{StoreFault}
+use Rattle.feature_store.specs.declared.stores.StoreFault.TheVariants as store
 use Rattle.plain_world.specs.declared.faults.Fault.{Fault}
 use Rattle.plain_world.specs.declared.faults.Fault.TheVariants.{StoreFull, Memory}
 

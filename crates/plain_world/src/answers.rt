@@ -3,7 +3,7 @@
 ghost use Rattle.std.specs.Prelude.{◌≡◌};
 ghost use Rattle.std.specs.Arc.{arc_value};
 ghost use Rattle.features.specs.Rows.{IsSortedById};
-ghost use Rattle.audit_trail.specs.Listing.{AreShown};
+ghost use Rattle.judging.specs.Listing.{AreShown};
 
 use decision::Decider;
 use features::{Feature, Subject};

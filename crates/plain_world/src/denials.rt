@@ -2,12 +2,12 @@
 
 ghost use Rattle.std.specs.Prelude.{◌≡◌, IfOk};
 ghost use Rattle.std.specs.Arc.{arc_value};
-ghost use Rattle.audit_trail.specs.Judging.{IsFounded};
+ghost use Rattle.judging.specs.Judging.{IsFounded};
 ghost use Rattle.plain_world.specs.Answers.{denial_of};
 
-use audit_trail::Cause;
 use combining::Question;
 use decision::Decider;
+use judging::Cause;
 use memory::{NoMemory, another};
 use std::marker::Model;
 use std::sync::Arc;

@@ -2,7 +2,7 @@
 
 ghost use Rattle.std.specs.Prelude.{◌≡◌};
 
-use features::StoreFault;
+use feature_store::StoreFault;
 use memory::NoMemory;
 use std::fmt;
 use tree_answers::TreeFault;

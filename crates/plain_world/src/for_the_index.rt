@@ -1,5 +1,5 @@
 //! Parts of the events `open_search`, `visit` and `advance`, of which the index does the rest. Only
-//! `transactions` calls these: by themselves they are no event.
+//! `world` calls these: by themselves they are no event.
 
 ghost use Rattle.std.specs.Prelude.{◌≡◌, ◌<◌, ◌+◌, ◌++◌, [], ◌∷◌, false, length, IfOk, IsSome, Option};
 ghost use Rattle.plain_world.specs.Admitting.{map_ok, may_step};
@@ -42,7 +42,7 @@ impl<A: Allocator> PlainWorld<A> {
         self.next_search += 1;
     }
 
-    /// Marks a search as ready. Only a part of the event `visit`: `transactions` calls it once the
+    /// Marks a search as ready. Only a part of the event `visit`: `world` calls it once the
     /// index has answered Ready.
     pub fn make_ready(&mut self, number: u64)
         ensures { self.new ≡ record self.old { searches = with_ready number self.old.searches } }
@@ -51,7 +51,7 @@ impl<A: Allocator> PlainWorld<A> {
     }
 
     /// Removes a search that the index has dropped (S7). Only a part of the event `visit`:
-    /// `transactions` calls it.
+    /// `world` calls it.
     pub fn forget_search(&mut self, number: u64)
         ensures { self.new ≡ without_search number self.old }
     {
@@ -69,7 +69,7 @@ impl<A: Allocator> PlainWorld<A> {
     }
 
     /// Counts the next shape of a transaction as placed. Only a part of the event `advance`:
-    /// `transactions` calls it once the index has placed the shape.
+    /// `world` calls it once the index has placed the shape.
     pub fn place_next(&mut self, number: u64)
         requires { MayPlace number self.old.transactions }
         ensures { self.new
@@ -79,7 +79,7 @@ impl<A: Allocator> PlainWorld<A> {
     }
 
     /// Removes a transaction whose walk the index has ended (S7). Only a part of the event
-    /// `advance`: `transactions` calls it.
+    /// `advance`: `world` calls it.
     pub fn end_transaction(&mut self, number: u64)
         ensures { self.new ≡ without_transaction number self.old }
     {

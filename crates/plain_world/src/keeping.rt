@@ -6,7 +6,8 @@ ghost use Rattle.plain_world.specs.Keeping.{brings, is_staged, stands};
 
 use crate::open_transactions::Transaction;
 use crate::worlds::PlainWorld;
-use features::{Change, Meter, Store};
+use feature_store::{Meter, Store};
+use features::Change;
 use plane::Shape;
 use std::alloc::Allocator;
 use tree_answers::Keeper;

@@ -4,8 +4,8 @@ ghost use Rattle.std.specs.Prelude.{◌≡◌, ◌⊎◌, ℕ, ◌++◌, ◌∷�
 ghost use Rattle.features.specs.Rows.{IsSortedById};
 ghost use Rattle.policy_documents.specs.Documents.{DocumentData};
 ghost use Rattle.decision.specs.Deciders.{DeciderData};
-ghost use Rattle.audit_trail.specs.Judging.{Judged};
-ghost use Rattle.audit_trail.specs.declared.causes.Judgement.{Judgement};
+ghost use Rattle.judging.specs.Judging.{Judged};
+ghost use Rattle.judging.specs.declared.causes.Judgement.{Judgement};
 ghost use Rattle.audit_trail.specs.Legal.{IsSeated, IsLegal, replay};
 ghost use Rattle.plain_world.specs.Answers.{AnswerData};
 ghost use Rattle.plain_world.specs.Events.{Event, Finish, Commit, Govern, Roll, Reply, Number, Rows, Ended, TakenOut, Happens, Failed, Run};

@@ -3,7 +3,7 @@
 ghost use Rattle.std.specs.Prelude.{◌≡◌, ◌↔◌, ◌≤◌, ◌<◌, ◌+◌, ℕ, Contains, IsTrue, IfOk, length, map};
 ghost use Rattle.std.specs.List.Sorted.{IsStrictlyIncreasing};
 ghost use Rattle.features.specs.Rows.{IsSortedById};
-ghost use Rattle.audit_trail.specs.Listing.{IsListed, IsShown, question_on};
+ghost use Rattle.judging.specs.Listing.{IsListed, IsShown, question_on};
 ghost use Rattle.audit_trail.specs.Records.{answered};
 ghost use Rattle.decision.specs.Rulings.{Permits};
 ghost use Rattle.plain_world.specs.Finding.{NamesAll};
@@ -11,7 +11,8 @@ ghost use Rattle.plain_world.specs.Finding.{NamesAll};
 use crate::answers::Answer;
 use audit_trail::{Deed, Record};
 use decision::{Folded, Ruling};
-use features::{Action, Feature, Meter, Store};
+use feature_store::{Meter, Store};
+use features::{Action, Feature};
 use memory::{GrowVec, NoMemory};
 use plane::{Shape, meets};
 use std::alloc::Allocator;

@@ -4,7 +4,7 @@ ghost use Rattle.std.specs.Prelude.{◌≡◌, ◌<◌, ◌≤◌, ◌++◌, ◌
 ghost use Rattle.plane.specs.declared.point.Point.{Point};
 ghost use Rattle.std.specs.Option.{option_copied};
 ghost use Rattle.features.specs.Changes.{change_id, IsUnnamed};
-ghost use Rattle.audit_trail.specs.Judging.{AreDistinct};
+ghost use Rattle.judging.specs.Judging.{AreDistinct};
 ghost use Rattle.plain_world.specs.Staging.{transaction_with, with_step, staged, one_placed, staged_in, placements, next_placement, brought_by, names, ended, MayStage, MayPlace};
 
 use crate::settings::CHANGE_LIMIT;
@@ -27,7 +27,7 @@ pub(crate) struct Transaction<A: Allocator> {
 
 impl<A: Allocator> Model for Transaction<A> {
     ghost use Rattle.std.specs.Prelude.{◌≤◌, length, vec_capacity};
-    ghost use Rattle.audit_trail.specs.Judging.{AreDistinct};
+    ghost use Rattle.judging.specs.Judging.{AreDistinct};
     ghost use Rattle.plain_world.specs.Staging.{TransactionData};
     ghost use Rattle.plain_world.specs.declared.settings.TheConstants.{CHANGE_LIMIT};
 

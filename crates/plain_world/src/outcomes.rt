@@ -1,7 +1,7 @@
 //! The outcome of a commit.
 
 use crate::denials::Denial;
-use audit_trail::Refusal;
+use judging::Refusal;
 
 /// How a committed list ended.
 #[derive(Debug, Drop)]

@@ -10,7 +10,7 @@ ghost use Rattle.plain_world.specs.Events.{Happens, Roll, Rolls, TakenOut, Unles
 use crate::faults::Fault;
 use crate::worlds::{Base, PlainWorld};
 use audit_trail::Trail;
-use features::{Meter, StoreFault};
+use feature_store::{Meter, StoreFault};
 use memory::{another, shared};
 use std::alloc::{Allocator, Global};
 use std::marker::Model;

@@ -1,7 +1,7 @@
 //! Seats and searches.
 
 ghost use Rattle.std.specs.Prelude.{◌≡◌, ◌≤◌, ◌<◌, ◌+◌, ◌++◌, [], ◌∷◌, false, length, IfOk, OnErr, IsTrue, Some};
-ghost use Rattle.audit_trail.specs.Listing.{Listed};
+ghost use Rattle.judging.specs.Listing.{Listed};
 ghost use Rattle.plain_world.specs.declared.open_searches.Search.{Search};
 ghost use Rattle.plain_world.specs.Admitting.{may_finish, search_with};
 ghost use Rattle.plain_world.specs.Finding.{FindsAll};
@@ -12,7 +12,8 @@ use crate::faults::Fault;
 use crate::listing::{answered, ids_found, listed};
 use crate::settings::SEAT_LIMIT;
 use crate::worlds::PlainWorld;
-use features::{Action, Meter, Name, Subject};
+use feature_store::Meter;
+use features::{Action, Name, Subject};
 use memory::{GrowVec, NoMemory, another};
 use plane::Shape;
 use std::alloc::Allocator;

@@ -1,7 +1,7 @@
 //! Where a world's numbers start, and its limits.
 
 use audit_trail::{FIRST_LIMIT, RECORD_LIMIT};
-use features::FEATURE_LIMIT;
+use feature_store::FEATURE_LIMIT;
 use tree_answers::MAX_STEPS;
 
 /// Where the numbers of a world start.

@@ -5,7 +5,7 @@ use lib.Utf8.{encode}
 use Rattle.serde_json.specs.Data.{Data, boolean, string, array, object, Items, no_items, item, Members, no_members, member}
 use Rattle.serde_json.specs.Read.{read}
 use Rattle.serde_json.proofs.OnLiterals.{serde_json_on_literals}
-use Rattle.sessions.specs.BuiltIn.{built_in}
+use Rattle.scripts.specs.BuiltIn.{built_in}
 use Rattle.policy_text.specs.Reading.{document_in, zones_at, node_at, policy_at, head_at, rule_at, target_at, when_at, each_at, optional_array_in}
 use Rattle.program.specs.BuiltIn.{built_in_config, open_document}
 use Rattle.configuration.specs.ConfigFaults.{Gives}

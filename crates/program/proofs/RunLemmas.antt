@@ -1,8 +1,8 @@
 -- A configuration from a file, and a run with it.
 use Rattle.std.proofs.Common.{◌≡◌, ◌∙◌, ℕ, List, [], Option, None, Some, refl, subst, IfErr, IfSome, OnOk, Result, Ok, Err}
 use Rattle.std.specs.Io.KnownBytes.{Appends, Keeps}
-use Rattle.sessions.specs.Scripts.{IsScriptText, LineTells, script}
-use Rattle.sessions.specs.States.{SessionState}
+use Rattle.scripts.specs.Scripts.{IsScriptText, LineTells, script}
+use Rattle.scripts.specs.States.{SessionState}
 use Rattle.line_streams.specs.Streams.{NeverEnds, Ran as RanLines}
 use Rattle.byte_streams.specs.declared.writing.Flushed.{Flushed}
 use Rattle.line_streams.specs.declared.streams.ServeFault.{ServeFault}

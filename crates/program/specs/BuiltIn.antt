@@ -3,7 +3,7 @@ use Rattle.std.specs.Prelude.{[], ◌∷◌, codes}
 use Rattle.policy_documents.specs.Documents.{DocumentData, policy}
 use Rattle.policy_documents.specs.declared.algorithms.Algorithm.TheVariants.{FirstApplicable}
 use Rattle.policy_documents.specs.declared.algorithms.Effect.TheVariants.{Permit}
-use Rattle.sessions.specs.BuiltIn.{built_in}
+use Rattle.scripts.specs.BuiltIn.{built_in}
 use Rattle.configuration.specs.Configs.{ConfigData}
 
 -- everything is permitted, by the rule `open`

@@ -6,8 +6,8 @@ use Rattle.std.specs.Io.KnownBytes.{Keeps}
 use Rattle.plain_world.specs.States.{WorldData}
 use Rattle.plain_world.specs.declared.faults.Fault.{Fault}
 use Rattle.plain_world.specs.declared.faults.Fault.TheVariants as faults
-use Rattle.sessions.specs.Scripts.{LineTells, script}
-use Rattle.sessions.specs.States.{SessionState}
+use Rattle.scripts.specs.Scripts.{LineTells, script}
+use Rattle.scripts.specs.States.{SessionState}
 use Rattle.line_streams.specs.Streams.{NeverEnds, Ran}
 use Rattle.byte_streams.specs.declared.writing.Flushed.{Flushed}
 use Rattle.line_streams.specs.declared.streams.ServeFault.{ServeFault}

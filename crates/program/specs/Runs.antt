@@ -1,11 +1,11 @@
 -- What a successful run of a script has written.
 use Rattle.std.specs.Prelude.{◌≡◌, ℕ, List, Option, None, Some, IfSome}
 use Rattle.std.specs.Io.KnownBytes.{Appends}
-use Rattle.sessions.specs.Scripts.{IsScriptText}
+use Rattle.scripts.specs.Scripts.{IsScriptText}
 use Rattle.plain_world.specs.States.{WorldData, opened}
 use Rattle.plain_world.specs.declared.settings.TheConstants.{STEP_LIMIT}
 use Rattle.audit_trail.specs.declared.trails.TheConstants.{RECORD_LIMIT}
-use Rattle.features.specs.declared.tables.TheConstants.{FEATURE_LIMIT}
+use Rattle.feature_store.specs.declared.tables.TheConstants.{FEATURE_LIMIT}
 use Rattle.program.specs.BuiltIn.{built_in_config}
 use Rattle.configuration.specs.ConfigFiles.{IsConfigText}
 use Rattle.configuration.specs.Configs.{ConfigData}

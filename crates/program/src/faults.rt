@@ -7,9 +7,9 @@ use command_line::NoMemoryForWords;
 use configuration::{ConfigFault, ReadFault};
 use drawing::DrawFault;
 use memory::NoMemory;
-use sessions::ServeFault;
+use scripts::ServeFault;
 use std::fmt;
-use transactions::Fault;
+use world::Fault;
 
 /// Why the program ends with status 1.
 #[derive(Debug, Drop)]

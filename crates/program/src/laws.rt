@@ -4,7 +4,7 @@ ghost use Rattle.std.specs.Prelude.{◌≡◌};
 ghost use Rattle.configuration.specs.declared.files.TheConstants.{CONFIG_LIMIT};
 ghost use Rattle.command_line.specs.declared.options.TheConstants.{CONNECTION_LIMIT, DEFAULT_WORKERS, IDLE_LIMIT, WORKER_LIMIT};
 ghost use Rattle.features.specs.declared.actors.TheConstants.{SUBJECT_LIMIT};
-ghost use Rattle.features.specs.declared.tables.TheConstants.{FEATURE_LIMIT};
+ghost use Rattle.feature_store.specs.declared.tables.TheConstants.{FEATURE_LIMIT};
 ghost use Rattle.audit_trail.specs.declared.trails.TheConstants.{RECORD_LIMIT};
 ghost use Rattle.plain_world.specs.declared.settings.TheConstants.{STEP_LIMIT};
 

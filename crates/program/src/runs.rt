@@ -15,10 +15,10 @@ use crate::telling::tell;
 use byte_streams::{Flushed, NotOpened, flush, write_shown};
 use command_line::{Asked, ScriptWords, ServeWords, Shell, Shown, read_words};
 use configuration::{Config, FileFault, ReadFault, read_config_file};
-use sessions::run_script;
+use scripts::run_script;
 use std::alloc::{Allocator, Global};
 use std::io::{Read, Write};
-use transactions::World;
+use world::World;
 
 /// The folder of the files that the command line names.
 pub trait Folder {

@@ -8,7 +8,7 @@ use crate::seen_lists::SeenList;
 use std::marker::{Model, PhantomData};
 
 /// A published list, returned to whoever put its last policy in force. A view that is told of it
-/// (`View::told`) explains by that policy or a later one. At run time it is a number. Contracts see
+/// (`View::catch_up`) explains by that policy or a later one. At run time it is a number. Contracts see
 /// the list.
 #[derive(Drop)]
 pub struct Edition<L: ListName> {

@@ -13,7 +13,7 @@ use combining::Question;
 /// Tells a view of an edition, and asks it. If it answers, it rules by the last policy of a list
 /// that continues the edition's, so by the edition's policy or a later one. No handle is needed, so
 /// neither call waits.
-pub fn told_then_explained<L: ListName>(
+pub fn caught_up_then_explained<L: ListName>(
     view: &mut View<L>,
     edition: Edition<L>,
     question: &Question,
@@ -22,6 +22,6 @@ pub fn told_then_explained<L: ListName>(
     ensures ruling { IfSome result (Explains view.new question.now) }
     ensures later { IfSome result (λ explained. length edition ≤ explained.edition) }
 {
-    view.told(edition);
+    view.catch_up(edition);
     view.explain(question)
 }

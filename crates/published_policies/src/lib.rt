@@ -17,7 +17,7 @@ mod writers;
 
 pub use editions::Edition;
 pub use explaining::Explained;
-pub use laws::told_then_explained;
+pub use laws::caught_up_then_explained;
 pub use lists::{EmptyList, ListName};
 pub use publishers::{NoMemoryForPolicies, Publisher};
 pub use views::View;

@@ -106,7 +106,7 @@ impl<L: ListName> View<L> {
     }
 
     /// Takes in an edition: from now on the view explains by its policy, or by a later one.
-    pub fn told(&mut self, edition: Edition<L>)
+    pub fn catch_up(&mut self, edition: Edition<L>)
         ensures before { IsPrefix self.old self.new }
         ensures edition { IsPrefix edition self.new }
         ensures longer { (self.new ≡ self.old) ⊎ (self.new ≡ edition) }

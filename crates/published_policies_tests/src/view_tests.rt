@@ -70,7 +70,7 @@ fn told_and_not_told<L: ListName, W: Wait + Drop>(
     assert_explains(rt, &mut told, &question, 1);
     let edition = publisher.publish(policy(rt, heap, 2));
     assert_eq!(rt; edition.number(), 2);
-    told.told(edition);
+    told.catch_up(edition);
     assert_eq!(rt; told.edition(), 2);
     assert_eq!(rt; other.edition(), 1);
     assert_explains(rt, &mut told, &question, 2);

@@ -6,8 +6,8 @@ use Rattle.policy_text.specs.declared.faults.TextFault.TheVariants as unread
 use Rattle.decision.specs.Deciders.{DeciderData}
 use Rattle.decision.specs.declared.rulings.Ruling.{Ruling}
 use Rattle.decision.specs.declared.rulings.Ruling.TheVariants as rulings
-use Rattle.audit_trail.specs.declared.causes.Cause.{Cause}
-use Rattle.audit_trail.specs.declared.causes.Cause.TheVariants as causes
+use Rattle.judging.specs.declared.causes.Cause.{Cause}
+use Rattle.judging.specs.declared.causes.Cause.TheVariants as causes
 use Rattle.std.specs.Arc.{arc_value}
 use Rattle.plain_world.specs.Answers.{AnswerData, DenialData}
 use Rattle.plain_world.specs.Rolls.{RolledData}

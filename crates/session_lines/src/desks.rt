@@ -28,7 +28,7 @@ pub struct Staged {
 impl Model for Staged {
     ghost use Rattle.std.specs.Prelude.{List};
     ghost use Rattle.features.specs.declared.rows.Change.{Change};
-    ghost use Rattle.audit_trail.specs.Judging.{AreDistinct};
+    ghost use Rattle.judging.specs.Judging.{AreDistinct};
 
     ghost Value = { List Change };
 

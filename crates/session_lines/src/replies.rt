@@ -4,8 +4,8 @@ ghost use Rattle.std.specs.Prelude.{◌≡◌};
 ghost use Rattle.session_lines.specs.Replies.{denial_rule, ends_list as reply_ends_list, fault_reply, outcome_reply, policy_reply, refusal_reply, visit_reply};
 
 use crate::faults::LineFault;
-use audit_trail::{Cause, Refusal};
 use features::Name;
+use judging::{Cause, Refusal};
 use memory::NoMemory;
 use plain_world::{Answer, Denial, Fault as WorldFault, Outcome, Rolled};
 use policy_text::TextFault;

@@ -1,7 +1,7 @@
 //! The back end of a session.
 
 ghost use Rattle.std.specs.Prelude.{◌≡◌, ◌≤◌, length};
-ghost use Rattle.audit_trail.specs.Judging.{AreDistinct};
+ghost use Rattle.judging.specs.Judging.{AreDistinct};
 ghost use Rattle.plain_world.specs.declared.settings.TheConstants.{CHANGE_LIMIT};
 ghost use Rattle.session_lines.specs.Replies.{line, said_view};
 

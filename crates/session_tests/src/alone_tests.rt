@@ -2,10 +2,10 @@
 //! ends a session.
 use crate::fakes::{FailingReader, FailingWriter, Failure};
 use crate::worlds::{opened, replies, serve_first};
-use sessions::{ServeFault, serve_world};
+use scripts::{ServeFault, serve_world};
 use std::alloc::Global;
 use std::process::Abort;
-use transactions::World;
+use world::World;
 
 /// Lines that commit a point and stage another.
 const TWO_POINTS: &str =

@@ -2,10 +2,10 @@
 use crate::fakes::{FIRST_POINT, FIRST_REPLIES, FailingReader, FailingWriter, Failure, LongReader};
 use crate::worlds::{opened, replies};
 use refusing::Refusing;
-use sessions::{READ_LIMIT, ServeFault, run_script};
+use scripts::{READ_LIMIT, ServeFault, run_script};
 use std::alloc::Global;
 use std::process::Abort;
-use transactions::World;
+use world::World;
 
 /// The replies to the worked script after each number of whole lines.
 const REPLIES: [&str; 6] = [

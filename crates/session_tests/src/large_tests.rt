@@ -3,7 +3,7 @@ use crate::worlds::{opened, replies, run_first, serve_first, served};
 use std::alloc::{AllocError, Global};
 use std::process::Abort;
 use std::test::Fail;
-use transactions::World;
+use world::World;
 
 /// Appends a template to a text, with `number` in place of each `#`.
 fn put_numbered(text: &mut String, template: &str, number: u64) -> Result<(), AllocError> {

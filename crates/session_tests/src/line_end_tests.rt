@@ -4,13 +4,13 @@ use crate::fakes::{SEVENTEEN_ROWS, SIXTEEN, SIXTEEN_ROWS};
 use crate::script_lines::{BEHIND_SIXTEEN, SEATED, check_cases_at};
 use crate::worlds::{LIMITS, opened_at};
 use refusing::Refusing;
-use sessions::run_script;
+use scripts::run_script;
 use std::alloc::{AllocError, Global};
 use std::io;
 use std::io::Read;
 use std::process::Abort;
 use std::test::Fail;
-use transactions::{Limits, ROLLED_LIMIT, Starts};
+use world::{Limits, ROLLED_LIMIT, Starts};
 
 /// Policies that permit or deny by default.
 const DEFAULTS: &str = r#"=== what is decided by default, and which rule decides where one does

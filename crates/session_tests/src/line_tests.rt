@@ -3,11 +3,11 @@ use crate::fakes::{FIRST_POINT, FIRST_REPLIES};
 use crate::script_lines::{SEATED, check_cases};
 use crate::worlds::{opened, serve_first};
 use refusing::Refusing;
-use sessions::run_script;
+use scripts::run_script;
 use std::alloc::{AllocError, Global};
 use std::process::Abort;
 use std::test::Fail;
-use transactions::World;
+use world::World;
 
 /// Policies, lists, refusals and rolls, in sessions with three seats.
 const CASES: &str = r#"=== the first rule that decides is named

@@ -5,7 +5,7 @@ use crate::fakes::{HELLO_REPLIES, HELLOS, SIXTEEN, SIXTEEN_TOLD};
 use crate::worlds::{opened, opened_at, replies};
 use std::alloc::{AllocError, Global};
 use std::process::Abort;
-use transactions::{Limits, Starts, World};
+use world::{Limits, Starts, World};
 
 /// Lines before those of a case, and their replies.
 #[derive(Clone, Copy, Drop)]

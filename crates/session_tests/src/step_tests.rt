@@ -2,11 +2,11 @@
 use crate::fakes::{FailingReader, FailingWriter, Failure, SIXTEEN_OPEN, SIXTEEN_OPENED};
 use crate::script_lines::{BEHIND_SIXTEEN, Opening, SEATED, check_cases};
 use crate::worlds::{opened, replies, serve_first};
-use sessions::{ServeFault, run_script};
+use scripts::{ServeFault, run_script};
 use std::alloc::Global;
 use std::process::Abort;
 use std::test::Fail;
-use transactions::World;
+use world::World;
 
 /// Searches beside lists and policies, in sessions with three seats.
 const CASES: &str = r#"=== a search is finished by the policy in force

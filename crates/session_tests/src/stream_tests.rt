@@ -4,7 +4,7 @@ use crate::worlds::opened;
 use byte_streams::let_go;
 use failing_streams::{FailingReader, FailingWriter, Failure};
 use refusing::Refusing;
-use sessions::{ServeFault, serve_world};
+use scripts::{ServeFault, serve_world};
 use std::alloc::Global;
 use std::cell::RefCell;
 use std::io;

@@ -1,12 +1,12 @@
 //! Worlds to run scripts over.
 // Functions that take an `Abort` may be in test crates only, so this repeats part of `worlds.rt` of
 // `world_tests`.
-use features::FEATURE_LIMIT;
+use feature_store::FEATURE_LIMIT;
 use policy_text::{Document, read_document};
-use sessions::{built_in_subjects, run_script, serve_world};
+use scripts::{built_in_subjects, run_script, serve_world};
 use std::alloc::{Allocator, Global};
 use std::process::Abort;
-use transactions::{Limits, ROLLED_LIMIT, STEP_LIMIT, Starts, World};
+use world::{Limits, ROLLED_LIMIT, STEP_LIMIT, Starts, World};
 
 /// A document that permits everything.
 const OPEN: &str =

@@ -1,10 +1,10 @@
 //! A trail's records and their lines, and how lists of changes are judged.
 use crate::parts::{document, name, point, square};
-use audit_trail::{
-    Cause, Deed, Judgement, RECORD_LIMIT, Record, Refusal, Trail, TrailFault, judge,
-};
+use audit_trail::{Deed, RECORD_LIMIT, Record, Trail, TrailFault};
 use decision::Decider;
-use features::{Change, Name, Store, Subject};
+use feature_store::Store;
+use features::{Change, Name, Subject};
+use judging::{Cause, Judgement, Refusal, judge};
 use std::alloc::{AllocError, Global};
 use std::process::Abort;
 use std::sync::Arc;

@@ -1,5 +1,5 @@
 //! What has happened to a world's index in a run of many events.
-use transactions::{Step, Tending};
+use world::{Step, Tending};
 
 /// For how many turns the world grows, before it shrinks for as many.
 const SEASON: u64 = 2_000;

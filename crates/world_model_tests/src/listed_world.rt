@@ -1,7 +1,7 @@
 //! A plain world of lists, with which a world's answers are compared. It shares only the names of
 //! the causes with the world: shapes are points, windows are squares, and each policy is a few
 //! lines of code.
-use audit_trail::Cause;
+use judging::Cause;
 use std::alloc::Global;
 use std::process::Abort;
 

@@ -8,14 +8,13 @@ use crate::listed_world::{
 };
 use crate::parts::{document, name, point, square};
 use audit_trail::{Deed, Record};
-use features::{Change, Feature, Meter, Name, Subject, Subjects};
+use feature_store::Meter;
+use features::{Change, Feature, Name, Subject, Subjects};
 use policy_text::Document;
 use std::alloc::Global;
 use std::process::Abort;
 use std::test::Fail;
-use transactions::{
-    Advance, Answer, Fault, Limits, Outcome, Starts, Step, TreeFault, Visit, World,
-};
+use world::{Advance, Answer, Fault, Limits, Outcome, Starts, Step, TreeFault, Visit, World};
 
 /// How many turns there are. Each tries one event, or a few of a kind.
 const EVENTS: u32 = 10_000;

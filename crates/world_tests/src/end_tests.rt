@@ -4,12 +4,13 @@ use crate::worlds::{
     square, staged,
 };
 use audit_trail::{FIRST_LIMIT, RECORD_LIMIT};
-use features::{FEATURE_LIMIT, Meter, SUBJECT_LIMIT};
+use feature_store::{FEATURE_LIMIT, Meter};
+use features::SUBJECT_LIMIT;
 use plane::{LIMIT, LISTED_LIMIT};
 use policy_text::{ZONE_LIMIT, print_document};
 use std::alloc::Global;
 use std::process::Abort;
-use transactions::{
+use world::{
     Advance, CHANGE_LIMIT, Fault, Limits, Outcome, ROLLED_LIMIT, SEARCH_LIMIT, SEAT_LIMIT,
     STEP_LIMIT, Starts, Step, TRANSACTION_LIMIT, TreeFault, Visit, World,
 };

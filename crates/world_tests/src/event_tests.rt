@@ -2,12 +2,13 @@
 use crate::worlds::{
     OPEN, ROADS, STARTS, add, document, found, name, placed, point, ready, seated, square,
 };
-use features::{Change, Meter};
+use feature_store::Meter;
+use features::Change;
 use std::alloc::Global;
 use std::process::Abort;
 use std::sync::Arc;
 use std::test::Fail;
-use transactions::{Advance, Fault, Limits, Outcome, Step, Tending, Visit, World};
+use world::{Advance, Fault, Limits, Outcome, Step, Tending, Visit, World};
 
 /// A world with room for four records and two features.
 fn small(rt: &impl Abort, heap: Global) -> World<Global> {

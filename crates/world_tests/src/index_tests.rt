@@ -4,11 +4,12 @@ use crate::worlds::{
     LIMITS, OPEN, ROADS, STARTS, add, document, found, place_all, placed, ready, seated, see_all,
     square, staged,
 };
-use features::{Change, Meter};
+use feature_store::Meter;
+use features::Change;
 use plane::Shape;
 use std::alloc::Global;
 use std::process::Abort;
-use transactions::{Advance, Answer, Fault, Outcome, Step, Tending, TreeFault, Visit, World};
+use world::{Advance, Answer, Fault, Outcome, Step, Tending, TreeFault, Visit, World};
 
 /// How often rounds of tending did what.
 #[derive(Clone, Copy, Debug, PartialEq, Eq)]

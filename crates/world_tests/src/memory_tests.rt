@@ -3,12 +3,13 @@ use crate::worlds::{
     CLOSED, LIMITS, OPEN, STARTS, add, document, found, name, picture, place_all, placed, point,
     ready, seated, square, staged,
 };
-use features::{Change, Meter};
+use feature_store::Meter;
+use features::Change;
 use refusing::Refusing;
 use std::alloc::{Allocator, Global};
 use std::process::Abort;
 use std::test::Fail;
-use transactions::{Advance, Fault, Outcome, Step, Tending, Visit, World};
+use world::{Advance, Fault, Outcome, Step, Tending, Visit, World};
 
 /// An event that allocates.
 #[derive(Clone, Copy, Debug, PartialEq, Eq)]

@@ -6,7 +6,7 @@ use std::alloc::Global;
 use std::process::Abort;
 use std::sync::Arc;
 use std::test::Fail;
-use transactions::{Answer, Call, Fault, Limits, Tending, World, answer_after};
+use world::{Answer, Call, Fault, Limits, Tending, World, answer_after};
 
 #[test]
 fn own_search_and_staged_list(rt: HostRuntime) -> Result<(), Fail> {

@@ -4,13 +4,14 @@ use crate::worlds::{
     CLOSED, LIMITS, OPEN, STARTS, add, document, found, name, picture, placed, point, ready,
     seated, square, staged,
 };
-use features::{Change, Meter};
+use feature_store::Meter;
+use features::Change;
 use plane::Shape;
 use policy_text::print_document;
 use std::alloc::Global;
 use std::process::Abort;
 use std::test::Fail;
-use transactions::{Advance, Fault, Limits, Outcome, Step, Tending, TreeFault, Visit, World};
+use world::{Advance, Fault, Limits, Outcome, Step, Tending, TreeFault, Visit, World};
 
 /// A world in which north has added the roads 1 and 2 at (1, 1) and (2, 2).
 fn inhabited(rt: &impl Abort, heap: Global) -> World<Global> {

@@ -1,10 +1,11 @@
 //! Worlds, subjects and policies to try events on.
-use features::{Change, FEATURE_LIMIT, Meter, Name, Subject, Subjects};
+use feature_store::{FEATURE_LIMIT, Meter};
+use features::{Change, Name, Subject, Subjects};
 use plane::{Point, Shape};
 use policy_text::{Document, print_document, read_document};
 use std::alloc::{Allocator, Global};
 use std::process::Abort;
-use transactions::{Advance, Answer, Limits, ROLLED_LIMIT, STEP_LIMIT, Starts, Visit, World};
+use world::{Advance, Answer, Limits, ROLLED_LIMIT, STEP_LIMIT, Starts, Visit, World};
 
 /// Everything is permitted.
 pub const OPEN: &str =

@@ -1,7 +1,7 @@
 use Rattle.std.proofs.Common.{◌+◌, Some, None, drop, get_or, List, sym, arith, subst}
 use Rattle.std.proofs.lemmas.List.{drop_more, drop_all}
 use Rattle.features.specs.declared.rows.Feature.{Feature}
-use Rattle.audit_trail.proofs.ListingLemmas.{Lists, lists_yes, lists_no, lists_end}
+use Rattle.judging.proofs.ListingLemmas.{Lists, lists_yes, lists_no, lists_end}
 use Rattle.plain_world.proofs.FindingLemmas.{looked_up, looks_up, found_listed}
 use Rattle.plain_world.proofs.listing.listed.Goals as goal
 use Rattle.plain_world.proofs.listing.listed.Goals.{in-Some+then-shows+in_ok-try_push, in-Some+else-shows, in_default}

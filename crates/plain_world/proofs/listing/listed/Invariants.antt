@@ -1,5 +1,5 @@
 use Rattle.std.proofs.Common.{◌≤◌, ◌+◌, drop}
-use Rattle.audit_trail.proofs.ListingLemmas.{Lists}
+use Rattle.judging.proofs.ListingLemmas.{Lists}
 use Rattle.plain_world.proofs.FindingLemmas.{looked_up}
 use Rattle.plain_world.proofs.listing.listed.Given as goal
 

@@ -1,5 +1,5 @@
 use Rattle.std.proofs.Common.{arith}
-use Rattle.audit_trail.proofs.AcceptedLemmas.{distinct_push}
+use Rattle.judging.proofs.AcceptedLemmas.{distinct_push}
 use Rattle.plain_world.proofs.open_transactions.Transaction.push.Goals as goal
 
 pub invariant_of-self : goal.invariant_of-self

@@ -1,7 +1,7 @@
 use Rattle.std.proofs.Common.{refl, ap}
 use Rattle.std.specs.Arc.{arc_value}
 use Rattle.decision.specs.Folding.{FoldedData}
-use Rattle.audit_trail.proofs.ListingLemmas.{listed_shown, listed_sorted}
+use Rattle.judging.proofs.ListingLemmas.{listed_shown, listed_sorted}
 use Rattle.plain_world.proofs.FindingLemmas.{names_kept}
 use Rattle.plain_world.proofs.worlds.PlainWorld.answer.Goals as goal
 

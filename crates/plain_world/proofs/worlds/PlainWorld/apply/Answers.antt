@@ -1,6 +1,6 @@
 use Rattle.std.proofs.Common.{◌+◌, refl}
 use Rattle.std.specs.Arc.{arc_value}
-use Rattle.audit_trail.proofs.AcceptedLemmas.{can_apply}
+use Rattle.judging.proofs.AcceptedLemmas.{can_apply}
 use Rattle.plain_world.proofs.EventLemmas.{too_many}
 use Rattle.plain_world.proofs.SoundLemmas.{keeps_added}
 use Rattle.plain_world.proofs.worlds.PlainWorld.apply.Goals as goal

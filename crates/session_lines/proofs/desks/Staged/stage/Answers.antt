@@ -1,6 +1,6 @@
 use Rattle.std.proofs.Common.{◌≡◌, false, sym, ◌∙◌}
 use Rattle.features.specs.Changes.{change_id}
-use Rattle.audit_trail.proofs.AcceptedLemmas.{distinct_push}
+use Rattle.judging.proofs.AcceptedLemmas.{distinct_push}
 use Rattle.plain_world.specs.Staging.{names}
 use Rattle.plain_world.proofs.TransactionLemmas.{unnamed}
 use Rattle.session_lines.proofs.desks.Staged.stage.Goals as goal

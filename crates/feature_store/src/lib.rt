@@ -1,0 +1,11 @@
+//! The store that keeps map features by id, and the meter of what is read of it.
+#![tactic(auto)]
+
+mod entries;
+mod meters;
+mod stores;
+mod tables;
+
+pub use meters::Meter;
+pub use stores::{Store, StoreFault};
+pub use tables::FEATURE_LIMIT;

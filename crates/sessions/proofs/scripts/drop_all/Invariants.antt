@@ -1,9 +1,0 @@
-use Rattle.std.proofs.Common.{◌≡◌, [], take}
-use Rattle.sessions.specs.Indexed.{AllShut}
-use Rattle.sessions.proofs.scripts.drop_all.Given as goal
-
-abbrev pub invariant-loop-session : goal.invariant-loop-session
-invariant-loop-session g l = record {
-  shuts : AllShut (take l.session-index l.sessions) l.fn.world l.world;
-  none : l.sessions ≡ [] → l.world ≡ l.fn.world;
-}

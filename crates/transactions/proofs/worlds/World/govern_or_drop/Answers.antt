@@ -1,6 +1,0 @@
-use Rattle.plain_world.specs.Events.{Number, reply_of}
-use Rattle.transactions.proofs.TendedLemmas.{tended_govern}
-use Rattle.transactions.proofs.worlds.World.govern_or_drop.Goals as goal
-
-pub invariant_of-self : goal.invariant_of-self
-invariant_of-self g c = tended_govern c.self.inside.plain c.govern_or_drop.new.self c.self.inside.index c.self.inside.walks c.self.inside.kept c.self.invariant c.args.seat c.args.document (reply_of Number c.govern_or_drop.result) c.govern_or_drop.ensures

@@ -1,5 +1,0 @@
-use Rattle.transactions.proofs.TendLemmas.{tended_same}
-use Rattle.transactions.proofs.worlds.World.tend_next.Goals as goal
-
-pub returns-clause-plain : goal.returns-clause-plain
-returns-clause-plain g c = tended_same 0 _ _ _ c.tend-tended.ensures.happens
