@@ -25,7 +25,7 @@ pub enum StoreFault {
 }
 
 impl StoreFault {
-    ghost use Rattle.features.specs.FaultCodes.{store_code};
+    ghost use Rattle.feature_store.specs.FaultCodes.{store_code};
 
     /// The fault's code, as users see it.
     pub fn code(&self) -> &'static str
@@ -51,7 +51,7 @@ impl From<NoMemory> for StoreFault {
 
 impl fmt::Display for StoreFault {
     ghost use Rattle.std.specs.Prelude.{Some};
-    ghost use Rattle.features.specs.FaultCodes.{store_code};
+    ghost use Rattle.feature_store.specs.FaultCodes.{store_code};
 
     ghost output = { λ fault. Some (store_code fault) };
 

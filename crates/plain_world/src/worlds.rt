@@ -37,7 +37,7 @@ pub struct Base<A: Allocator> {
 impl<A: Allocator> Model for Base<A> {
     ghost use Rattle.std.specs.Arc.{arc_value};
     ghost use Rattle.std.specs.Coded.{code_by, codes};
-    ghost use Rattle.audit_trail.specs.Records.{PlainState};
+    ghost use Rattle.judging.specs.States.{PlainState};
     ghost use Rattle.plain_world.specs.Coding.{StoredState, stored_state, restored_state, restored_state-stored_state};
 
     ghost Value = { PlainState };
