@@ -4,7 +4,7 @@ use Rattle.std.proofs.Common.{◌≡◌, false}
 use Rattle.serde_json.specs.View.{view}
 use Rattle.serde_json.specs.Written.{has_float, compact_text}
 use Rattle.audit_trail.proofs.LineLemmas.{line_whole}
-use Rattle.audit_trail.proofs.json_lines.line_text.Goals as goal
+use Rattle.audit_trail.proofs.json_lines.record_line.Goals as goal
 
 pub returns : goal.returns
 returns g c =
