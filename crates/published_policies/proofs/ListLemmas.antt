@@ -4,7 +4,7 @@ use Rattle.std.specs.List.{last_or}
 use Rattle.std.proofs.lemmas.List.{take_all, take_at, take-take, take-append-drop}
 use mathlib.Core.List.{IsPrefix}
 use Rattle.decision.specs.Deciders.{DeciderData}
-use Rattle.published_policies.specs.Lists.{IsNumbered}
+use Rattle.published_policies.specs.Lists.{AreEditions, IsNextEdition, IsNumbered, edition_of, last_edition}
 
 module _ {X : Type 0} where
   -- the front of a list, as long as a prefix of it, is that prefix
@@ -51,7 +51,61 @@ numbered_push n [] decider h next = (omega arith, tt)
 numbered_push n (first ∷ later) decider h next = (h.0, numbered_push (n + 1) later decider h.1 (omega arith))
 
 -- the last edition, by the first one and the length
-pub last_number : (n : ℕ) (list : List DeciderData) (decider : DeciderData) → IsNumbered n list → last_or None list ≡ Some decider → decider.edition + 1 ≡ n + length list
-last_number n [] decider h last = cc
-last_number n (first ∷ []) decider h last = let same : first ≡ decider = cc in omega (arith, ap (λ d. d.edition) same, h.0)
-last_number n (first ∷ second ∷ later) decider h last = omega (arith, last_number (n + 1) (second ∷ later) decider h.1 last)
+last_number : (n : ℕ) (list : List DeciderData) → IsNumbered n list → 0 < length list → last_edition list + 1 ≡ n + length list
+last_number n [] h some = absurd (omega arith)
+last_number n (first ∷ []) h some = omega (arith, h.0)
+last_number n (first ∷ second ∷ later) h some = omega (arith, last_number (n + 1) (second ∷ later) h.1 (omega arith))
+
+numbered_front : (n : ℕ) (front rest : List DeciderData) → IsNumbered n (front ++ rest) → IsNumbered n front
+numbered_front n [] rest h = tt
+numbered_front n (first ∷ later) rest h = (h.0, numbered_front (n + 1) later rest h.1)
+
+-- a list without a policy
+pub no_editions : (list : List DeciderData) → list ≡ [] → AreEditions list
+no_editions list e = subst AreEditions (sym e) (record { first = 1; from_one = omega arith; numbered = tt })
+
+-- there are at most as many policies as the last edition says
+pub editions_counted : (list : List DeciderData) → AreEditions list → length list ≤ last_edition list
+editions_counted [] h = omega arith
+editions_counted (first ∷ later) h = omega (arith, last_number h.first (first ∷ later) h.numbered (omega arith), h.from_one)
+
+-- the editions still follow one another if the next one is appended
+pub editions_push : (list : List DeciderData) (decider : DeciderData) → AreEditions list → IsNextEdition list decider.edition → AreEditions (list ++ decider ∷ [])
+editions_push [] decider h next = record { first = decider.edition; from_one = next.from_one; numbered = (refl, tt) }
+editions_push (first ∷ later) decider h next =
+    let last = last_number h.first (first ∷ later) h.numbered (omega arith) in
+    record {
+      first = h.first;
+      from_one = h.from_one;
+      numbered = numbered_push h.first (first ∷ later) decider h.numbered (omega (arith, last, next.follows (omega arith)));
+    }
+
+-- a prefix ends with no later edition
+pub no_later : (xs ys : List DeciderData) → IsPrefix xs ys → AreEditions ys → last_edition xs ≤ last_edition ys
+no_later [] ys p h = omega arith
+no_later (first ∷ later) ys p h =
+    let xs = first ∷ later in
+    let longer = prefix_length xs ys p in
+    let front : IsNumbered h.first xs = numbered_front h.first xs p.0 (subst (IsNumbered h.first) (sym p.1) h.numbered) in
+    omega (arith, longer, last_number h.first xs front (omega arith), last_number h.first ys h.numbered (omega (arith, longer)))
+
+-- the first edition of a list, and the one after the last
+pub first_edition : (edition : ℕ) → 0 < edition → IsNextEdition [] edition
+first_edition edition from_one = record { from_one = from_one; follows = λ some. absurd (omega (arith, some)) }
+
+pub next_edition : (list : List DeciderData) (edition : ℕ) → edition ≡ last_edition list + 1 → IsNextEdition list edition
+next_edition list edition e = record { from_one = omega (arith, e); follows = λ _. e }
+
+-- a list that has room for the next edition has room for one more policy
+pub one_more : (list : List DeciderData) (len edition : ℕ) → len ≡ length list → AreEditions list → IsNextEdition list edition → len + 1 ≤ edition
+one_more [] len edition count h next = omega (arith, count, next.from_one)
+one_more (first ∷ later) len edition count h next =
+    omega (arith, count, next.follows (omega arith), editions_counted (first ∷ later) h)
+
+-- the length and the last edition of a list to which a policy was added
+pub added : (list longer : List DeciderData) (decider : DeciderData) (len edition : ℕ) → len ≡ length list → edition ≡ decider.edition → longer ≡ list ++ decider ∷ []
+    → (len + 1 ≡ length longer) × (edition ≡ last_edition longer)
+added list longer decider len edition count told e = (
+  omega (arith, count, ap length e, length-append list (decider ∷ [])),
+  told ∙ sym (ap edition_of (ap (last_or None) e ∙ last_push None list decider)),
+)

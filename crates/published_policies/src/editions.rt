@@ -1,7 +1,7 @@
 //! Editions: lists that were published.
 
 ghost use Rattle.std.specs.Prelude.{◌≡◌, ◌<◌, length};
-ghost use Rattle.published_policies.specs.Lists.{IsLastEdition, IsPublished};
+ghost use Rattle.published_policies.specs.Lists.{IsPublished, last_edition};
 
 use crate::lists::ListName;
 use crate::seen_lists::SeenList;
@@ -44,12 +44,11 @@ impl<L: ListName> Edition<L> {
         }
     }
 
-    /// The edition of the list's last policy, which is also how many policies the list has.
+    /// The edition of the list's last policy.
     pub fn number(&self) -> u64
-        ensures length { result ≡ length self.now }
-        ensures last { IsLastEdition result self.now }
+        ensures last { result ≡ last_edition self.now }
         ensures published { IsPublished self.now }
     {
-        self.list.len()
+        self.list.edition()
     }
 }

@@ -5,8 +5,8 @@ use decision::Decider;
 use logbook::{Gain, Plain, Play, Rule};
 use std::sync::Arc;
 
-/// What holds of the book at any time: its word is the length of the list, whose editions are 1, 2,
-/// and so on.
+/// What holds of the book at any time: its word is the length of the list, whose editions follow one
+/// another.
 pub struct ListRule;
 
 impl Rule<Decider, u64> for ListRule {

@@ -1,8 +1,9 @@
 //! Laws of calls one after another.
 
-ghost use Rattle.std.specs.Prelude.{◌≡◌, ◌≤◌, length, IfSome};
+ghost use Rattle.std.specs.Prelude.{◌≤◌, IfSome};
 ghost use mathlib.Core.List.{IsPrefix};
 ghost use Rattle.published_policies.specs.Explaining.{Explains};
+ghost use Rattle.published_policies.specs.Lists.{last_edition};
 
 use crate::editions::Edition;
 use crate::explaining::Explained;
@@ -20,7 +21,7 @@ pub fn caught_up_then_explained<L: ListName>(
 ) -> Option<Explained>
     ensures told { IfSome result (λ _. IsPrefix edition view.new) }
     ensures ruling { IfSome result (Explains view.new question.now) }
-    ensures later { IfSome result (λ explained. length edition ≤ explained.edition) }
+    ensures later { IfSome result (λ explained. last_edition edition ≤ explained.edition) }
 {
     view.catch_up(edition);
     view.explain(question)

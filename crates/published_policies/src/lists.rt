@@ -45,6 +45,7 @@ impl Model for EmptyList {
 
 impl EmptyList {
     /// A new list.
+    #[tactic(auto, using(crate::proofs::ListLemmas::no_editions))]
     pub fn new() -> EmptyList {
         let (seen, mut first, _second) = Seen::open(Start::alone(), 0, 0);
         EmptyList {

@@ -2,6 +2,7 @@
 
 ghost use Rattle.std.specs.Prelude.{◌≡◌, ◌<◌, ◌+◌, ◌^◌, ◌++◌, ◌∷◌, [], length, IfOk, IfSome, IsSome, None, Some};
 ghost use Rattle.std.specs.Arc.{arc_value};
+ghost use Rattle.published_policies.specs.Lists.{IsPublished, last_edition};
 
 use crate::editions::Edition;
 use crate::lists::{EmptyList, ListName};
@@ -73,8 +74,8 @@ fn put_back<L: ListName>(place: &mut Option<ListWriter<L>>, writer: ListWriter<L
 }
 
 impl<L: ListName, R: Wait + Drop> Publisher<L, R> {
-    /// Publishes a list of one policy, of edition 1, for at most `views` views at a time. The only
-    /// error is out of memory.
+    /// Publishes a list of one policy, for at most `views` views at a time. Its edition may be any
+    /// but 0. The only error is out of memory.
     pub fn open(
         rt: R,
         heap: Global,
@@ -83,7 +84,7 @@ impl<L: ListName, R: Wait + Drop> Publisher<L, R> {
         views: usize,
     ) -> Result<Publisher<L, R>, NoMemoryForPolicies>
         requires list { list ≡ L.book }
-        requires first { (arc_value first).edition ≡ 1 }
+        requires first { 0 < (arc_value first).edition }
         requires views { (0 < views) × (views < 2 ^ 32) }
         ensures { IfOk result (λ publisher. publisher ≡ arc_value first ∷ []) }
     {
@@ -99,7 +100,7 @@ impl<L: ListName, R: Wait + Drop> Publisher<L, R> {
     /// Publishes a policy of the next edition, and returns the list that ends with it. Waits for
     /// views that still read the policy before the last. Takes no memory.
     pub fn publish(&mut self, decider: Arc<Decider>) -> Edition<L>
-        requires { (arc_value decider).edition ≡ length self.old + 1 }
+        requires { (arc_value decider).edition ≡ last_edition self.old + 1 }
         ensures list { self.new ≡ self.old ++ arc_value decider ∷ [] }
         ensures edition { result ≡ self.old ++ arc_value decider ∷ [] }
     {
@@ -107,6 +108,17 @@ impl<L: ListName, R: Wait + Drop> Publisher<L, R> {
         let (writer, edition) = writer.publish(&self.rt, decider);
         put_back(&mut self.writer, writer);
         edition
+    }
+
+    /// The edition of the policy that was published last.
+    pub fn edition(&self) -> u64
+        ensures last { result ≡ last_edition self.now }
+        ensures published { IsPublished self.now }
+    {
+        match &self.writer {
+            Some(writer) => writer.edition(),
+            None => unreachable!(),
+        }
     }
 
     /// A view of the list; `None` where there are as many views as there can be.

@@ -1,10 +1,10 @@
 //! Prefixes of a list, as far as it was seen.
 
-ghost use Rattle.std.specs.Prelude.{◌≡◌, ◌⊎◌, ◌≤◌, ◌+◌, ◌++◌, ◌∷◌, [], length};
+ghost use Rattle.std.specs.Prelude.{◌≡◌, ◌⊎◌, ◌≤◌, ◌++◌, ◌∷◌, [], length};
 ghost use Rattle.std.specs.Bool.{MatchBool};
 ghost use Rattle.std.specs.Arc.{arc_value};
 ghost use mathlib.Core.List.{IsPrefix};
-ghost use Rattle.published_policies.specs.Lists.{IsNumbered, seen_in};
+ghost use Rattle.published_policies.specs.Lists.{AreEditions, IsNextEdition, last_edition, seen_in};
 ghost use Rattle.published_policies.specs.Growing.{length_word};
 
 use crate::growing::{Add, ListRule, NoGain};
@@ -13,18 +13,20 @@ use logbook::{Offer, Seen, Word};
 use std::marker::Model;
 use std::sync::Arc;
 
-/// A prefix of a list that was seen. At run time it is a length, and takes no memory. Contracts see
-/// the policies, and the book of the list.
+/// A prefix of a list that was seen. At run time it is a length and an edition, and takes no memory.
+/// Contracts see the policies, and the book of the list.
 #[derive(Drop)]
 pub struct SeenList {
     len: u64,
+    /// The edition of the last policy; 0 where there is none.
+    edition: u64,
     seen: Seen<Decider, u64, ListRule>,
 }
 
 impl Model for SeenList {
     ghost use Rattle.std.specs.Prelude.{◌≡◌, length};
     ghost use Rattle.std.specs.Coded.{code_by, codes};
-    ghost use Rattle.published_policies.specs.Lists.{SeenData, seen_in, IsNumbered};
+    ghost use Rattle.published_policies.specs.Lists.{AreEditions, SeenData, last_edition, seen_in};
     ghost use Rattle.published_policies.specs.Coding.{StoredSeen, stored_seen, restored_seen, restored_seen-stored_seen};
 
     ghost Value = { SeenData };
@@ -34,24 +36,30 @@ impl Model for SeenList {
 
     ghost view = { λ s. seen_in s.seen.book s.seen.log };
 
-    ghost invariant = { λ s. (s.len ≡ length s.seen.log) × IsNumbered 1 s.seen.log };
+    ghost invariant = { λ s. (s.len ≡ length s.seen.log) × (s.edition ≡ last_edition s.seen.log)
+        × AreEditions s.seen.log };
 }
 
 impl SeenList {
     /// The empty prefix: nothing was seen.
+    #[tactic(auto, using(crate::proofs::ListLemmas::no_editions))]
     pub(crate) fn nothing(seen: Seen<Decider, u64, ListRule>) -> SeenList
         requires { seen.log ≡ [] }
         ensures { result ≡ seen_in seen.book [] }
     {
-        SeenList { len: 0, seen }
+        SeenList {
+            len: 0,
+            edition: 0,
+            seen,
+        }
     }
 
-    /// How many policies it has.
-    pub(crate) fn len(&self) -> u64
-        ensures length { result ≡ length self.now.list }
-        ensures numbered { IsNumbered 1 self.now.list }
+    /// The edition of its last policy; 0 where there is none.
+    pub(crate) fn edition(&self) -> u64
+        ensures value { result ≡ last_edition self.now.list }
+        ensures editions { AreEditions self.now.list }
     {
-        self.len
+        self.edition
     }
 
     /// The same prefix again.
@@ -60,6 +68,7 @@ impl SeenList {
     {
         SeenList {
             len: self.len,
+            edition: self.edition,
             seen: self.seen.again(),
         }
     }
@@ -110,33 +119,38 @@ impl SeenList {
     }
 
     /// Adds a policy to the list, if that is no longer than what was seen of it; returns whether it
-    /// did. If it did not, the list has been seen up to its end.
+    /// did.
     pub(crate) fn add(
         &mut self,
         word: &Word<Decider, u64, ListRule>,
         decider: &Arc<Decider>,
     ) -> bool
         requires word { word.now ≡ length_word self.old.book }
-        requires next { (arc_value decider.now).edition ≡ length self.old.list + 1 }
+        requires next { IsNextEdition self.old.list (arc_value decider.now).edition }
         ensures { MatchBool result
             (self.new ≡ seen_in self.old.book (self.old.list ++ arc_value decider.now ∷ []))
-            (self.new.book ≡ self.old.book) }
+            (self.new ≡ self.old) }
     {
-        let mut offer: Offer<Decider, u64, ListRule, NoGain> = self
-            .seen
-            .plain::<NoGain, Arc<Decider>, Add>(decider);
-        let mut pen = self.seen.no_pen();
-        let len = self.len;
         let edition = decider.edition();
+        let longer = self.len + 1;
+        let mut seen = self.seen.again();
+        let mut offer: Offer<Decider, u64, ListRule, NoGain> = seen.plain::<
+            NoGain,
+            Arc<Decider>,
+            Add,
+        >(decider);
+        let mut pen = seen.no_pen();
         let found = word.compare_exchange::<Add, NoGain>(
-            len,
-            edition,
-            &mut self.seen,
-            &mut offer,
-            &mut pen,
+            self.len, longer, &mut seen, &mut offer, &mut pen,
         );
-        let added = found == len;
-        self.len = if added { edition } else { found };
-        added
+        if found != self.len {
+            return false;
+        }
+        *self = SeenList {
+            len: longer,
+            edition,
+            seen,
+        };
+        true
     }
 }

@@ -5,7 +5,7 @@ ghost use mathlib.Core.List.{IsPrefix};
 ghost use Rattle.left_right.specs.Sides.{view as known_by};
 ghost use Rattle.published_policies.specs.Copies.{KnowsOf};
 ghost use Rattle.published_policies.specs.Explaining.{Explains};
-ghost use Rattle.published_policies.specs.Lists.{IsPublished, SeenData};
+ghost use Rattle.published_policies.specs.Lists.{IsPublished, SeenData, last_edition};
 
 use crate::copies::{CopyRule, Learn};
 use crate::editions::Edition;
@@ -68,10 +68,10 @@ impl<L: ListName> View<L> {
 
     /// The edition of the last policy that the view has read or was told of.
     pub fn edition(&self) -> u64
-        ensures length { result ≡ length self.now }
+        ensures last { result ≡ last_edition self.now }
         ensures published { IsPublished self.now }
     {
-        self.list.len()
+        self.list.edition()
     }
 
     /// The ruling of the policy that was published last, with its edition and its rule. `None`
@@ -79,7 +79,7 @@ impl<L: ListName> View<L> {
     pub fn explain(&mut self, question: &Question) -> Option<Explained>
         ensures later { IfSome result (λ _. IsPrefix self.old self.new) }
         ensures ruling { IfSome result (Explains self.new question.now) }
-        ensures edition { IfSome result (λ explained. explained.edition ≡ length self.new) }
+        ensures edition { IfSome result (λ explained. explained.edition ≡ last_edition self.new) }
         ensures published { IfSome result (λ _. IsPublished self.new) }
         ensures none { IfNone result (self.new ≡ self.old) }
     {

@@ -5,7 +5,7 @@ ghost use Rattle.std.specs.Arc.{arc_value};
 ghost use mathlib.Core.List.{IsPrefix};
 ghost use Rattle.left_right.specs.Sides.{view as known_by};
 ghost use Rattle.published_policies.specs.Growing.{length_word};
-ghost use Rattle.published_policies.specs.Lists.{SeenData, seen_in};
+ghost use Rattle.published_policies.specs.Lists.{IsNextEdition, IsPublished, SeenData, last_edition, seen_in};
 
 use crate::copies::{CopyRule, HandOn, Learn};
 use crate::editions::Edition;
@@ -64,7 +64,7 @@ fn grown<R: Wait>(
     decider: &Arc<Decider>,
 ) -> SeenList
     requires word { word.now ≡ length_word list.now.book }
-    requires next { (arc_value decider.now).edition ≡ length list.now.list + 1 }
+    requires next { IsNextEdition list.now.list (arc_value decider.now).edition }
     ensures { result ≡ seen_in list.now.book (list.now.list ++ arc_value decider.now ∷ []) }
 {
     for _ in rt.forever() {
@@ -118,6 +118,7 @@ impl<L: ListName> ListWriter<L> {
     /// Publishes a list of one policy, for at most `views` views at a time. The only error is out
     /// of memory. The policy is published twice, so that the memory for what is pending is there
     /// from then on.
+    #[tactic(auto, using(crate::proofs::ListLemmas::first_edition))]
     pub fn open<R: Wait>(
         rt: &R,
         heap: Global,
@@ -126,7 +127,7 @@ impl<L: ListName> ListWriter<L> {
         views: usize,
     ) -> Result<ListWriter<L>, AllocError>
         requires list { list ≡ L.book }
-        requires first { (arc_value first).edition ≡ 1 }
+        requires first { 0 < (arc_value first).edition }
         requires views { (0 < views) × (views < 2 ^ 32) }
         ensures { IfOk result (λ writer. writer ≡ arc_value first ∷ []) }
     {
@@ -151,8 +152,9 @@ impl<L: ListName> ListWriter<L> {
     }
 
     /// Publishes a policy of the next edition.
+    #[tactic(auto, using(crate::proofs::ListLemmas::next_edition))]
     pub fn publish<R: Wait>(self, rt: &R, decider: Arc<Decider>) -> (ListWriter<L>, Edition<L>)
-        requires { (arc_value decider).edition ≡ length self + 1 }
+        requires { (arc_value decider).edition ≡ last_edition self + 1 }
         ensures list { result.0 ≡ self ++ arc_value decider ∷ [] }
         ensures edition { result.1 ≡ self ++ arc_value decider ∷ [] }
     {
@@ -162,6 +164,14 @@ impl<L: ListName> ListWriter<L> {
         let policy = Policy::new(decider, list.again());
         let copies = shown(rt, appended(rt, copies, policy), &list);
         (ListWriter { copies, word, name }, Edition::of(list))
+    }
+
+    /// The edition of the policy that was published last.
+    pub fn edition(&self) -> u64
+        ensures last { result ≡ last_edition self.now }
+        ensures published { IsPublished self.now }
+    {
+        self.copies.published().list().edition()
     }
 
     /// A view that knows the list; `None` where each place for a view is in use.

@@ -1,6 +1,7 @@
 //! A steward publishes policies, and views explain by them.
 
-ghost use Rattle.std.specs.Prelude.{◌≡◌, length};
+ghost use Rattle.std.specs.Prelude.{◌≡◌};
+ghost use Rattle.published_policies.specs.Lists.{last_edition};
 
 use crate::policies::{is_right, policy, question};
 use combining::Question;
@@ -64,7 +65,7 @@ fn publish_all<L: ListName, R: Wait + Drop>(
     heap: Global,
     mut publisher: Publisher<L, R>,
 ) -> Publisher<L, R>
-    requires { length publisher ≡ 1 }
+    requires { last_edition publisher ≡ 1 }
 {
     for edition in 1..POLICIES {
         let told = publisher.publish(policy(rt, heap, edition + 1));
@@ -105,13 +106,13 @@ fn publish_beside<L: ListName + Send + Sync, R: Threads + Abort + Sync, W: Wait 
     publisher: Publisher<L, W>,
     views: Vec<View<L>>,
 ) -> Result<Vec<Watched>, AllocError>
-    requires { length publisher ≡ 1 }
+    requires { last_edition publisher ≡ 1 }
 {
     let (watched, publisher) = join(
         rt,
         move || watch_all(rt, views),
         move || -> Publisher<L, W>
-            requires { length publisher ≡ 1 }
+            requires { last_edition publisher ≡ 1 }
         { publish_all(rt, heap, publisher) },
     );
     drop(publisher);

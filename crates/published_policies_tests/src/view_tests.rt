@@ -1,7 +1,8 @@
 //! Views of a list, on one thread: what they are told, how many there can be, and when there is
 //! nothing to read.
 
-ghost use Rattle.std.specs.Prelude.{◌≡◌, length};
+ghost use Rattle.std.specs.Prelude.{◌≡◌, ◌<◌};
+ghost use Rattle.published_policies.specs.Lists.{last_edition};
 
 use crate::policies::{is_right, policy, question};
 use combining::Question;
@@ -19,7 +20,7 @@ fn opened<L: ListName, W: Wait + Drop>(
     list: EmptyList,
 ) -> Publisher<L, W>
     requires { list ≡ L.book }
-    ensures { length result ≡ 1 }
+    ensures { last_edition result ≡ 1 }
 {
     let Ok(publisher) = Publisher::open(own, heap, list, policy(rt, heap, 1), 2) else {
         panic!(rt; "not opened")
@@ -143,5 +144,43 @@ fn views_between_policies<L: ListName, W: Wait + Drop>(
 #[test]
 fn sixty_four_views_between_policies(rt: HostRuntime) -> Result<(), Fail> {
     views_between_policies::<Brand, _>(&rt, rt, rt.alloc(), EmptyList::new());
+    Ok(())
+}
+
+/// A list that begins at an edition goes on from there, and views know its editions.
+fn begun_at<L: ListName, W: Wait + Drop>(
+    rt: &impl Abort,
+    own: W,
+    heap: Global,
+    list: EmptyList,
+    first: u64,
+)
+    requires list { list ≡ L.book }
+    requires first { 0 < first }
+    requires next { first < u64.MAX }
+{
+    let Ok(mut publisher) = Publisher::<L, W>::open(own, heap, list, policy(rt, heap, first), 2)
+    else {
+        panic!(rt; "not opened")
+    };
+    let question = question(rt);
+    let mut told = view_of(rt, &mut publisher, first);
+    let mut other = view_of(rt, &mut publisher, first);
+    assert_explains(rt, &mut told, &question, first);
+    let edition = publisher.publish(policy(rt, heap, first + 1));
+    assert_eq!(rt; edition.number(), first + 1);
+    told.catch_up(edition);
+    assert_eq!(rt; told.edition(), first + 1);
+    assert_eq!(rt; other.edition(), first);
+    assert_explains(rt, &mut told, &question, first + 1);
+    assert_explains(rt, &mut other, &question, first + 1);
+    drop(publisher);
+}
+
+#[test]
+fn lists_begin_at_any_edition(rt: HostRuntime) -> Result<(), Fail> {
+    for first in [1, 2, 7, 1 << 40, u64::MAX - 1] {
+        begun_at::<Brand, _>(&rt, rt, rt.alloc(), EmptyList::new(), first);
+    }
     Ok(())
 }

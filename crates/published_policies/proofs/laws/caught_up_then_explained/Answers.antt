@@ -5,4 +5,4 @@ pub returns-clause-told : goal.returns-clause-told
 returns-clause-told g c = still_told c.args.edition _ _ c.catch_up.ensures.edition _ c.explain.ensures.later
 
 pub returns-clause-later : goal.returns-clause-later
-returns-clause-later g c = no_older c.args.edition _ _ c.catch_up.ensures.edition _ c.explain.ensures.later c.explain.ensures.edition
+returns-clause-later g c = no_older c.args.edition _ _ c.catch_up.ensures.edition _ c.explain.ensures.later c.explain.ensures.edition c.explain.ensures.published
