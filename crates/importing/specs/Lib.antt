@@ -1,0 +1,4 @@
+pub mod Additions
+pub mod Replies
+pub mod Steps
+pub mod Progress

@@ -1,0 +1,13 @@
+//! The lists of an import: their session lines, what the server's replies to them mean, what follows
+//! from these, and how far the import has come.
+#![tactic(auto)]
+
+mod additions;
+mod progress;
+mod replies;
+mod steps;
+
+pub use additions::{Addition, LIST_LIMIT, list_text};
+pub use progress::{progress_text, read_progress};
+pub use replies::{Reply, read_reply};
+pub use steps::{Step, next_step};
