@@ -1,1 +1,5 @@
 pub mod Texts
+pub mod FaultCodes
+pub mod Faults
+pub mod Reading
+pub mod Paths

@@ -1,6 +1,13 @@
 //! GeoJSON (RFC 7946): the texts of features, and features read from texts.
 #![tactic(auto)]
 
+mod faults;
+mod geometries;
+mod given;
+mod reading;
 mod texts;
 
+pub use faults::{Cause, FeatureFault, JsonRefused, Member, Spot};
+pub use geometries::{Geometry, Path, Role};
+pub use given::{Given, read_feature};
 pub use texts::{TEXT_LIMIT, Text, feature_text, geometry_text};

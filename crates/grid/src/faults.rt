@@ -9,25 +9,25 @@ use std::fmt;
 /// Why a text is no coordinate of a grid, in the order in which the faults are looked for.
 #[derive(Clone, Copy, Debug, PartialEq, Eq)]
 pub enum NumberFault {
-    /// G1: the text spells no number.
+    /// Q1: the text spells no number.
     NotANumber,
-    /// G2: the number is between two steps of the grid.
+    /// Q2: the number is between two steps of the grid.
     Between,
-    /// G3: the number is beyond the grid: further from its origin than 10,000,000 steps.
+    /// Q3: the number is beyond the grid: further from its origin than 10,000,000 steps.
     Beyond,
 }
 
 impl NumberFault {
     ghost use Rattle.grid.specs.FaultCodes.{code_of};
 
-    /// The fault's short code, `G1` to `G3`.
+    /// The fault's short code, `Q1` to `Q3`.
     pub fn code(self) -> &'static str
         ensures { result.now ≡ code_of self }
     {
         match self {
-            NumberFault::NotANumber => "G1",
-            NumberFault::Between => "G2",
-            NumberFault::Beyond => "G3",
+            NumberFault::NotANumber => "Q1",
+            NumberFault::Between => "Q2",
+            NumberFault::Beyond => "Q3",
         }
     }
 }

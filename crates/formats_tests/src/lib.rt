@@ -1,0 +1,7 @@
+//! Tests of grids and of GeoJSON, with vectors from RFC 7946 and from what GDAL writes.
+#![tactic(auto)]
+
+#[cfg(test)]
+mod geojson_tests;
+#[cfg(test)]
+mod grid_tests;

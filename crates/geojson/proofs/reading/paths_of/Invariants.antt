@@ -1,0 +1,10 @@
+use Rattle.std.proofs.Common.{◌≡◌, drop, map}
+use Rattle.json.specs.Value.{items_view}
+use Rattle.geojson.specs.Paths.{path_view}
+use Rattle.geojson.specs.Reading.{path_at, list_from}
+use Rattle.geojson.proofs.Lists.{with_all}
+use Rattle.geojson.proofs.reading.paths_of.Given as goal
+
+abbrev pub invariant-loop-index : goal.invariant-loop-index
+invariant-loop-index g l =
+    list_from (path_at l.grid l.layout) 0 (items_view l.items) ≡ with_all (map path_view l.paths.items) (list_from (path_at l.grid l.layout) l.index (items_view (drop l.index l.items)))
