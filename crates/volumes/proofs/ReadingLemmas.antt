@@ -1,18 +1,21 @@
 -- Rows as they are read, from the first one on.
-use Rattle.std.proofs.Common.{◌≡◌, ℕ, suc, ◌^◌, ◌<◌, nat_lt, true, false, List, [], ◌∷◌, ◌++◌, length, map, filter, Some, refl, sym, ap, ap₂, ◌∙◌, arith, append-nil, append_assoc}
+use Rattle.std.proofs.Common.{◌≡◌, ℕ, suc, ◌^◌, ◌<◌, nat_lt, true, false, List, [], ◌∷◌, ◌++◌, length, map, filter, Some, refl, sym, ap, ap₂, subst, ◌∙◌, ◌+◌, arith, append-nil, append_assoc, length-append}
 use Rattle.std.proofs.lemmas.List.{map-append}
 use Rattle.std.specs.List.{AllByRecursion}
 use Rattle.std.proofs.lemmas.List.Elements.{filter-append}
 use Rattle.features.specs.declared.rows.Feature.{Feature}
 use Rattle.features.specs.Rows.{IsBelowAll, IsSortedById}
 use Rattle.feature_store.specs.Tables.{feature_at}
-use Rattle.volumes.specs.Rows.{is_high, as_stored, row_of_feature, feature_rows}
+use Rattle.volumes.specs.Rows.{is_high, as_stored, row_of_feature, row_of_line, rows_from, feature_rows}
 use Rattle.sqlite_value.specs.declared.keys.Order.{Order}
-use Rattle.sqlite_value.specs.Order.{Row}
+use Rattle.sqlite_value.specs.Order.{Row, column, bytes}
 use Rattle.sqlite_trees.specs.declared.store.Direction.TheVariants.{Forward}
-use Rattle.sqlite_trees.specs.Tree.{from_key, sought}
-use Rattle.sqlite_trees.specs.View.{View, with_cursor}
-use Rattle.volumes.specs.Edits.{IsReading, IsRead, Gives, AreHigh, AreLow}
+use Rattle.judging.specs.States.{PlainState}
+use Rattle.sqlite_trees.specs.Tree.{Trees, from_key, sought}
+use Rattle.sqlite_trees.specs.View.{View, IsClean, with_cursor}
+use Rattle.volumes.specs.declared.tables.Tables.{Tables}
+use Rattle.volumes.specs.Volumes.{HoldsState, HoldsAt, IsAtRest}
+use Rattle.volumes.specs.Edits.{IsReading, IsRead, Gives, AreHigh, AreLow, AreIds}
 
 -- no key is below none
 all_from : (o : Order) (rows : List Row) → from_key o [] rows ≡ rows
@@ -109,3 +112,86 @@ read_end old mid new table highs lows fs row so step high low is =
 pub read_end_same : (old mid new : View) (table : ℕ) (read : List Feature) (row : Row) → ReadSoFar old mid table read
     → ((rows : List Row) → mid.cursors 0 ≡ Some rows → (left : List Row) × IsReading mid new left × Gives rows row false left) → IsRead old new
 read_end_same old mid new table read row so step = let r = step so.left.0 so.left.1 in read_again old mid new so.same r.1.same
+
+-- ---- the lines of records, one after another
+
+rows_from-more : (first : ℕ) (lines : List (List ℕ)) (line : List ℕ) → rows_from first (lines ++ line ∷ []) ≡ rows_from first lines ++ row_of_line (first + length lines) line ∷ []
+rows_from-more first [] line = ap (λ n. row_of_line n line ∷ []) (let e : first ≡ first + 0 = omega arith in e)
+rows_from-more first (other ∷ lines) line =
+    let count : (first + 1) + length lines ≡ first + suc (length lines) = omega arith in
+    ap (λ rs. row_of_line first other ∷ rs) (rows_from-more (first + 1) lines line ∙ ap (λ n. rows_from (first + 1) lines ++ row_of_line n line ∷ []) count)
+
+-- so many lines were read, and the cursor has the other rows to give
+pub record LinesSoFar (old now : View) (table first number : ℕ) : Type 0 where
+  same : IsRead old now
+  left : (lines : List (List ℕ)) × (rows : List Row) × (now.cursors 0 ≡ Some rows) × (old.trees table ≡ rows_from first lines ++ rows) × (number ≡ first + length lines)
+
+pub lines_none : (old now : View) (table first : ℕ) → IsReading old now (old.trees table) → LinesSoFar old now table first first
+lines_none old now table first r = record { same = r.same; left = ([], old.trees table, r.left, refl, omega arith) }
+
+pub lines_more : (old mid new : View) (table first number : ℕ) (row : Row) → LinesSoFar old mid table first number
+    → ((rows : List Row) → mid.cursors 0 ≡ Some rows → (left : List Row) × IsReading mid new left × Gives rows row true left)
+    → row ≡ row_of_line number (bytes (column row 2)) → LinesSoFar old new table first (number + 1)
+lines_more old mid new table first number row so step is =
+    let lines = so.left.0 in
+    let rows = so.left.1 in
+    let r = step rows so.left.2 in
+    let line = bytes (column row 2) in
+    let at : number ≡ first + length lines = so.left.4 in
+    let here : rows ≡ row_of_line (first + length lines) line ∷ r.0 = r.2 ∙ ap (λ x. x ∷ r.0) (is ∙ ap (λ n. row_of_line n line) at) in
+    record {
+      same = read_again old mid new so.same r.1.same;
+      left = (
+        lines ++ line ∷ [],
+        r.0,
+        r.1.left,
+        so.left.3 ∙ ap (λ rs. rows_from first lines ++ rs) here
+            ∙ sym (ap (λ rs. rs ++ r.0) (rows_from-more first lines line) ∙ append_assoc (rows_from first lines) (row_of_line (first + length lines) line ∷ []) r.0),
+        omega (arith, at, length-append lines (line ∷ [])),
+      );
+    }
+
+pub lines_end : (old mid new : View) (table first number : ℕ) (row : Row) → LinesSoFar old mid table first number
+    → ((rows : List Row) → mid.cursors 0 ≡ Some rows → (left : List Row) × IsReading mid new left × Gives rows row false left)
+    → (lines : List (List ℕ)) × (old.trees table ≡ rows_from first lines) × (number ≡ first + length lines)
+lines_end old mid new table first number row so step =
+    let r = step so.left.1 so.left.2 in
+    (so.left.0, so.left.3 ∙ ap (λ rs. rows_from first so.left.0 ++ rs) r.2 ∙ append-nil _, so.left.4)
+
+-- ---- ids in two lists
+
+all_front : {X : Type 0} (P : X → Type 0) (xs ys : List X) → AllByRecursion P (xs ++ ys) → AllByRecursion P xs × AllByRecursion P ys
+all_front P [] ys all = (tt, all)
+all_front P (x ∷ xs) ys all = let rest = all_front P xs ys all.1 in ((all.0, rest.0), rest.1)
+
+all_both : {X : Type 0} (P : X → Type 0) (xs ys : List X) → AllByRecursion P xs → AllByRecursion P ys → AllByRecursion P (xs ++ ys)
+all_both P [] ys a b = b
+all_both P (x ∷ xs) ys a b = (a.0, all_both P xs ys a.1 b)
+
+pub ids_joined : (highs lows fs : List Feature) → AreIds (highs ++ lows) → fs ≡ lows ++ highs → AreIds fs
+ids_joined highs lows fs ids is =
+    let parts = all_front (λ (f : Feature). f.id < 2 ^ 64) highs lows ids in
+    subst AreIds (sym is) (all_both (λ (f : Feature). f.id < 2 ^ 64) lows highs parts.1 parts.0)
+
+pub ids_more : (fs more : List Feature) (f : Feature) → AreIds fs → f.id < 2 ^ 64 → more ≡ fs ++ f ∷ [] → AreIds more
+ids_more fs more f ids fits is = subst AreIds (sym is) (all_more (λ (g : Feature). g.id < 2 ^ 64) fs f ids fits)
+
+pub read_lines_same : (old mid new : View) (table first number : ℕ) (row : Row) → LinesSoFar old mid table first number
+    → ((rows : List Row) → mid.cursors 0 ≡ Some rows → (left : List Row) × IsReading mid new left × Gives rows row false left) → IsRead old new
+read_lines_same old mid new table first number row so step = let r = step so.left.1 so.left.2 in read_again old mid new so.same r.1.same
+
+-- ---- all that the tables keep
+
+pub held_all : (old mid : View) (t : Tables) (first next : ℕ) (s : PlainState) → IsRead old mid → HoldsState t old.trees s → IsSortedById s.features → AreIds s.features
+    → (lines : List (List ℕ)) × (mid.trees t.records ≡ rows_from first lines) × (next ≡ first + length lines)
+    → (lines : List (List ℕ)) × HoldsAt t old.trees next (record { state = s; first = first; lines = lines })
+held_all old mid t first next s same held sorted ids read =
+    let there : old.trees t.records ≡ rows_from first read.0 = sym (ap (λ (v : View). v.trees t.records) same) ∙ read.1 in
+    (read.0, (record { state = held; records = there; kept = record { sorted = sorted; ids = ids } }, read.2))
+
+pub restored : (old new : View) (t : Tables) (next first : ℕ) (s : PlainState) → IsAtRest old t → IsClean old → old.is_broken ≡ false → IsRead old new
+    → (lines : List (List ℕ)) × HoldsAt t old.trees next (record { state = s; first = first; lines = lines })
+    → (lines : List (List ℕ)) × HoldsAt t new.committed next (record { state = s; first = first; lines = lines })
+restored old new t next first s rest clean sound same held =
+    let here : old.trees ≡ new.committed = rest.settled clean sound ∙ sym (ap (λ (v : View). v.committed) same) in
+    (held.0, subst (λ (db : Trees). HoldsAt t db next (record { state = s; first = first; lines = held.0 })) here held.1)

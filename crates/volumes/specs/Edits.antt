@@ -45,6 +45,10 @@ pub record Governs (old new : View) (table : ℕ) (edit : ℕ → DeciderData �
 abbrev pub IsRead : View → View → Type 0
 IsRead old new = new ≡ record old { cursors = new.cursors }
 
+-- ids of 64 bits
+abbrev pub AreIds : List Feature → Type 0
+AreIds fs = AllByRecursion (λ f. f.id < 2 ^ 64) fs
+
 -- features whose ids are stored as negative integers, and others
 abbrev pub AreHigh : List Feature → Type 0
 AreHigh fs = AllByRecursion (λ f. nat_lt f.id (2 ^ 63) ≡ false) fs

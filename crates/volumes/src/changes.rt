@@ -23,7 +23,7 @@ pub(crate) struct Buffers {
 }
 
 /// Adds a feature, whose id is not there yet.
-fn add<S: Store>(
+pub(crate) fn add<S: Store>(
     store: &mut S,
     buffers: &mut Buffers,
     table: u32,

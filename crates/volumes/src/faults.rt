@@ -26,6 +26,9 @@ pub enum VolumeFault {
     /// The table `policy` has not just the one row of a policy.
     #[error("table policy: not the one row of a policy")]
     BadPolicy,
+    /// The table `record` has a row that is none of a record, or its numbers have a gap.
+    #[error("table record: a row is not that of the next record")]
+    BadRecord,
     /// The tables are not those of a volume.
     #[error("the tables are not those of a volume")]
     NoTables,

@@ -2,6 +2,7 @@
 //! store. Records are appended with what they change, all of a group or none.
 #![tactic(auto)]
 
+mod beginning;
 mod changes;
 mod edits;
 mod faults;

@@ -1,19 +1,19 @@
 //! The state that a volume keeps, read from its tables.
 
-ghost use Rattle.std.specs.Prelude.{◌≡◌, ◌++◌, [], ◌∷◌, List, Some, false, IsSome, IsTrue, IfOk, OnOk};
+ghost use Rattle.std.specs.Prelude.{◌≡◌, ◌+◌, ◌<◌, ◌^◌, length, ◌++◌, [], ◌∷◌, List, ℕ, Some, false, IsSome, IsTrue, IfOk, OnOk};
 ghost use Rattle.features.specs.Rows.{IsSortedById};
-ghost use Rattle.sqlite_value.specs.Order.{Row as Cells};
+ghost use Rattle.sqlite_value.specs.Order.{Row as Cells, column, bytes};
 ghost use Rattle.sqlite_trees.specs.View.{IsClean, IsQuiet};
 ghost use Rattle.sqlite_trees.specs.declared.store.Shape.TheVariants as kind;
-ghost use Rattle.volumes.specs.Edits.{KeepsLast, IsReading, IsRead, Gives, AreHigh, AreLow};
-ghost use Rattle.volumes.specs.Rows.{row_of_feature, row_of_policy, feature_rows};
-ghost use Rattle.volumes.specs.Volumes.{AreTables, HoldsState};
+ghost use Rattle.volumes.specs.Edits.{KeepsLast, IsReading, IsRead, Gives, AreHigh, AreLow, AreIds};
+ghost use Rattle.volumes.specs.Rows.{row_of_feature, row_of_policy, row_of_line, rows_from, feature_rows};
+ghost use Rattle.volumes.specs.Volumes.{AreTables, HoldsState, HoldsAt};
 ghost use Rattle.volumes.specs.States.{state_of};
 
 use crate::changes::Buffers;
 use crate::faults::VolumeFault;
 use crate::policies::set_policy;
-use crate::rows::set_feature;
+use crate::rows::{set_feature, set_line};
 use crate::tables::Tables;
 use decision::Decider;
 use features::{Feature, Name};
@@ -79,7 +79,8 @@ fn parse_feature(row: &Row) -> Option<Feature> {
 
 /// The feature of a row. `expected` is written over: the row that the feature has.
 fn read_feature(row: &Row, expected: &mut Row) -> Result<Feature, VolumeFault>
-    ensures { IfOk result (λ feature. row.now ≡ row_of_feature feature) }
+    ensures row { IfOk result (λ feature. row.now ≡ row_of_feature feature) }
+    ensures fits { IfOk result (λ feature. feature.id < 2 ^ 64) }
 {
     let Some(feature) = parse_feature(row) else {
         return Err(VolumeFault::BadFeature);
@@ -221,6 +222,7 @@ fn read_features<S: Store, A: Allocator + Copy>(
     ensures ok { IfOk result (λ features. IsClean (S.Store.view store.new)
         → (S.Store.view store.old).trees table ≡ feature_rows features.items) }
     ensures sorted { IfOk result (λ features. IsSortedById features.items) }
+    ensures ids { IfOk result (λ features. AreIds features.items) }
     ensures same { OnOk result (IsClean (S.Store.view store.new)
         → IsRead (S.Store.view store.old) (S.Store.view store.new)) }
     ensures kept { IsClean (S.Store.view store.new)
@@ -270,6 +272,55 @@ fn read_policy<S: Store>(
     read_policy_row(heap, &buffers.row, &mut buffers.found)
 }
 
+/// The line of a record's row, which has to have this number. `expected` is written over.
+fn check_line(row: &Row, expected: &mut Row, number: u32) -> Result<(), VolumeFault>
+    ensures { OnOk result (row.now ≡ row_of_line number (bytes (column row.now 2))) }
+{
+    let ValueRef::Text(line) = row.get(2) else {
+        return Err(VolumeFault::BadRecord);
+    };
+    set_line(expected, number, line)?;
+    if !expected.is_same(row) {
+        return Err(VolumeFault::BadRecord);
+    }
+    Ok(())
+}
+
+/// The number after the last record of a table, whose records are numbered from `first` on without
+/// a gap.
+pub(crate) fn read_lines<S: Store>(
+    store: &mut S,
+    heap: Global,
+    buffers: &mut Buffers,
+    table: u32,
+    first: u32,
+) -> Result<u32, VolumeFault>
+    requires { IsClean (S.Store.view store.old) → (S.Store.view store.old).shape table ≡ kind.Table }
+    ensures ok { IfOk result (λ next. IsClean (S.Store.view store.new) → (lines : List (List ℕ))
+        × ((S.Store.view store.old).trees table ≡ rows_from first lines)
+        × (next ≡ first + length lines)) }
+    ensures same { OnOk result (IsClean (S.Store.view store.new)
+        → IsRead (S.Store.view store.old) (S.Store.view store.new)) }
+    ensures kept { IsClean (S.Store.view store.new)
+        → KeepsLast (S.Store.view store.old) (S.Store.view store.new) }
+    ensures quiet { IsQuiet S.Store.view S.Store.faults S.Store.recovers S.Store.is_shielded
+        store.old store.new }
+{
+    begin_reading(store, table, heap)?;
+    let mut number = first;
+    for _ in 0..u64::MAX {
+        if !read_next(store, &mut buffers.row)? {
+            return Ok(number);
+        }
+        check_line(&buffers.row, &mut buffers.found, number)?;
+        if number == u32::MAX {
+            return Err(VolumeFault::NoNumber);
+        }
+        number += 1;
+    }
+    Err(VolumeFault::BadRecord)
+}
+
 /// The state that a volume keeps.
 #[derive(Debug, Drop)]
 pub struct State<A: Allocator> {
@@ -293,6 +344,7 @@ pub(crate) fn read_state<S: Store, A: Allocator + Copy>(
     ensures ok { IfOk result (λ state. IsClean (S.Store.view store.new)
         → HoldsState tables.now (S.Store.view store.old).trees (state_of state)) }
     ensures sorted { IfOk result (λ state. IsSortedById state.features.items) }
+    ensures ids { IfOk result (λ state. AreIds state.features.items) }
     ensures sound { OnOk result (IsClean (S.Store.view store.new)
         → (S.Store.view store.old).is_broken ≡ false) }
     ensures same { OnOk result (IsClean (S.Store.view store.new)
@@ -309,4 +361,33 @@ pub(crate) fn read_state<S: Store, A: Allocator + Copy>(
         version,
         decider,
     })
+}
+
+/// All that the tables keep, where the first record has this number: the state, and the number
+/// after the last record.
+pub(crate) fn read_all<S: Store, A: Allocator + Copy>(
+    store: &mut S,
+    alloc: A,
+    heap: Global,
+    buffers: &mut Buffers,
+    tables: &Tables,
+    first: u32,
+) -> Result<(State<A>, u32), VolumeFault>
+    requires { IsClean (S.Store.view store.old) → AreTables (S.Store.view store.old) tables.now }
+    ensures ok { IfOk result (λ all. IsClean (S.Store.view store.new) → (lines : List (List ℕ))
+        × HoldsAt tables.now (S.Store.view store.old).trees all.1
+        (record { state = state_of all.0; first = first; lines = lines })) }
+    ensures sorted { IfOk result (λ all. IsSortedById all.0.features.items) }
+    ensures sound { OnOk result (IsClean (S.Store.view store.new)
+        → (S.Store.view store.old).is_broken ≡ false) }
+    ensures same { OnOk result (IsClean (S.Store.view store.new)
+        → IsRead (S.Store.view store.old) (S.Store.view store.new)) }
+    ensures kept { IsClean (S.Store.view store.new)
+        → KeepsLast (S.Store.view store.old) (S.Store.view store.new) }
+    ensures quiet { IsQuiet S.Store.view S.Store.faults S.Store.recovers S.Store.is_shielded
+        store.old store.new }
+{
+    let state = read_state(store, alloc, heap, buffers, tables)?;
+    let next = read_lines(store, heap, buffers, tables.records, first)?;
+    Ok((state, next))
 }

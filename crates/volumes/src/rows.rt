@@ -45,7 +45,8 @@ fn push_shape(row: &mut Row, shape: &Shape) -> Result<(), AllocError>
 
 /// Makes the row of a feature.
 pub(crate) fn set_feature(row: &mut Row, feature: &Feature) -> Result<(), AllocError>
-    ensures { OnOk result (row.new ≡ row_of_feature feature.now) }
+    ensures row { OnOk result (row.new ≡ row_of_feature feature.now) }
+    ensures fits { OnOk result (feature.now.id < 2 ^ 64) }
 {
     row.clear();
     row.push(ValueRef::Int(signed(feature.id)))?;

@@ -1,6 +1,6 @@
 //! Volumes, and how records are appended.
 
-ghost use Rattle.std.specs.Prelude.{◌≡◌, ◌+◌, ◌<◌, ◌≤◌, ◌^◌, ◌⊎◌, length, map, OnOk, OnErr, IfOk, IfSome, IfNone, IsTrue};
+ghost use Rattle.std.specs.Prelude.{◌≡◌, ℕ, List, ◌+◌, ◌<◌, ◌≤◌, ◌^◌, ◌⊎◌, length, map, OnOk, OnErr, IfOk, IfSome, IfNone, IsTrue};
 ghost use Rattle.std.specs.Arc.{arc_value};
 ghost use Rattle.features.specs.Rows.{IsSortedById};
 ghost use Rattle.sqlite_trees.specs.Tree.{Trees};
@@ -10,12 +10,15 @@ ghost use Rattle.volumes.specs.States.{state_of};
 ghost use Rattle.volumes.specs.Volumes.{VolumeData, AreApart, HaveRows, HoldsState, Holds, volume_after};
 ghost use Rattle.volumes.specs.Promises.{IsHonest, IsOpen, told, MayBeLeft, Keeps};
 
+use crate::beginning::put_state;
 use crate::changes::Buffers;
 use crate::faults::VolumeFault;
-use crate::reading::{State, read_state};
+use crate::reading::{State, read_all, read_state};
 use crate::records::put_records;
 use crate::tables::Tables;
 use audit_trail::Record;
+use decision::Decider;
+use features::Feature;
 use sqlite_trees::error::StoreError;
 use sqlite_trees::store::{Shape, Store};
 use sqlite_value::row::Row;
@@ -187,6 +190,79 @@ impl<S: Store> Volume<S> {
             &self.tables,
         ) {
             Ok(state) => Ok(state),
+            Err(fault) => {
+                self.store.rollback();
+                Err(fault)
+            }
+        }
+    }
+
+    /// Puts a state into the tables of a new volume, and commits it, all of it or nothing. What is
+    /// there then, `state` and `restore` say. `Misfit` where a feature's id is there already.
+    pub fn begin(
+        &mut self,
+        heap: Global,
+        features: &[Feature],
+        version: u64,
+        decider: &Decider,
+    ) -> Result<(), VolumeFault>
+        ensures tables { self.new.tables ≡ self.old.tables }
+        ensures next { self.new.next ≡ self.old.next }
+        ensures lasts { OnOk result (IsHonest S.Store.view self.new → (db : Trees)
+            → MayBeLeft S.Store.recovers self.new db → db ≡ told S.Store.view self.new) }
+        ensures err { OnErr result (IsHonest S.Store.view self.new → IsOpen S.Store.view self.new
+            → told S.Store.view self.new ≡ told S.Store.view self.old) }
+    {
+        let put = put_state(
+            &mut self.store,
+            &mut self.buffers,
+            &self.tables,
+            heap,
+            features,
+            version,
+            decider,
+        );
+        if let Err(fault) = put {
+            self.store.rollback();
+            return Err(fault);
+        }
+        self.store.commit()?;
+        Ok(())
+    }
+
+    /// Reads all that the volume keeps, and goes on behind its last record: `next` has been the
+    /// number of its first record until then. The faults are those of `state`, and `BadRecord`
+    /// where the records are not numbered without a gap; after one, `next` is as it was.
+    pub fn restore<A: Allocator + Copy>(
+        &mut self,
+        alloc: A,
+        heap: Global,
+    ) -> Result<State<A>, VolumeFault>
+        ensures kept { IfOk result (λ state. IsHonest S.Store.view self.new
+            → (lines : List (List ℕ)) × Keeps S.Store.view self.new
+            (record { state = state_of state; first = self.old.next; lines = lines })) }
+        ensures sorted { IfOk result (λ state. IsSortedById state.features.items) }
+        ensures tables { self.new.tables ≡ self.old.tables }
+        ensures next { OnErr result (self.new.next ≡ self.old.next) }
+        ensures told { IsHonest S.Store.view self.new → IsOpen S.Store.view self.new
+            → told S.Store.view self.new ≡ told S.Store.view self.old }
+        ensures crash { (db : Trees) → MayBeLeft S.Store.recovers self.new db
+            → MayBeLeft S.Store.recovers self.old db }
+    {
+        let first = self.next;
+        let read = read_all(
+            &mut self.store,
+            alloc,
+            heap,
+            &mut self.buffers,
+            &self.tables,
+            first,
+        );
+        match read {
+            Ok((state, next)) => {
+                self.next = next;
+                Ok(state)
+            }
             Err(fault) => {
                 self.store.rollback();
                 Err(fault)

@@ -9,4 +9,4 @@ returns-clause-ok g c =
     on_ok_weaker c.put.result (λ writes clean.
     let mid : IsClean (g.S.Store.view c.find.new.store) = omega (arith, c.put.ensures.quiet.clean, clean) in
     let none = rw c.if-branch.false at (c.in_ok-find.ensures.ok mid) in
-    added_by _ _ _ c.args.table c.args.feature.now c.find.new.row _ c.find.ensures.fits none (c.in_ok-find.ensures.same mid) c.in_ok-set_feature.ensures (writes clean)) c.put.ensures.ok
+    added_by _ _ _ c.args.table c.args.feature.now c.find.new.row _ c.find.ensures.fits none (c.in_ok-find.ensures.same mid) c.in_ok-set_feature.ensures.row (writes clean)) c.put.ensures.ok
