@@ -1,4 +1,5 @@
 pub mod Additions
+pub mod Counts
 pub mod Replies
 pub mod Steps
 pub mod Progress

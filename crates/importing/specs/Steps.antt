@@ -28,3 +28,9 @@ Follows adds commit CommitAgain = (commit ≡ Busy)
 Follows adds commit (Denies index) = (change : ℕ) × (commit ≡ Denied change) × IsStagedAs adds index change
 Follows adds commit (Meets index) = (change : ℕ) × (commit ≡ Exists change) × IsStagedAs adds index change
 Follows adds commit Stop = Unit {0}
+
+-- the addition that a step names was staged
+abbrev pub PointsTo : List Reply → Step → Type 0
+PointsTo adds (Denies index) = (index < length adds) × (is_staged (slice_index_or adds index Unknown) ≡ true)
+PointsTo adds (Meets index) = (index < length adds) × (is_staged (slice_index_or adds index Unknown) ≡ true)
+PointsTo adds _ = Unit {0}

@@ -3,11 +3,19 @@
 #![tactic(auto)]
 
 mod additions;
+mod faults;
+mod lists;
+mod peers;
 mod progress;
 mod replies;
+mod rows;
 mod steps;
 
 pub use additions::{Addition, LIST_LIMIT, list_text};
+pub use faults::ListFault;
+pub use lists::{Counts, Pause, Refused, Server};
+pub use peers::{Peer, REPLY_LIMIT};
 pub use progress::{progress_text, read_progress};
 pub use replies::{Reply, read_reply};
+pub use rows::is_row_of;
 pub use steps::{Step, next_step};

@@ -1,7 +1,7 @@
 //! What follows once a list is answered.
 
 ghost use Rattle.std.specs.Prelude.{◌≡◌, ℕ, ◌+◌, IfSome, count_by, take};
-ghost use Rattle.importing.specs.Steps.{is_staged, IsStagedAs, Follows};
+ghost use Rattle.importing.specs.Steps.{is_staged, IsStagedAs, Follows, PointsTo};
 
 use crate::replies::Reply;
 
@@ -22,7 +22,7 @@ pub enum Step {
 }
 
 /// Whether an addition was staged.
-fn is_staged(reply: Reply) -> bool
+pub fn is_staged(reply: Reply) -> bool
     ensures { result ≡ is_staged reply }
 {
     matches!(reply, Reply::Staged)
@@ -46,7 +46,8 @@ fn staged_index(adds: &[Reply], change: u64) -> Option<usize>
 
 /// What is to be done after these replies to a list's additions and to its COMMIT.
 pub fn next_step(adds: &[Reply], commit: Reply) -> Step
-    ensures { Follows adds.now commit result }
+    ensures follows { Follows adds.now commit result }
+    ensures points { PointsTo adds.now result }
 {
     match commit {
         Reply::Applied => Step::Done,
