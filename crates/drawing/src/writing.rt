@@ -73,7 +73,7 @@ fn write_mark_on<W: Write>(
     ensures { Took result (W.contents writer.old) (W.contents writer.new)
         (mark_text_on classes.now layer.now mark.now) }
 {
-    if layer.has(mark) || true {
+    if layer.has(mark) {
         write_mark(classes, mark, writer)
     } else {
         Ok(())
