@@ -1,6 +1,8 @@
-//! Tests of grids and of GeoJSON, with vectors from RFC 7946 and from what GDAL writes.
+//! Tests of grids, of GeoJSON and of rows, with vectors from RFC 7946 and from what GDAL writes.
 #![tactic(auto)]
 
+#[cfg(test)]
+mod csv_tests;
 #[cfg(test)]
 mod geojson_tests;
 #[cfg(test)]

@@ -1,1 +1,4 @@
 pub mod Lists
+pub mod ReadBack
+pub mod NumberLemmas
+pub mod TextLemmas

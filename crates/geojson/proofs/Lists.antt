@@ -1,12 +1,11 @@
 -- Lists read value by value.
-use Rattle.std.proofs.Common.{◌≡◌, ℕ, suc, ◌+◌, ◌<◌, ◌≤◌, Bool, true, false, List, [], ◌∷◌, ◌++◌, length, drop, get_or, map, Some, Result, Ok, Err, refl, sym, ap, ◌∙◌, append_assoc, arith}
+use Rattle.std.proofs.Common.{◌≡◌, ℕ, suc, ◌+◌, ◌<◌, ◌≤◌, Bool, true, false, List, [], ◌∷◌, ◌++◌, length, drop, get_or, Some, Result, Ok, Err, refl, sym, ap, ◌∙◌, append_assoc, arith}
 use Rattle.std.proofs.Math.Seq.{drop-cons}
 use Rattle.std.proofs.lemmas.List.{append-nil, drop_all}
 use Rattle.std.specs.Bool.{MatchBool, ⊤}
-use Rattle.json.specs.Json.{Json, Items, no_items, item}
+use Rattle.json.specs.Json.{Json, item}
 use Rattle.json.specs.Value.{value_view, items_view}
 use Rattle.json.specs.declared.value.Value.{Value}
-use Rattle.geojson.specs.declared.faults.Cause.{Cause}
 use Rattle.geojson.specs.declared.faults.CoordinatesFault.{CoordinatesFault}
 use Rattle.geojson.specs.Faults.{is_memory, in_path, ◌>>=◌}
 use Rattle.grid.specs.declared.grids.Grid.{Grid}

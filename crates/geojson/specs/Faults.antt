@@ -1,5 +1,5 @@
 -- Faults among the coordinates of a geometry.
-use Rattle.std.specs.Prelude.{◌≡◌, ℕ, Bool, true, false, Option, Some, None, Result, Ok, Err, MatchBool, ⊤}
+use Rattle.std.specs.Prelude.{◌≡◌, ℕ, Bool, true, false, Some, None, Result, Ok, Err, MatchBool, ⊤}
 use Rattle.geojson.specs.declared.faults.Cause.{Cause}
 use Rattle.geojson.specs.declared.faults.Cause.TheVariants.{NotJson, Form, Kind, Number, Memory, Json}
 use Rattle.geojson.specs.declared.faults.CoordinatesFault.{CoordinatesFault}

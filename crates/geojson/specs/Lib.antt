@@ -3,3 +3,4 @@ pub mod FaultCodes
 pub mod Faults
 pub mod Reading
 pub mod Paths
+pub mod Trees

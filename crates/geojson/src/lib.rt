@@ -4,10 +4,12 @@
 mod faults;
 mod geometries;
 mod given;
+mod laws;
 mod reading;
 mod texts;
 
 pub use faults::{Cause, FeatureFault, JsonRefused, Member, Spot};
 pub use geometries::{Geometry, Path, Role};
 pub use given::{Given, read_feature};
+pub use laws::{coordinates_are_read, text_is_read};
 pub use texts::{TEXT_LIMIT, Text, feature_text, geometry_text};

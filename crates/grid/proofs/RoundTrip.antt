@@ -28,13 +28,13 @@ use Rattle.grid.proofs.StepsLemmas.{tens_some}
 
 -- ---- digits before a byte that is none
 
-whole_prefix : (ds : List ℕ) (b : ℕ) (rest : List ℕ) → all_ascii_digits ds ≡ true → is_ascii_digit b ≡ false → prefix_len is_ascii_digit (ds ++ b ∷ rest) ≡ length ds
+pub whole_prefix : (ds : List ℕ) (b : ℕ) (rest : List ℕ) → all_ascii_digits ds ≡ true → is_ascii_digit b ≡ false → prefix_len is_ascii_digit (ds ++ b ∷ rest) ≡ length ds
 whole_prefix [] b rest h e = rw e refl
 whole_prefix (d ∷ ds) b rest h e =
     let parts = and_parts (is_ascii_digit d) (all_ascii_digits ds) h in
     rw (parts.0, whole_prefix ds b rest parts.1 e, one-add) refl
 
-digits_prefix : (ds : List ℕ) → all_ascii_digits ds ≡ true → prefix_len is_ascii_digit ds ≡ length ds
+pub digits_prefix : (ds : List ℕ) → all_ascii_digits ds ≡ true → prefix_len is_ascii_digit ds ≡ length ds
 digits_prefix [] h = refl
 digits_prefix (d ∷ ds) h = let parts = and_parts (is_ascii_digit d) (all_ascii_digits ds) h in rw (parts.0, digits_prefix ds parts.1, one-add) refl
 
@@ -53,7 +53,7 @@ abbrev plain : Bool → List ℕ → List ℕ → Number
 plain negative whole behind = record { negative = negative; digits = whole ++ behind; up = 0; down = length behind }
 
 -- the text behind the digits of the whole: nothing, or a point and digits
-abbrev point_text : List ℕ → List ℕ
+abbrev pub point_text : List ℕ → List ℕ
 point_text [] = []
 point_text (d ∷ ds) = 46 ∷ d ∷ ds
 
@@ -122,27 +122,27 @@ steps_of_digits between decimals negative whole behind n len value =
 
 -- ---- the text of steps
 
-abbrev whole_of : ℕ → ℕ → List ℕ
+abbrev pub whole_of : ℕ → ℕ → List ℕ
 whole_of decimals n = decimal (n / 10 ^ decimals)
 
-abbrev behind_of : ℕ → ℕ → List ℕ
+abbrev pub behind_of : ℕ → ℕ → List ℕ
 behind_of decimals n = last_digits decimals (n % 10 ^ decimals)
 
 -- what there is to know of the digits of a number of steps
-record IsShown (decimals n : ℕ) : Type 0 where
-  whole_digits : all_ascii_digits (whole_of decimals n) ≡ true
-  some : 0 < length (whole_of decimals n)
-  behind_digits : all_ascii_digits (behind_of decimals n) ≡ true
-  behind_length : length (behind_of decimals n) ≡ decimals
-  short : length (whole_of decimals n) + length (behind_of decimals n) < 1000
-  value : digits_value 10 (whole_of decimals n ++ behind_of decimals n) ≡ n
-  text : steps_text decimals n ≡ whole_of decimals n ++ point_text (behind_of decimals n)
+pub record IsShown (decimals n : ℕ) : Type 0 where
+  pub whole_digits : all_ascii_digits (whole_of decimals n) ≡ true
+  pub some : 0 < length (whole_of decimals n)
+  pub behind_digits : all_ascii_digits (behind_of decimals n) ≡ true
+  pub behind_length : length (behind_of decimals n) ≡ decimals
+  pub short : length (whole_of decimals n) + length (behind_of decimals n) < 1000
+  pub value : digits_value 10 (whole_of decimals n ++ behind_of decimals n) ≡ n
+  pub text : steps_text decimals n ≡ whole_of decimals n ++ point_text (behind_of decimals n)
 
 go-text : (decimals : ℕ) (behind : List ℕ) → length behind ≡ decimals → (if decimals == 0 then [] else 46 ∷ behind) ≡ point_text behind
 go-text decimals [] e = rw (sym e) refl
 go-text decimals (d ∷ ds) e = rw (ne_eqb decimals 0 (λ z. omega (arith, e, z))) refl
 
-is_shown : (decimals n : ℕ) → decimals ≤ 9 → n < 2 ^ 63 → IsShown decimals n
+pub is_shown : (decimals n : ℕ) → decimals ≤ 9 → n < 2 ^ 63 → IsShown decimals n
 is_shown decimals n few small =
     let unit : 1 ≤ 10 ^ decimals = tens_some decimals in
     let q : n / 10 ^ decimals < 2 ^ 64 = omega (arith, div-le_self n (10 ^ decimals)) in
@@ -191,7 +191,7 @@ within : (z : ℤ) → (pos 0 -ℤ pos 2000000000000000000) ≤ℤ z → z ≤�
 within (pos n) low high = omega (arith, ints)
 within (negsuc n) low high = omega (arith, ints)
 
-near : (o n : ℤ) → IsOrigin o → IsCoordinate n → mag (o +ℤ n) + 1 < 2 ^ 63
+pub near : (o n : ℤ) → IsOrigin o → IsCoordinate n → mag (o +ℤ n) + 1 < 2 ^ 63
 near o n h k = within (o +ℤ n) (omega (arith, ints)) (omega (arith, ints))
 
 back : (o n : ℤ) → (o +ℤ n) -ℤ o ≡ n

@@ -1,4 +1,4 @@
-use Rattle.std.proofs.Common.{◌≡◌, ◌∙◌, sym}
+use Rattle.std.proofs.Common.{sym}
 use Rattle.geojson.specs.Reading.{point_at}
 use Rattle.geojson.proofs.Lists.{list_more, list_told_plain, list_end}
 use Rattle.geojson.proofs.reading.points_of.Goals as goal
