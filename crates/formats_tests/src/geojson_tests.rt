@@ -51,15 +51,15 @@ const REFUSED: [(&str, &str); 18] = [
     ),
     (
         r#"{"type":"Point","coordinates":[1.5,2]}"#,
-        "Q2 /coordinates/0",
+        "M2 /coordinates/0",
     ),
     (
         r#"{"type":"LineString","coordinates":[[1,2],[3,10000001]]}"#,
-        "Q3 /coordinates/1/1",
+        "M3 /coordinates/1/1",
     ),
     (
         r#"{"type":"Polygon","coordinates":[[[0,0],[1,0],[1,0.5],[0,0]]]}"#,
-        "Q2 /coordinates/0/2/1",
+        "M2 /coordinates/0/2/1",
     ),
     (
         r#"{"type":"MultiPolygon","coordinates":[[],[[[0,0],7]]]}"#,
@@ -69,7 +69,7 @@ const REFUSED: [(&str, &str); 18] = [
     (r#"{"type":"Feature","properties":{}}"#, "J2 /geometry"),
     (
         r#"{"type":"Feature","geometry":{"type":"Polygon","coordinates":[[[0,0],[1,0],[1,0.5],[0,0]]]}}"#,
-        "Q2 /geometry/coordinates/0/2/1",
+        "M2 /geometry/coordinates/0/2/1",
     ),
     (r#"{"type":"Feature","id":"x","geometry":null}"#, "J2 /id"),
     (

@@ -29,7 +29,7 @@ pub enum Cause {
     Form,
     /// J3: a type that is no feature and none of the geometries that can be read.
     Kind,
-    /// Q1 to Q3: a number is no coordinate of the grid.
+    /// M1 to M3: a number is no coordinate of the grid.
     Number(NumberFault),
     /// J4: an allocation was refused.
     Memory(NoMemory),
@@ -231,7 +231,7 @@ fn write_index<W: fmt::Write>(index: Option<usize>, f: &mut fmt::Formatter<W>) -
 }
 
 impl fmt::Display for FeatureFault {
-    /// The code of the cause and the place, as a JSON pointer: `Q2 /geometry/coordinates/0/2/1`. The
+    /// The code of the cause and the place, as a JSON pointer: `M2 /geometry/coordinates/0/2/1`. The
     /// whole text has no place.
     fn fmt<W: fmt::Write>(&self, f: &mut fmt::Formatter<W>) -> fmt::Result {
         f.write_str(self.cause.code())?;

@@ -4,6 +4,6 @@ use Rattle.grid.specs.declared.faults.NumberFault.{NumberFault}
 use Rattle.grid.specs.declared.faults.NumberFault.TheVariants.{NotANumber, Between, Beyond}
 
 abbrev pub code_of : NumberFault → List ℕ
-code_of NotANumber = codes "Q1"
-code_of Between = codes "Q2"
-code_of Beyond = codes "Q3"
+code_of NotANumber = codes "M1"
+code_of Between = codes "M2"
+code_of Beyond = codes "M3"

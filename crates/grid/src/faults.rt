@@ -9,25 +9,25 @@ use std::fmt;
 /// Why a text is no coordinate of a grid, in the order in which the faults are looked for.
 #[derive(Clone, Copy, Debug, PartialEq, Eq)]
 pub enum NumberFault {
-    /// Q1: the text spells no number.
+    /// M1: the text spells no number.
     NotANumber,
-    /// Q2: the number is between two steps of the grid.
+    /// M2: the number is between two steps of the grid.
     Between,
-    /// Q3: the number is beyond the grid: further from its origin than 10,000,000 steps.
+    /// M3: the number is beyond the grid: further from its origin than 10,000,000 steps.
     Beyond,
 }
 
 impl NumberFault {
     ghost use Rattle.grid.specs.FaultCodes.{code_of};
 
-    /// The fault's short code, `Q1` to `Q3`.
+    /// The fault's short code, `M1` to `M3`.
     pub fn code(self) -> &'static str
         ensures { result.now ≡ code_of self }
     {
         match self {
-            NumberFault::NotANumber => "Q1",
-            NumberFault::Between => "Q2",
-            NumberFault::Beyond => "Q3",
+            NumberFault::NotANumber => "M1",
+            NumberFault::Between => "M2",
+            NumberFault::Beyond => "M3",
         }
     }
 }
