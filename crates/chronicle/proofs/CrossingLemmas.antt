@@ -1,6 +1,7 @@
 -- A chronicle may be sent to another thread if its allocator may be sent and shared.
 use denote.Param.Send.{IsSend, IsSync, Frees, arg_send, mut_send, param_send, recorded_send, shr_send, struct_send}
 use denote.RattleType.{RattleType}
+use Rattle.core.proofs.snapshot.Sent.{snapshot_send}
 use Rattle.std.specs.declared.alloc.Allocator.{Ghosts}
 use Rattle.std.specs.contracts.alloc.Global.{the_row as heap}
 use Rattle.std.specs.contracts.impls.GlobalAllocator.TheImpl.{ghosts}
@@ -24,7 +25,7 @@ module _ (A : RattleType) (g : Ghosts A.Denot) (s : IsSend A) (y : IsSync A) (f 
   chronicle_send =
       let piece = arc.the_send _ A g (rolled_send A g s y f) s (rolled_sync A g s y f) y f in
       let pieces = vec.the_send _ A g piece s f in
-      model_send (inside.the_type A g) (world_send A g s y f & pieces & u32_send & due.the_field_send & tt)
+      model_send (inside.the_type A g) (world_send A g s y f & snapshot_send _ & pieces & u32_send & due.the_field_send & tt)
 
 -- the same in the heap, without premises
 pub heap_record_send : IsSend (Record.the_row heap ghosts)

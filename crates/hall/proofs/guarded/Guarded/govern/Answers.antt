@@ -13,7 +13,7 @@ invariant_of-self-2-clause-in_force g c =
 pub invariant_of-self-2-clause-begins : goal.invariant_of-self-2-clause-begins
 invariant_of-self-2-clause-begins g c =
     let old = c.args.self.now in
-    rw (c.publish-edition.ensures.list, c.in_ok-govern_by.ensures.ok.told) (first_push old.publisher (arc_value c.in_ok-published.published) old.chronicle.opening old.begins)
+    rw c.publish-edition.ensures.list (first_push old.publisher (arc_value c.in_ok-published.published) _ old.begins)
 
 pub returns-clause-last : goal.returns-clause-last
 returns-clause-last g c =
@@ -21,7 +21,6 @@ returns-clause-last g c =
     let next = c.in_ok-decider.ensures in
     let on : GoesOn c.args.document old.publisher (arc_value c.in_ok-decider.decider) c.publish-edition.result = record {
       document = next.document;
-      edition = next.edition ∙ ap (λ (n : ℕ). n + 1) (sym old.edition);
       list = c.publish-edition.ensures.edition ∙ ap (λ (d : DeciderData). old.publisher ++ d ∷ []) c.in_ok-published.ensures;
     } in
     ends_so _ _ _ _ on
@@ -32,7 +31,6 @@ returns-clause-receipt g c =
     let next = c.in_ok-decider.ensures in
     let on : GoesOn c.args.document old.publisher (arc_value c.in_ok-decider.decider) c.publish-edition.result = record {
       document = next.document;
-      edition = next.edition ∙ ap (λ (n : ℕ). n + 1) (sym old.edition);
       list = c.publish-edition.ensures.edition ∙ ap (λ (d : DeciderData). old.publisher ++ d ∷ []) c.in_ok-published.ensures;
     } in
     let last = rw c.in_ok-govern_by.ensures.ok.told at c.receipt.ensures.last in
