@@ -36,7 +36,7 @@ impl<A: Allocator> Trail<A> {
         let Some(entry) = self.get(number) else {
             return Err(TrailFault::NoRecord);
         };
-        Ok(line_text(heap, number, entry)?)
+        Ok(record_line(heap, number, entry)?)
     }
 }
 
@@ -66,15 +66,20 @@ fn lines_of<A: Allocator + Copy>(
     let mut lines = Vec::new(alloc);
     let mut place = 0;
     for entry in records {
-        let line = line_text(heap, first + place, entry)?;
+        let line = record_line(heap, first + place, entry)?;
         lines.try_push(text(alloc, line.as_str())?)?;
         place += 1;
     }
     Ok(lines)
 }
 
-/// A record with its number, as JSON.
-fn line_text<A: Allocator>(heap: Global, number: u32, entry: &Record<A>) -> Result<String, NoMemory>
+/// A record under this number as JSON (RFC 8259), as `Trail::json_line` gives it. The only error is
+/// out of memory.
+pub fn record_line<A: Allocator>(
+    heap: Global,
+    number: u32,
+    entry: &Record<A>,
+) -> Result<String, NoMemory>
     ensures { IfOk result (λ text. string_bytes text ≡ line_text number entry.now) }
 {
     let value = line_value(heap, number, entry)?;

@@ -7,6 +7,7 @@ mod laws;
 mod records;
 mod trails;
 
+pub use json_lines::record_line;
 pub use laws::trails_join;
 pub use records::{Deed, Record};
 pub use trails::{FIRST_LIMIT, RECORD_LIMIT, Trail, TrailFault};

@@ -37,20 +37,20 @@ items_broken (Err e) failed front one behind all a b c parts first second =
 -- ---- one item of a list after another
 
 module _ {T : Type 0} (f : T → List ℕ) where
-  so_far_at : (xs : List T) (i : ℕ) (x : T) → i < length xs → x ≡ get_or xs i x → flat_map f (take (i + 1) xs) ≡ flat_map f (take i xs) ++ f x
-  so_far_at xs i x lt is =
-      ap (flat_map f) (take_more xs i x lt ∙ ap (λ (y : T). take i xs ++ y ∷ []) (sym is)) ∙ flat_map-append f (take i xs) (x ∷ [])
+  so_far_at : (xs : List T) (i : ℕ) (x d : T) → i < length xs → x ≡ get_or xs i d → flat_map f (take (i + 1) xs) ≡ flat_map f (take i xs) ++ f x
+  so_far_at xs i x d lt is =
+      ap (flat_map f) (take_more xs i d lt ∙ ap (λ (y : T). take i xs ++ y ∷ []) (sym is)) ∙ flat_map-append f (take i xs) (x ∷ [])
       ∙ ap (λ (t : List ℕ). flat_map f (take i xs) ++ t) (append-nil (f x))
 
-  parts_at : (xs : List T) (i : ℕ) (x : T) → i < length xs → x ≡ get_or xs i x → flat_map f xs ≡ flat_map f (take i xs) ++ (f x ++ flat_map f (drop (i + 1) xs))
-  parts_at xs i x lt is =
+  parts_at : (xs : List T) (i : ℕ) (x d : T) → i < length xs → x ≡ get_or xs i d → flat_map f xs ≡ flat_map f (take i xs) ++ (f x ++ flat_map f (drop (i + 1) xs))
+  parts_at xs i x d lt is =
       ap (flat_map f) (sym (take-append-drop (i + 1) xs)) ∙ flat_map-append f (take (i + 1) xs) (drop (i + 1) xs)
-      ∙ ap (λ (t : List ℕ). t ++ flat_map f (drop (i + 1) xs)) (so_far_at xs i x lt is) ∙ append_assoc (flat_map f (take i xs)) (f x) (flat_map f (drop (i + 1) xs))
+      ∙ ap (λ (t : List ℕ). t ++ flat_map f (drop (i + 1) xs)) (so_far_at xs i x d lt is) ∙ append_assoc (flat_map f (take i xs)) (f x) (flat_map f (drop (i + 1) xs))
 
-  pub items_more : (xs : List T) (i : ℕ) (x : T) (a b c : Option (List ℕ)) → i < length xs → x ≡ get_or xs i x → Appends a b (flat_map f (take i xs)) → Appends b c (f x) → Appends a c (flat_map f (take (i + 1) xs))
-  items_more xs i x a b c lt is first second = subst (λ (t : List ℕ). Appends a c t) (sym (so_far_at xs i x lt is)) (appends_then a b c (flat_map f (take i xs)) (f x) first second)
+  pub items_more : (xs : List T) (i : ℕ) (x d : T) (a b c : Option (List ℕ)) → i < length xs → x ≡ get_or xs i d → Appends a b (flat_map f (take i xs)) → Appends b c (f x) → Appends a c (flat_map f (take (i + 1) xs))
+  items_more xs i x d a b c lt is first second = subst (λ (t : List ℕ). Appends a c t) (sym (so_far_at xs i x d lt is)) (appends_then a b c (flat_map f (take i xs)) (f x) first second)
 
-  pub items_failed : {E : Type 0} (r : Result (Unit {0}) E) → IsErr r → (xs : List T) (i : ℕ) (x : T) (a b c : Option (List ℕ)) → i < length xs → x ≡ get_or xs i x → Appends a b (flat_map f (take i xs))
+  pub items_failed : {E : Type 0} (r : Result (Unit {0}) E) → IsErr r → (xs : List T) (i : ℕ) (x d : T) (a b c : Option (List ℕ)) → i < length xs → x ≡ get_or xs i d → Appends a b (flat_map f (take i xs))
       → ((fore : List ℕ) × (left : List ℕ) × (f x ≡ fore ++ left) × Appends b c fore) → Took r a c (flat_map f xs)
-  items_failed r failed xs i x a b c lt is first second =
-      items_broken r failed (flat_map f (take i xs)) (f x) (flat_map f (drop (i + 1) xs)) (flat_map f xs) a b c (parts_at xs i x lt is) first second
+  items_failed r failed xs i x d a b c lt is first second =
+      items_broken r failed (flat_map f (take i xs)) (f x) (flat_map f (drop (i + 1) xs)) (flat_map f xs) a b c (parts_at xs i x d lt is) first second

@@ -1,5 +1,5 @@
 -- What a line shows.
-use Rattle.std.specs.Prelude.{ℕ, ◌≤◌, ◌||◌, Bool, not, List, [], ◌∷◌, codes, length, Option, None, Some, Result, Ok, Err, if◌then◌else◌}
+use Rattle.std.specs.Prelude.{ℕ, ◌≤◌, ◌||◌, Bool, List, [], ◌∷◌, codes, length, Option, None, Some, Result, Ok, Err, if◌then◌else◌}
 use Rattle.std.specs.List.{flat_map}
 use Rattle.std.specs.Str.{bytes_eq}
 use Rattle.plane.specs.declared.point.Point.{Point}

@@ -1,15 +1,15 @@
 //! The elements of a drawing, as bytes. Making them takes no memory.
 
-ghost use Rattle.std.specs.Prelude.{◌≡◌, ◌+◌, ◌*◌, ◌≤◌, ◌++◌, decimal, length};
+ghost use Rattle.std.specs.Prelude.{◌≡◌, ◌+◌, ◌*◌, ◌≤◌, ◌<ℤ◌, ◌++◌, codes, decimal, length, pos};
 ghost use Rattle.std.specs.Fmt.{signed_decimal};
 ghost use Rattle.std.specs.List.{flat_map};
 ghost use Rattle.arrayvec.specs.ArrayVec.{array_vec_len};
-ghost use Rattle.drawing.specs.Elements.{attribute, circle_text, class_text, corner_text, figure_text, height_of, left_of, line_text, paint_text, pair_text, place_text, polygon_text, row_text, title_text, top_of, view_text, width_of, window_text, word_text};
+ghost use Rattle.drawing.specs.Elements.{attribute, circle_text, class_text, corner_text, figure_text, line_text, paint_text, place_text, polygon_text, row_text, title_text, window_text, word_text};
 
 use arrayvec::ArrayVec;
 use features::{Feature, Name};
 use itoa::Buffer;
-use plane::{Frame, Point, Shape, corners};
+use plane::{Point, Shape, corners};
 
 /// Room for every element. The longest is a polygon of less than 600 bytes.
 const ELEMENT_ROOM: usize = 640;
@@ -18,7 +18,7 @@ const ELEMENT_ROOM: usize = 640;
 pub(crate) type Element = ArrayVec<u8, ELEMENT_ROOM>;
 
 /// Appends bytes, for which there is room.
-fn push_bytes(element: &mut Element, bytes: &[u8])
+pub(crate) fn push_bytes(element: &mut Element, bytes: &[u8])
     requires room { array_vec_len element.old + length bytes.now ≤ 640 }
     ensures items { element.new.items ≡ element.old.items ++ bytes.now }
     ensures len { array_vec_len element.new ≡ array_vec_len element.old + length bytes.now }
@@ -37,7 +37,7 @@ fn push_id(element: &mut Element, id: u64)
 }
 
 /// Appends a number, which has at most 11 bytes.
-fn push_number(element: &mut Element, n: i32)
+pub(crate) fn push_number(element: &mut Element, n: i32)
     requires room { array_vec_len element.old + 11 ≤ 640 }
     ensures items { element.new.items ≡ element.old.items ++ signed_decimal n }
     ensures len { array_vec_len element.new ≤ array_vec_len element.old + 11 }
@@ -47,11 +47,12 @@ fn push_number(element: &mut Element, n: i32)
 }
 
 /// Appends an attribute whose value is a number.
-fn push_attribute(element: &mut Element, name: &[u8], n: i32)
+pub(crate) fn push_attribute(element: &mut Element, name: &[u8], n: i32)
     requires room { array_vec_len element.old ≤ 600 }
-    requires name { length name.now ≤ 5 }
+    requires name { length name.now ≤ 10 }
     ensures items { element.new.items ≡ element.old.items ++ attribute name.now n }
-    ensures len { array_vec_len element.new ≤ array_vec_len element.old + 17 }
+    ensures len { array_vec_len element.new
+        ≤ array_vec_len element.old + length name.now + 12 }
 {
     push_bytes(element, name);
     push_number(element, n);
@@ -214,80 +215,10 @@ pub(crate) fn class_element(class: &Name, colour: &str) -> Element
     ensures { result.items ≡ class_text colour.now class.now }
 {
     let mut element = ArrayVec::new();
-    push_bytes(&mut element, b"<tspan x=\"1000\" dy=\"32\" fill=\"");
+    push_bytes(&mut element, b"<tspan x=\"1020\" dy=\"28\" fill=\"");
     push_bytes(&mut element, colour.as_bytes());
     push_bytes(&mut element, b"\">");
     push_bytes(&mut element, class.as_bytes());
     push_bytes(&mut element, b"</tspan>\n");
-    element
-}
-
-/// Appends two numbers, and a space between them.
-fn push_pair(element: &mut Element, a: i32, b: i32)
-    requires room { array_vec_len element.old ≤ 200 }
-    ensures items { element.new.items ≡ element.old.items ++ pair_text a b }
-    ensures len { array_vec_len element.new ≤ array_vec_len element.old + 23 }
-{
-    push_number(element, a);
-    push_bytes(element, b" ");
-    push_number(element, b);
-}
-
-/// The left side of what a map of this frame shows.
-fn left(frame: Frame) -> i32
-    ensures { result ≡ left_of frame }
-{
-    frame.x0() - 1
-}
-
-/// The upper side, as the picture's coordinate, which goes down.
-fn top(frame: Frame) -> i32
-    ensures { result ≡ top_of frame }
-{
-    let _ordered = frame.x0();
-    -frame.y1() - 1
-}
-
-fn width(frame: Frame) -> i32
-    ensures { result ≡ width_of frame }
-{
-    frame.x1() - frame.x0() + 2
-}
-
-fn height(frame: Frame) -> i32
-    ensures { result ≡ height_of frame }
-{
-    let _ordered = frame.x0();
-    frame.y1() - frame.y0() + 2
-}
-
-/// Appends the upper left corner of what a map of this frame shows.
-fn push_origin(element: &mut Element, frame: Frame)
-    requires room { array_vec_len element.old ≤ 200 }
-    ensures items { element.new.items
-        ≡ element.old.items ++ pair_text (left_of frame) (top_of frame) }
-    ensures len { array_vec_len element.new ≤ array_vec_len element.old + 23 }
-{
-    push_pair(element, left(frame), top(frame));
-}
-
-/// Appends its width and its height.
-fn push_size(element: &mut Element, frame: Frame)
-    requires room { array_vec_len element.old ≤ 200 }
-    ensures items { element.new.items
-        ≡ element.old.items ++ pair_text (width_of frame) (height_of frame) }
-    ensures len { array_vec_len element.new ≤ array_vec_len element.old + 23 }
-{
-    push_pair(element, width(frame), height(frame));
-}
-
-/// What a map of this frame shows: one unit more at each side.
-pub(crate) fn view(frame: Frame) -> Element
-    ensures { result.items ≡ view_text frame }
-{
-    let mut element = ArrayVec::new();
-    push_origin(&mut element, frame);
-    push_bytes(&mut element, b" ");
-    push_size(&mut element, frame);
     element
 }

@@ -6,6 +6,8 @@ mod drawings;
 mod elements;
 mod faults;
 mod laws;
+mod layers;
+mod maps;
 mod marks;
 mod pictures;
 mod reading;

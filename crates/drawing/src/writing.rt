@@ -1,12 +1,14 @@
 //! Writes a drawing. Writing takes no memory.
 
-ghost use Rattle.std.specs.Prelude.{◌≡◌, ◌++◌};
+ghost use Rattle.std.specs.Prelude.{◌++◌};
 ghost use Rattle.std.specs.List.{flat_map};
 ghost use Rattle.byte_streams.specs.Written.{Took};
-ghost use Rattle.drawing.specs.Elements.{row_text, view_text, window_text};
-ghost use Rattle.drawing.specs.Pictures.{body_text, colour_of, document_text, end_text, entry_text, head_text, legend_text, map_start, mark_text};
+ghost use Rattle.drawing.specs.Elements.{row_text, window_text};
+ghost use Rattle.drawing.specs.Pictures.{body_text, colour_of, document_text, end_text, entry_text, head_text, layer_text, legend_text, mark_text, mark_text_on};
 
-use crate::elements::{class_element, row_element, view, window_element};
+use crate::elements::{class_element, row_element, window_element};
+use crate::layers::{Layer, all_layers};
+use crate::maps::{around, map_start};
 use crate::marks::Mark;
 use crate::pictures::colour_of;
 use byte_streams::{WriteFailed, write_whole};
@@ -16,15 +18,7 @@ use std::io::Write;
 
 /// The start of the document: a page, and on it the map.
 const START: &[u8] =
-    b"<svg xmlns=\"http://www.w3.org/2000/svg\" version=\"1.1\" width=\"1250\" height=\"1000\" viewBox=\"0 0 1250 1000\">\n<rect width=\"1250\" height=\"1000\" fill=\"#ffffff\"/>\n<svg x=\"40\" y=\"40\" width=\"920\" height=\"920\" overflow=\"visible\" viewBox=\"";
-
-/// What follows the map's frame.
-const MAP_START: &[u8] =
-    b"\">\n<g transform=\"scale(1 -1)\" fill-opacity=\"0.4\" stroke-width=\"0.3%\">\n";
-
-/// The end of the map, and the start of the legend.
-const LEGEND_START: &[u8] =
-    b"</g>\n</svg>\n<text font-family=\"sans-serif\" font-size=\"24\" x=\"1000\" y=\"40\">\n";
+    b"<svg xmlns=\"http://www.w3.org/2000/svg\" version=\"1.1\" width=\"1420\" height=\"1000\" viewBox=\"0 0 1420 1000\">\n<rect width=\"1420\" height=\"1000\" fill=\"#ffffff\"/>\n<svg x=\"40\" y=\"40\" width=\"920\" height=\"920\" overflow=\"visible\" viewBox=\"";
 
 /// The end of the legend and of the document.
 const END: &[u8] = b"</text>\n</svg>\n";
@@ -34,16 +28,7 @@ fn write_head<W: Write>(area: Frame, writer: &mut W) -> Result<(), WriteFailed>
     ensures { Took result (W.contents writer.old) (W.contents writer.new) (head_text area) }
 {
     write_whole(START, writer)?;
-    write_view(area, writer)
-}
-
-/// Writes what the map shows, and the start of its marks.
-fn write_view<W: Write>(area: Frame, writer: &mut W) -> Result<(), WriteFailed>
-    ensures { Took result (W.contents writer.old) (W.contents writer.new)
-        (view_text area ++ map_start) }
-{
-    write_whole(view(area).as_slice(), writer)?;
-    write_whole(MAP_START, writer)
+    write_whole(map_start(area).as_slice(), writer)
 }
 
 /// Writes the element of a window.
@@ -78,17 +63,51 @@ fn write_mark<W: Write>(classes: &[Name], mark: &Mark, writer: &mut W) -> Result
     }
 }
 
-/// Writes the elements of marks.
-fn write_marks<W: Write>(
+/// Writes the element of a mark that is on this layer.
+fn write_mark_on<W: Write>(
     classes: &[Name],
-    marks: &[Mark],
+    layer: &Layer,
+    mark: &Mark,
     writer: &mut W,
 ) -> Result<(), WriteFailed>
     ensures { Took result (W.contents writer.old) (W.contents writer.new)
-        (flat_map (mark_text classes.now) marks.now) }
+        (mark_text_on classes.now layer.now mark.now) }
+{
+    if layer.has(mark) {
+        write_mark(classes, mark, writer)
+    } else {
+        Ok(())
+    }
+}
+
+/// Writes the elements of the marks on a layer.
+fn write_layer<W: Write>(
+    classes: &[Name],
+    marks: &[Mark],
+    layer: &Layer,
+    writer: &mut W,
+) -> Result<(), WriteFailed>
+    ensures { Took result (W.contents writer.old) (W.contents writer.new)
+        (layer_text classes.now marks.now layer.now) }
 {
     for mark in marks {
-        write_mark(classes, mark, writer)?;
+        write_mark_on(classes, layer, mark, writer)?;
+    }
+    Ok(())
+}
+
+/// Writes the elements of these layers, one layer after another.
+fn write_layers<W: Write>(
+    classes: &[Name],
+    marks: &[Mark],
+    layers: &[Layer],
+    writer: &mut W,
+) -> Result<(), WriteFailed>
+    ensures { Took result (W.contents writer.old) (W.contents writer.new)
+        (flat_map (layer_text classes.now marks.now) layers.now) }
+{
+    for layer in layers {
+        write_layer(classes, marks, layer, writer)?;
     }
     Ok(())
 }
@@ -122,22 +141,27 @@ fn write_end<W: Write>(classes: &[Name], writer: &mut W) -> Result<(), WriteFail
     write_whole(END, writer)
 }
 
-/// Writes the legend and the end of the document.
-fn write_legend<W: Write>(classes: &[Name], writer: &mut W) -> Result<(), WriteFailed>
+/// Writes what is beside the map, and the end of the document.
+fn write_legend<W: Write>(area: Frame, classes: &[Name], writer: &mut W) -> Result<(), WriteFailed>
     ensures { Took result (W.contents writer.old) (W.contents writer.new)
-        (legend_text classes.now) }
+        (legend_text area classes.now) }
 {
-    write_whole(LEGEND_START, writer)?;
+    write_whole(around(area).as_slice(), writer)?;
     write_end(classes, writer)
 }
 
-/// Writes the marks and what follows them.
-fn write_body<W: Write>(classes: &[Name], marks: &[Mark], writer: &mut W) -> Result<(), WriteFailed>
+/// Writes the marks, layer by layer, and what follows them.
+fn write_body<W: Write>(
+    area: Frame,
+    classes: &[Name],
+    marks: &[Mark],
+    writer: &mut W,
+) -> Result<(), WriteFailed>
     ensures { Took result (W.contents writer.old) (W.contents writer.new)
-        (body_text classes.now marks.now) }
+        (body_text area classes.now marks.now) }
 {
-    write_marks(classes, marks, writer)?;
-    write_legend(classes, writer)
+    write_layers(classes, marks, all_layers().as_slice(), writer)?;
+    write_legend(area, classes, writer)
 }
 
 /// Writes the document that shows these marks in this frame, with the colours of these classes.
@@ -152,5 +176,5 @@ pub(crate) fn write_document<W: Write>(
         (document_text area classes.now marks.now) }
 {
     write_head(area, writer)?;
-    write_body(classes, marks, writer)
+    write_body(area, classes, marks, writer)
 }

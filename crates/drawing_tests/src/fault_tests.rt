@@ -33,7 +33,7 @@ fn each_read_fails(rt: HostRuntime) {
 #[test]
 fn each_write_fails(rt: HostRuntime) {
     let mut before = 0;
-    for at in 1..=13 {
+    for at in 1..=12 {
         let fails = Fails {
             output: at,
             ..NONE_FAILS
@@ -48,7 +48,7 @@ fn each_write_fails(rt: HostRuntime) {
         before = outcome.written.len();
     }
     let fails = Fails {
-        output: 14,
+        output: 13,
         ..NONE_FAILS
     };
     let outcome = outcome_of(rt.alloc(), rt.alloc(), SCRIPT, REPLIES, fails);

@@ -17,3 +17,4 @@ pub mod EventLemmas
 pub mod SettingsLemmas
 pub mod GoingOnLemmas
 pub mod CrossingLemmas
+pub mod StoredLemmas

@@ -32,7 +32,8 @@ use Rattle.plain_world.specs.Answers.{AnswerData}
 use Rattle.plain_world.specs.Events.{Event, TakeSeat, OpenSearch, VisitNext, Finish, DropSearch, Begin, Stage, AdvanceWalk, Commit, Abort, Govern, Tend, Roll, Reply, Visited, Advanced, Tended, Rows, Ended, Failed, is_memory, Happens, Run, Sees, Walks, Visits, Advances, Applies, CommitsAs, Tends, recorded, without_transaction}
 use Rattle.plain_world.specs.Laws.{AreApart, IsOrdered}
 use Rattle.plain_world.specs.Staging.{TransactionData, transaction_with, staged_in, with_step, staged, one_placed, ended, names, next_placement}
-use Rattle.plain_world.specs.States.{WorldData, IsSoundWorld, opened}
+use Rattle.judging.specs.States.{PlainState}
+use Rattle.plain_world.specs.States.{WorldData, IsSoundWorld, opened, opened_from}
 use Rattle.plain_world.proofs.AnswerLemmas.{answer_exact}
 use Rattle.plain_world.proofs.AdmittedLemmas.{by_if, by_unless, own_open}
 use Rattle.plain_world.proofs.RunLemmas.{and_then_ok}
@@ -225,6 +226,15 @@ opened_sound subjects decider starts limits =
 
 pub opened_ordered : (subjects : List Subject) (decider : DeciderData) (starts : Starts) (limits : Limits) → IsOrdered (opened subjects decider starts limits)
 opened_ordered subjects decider starts limits = record { sorted = tt; apart = tt }
+
+-- a world that has just been opened at a state
+pub opened_from_sound : (subjects : List Subject) (base : PlainState) (starts : Starts) (limits : Limits) → IsSoundWorld (opened_from subjects base starts limits)
+opened_from_sound subjects base starts limits =
+    let few : 0 ≤ SEAT_LIMIT = omega arith in
+    record { legal = tt; replayed = refl; few_seats = few }
+
+pub opened_from_ordered : (subjects : List Subject) (base : PlainState) (starts : Starts) (limits : Limits) → IsSortedById base.features → IsOrdered (opened_from subjects base starts limits)
+opened_from_ordered subjects base starts limits sorted = record { sorted = sorted; apart = tt }
 
 -- the rows of an answer are sorted by id
 pub answer_rising : (seat number : ℕ) (mid new : WorldData) (answer : AnswerData) → IsOrdered mid → Happens (Finish seat number) mid new (Rows answer) → IsSortedById answer.rows

@@ -28,7 +28,8 @@ use Rattle.plain_world.specs.Admitting.{LAST, subject_at, next_search, next_tran
 use Rattle.plain_world.specs.Events.{Event, TakeSeat, OpenSearch, VisitNext, Finish, DropSearch, Begin, Stage, AdvanceWalk, Commit, Abort, Govern, Tend, Roll, Reply, Visited, Advanced, Tended, Ended, Failed, is_memory, Happens, Run, Sees, Walks, Visits, Advances, Applies, CommitsAs, Tends, recorded, with_ready, without_transaction}
 use Rattle.plain_world.specs.Laws.{IsBelowEach, AreGiven, IsWithin, AreWithin, IsUnderWay}
 use Rattle.plain_world.specs.Staging.{TransactionData, transaction_with, staged_in, with_step, staged, one_placed, ended, names, next_placement, placements, brought_by}
-use Rattle.plain_world.specs.States.{WorldData, opened}
+use Rattle.judging.specs.States.{PlainState}
+use Rattle.plain_world.specs.States.{WorldData, opened, opened_from}
 use Rattle.plain_world.proofs.AdmittedLemmas.{by_if, by_unless, own_open}
 use Rattle.plain_world.proofs.RunLemmas.{and_then_ok}
 
@@ -291,3 +292,6 @@ way_run old (event ∷ events) new run h = way_run run.0 events new run.2 (way_e
 
 pub opened_way : (subjects : List Subject) (decider : DeciderData) (starts : Starts) (limits : Limits) → IsUnderWay (opened subjects decider starts limits)
 opened_way subjects decider starts limits = record { searches = tt; transactions = tt; within = tt }
+
+pub opened_from_way : (subjects : List Subject) (base : PlainState) (starts : Starts) (limits : Limits) → IsUnderWay (opened_from subjects base starts limits)
+opened_from_way subjects base starts limits = record { searches = tt; transactions = tt; within = tt }

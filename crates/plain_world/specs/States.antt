@@ -47,24 +47,29 @@ IsSoundWorld w = IsSound w.seats w.base w.trail w.state
 abbrev pub opening_state : ℕ → DeciderData → PlainState
 opening_state version decider = record { features = []; version = version; decider = decider }
 
--- a world that has just been opened
-abbrev pub opened : List Subject → DeciderData → Starts → Limits → WorldData
-opened subjects decider starts limits =
+-- a world that has just been opened at a state
+abbrev pub opened_from : List Subject → PlainState → Starts → Limits → WorldData
+opened_from subjects base starts limits =
     record {
       subjects = subjects;
-      opening = decider;
+      opening = base.decider;
       starts = starts;
       limits = limits;
       seats = [];
-      base = opening_state starts.version decider;
+      base = base;
       first = starts.rolled + 1;
       trail = [];
-      state = opening_state starts.version decider;
+      state = base;
       searches = [];
       next_search = starts.search;
       transactions = [];
       next_transaction = 1;
     }
+
+-- a world that has just been opened
+abbrev pub opened : List Subject → DeciderData → Starts → Limits → WorldData
+opened subjects decider starts limits =
+    opened_from subjects (opening_state starts.version decider) starts limits
 
 -- what every world keeps: it is sound, its limits of records and features are at most the greatest
 -- ones, and its trail is within its limit

@@ -13,7 +13,8 @@ ghost use Rattle.plain_world.specs.Laws.{IsExact, Accounts, EndsAs, IsStewards, 
 ghost use Rattle.plain_world.specs.Rolls.{RolledData};
 ghost use Rattle.plain_world.specs.Settings.{IsSettled};
 ghost use Rattle.plain_world.specs.Staging.{TransactionData, transaction_with};
-ghost use Rattle.plain_world.specs.States.{WorldData, IsSoundWorld, opened};
+ghost use Rattle.judging.specs.States.{PlainState};
+ghost use Rattle.plain_world.specs.States.{WorldData, IsSoundWorld, opened, opened_from};
 ghost use Rattle.plain_world.specs.declared.faults.Fault.{Fault};
 ghost use Rattle.plain_world.specs.declared.outcomes.Outcome.{Outcome};
 
@@ -112,6 +113,10 @@ pub fn every_run_is_ordered()
     ensures opened { (subjects : List Subject) (decider : DeciderData) (starts : Starts)
         (limits : Limits) → IsSoundWorld (opened subjects decider starts limits)
         × IsOrdered (opened subjects decider starts limits) }
+    ensures opened_from { (subjects : List Subject) (base : PlainState) (starts : Starts)
+        (limits : Limits) → IsSortedById base.features
+        → IsSoundWorld (opened_from subjects base starts limits)
+        × IsOrdered (opened_from subjects base starts limits) }
     ensures run { (old new : WorldData) (steps : List (Event × Reply)) → IsOrdered old
         → Run old steps new → IsOrdered new }
     ensures rising { (old mid new : WorldData) (before : List (Event × Reply)) (seat number : ℕ)
@@ -140,6 +145,8 @@ pub fn policy_in_force_is_the_last()
 pub fn what_is_under_way_is_in_order()
     ensures opened { (subjects : List Subject) (decider : DeciderData) (starts : Starts)
         (limits : Limits) → IsUnderWay (opened subjects decider starts limits) }
+    ensures opened_from { (subjects : List Subject) (base : PlainState) (starts : Starts)
+        (limits : Limits) → IsUnderWay (opened_from subjects base starts limits) }
     ensures run { (old new : WorldData) (steps : List (Event × Reply)) → IsUnderWay old
         → Run old steps new → IsUnderWay new }
 {}

@@ -88,7 +88,7 @@ pub(crate) fn listed<A: Allocator>(
 }
 
 /// Fact for the checker, no effect: the store is sorted by id. `row_at` states it, `get` does not.
-fn fact_sorted_by_id<A: Allocator>(store: &Store<A>)
+pub(crate) fn fact_sorted_by_id<A: Allocator>(store: &Store<A>)
     ensures { IsSortedById store.now }
 {
     let _first = store.row_at(0);

@@ -3,14 +3,16 @@
 ghost use Rattle.std.specs.Prelude.{◌≡◌, ◌+◌, ◌≤◌, length, map, string_bytes, IfOk, IfErr};
 ghost use Rattle.std.specs.Arc.{arc_value};
 ghost use Rattle.memory.specs.NoMemory.{out_of_memory};
+ghost use Rattle.features.specs.Rows.{IsSortedById};
 ghost use Rattle.audit_trail.specs.JsonLines.{lines_from};
 ghost use Rattle.audit_trail.specs.declared.trails.TheConstants.{FIRST_LIMIT};
 ghost use Rattle.plain_world.specs.Events.{Happens, Roll, Rolls, TakenOut, UnlessMemory, reply_of};
 
 use crate::faults::Fault;
+use crate::listing::fact_sorted_by_id;
 use crate::worlds::{Base, PlainWorld};
 use audit_trail::Trail;
-use feature_store::{Meter, StoreFault};
+use feature_store::{FEATURE_LIMIT, Meter, Store, StoreFault};
 use memory::{another, shared};
 use std::alloc::{Allocator, Global};
 use std::marker::Model;
@@ -116,9 +118,13 @@ impl<A: Allocator + Copy> PlainWorld<A> {
         }
     }
 
-    /// The present state, as the base of a new trail.
-    fn present(&self) -> Result<Base<A>, Fault>
+    /// The present state, as the base of a new trail, or of another world. Its features rise by id,
+    /// and there are at most `FEATURE_LIMIT`. X12 where an allocation is refused; there is no other
+    /// error.
+    pub fn present(&self) -> Result<Base<A>, Fault>
         ensures ok { IfOk result (λ base. base ≡ self.now.state) }
+        ensures sorted { IfOk result (λ base. IsSortedById base.features) }
+        ensures few { IfOk result (λ base. length base.features ≤ FEATURE_LIMIT) }
         ensures err { IfErr result (λ fault. fault ≡ Fault.Memory out_of_memory) }
     {
         let mut meter = Meter::new();
@@ -127,6 +133,8 @@ impl<A: Allocator + Copy> PlainWorld<A> {
             Err(StoreFault::Memory(refusal)) => return Err(Fault::Memory(refusal)),
             Err(StoreFault::Full) => unreachable!(),
         };
+        fact_sorted_by_id(&self.store);
+        fact_few(&self.store);
         let decider = another(&self.decider)?;
         Ok(Base {
             features,
@@ -134,4 +142,12 @@ impl<A: Allocator + Copy> PlainWorld<A> {
             decider,
         })
     }
+}
+
+/// Fact for the checker, no effect: a store has at most `FEATURE_LIMIT` features. `len` states it,
+/// `dump` does not.
+fn fact_few<A: Allocator>(store: &Store<A>)
+    ensures { length store.now ≤ FEATURE_LIMIT }
+{
+    let _count = store.len();
 }

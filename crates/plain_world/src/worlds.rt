@@ -5,9 +5,9 @@ ghost use Rattle.std.specs.Arc.{arc_value};
 ghost use Rattle.memory.specs.NoMemory.{out_of_memory};
 ghost use Rattle.audit_trail.specs.Legal.{IsLegal, replay};
 ghost use Rattle.judging.specs.Judging.{AreDistinct};
-ghost use Rattle.features.specs.Rows.{feature_with};
+ghost use Rattle.features.specs.Rows.{IsSortedById, feature_with};
 ghost use Rattle.plain_world.specs.Staging.{staged_in};
-ghost use Rattle.plain_world.specs.States.{IsSoundWorld, opened};
+ghost use Rattle.plain_world.specs.States.{IsSoundWorld, opened, opened_from};
 
 use crate::faults::Fault;
 use crate::open_searches::Searches;
@@ -15,7 +15,7 @@ use crate::open_transactions::{Transaction, staged_in};
 use crate::settings::{CHANGE_LIMIT, Limits, ROLLED_LIMIT, SEAT_LIMIT, STEP_LIMIT, Starts};
 use audit_trail::{RECORD_LIMIT, Trail};
 use decision::Decider;
-use feature_store::{FEATURE_LIMIT, Meter, Store};
+use feature_store::{FEATURE_LIMIT, Meter, Store, StoreFault};
 use features::{Change, Feature, Subject, Subjects};
 use memory::{NoMemory, another, shared};
 use policy_documents::Document;
@@ -233,14 +233,36 @@ impl<A: Allocator + Copy> PlainWorld<A> {
         requires features { limits.features ≤ FEATURE_LIMIT }
         ensures { IfOk result (λ w. w ≡ opened subjects (arc_value decider) starts limits) }
     {
-        let first = another(&decider)?;
-        let opening = another(&decider)?;
-        let searches = Searches::new(alloc)?;
         let base = Base {
             features: Vec::new(alloc),
             version: starts.version,
-            decider: first,
+            decider,
         };
+        PlainWorld::open_from(alloc, subjects, base, starts, limits)
+    }
+
+    /// A world that begins at a state: it has the features, the version and the policy of `base`,
+    /// no seats and an empty trail. Numbers other than the version and the edition start at
+    /// `starts`. The features rise by id. The only error is out of memory.
+    pub fn open_from(
+        alloc: A,
+        subjects: Subjects,
+        base: Base<A>,
+        starts: Starts,
+        limits: Limits,
+    ) -> Result<Self, NoMemory>
+        requires sorted { IsSortedById base.features }
+        requires few { length base.features ≤ FEATURE_LIMIT }
+        requires rolled { starts.rolled ≤ ROLLED_LIMIT }
+        requires records { limits.records ≤ RECORD_LIMIT }
+        requires features { limits.features ≤ FEATURE_LIMIT }
+        ensures { IfOk result (λ w. w ≡ opened_from subjects base starts limits) }
+    {
+        let store = stored(alloc, base.features.as_slice())?;
+        let decider = another(&base.decider)?;
+        let opening = another(&base.decider)?;
+        let searches = Searches::new(alloc)?;
+        let version = base.version;
         Ok(PlainWorld {
             alloc,
             subjects,
@@ -250,8 +272,8 @@ impl<A: Allocator + Copy> PlainWorld<A> {
             seats: Vec::new(alloc),
             base,
             trail: Trail::starting_at(alloc, starts.rolled + 1),
-            store: Store::new(alloc),
-            version: starts.version,
+            store,
+            version,
             decider,
             searches,
             next_search: starts.search,
@@ -259,6 +281,28 @@ impl<A: Allocator + Copy> PlainWorld<A> {
             next_transaction: 1,
         })
     }
+}
+
+/// A store of these features, which rise by id.
+fn stored<A: Allocator + Copy>(alloc: A, rows: &[Feature]) -> Result<Store<A>, NoMemory>
+    requires sorted { IsSortedById rows.now }
+    requires few { length rows.now ≤ FEATURE_LIMIT }
+    ensures { IfOk result (λ store. store ≡ rows.now) }
+{
+    let mut store = Store::new(alloc);
+    for row in rows {
+        let added = Change::Add {
+            id: row.id,
+            class: row.class,
+            shape: row.shape,
+        };
+        match store.apply(row.version, row.office, &[added]) {
+            Ok(()) => {}
+            Err(StoreFault::Memory(refusal)) => return Err(refusal),
+            Err(StoreFault::Full) => unreachable!(),
+        }
+    }
+    Ok(store)
 }
 
 /// A decider of a copy of this document, under an edition.

@@ -13,3 +13,4 @@ pub mod AdvanceLemmas
 pub mod TendLemmas
 pub mod WorkedRunLemmas
 pub mod CrossingLemmas
+pub mod FillingLemmas

@@ -7,3 +7,4 @@ pub mod Stepping
 pub mod Kept
 pub mod Turns
 pub mod WorkedRun
+pub mod Filling

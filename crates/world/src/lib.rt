@@ -4,6 +4,7 @@
 
 mod committing;
 mod faults;
+mod filling;
 mod finding;
 mod governing;
 mod kept_slots;

@@ -1,12 +1,15 @@
 //! Taking the trail out.
 
-ghost use Rattle.std.specs.Prelude.{◌≡◌};
+ghost use Rattle.std.specs.Prelude.{◌≡◌, ◌≤◌, length, IfOk, IfErr};
 ghost use Rattle.std.specs.Arc.{arc_value};
+ghost use Rattle.memory.specs.NoMemory.{out_of_memory};
+ghost use Rattle.features.specs.Rows.{IsSortedById};
 ghost use Rattle.plain_world.specs.Admitting.{may_roll};
 ghost use Rattle.plain_world.specs.Events.{Happens, Roll, TakenOut, reply_of};
 
 use crate::worlds::World;
-use plain_world::{Fault, Rolled};
+use feature_store::FEATURE_LIMIT;
+use plain_world::{Base, Fault, Rolled};
 use std::alloc::{Allocator, Global};
 use std::sync::Arc;
 
@@ -31,5 +34,17 @@ impl<A: Allocator + Copy> World<A> {
         ensures walks { self.new.walks ≡ self.old.walks }
     {
         self.plain.roll(heap, seat)
+    }
+
+    /// The present state, as a base from which another world may be opened. Its features rise by id,
+    /// and there are at most `FEATURE_LIMIT`. X12 where an allocation is refused; there is no other
+    /// error.
+    pub fn present(&self) -> Result<Base<A>, Fault>
+        ensures ok { IfOk result (λ base. base ≡ self.now.plain.state) }
+        ensures sorted { IfOk result (λ base. IsSortedById base.features) }
+        ensures few { IfOk result (λ base. length base.features ≤ FEATURE_LIMIT) }
+        ensures err { IfErr result (λ fault. fault ≡ Fault.Memory out_of_memory) }
+    {
+        self.plain.present()
     }
 }

@@ -5,17 +5,18 @@ ghost use Rattle.std.specs.Arc.{arc_value};
 ghost use Rattle.memory.specs.NoMemory.{out_of_memory};
 ghost use Rattle.judging.specs.Judging.{AreDistinct};
 ghost use Rattle.audit_trail.specs.Legal.{IsLegal, replay, subject_of};
-ghost use Rattle.features.specs.Rows.{feature_with};
+ghost use Rattle.features.specs.Rows.{IsSortedById, feature_with};
 ghost use Rattle.node_arena.specs.Slots.{taken_count};
 ghost use Rattle.plain_world.specs.Admitting.{map_ok, may_go_on, may_govern, subject_at};
 ghost use Rattle.plain_world.specs.Laws.{IsOrdered, IsUnderWay};
 ghost use Rattle.plain_world.specs.Staging.{staged_in};
-ghost use Rattle.plain_world.specs.States.{IsSoundWorld, opened};
+ghost use Rattle.plain_world.specs.States.{IsSoundWorld, opened, opened_from};
 ghost use Rattle.search_tree.specs.Calls.{found_in};
 ghost use Rattle.search_tree.specs.Trees.{IsFirst};
 ghost use Rattle.world.specs.Index.{IndexServes, frames, slots_of};
 ghost use Rattle.world.specs.Walks.{AreWalks};
 
+use crate::filling::fill;
 use crate::kept_slots::KeptSlots;
 use crate::open_walks::Walks;
 use audit_trail::{RECORD_LIMIT, Trail};
@@ -25,7 +26,8 @@ use features::{Change, Feature, Subject, Subjects};
 use frame_keys::Frames;
 use memory::NoMemory;
 use plain_world::{
-    CHANGE_LIMIT, Fault, Limits, PlainWorld, ROLLED_LIMIT, SEAT_LIMIT, STEP_LIMIT, Search, Starts,
+    Base, CHANGE_LIMIT, Fault, Limits, PlainWorld, ROLLED_LIMIT, SEAT_LIMIT, STEP_LIMIT, Search,
+    Starts,
 };
 use policy_documents::Document;
 use search_tree::{Tree, TreeFault};
@@ -272,6 +274,37 @@ impl<A: Allocator + Copy> World<A> {
             Err(refusal) => return Err((document, Fault::Memory(refusal))),
         };
         let plain = PlainWorld::open_at(alloc, heap, subjects, document, starts, limits)?;
+        Ok(World {
+            plain,
+            index,
+            walks,
+            kept: KeptSlots::none(),
+        })
+    }
+
+    /// A world that begins at a state: with its features, all in the index, its version and its
+    /// policy, no seats and an empty trail. The features rise by id. S4 to S7 where the index
+    /// does not take them, X12 where an allocation is refused.
+    pub fn open_from(
+        alloc: A,
+        subjects: Subjects,
+        base: Base<A>,
+        starts: Starts,
+        limits: Limits,
+    ) -> Result<Self, Fault>
+        requires sorted { IsSortedById base.features }
+        requires few { length base.features ≤ FEATURE_LIMIT }
+        requires rolled { starts.rolled ≤ ROLLED_LIMIT }
+        requires records { limits.records ≤ RECORD_LIMIT }
+        requires features { limits.features ≤ FEATURE_LIMIT }
+        requires steps { limits.steps ≤ STEP_LIMIT }
+        ensures ok { IfOk result (λ w. w.plain ≡ opened_from subjects base starts limits) }
+        ensures walks { IfOk result (λ w. w.walks ≡ []) }
+    {
+        let mut index = first_index(alloc, starts, limits)?;
+        fill(&mut index, base.features.as_slice())?;
+        let walks = Walks::new(alloc)?;
+        let plain = PlainWorld::open_from(alloc, subjects, base, starts, limits)?;
         Ok(World {
             plain,
             index,

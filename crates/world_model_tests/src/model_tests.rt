@@ -601,9 +601,9 @@ fn check_outcome(
             match denial {
                 Some(denial) => {
                     assert_eq!(rt; denial.decider().edition(), plain.edition);
-                    assert!(rt; cause == audit_trail::Cause::Denied(denial.rule()));
+                    assert!(rt; cause == judging::Cause::Denied(denial.rule()));
                 }
-                None => assert!(rt; !matches!(cause, audit_trail::Cause::Denied(_))),
+                None => assert!(rt; !matches!(cause, judging::Cause::Denied(_))),
             }
         }
         _ => assert!(rt; false, "an outcome of seat {seat}"),

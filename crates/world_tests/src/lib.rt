@@ -14,4 +14,6 @@ mod reading_tests;
 #[cfg(test)]
 mod refusal_tests;
 #[cfg(test)]
+mod state_tests;
+#[cfg(test)]
 mod worlds;

@@ -279,12 +279,12 @@ fn outcome(
     }
 }
 
-fn cause(cause: &audit_trail::Cause) -> &'static str {
+fn cause(cause: &judging::Cause) -> &'static str {
     match cause {
-        audit_trail::Cause::Denied(_) => "denied",
-        audit_trail::Cause::Exists => "exists",
-        audit_trail::Cause::Absent => "absent",
-        audit_trail::Cause::Stale(_) => "stale",
+        judging::Cause::Denied(_) => "denied",
+        judging::Cause::Exists => "exists",
+        judging::Cause::Absent => "absent",
+        judging::Cause::Stale(_) => "stale",
     }
 }
 

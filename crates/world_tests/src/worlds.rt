@@ -115,7 +115,8 @@ pub fn seated<A: Allocator + Copy>(
     world
 }
 
-fn give_seats<A: Allocator + Copy>(rt: &impl Abort, world: &mut World<A>) {
+/// Gives a seat to each of the three subjects.
+pub fn give_seats<A: Allocator + Copy>(rt: &impl Abort, world: &mut World<A>) {
     assert!(rt; world.seat(name(rt, "north")) == Ok(1));
     assert!(rt; world.seat(name(rt, "south")) == Ok(2));
     assert!(rt; world.seat(name(rt, "chief")) == Ok(3));
@@ -231,15 +232,21 @@ pub fn picture<A: Allocator>(rt: &impl Abort, heap: Global, world: &World<A>) ->
     );
     assert!(rt; head.is_ok());
     let mut told = head.unwrap();
-    put_lines(rt, heap, world, &mut told);
+    put_lines(rt, heap, world, world.trail().first(), &mut told);
     told
 }
 
-/// Appends the lines of a world's trail to a text.
-fn put_lines<A: Allocator>(rt: &impl Abort, heap: Global, world: &World<A>, told: &mut String) {
+/// Appends the lines of a world's trail from this number on to a text.
+pub fn put_lines<A: Allocator>(
+    rt: &impl Abort,
+    heap: Global,
+    world: &World<A>,
+    first: u32,
+    told: &mut String,
+) {
     let trail = world.trail();
-    for place in 0..trail.len() {
-        let line = trail.json_line(heap, trail.first().saturating_add(place));
+    for number in first..trail.first().saturating_add(trail.len()) {
+        let line = trail.json_line(heap, number);
         assert!(rt; line.is_ok());
         assert!(rt; told.push_str(line.unwrap().as_str()).is_ok() && told.push('\n').is_ok());
     }

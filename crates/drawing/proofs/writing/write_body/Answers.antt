@@ -1,12 +1,15 @@
 use Rattle.std.specs.List.{flat_map}
-use Rattle.drawing.specs.Pictures.{legend_text, mark_text}
+use Rattle.drawing.specs.Layers.{layers}
+use Rattle.drawing.specs.Pictures.{layer_text, legend_text}
 use Rattle.drawing.proofs.WritingLemmas.{took_first, took_then}
 use Rattle.drawing.proofs.writing.write_body.Goals as goal
 
-pub returns-in_err-write_marks : goal.returns-in_err-write_marks
-returns-in_err-write_marks g c =
-    took_first c.from_residual.result c.from_residual.ensures.0 _ _ (flat_map (mark_text c.args.classes.now) c.args.marks.now) (legend_text c.args.classes.now) c.in_err-write_marks.ensures
+pub returns-in_err-write_layers : goal.returns-in_err-write_layers
+returns-in_err-write_layers g c =
+    let written = rw (c.as_slice.ensures, c.all_layers.ensures) at c.in_err-write_layers.ensures in
+    took_first c.from_residual.result c.from_residual.ensures.0 _ _ (flat_map (layer_text c.args.classes.now c.args.marks.now) layers) (legend_text c.args.area c.args.classes.now) written
 
 pub returns : goal.returns
 returns g c =
-    took_then c.write_legend.result _ _ _ (flat_map (mark_text c.args.classes.now) c.args.marks.now) (legend_text c.args.classes.now) c.in_ok-write_marks.ensures c.write_legend.ensures
+    let written = rw (c.as_slice.ensures, c.all_layers.ensures) at c.in_ok-write_layers.ensures in
+    took_then c.write_legend.result _ _ _ (flat_map (layer_text c.args.classes.now c.args.marks.now) layers) (legend_text c.args.area c.args.classes.now) written c.write_legend.ensures

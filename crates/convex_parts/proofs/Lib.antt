@@ -1,0 +1,4 @@
+pub mod Holes
+pub mod PathSums
+pub mod Runs
+pub mod Steps

@@ -1,0 +1,10 @@
+use Rattle.std.proofs.Common.{◌≡◌, ◌++◌, rules}
+use Rattle.std.specs.Fmt.{signed_decimal}
+use Rattle.drawing.proofs.ElementLemmas.{joined_five}
+use Rattle.drawing.proofs.maps.push_upright.Goals as goal
+
+pub returns-clause-items : goal.returns-clause-items
+returns-clause-items c =
+    let place : c.push_page.new.element.items ≡ c.push_bytes.new.element.items ++ signed_decimal c.args.place = search rules in
+    let x : c.push_number.new.element.items ≡ c.push_bytes-2.new.element.items ++ signed_decimal c.args.x = search rules in
+    joined_five _ _ _ _ _ _ _ _ _ _ _ c.push_bytes.ensures.items place c.push_bytes-2.ensures.items x c.push_bytes-3.ensures.items

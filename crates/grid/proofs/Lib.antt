@@ -1,0 +1,6 @@
+pub mod DigitsLemmas
+pub mod StepsLemmas
+pub mod CappedLemmas
+pub mod PrintingLemmas
+pub mod RoundTrip
+pub mod ExactLemmas

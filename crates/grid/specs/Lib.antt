@@ -1,0 +1,10 @@
+pub mod Numbers
+pub mod Steps
+pub mod Grids
+pub mod Printing
+pub mod FaultCodes
+pub mod Parts
+pub mod Origins
+pub mod Digits
+pub mod Capped
+pub mod Exact
