@@ -1,9 +1,16 @@
 -- The published list and the receipt after a document was put in force.
-use Rattle.std.proofs.Common.{◌≡◌, ◌+◌, ◌∷◌, ◌++◌, [], ℕ, List, None, Some, ap, sym, ◌∙◌}
+use Rattle.std.proofs.Common.{◌≡◌, ◌+◌, ◌∷◌, ◌++◌, [], ℕ, List, None, Some, ap, refl, sym, ◌∙◌}
 use Rattle.std.specs.List.{last_or}
+use Rattle.features.specs.declared.actors.Subject.{Subject}
+use Rattle.features.specs.declared.rows.Change.{Change}
 use Rattle.policy_documents.specs.Documents.{DocumentData}
 use Rattle.decision.specs.Deciders.{DeciderData}
+use Rattle.audit_trail.specs.Legal.{after_deed}
 use Rattle.audit_trail.specs.Records.{RecordData, governed}
+use Rattle.judging.specs.States.{PlainState}
+use Rattle.plain_world.specs.Laws.{deed_of}
+use Rattle.plain_world.specs.declared.outcomes.Outcome.{Outcome}
+use Rattle.plain_world.specs.declared.outcomes.Outcome.TheVariants as outcomes
 use Rattle.published_policies.specs.Lists.{edition_of, last_edition}
 use Rattle.published_policies.proofs.ListLemmas.{last_push}
 use Rattle.hall.specs.Calls.{put_in_force}
@@ -32,3 +39,8 @@ module _ (asked : DocumentData) (before : List DeciderData) (decider : DeciderDa
 -- the decider for the next edition is the next of a list that ends with the decider in force
 pub next_published : (list : List DeciderData) (last : DeciderData) (edition : ℕ) → last_or None list ≡ Some last → edition ≡ last.edition + 1 → edition ≡ last_edition list + 1
 next_published list last edition ends next = next ∙ sym (ap (λ o. edition_of o + 1) ends)
+
+-- a list that is committed leaves the policy in force
+pub decider_stays : (state : PlainState) (subject : Subject) (changes : List Change) (outcome : Outcome) → (after_deed (deed_of subject changes outcome) state).decider ≡ state.decider
+decider_stays state subject changes (outcomes.Applied version) = refl
+decider_stays state subject changes (outcomes.Refused refusal denial) = refl

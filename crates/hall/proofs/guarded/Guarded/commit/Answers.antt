@@ -1,3 +1,5 @@
+use Rattle.std.proofs.Common.{Some, ap, sym, ◌∙◌}
+use Rattle.hall.proofs.Governed.{decider_stays}
 use Rattle.hall.proofs.Lasts.{pushed_last}
 use Rattle.hall.proofs.Seating.{one_subject}
 use Rattle.hall.proofs.guarded.Guarded.commit.Goals as goal
@@ -8,3 +10,9 @@ returns-clause-receipt g c =
     let own = one_subject c.args.seat c.args.self.now.chronicle.seats done.subject c.args.subject.now done.seated c.in_ok-is_seat_of.ensures in
     let last = rw done.told at c.receipt.ensures.last in
     rw (← own) (pushed_last c.args.self.now.chronicle.records _ _ last)
+
+pub invariant_of-self-2-clause-in_force : goal.invariant_of-self-2-clause-in_force
+invariant_of-self-2-clause-in_force g c =
+    let old = c.args.self.now in
+    let done = c.in_ok-outcome.ensures.ok in
+    rw done.told (old.in_force ∙ ap Some (sym (decider_stays old.chronicle.state done.subject c.args.changes.now c.in_ok-outcome.outcome)))

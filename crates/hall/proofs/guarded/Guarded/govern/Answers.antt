@@ -2,9 +2,15 @@ use Rattle.std.proofs.Common.{◌+◌, ◌∷◌, ◌++◌, [], ℕ, None, ap, s
 use Rattle.std.specs.Arc.{arc_value}
 use Rattle.decision.specs.Deciders.{DeciderData}
 use Rattle.published_policies.proofs.ListLemmas.{last_push}
-use Rattle.hall.proofs.Governed.{GoesOn, ends_so, told_so}
+use Rattle.hall.proofs.Governed.{GoesOn, ends_so, next_published, told_so}
 use Rattle.hall.proofs.Lasts.{first_push, pushed_last}
 use Rattle.hall.proofs.guarded.Guarded.govern.Goals as goal
+
+pub publish-edition-requires : goal.publish-edition-requires
+publish-edition-requires g c =
+    let old = c.args.self.now in
+    ap (λ (d : DeciderData). d.edition) c.in_ok-published.ensures
+    ∙ next_published old.publisher old.chronicle.state.decider (arc_value c.in_ok-decider.decider).edition old.in_force c.in_ok-decider.ensures.edition
 
 pub invariant_of-self-2-clause-in_force : goal.invariant_of-self-2-clause-in_force
 invariant_of-self-2-clause-in_force g c =
