@@ -1,5 +1,5 @@
 -- The published list and the receipt after a document was put in force.
-use Rattle.std.proofs.Common.{◌≡◌, ◌+◌, ◌∷◌, ◌++◌, [], ℕ, List, None, Some, ap, refl, sym, ◌∙◌}
+use Rattle.std.proofs.Common.{◌≡◌, ◌<◌, ◌+◌, ◌∷◌, ◌++◌, [], ℕ, List, None, Some, ap, arith, refl, sym, ◌∙◌}
 use Rattle.std.specs.List.{last_or}
 use Rattle.features.specs.declared.actors.Subject.{Subject}
 use Rattle.features.specs.declared.rows.Change.{Change}
@@ -11,8 +11,8 @@ use Rattle.judging.specs.States.{PlainState}
 use Rattle.plain_world.specs.Laws.{deed_of}
 use Rattle.plain_world.specs.declared.outcomes.Outcome.{Outcome}
 use Rattle.plain_world.specs.declared.outcomes.Outcome.TheVariants as outcomes
-use Rattle.published_policies.specs.Lists.{edition_of, last_edition}
-use Rattle.published_policies.proofs.ListLemmas.{last_push}
+use Rattle.published_policies.specs.Lists.{IsPublished, edition_of, last_edition}
+use Rattle.published_policies.proofs.ListLemmas.{editions_counted, last_push}
 use Rattle.hall.specs.Calls.{put_in_force}
 
 -- a published list grows by the decider of a document that was put in force
@@ -44,3 +44,8 @@ next_published list last edition ends next = next ∙ sym (ap (λ o. edition_of 
 pub decider_stays : (state : PlainState) (subject : Subject) (changes : List Change) (outcome : Outcome) → (after_deed (deed_of subject changes outcome) state).decider ≡ state.decider
 decider_stays state subject changes (outcomes.Applied version) = refl
 decider_stays state subject changes (outcomes.Refused refusal denial) = refl
+
+-- the edition in force is not 0
+pub counts_from_one : (list : List DeciderData) (last : DeciderData) → IsPublished list → last_or None list ≡ Some last → 0 < last.edition
+counts_from_one list last published ends =
+    omega (arith, editions_counted list published.editions, published.not_empty, ap edition_of ends)

@@ -1,4 +1,6 @@
-use Rattle.std.proofs.Common.{Some, ap, sym, ◌∙◌}
+use Rattle.std.proofs.Common.{Some, ap, subst, sym, ◌∙◌}
+use Rattle.features.specs.declared.actors.Subject.{Subject}
+use Rattle.chronicle.specs.Noting.{IsJudged}
 use Rattle.hall.proofs.Governed.{decider_stays}
 use Rattle.hall.proofs.Lasts.{pushed_last}
 use Rattle.hall.proofs.Seating.{one_subject}
@@ -16,3 +18,13 @@ invariant_of-self-2-clause-in_force g c =
     let old = c.args.self.now in
     let done = c.in_ok-outcome.ensures.ok in
     rw done.told (old.in_force ∙ ap Some (sym (decider_stays old.chronicle.state done.subject c.args.changes.now c.in_ok-outcome.outcome)))
+
+pub returns-clause-judged : goal.returns-clause-judged
+returns-clause-judged g c =
+    let old = c.args.self.now.chronicle in
+    let done = c.in_ok-outcome.ensures.ok in
+    let own = one_subject c.args.seat old.seats done.subject c.args.subject.now done.seated c.in_ok-is_seat_of.ensures in
+    record {
+      state = old.state;
+      judged = subst (λ (s : Subject). IsJudged s c.args.changes.now old.state c.in_ok-outcome.outcome) own done.judged;
+    }
