@@ -1,13 +1,13 @@
 -- A chronicle may be sent to another thread if its allocator may be sent and shared.
-use denote.Param.Send.{IsSend, IsSync, Frees, arg_send, mut_send, param_send, recorded_send, shr_send, struct_send}
+use denote.Param.Send.{IsSend, IsSync, Frees, arg_send, mut_send, param_send, recorded_send, sendable, shr_send, struct_send}
 use denote.RattleType.{RattleType}
 use Rattle.std.specs.declared.alloc.Allocator.{Ghosts}
 use Rattle.std.specs.contracts.alloc.Global.{the_row as heap}
 use Rattle.std.specs.contracts.impls.GlobalAllocator.TheImpl.{ghosts}
-use Rattle.std.proofs.Crossing.{send, sync, frees}
+use Rattle.std.proofs.Crossing.{crosses as std_crosses, send, sync, frees}
 use Rattle.std.proofs.sync.Arc.TheSendSync as arc
 use Rattle.std.proofs.vec.Vec.TheSendSync as vec
-use Rattle.policy_documents.proofs.CrossingLemmas.{◌&◌, u32_send, model_send}
+use Rattle.policy_documents.proofs.CrossingLemmas.{◌&◌, model_send}
 use Rattle.decision.proofs.CrossingLemmas.{decider_send, decider_sync}
 use Rattle.audit_trail.proofs.CrossingLemmas.{record_send, record_sync}
 use Rattle.audit_trail.specs.contracts.records.Record as Record
@@ -22,9 +22,9 @@ use Rattle.chronicle.specs.contracts.chronicles.Chronicle.TheInside as inside
 module _ (A : RattleType) (g : Ghosts A.Denot) (s : IsSend A) (y : IsSync A) (f : Frees g g.dealloc_token) where
   pub chronicle_send : IsSend (Chronicle.the_row A g)
   chronicle_send =
-      let piece = arc.the_send _ A g (rolled_send A g s y f) s (rolled_sync A g s y f) y f in
-      let pieces = vec.the_send _ A g piece s f in
-      model_send (inside.the_type A g) (world_send A g s y f & pieces & u32_send & due.the_field_send & tt)
+      let owner = arc.the_send _ A g (record_send A g s f) s (record_sync A g y) y f in
+      let rolled = vec.the_send _ A g owner s f in
+      model_send (inside.the_type A g) (world_send A g s y f & (search (std_crosses, sendable) depth 10) & rolled & due.the_field_send & tt)
 
 -- the same in the heap, without premises
 pub heap_record_send : IsSend (Record.the_row heap ghosts)

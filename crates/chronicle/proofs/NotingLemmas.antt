@@ -9,15 +9,15 @@ use Rattle.features.specs.declared.rows.Change.{Change}
 use Rattle.features.specs.Subjects.{subject_named}
 use Rattle.policy_documents.specs.Documents.{DocumentData}
 use Rattle.decision.specs.Deciders.{DeciderData}
-use Rattle.audit_trail.specs.Legal.{IsSeated, after_deed}
+use Rattle.audit_trail.specs.Legal.{IsSeated, subject_of}
 use Rattle.audit_trail.specs.Records.{DeedData, answered, governed, RecordData}
 use Rattle.judging.specs.States.{PlainState}
 use Rattle.plain_world.specs.Admitting.{given, may_go_on, may_sit, own_search, owned, placed, search_with, subject_at}
 use Rattle.plain_world.specs.Answers.{AnswerData}
 use Rattle.plain_world.specs.Events.{Commit, Ended, Finish, Govern, Happens, Number, Failed, Reply, Roll, Rows, TakenOut, TakeSeat, reply_of}
-use Rattle.plain_world.specs.Laws.{AddsAlone, HasOneMore, deed_of}
+use Rattle.plain_world.specs.Laws.{AddsAlone, HasOneMore, IsJudgement, deed_of}
 use Rattle.plain_world.specs.Rolls.{RolledData}
-use Rattle.plain_world.specs.Staging.{staged_in}
+use Rattle.plain_world.specs.Staging.{TransactionData, staged_in}
 use Rattle.plain_world.specs.States.{IsSoundWorld, WorldData}
 use Rattle.plain_world.specs.declared.faults.Fault.{Fault}
 use Rattle.plain_world.specs.declared.faults.Fault.TheVariants as faults
@@ -25,60 +25,48 @@ use Rattle.plain_world.specs.declared.outcomes.Outcome.{Outcome}
 use Rattle.plain_world.specs.declared.outcomes.Outcome.TheVariants as outcomes
 use Rattle.plain_world.specs.declared.open_searches.Search.{Search}
 use Rattle.plain_world.specs.declared.settings.TheConstants.{SEAT_LIMIT}
-use Rattle.plain_world.proofs.AdmittedLemmas.{admitted, seat_same}
+use Rattle.plain_world.proofs.AdmittedLemmas.{admitted, seat_same, staged_of}
 use Rattle.plain_world.proofs.AnswerLemmas.{answer_exact, piece_leads_on, policy_stewards}
+use Rattle.plain_world.proofs.OutcomeLemmas.{outcome_judgement}
 use Rattle.plain_world.proofs.RecordLemmas.{adds_alone}
 use Rattle.plain_world.proofs.RefusalLemmas.{leaves}
 use Rattle.plain_world.proofs.RunLemmas.{and_then_ok, given_ok}
-use Rattle.chronicle.specs.Chronicles.{ChronicleData, LeadsTo, governed_by, noted, seen}
-use Rattle.chronicle.specs.Noting.{IsAnswered, IsEndedBy, IsGovernedBy, IsSeatGiven, told_answer}
-use Rattle.chronicle.proofs.EventLemmas.{adds, governs, leads_on, rolls, stands}
+use Rattle.chronicle.specs.Chronicles.{LeadsTo, noted, seen}
+use Rattle.chronicle.specs.Noting.{IsAnswered, IsEndedBy, IsGovernedBy, IsJudged, IsSeatGiven, told_answer}
+use Rattle.chronicle.proofs.EventLemmas.{adds, rolls}
 
 -- an unchanged world is seen as an unchanged chronicle
-seen_same : (rolled : List RecordData) (old new : WorldData) → new ≡ old → seen rolled new ≡ seen rolled old
-seen_same rolled old new e = ap (seen rolled) e
+seen_same : (base : PlainState) (rolled : List RecordData) (old new : WorldData) → new ≡ old → seen base rolled new ≡ seen base rolled old
+seen_same base rolled old new e = ap (seen base rolled) e
 
 number_same : (a b : ℕ) → Number a ≡ Number b → a ≡ b
 number_same a b e = cc
 
 -- Seats.
 
--- the subject that is found by a name has that name
-named_so : (name : List ℕ) (subjects : List Subject) (subject : Subject) → subject_named name subjects ≡ Some subject → subject.name ≡ name
-named_so name [] subject e = absurd cc
-named_so name (s ∷ ss) subject e = go (named_so name ss subject) (pointwise nat_eq s.name name) refl e
-  where
-    same : (x y : Subject) → Some x ≡ Some y → y ≡ x
-    same x y h = cc
-
-    go : (subject_named name ss ≡ Some subject → subject.name ≡ name) → (b : Bool) → pointwise nat_eq s.name name ≡ b
-        → (if b then Some s else subject_named name ss) ≡ Some subject → subject.name ≡ name
-    go rest true is e = ap (λ (x : Subject). x.name) (same s subject e) ∙ (bytes_eq-Decides s.name name).0 is
-    go rest false is e = rest e
-
--- the subject that may sit has the name
-sat_by_name : (name : List ℕ) (w : WorldData) (subject : Subject) → may_sit name w ≡ Ok subject → subject.name ≡ name
+-- the subject that may sit is the one of the name
+sat_by_name : (name : List ℕ) (w : WorldData) (subject : Subject) → may_sit name w ≡ Ok subject → subject_named name w.subjects ≡ Some subject
 sat_by_name name w subject e = go (subject_named name w.subjects) refl e
   where
     full : (b : Bool) (x : Subject) → ◌≡◌ {A = Result Subject Fault} (if b then Err faults.NoPlace else Ok x) (Ok subject) → x ≡ subject
     full true x e = absurd cc
     full false x e = cc
 
-    go : (o : Option Subject) → subject_named name w.subjects ≡ o → placed (length w.seats) o ≡ Ok subject → subject.name ≡ name
+    go : (o : Option Subject) → subject_named name w.subjects ≡ o → placed (length w.seats) o ≡ Ok subject → subject_named name w.subjects ≡ Some subject
     go None is e = absurd cc
-    go (Some x) is e = ap (λ (y : Subject). y.name) (sym (full (nat_le SEAT_LIMIT (length w.seats)) x e)) ∙ named_so name w.subjects x is
+    go (Some x) is e = is ∙ ap Some (full (nat_le SEAT_LIMIT (length w.seats)) x e)
 
-pub seat_given : (rolled : List RecordData) (name : List ℕ) (old new : WorldData) (result : Result ℕ Fault) → Happens (TakeSeat name) old new (reply_of Number result)
-    → IfOk result (λ number. number ≤ SEAT_LIMIT) → IfOk result (λ number. IsSeatGiven name number (seen rolled old) (seen rolled new))
-seat_given rolled name old new (Ok number) happens few =
+pub seat_given : (base : PlainState) (rolled : List RecordData) (name : List ℕ) (old new : WorldData) (result : Result ℕ Fault) → Happens (TakeSeat name) old new (reply_of Number result)
+    → IfOk result (λ number. number ≤ SEAT_LIMIT) → IfOk result (λ number. IsSeatGiven name number (seen base rolled old) (seen base rolled new))
+seat_given base rolled name old new (Ok number) happens few =
     let d = admitted (may_sit name old) old new (Number number) _ refl happens in
-    record { next = number_same number (length old.seats + 1) d.2.1; few = few; subject = d.0; named = sat_by_name name old d.0 d.1; given = ap (seen rolled) d.2.0 }
-seat_given rolled name old new (Err fault) happens few = tt
+    record { next = number_same number (length old.seats + 1) d.2.1; few = few; subject = d.0; named = sat_by_name name old d.0 d.1; given = ap (seen base rolled) d.2.0 }
+seat_given base rolled name old new (Err fault) happens few = tt
 
-pub seat_refused : (rolled : List RecordData) (name : List ℕ) (old new : WorldData) (result : Result ℕ Fault) → Happens (TakeSeat name) old new (reply_of Number result)
-    → OnErr result (seen rolled new ≡ seen rolled old)
-seat_refused rolled name old new (Ok number) happens = tt
-seat_refused rolled name old new (Err fault) happens = seen_same rolled old new (leaves (TakeSeat name) old new fault happens)
+pub seat_refused : (base : PlainState) (rolled : List RecordData) (name : List ℕ) (old new : WorldData) (result : Result ℕ Fault) → Happens (TakeSeat name) old new (reply_of Number result)
+    → OnErr result (seen base rolled new ≡ seen base rolled old)
+seat_refused base rolled name old new (Ok number) happens = tt
+seat_refused base rolled name old new (Err fault) happens = seen_same base rolled old new (leaves (TakeSeat name) old new fault happens)
 
 -- Searches.
 
@@ -94,59 +82,70 @@ pub base_answered : (seat number : ℕ) (old new : WorldData) (result : Result A
 base_answered seat number old new (Ok answer) h = (h.2, h.3)
 base_answered seat number old new (Err fault) h = (h.2, h.3)
 
-pub search_answered : (first : ℕ) (rolled : List RecordData) (seat number : ℕ) (s : Search) (old new : WorldData) (result : Result AnswerData Fault)
-    → may_go_on seat number old ≡ Ok s → Happens (Finish seat number) old new (reply_of Rows result) → LeadsTo first rolled old
-    → IfOk result (λ answer. IsAnswered seat s.window answer (seen rolled old) (seen rolled new))
-search_answered first rolled seat number s old new (Ok answer) may happens leads =
+pub search_answered : (base : PlainState) (rolled : List RecordData) (seat number : ℕ) (s : Search) (old new : WorldData) (result : Result AnswerData Fault)
+    → may_go_on seat number old ≡ Ok s → Happens (Finish seat number) old new (reply_of Rows result)
+    → IfOk result (λ answer. IsAnswered seat s.window answer (seen base rolled old) (seen base rolled new))
+search_answered base rolled seat number s old new (Ok answer) may happens =
     let exact = answer_exact seat number old new answer happens in
     let one : s ≡ exact.search = some_same s exact.search (sym (runs seat number old s may) ∙ exact.running) in
     record {
       seated = exact.seated;
       window = exact.window ∙ sym (ap (λ (t : Search). t.window) one);
       decider = exact.decider;
-      told = (adds (Finish seat number) old new (Rows answer) first rolled seat (told_answer answer) tt happens refl
-          (adds_alone (Finish seat number) old new (Rows answer) happens) leads).0;
+      listed = exact.listed;
+      told = adds (Finish seat number) old new (Rows answer) base rolled seat (told_answer answer) tt happens (adds_alone (Finish seat number) old new (Rows answer) happens);
     }
   where
     some_same : (a b : Search) → Some a ≡ Some b → a ≡ b
     some_same a b e = cc
-search_answered first rolled seat number s old new (Err fault) may happens leads = tt
+search_answered base rolled seat number s old new (Err fault) may happens = tt
 
-pub finish_refused : (rolled : List RecordData) (seat number : ℕ) (old new : WorldData) (result : Result AnswerData Fault) → Happens (Finish seat number) old new (reply_of Rows result)
-    → OnErr result (seen rolled new ≡ seen rolled old)
-finish_refused rolled seat number old new (Ok answer) happens = tt
-finish_refused rolled seat number old new (Err fault) happens = seen_same rolled old new (leaves (Finish seat number) old new fault happens)
+pub finish_refused : (base : PlainState) (rolled : List RecordData) (seat number : ℕ) (old new : WorldData) (result : Result AnswerData Fault) → Happens (Finish seat number) old new (reply_of Rows result)
+    → OnErr result (seen base rolled new ≡ seen base rolled old)
+finish_refused base rolled seat number old new (Ok answer) happens = tt
+finish_refused base rolled seat number old new (Err fault) happens = seen_same base rolled old new (leaves (Finish seat number) old new fault happens)
 
 -- Lists of changes.
-
-decider_stays : (state : PlainState) (subject : Subject) (changes : List Change) (outcome : Outcome) → (after_deed (deed_of subject changes outcome) state).decider ≡ state.decider
-decider_stays state subject changes (outcomes.Applied version) = refl
-decider_stays state subject changes (outcomes.Refused refusal denial) = refl
 
 pub base_committed : (seat number : ℕ) (old new : WorldData) (result : Result Outcome Fault) → AddsAlone (Commit seat number) old new (reply_of Ended result)
     → (new.base ≡ old.base) × (new.first ≡ old.first)
 base_committed seat number old new (Ok outcome) h = (h.2.2, h.2.3)
 base_committed seat number old new (Err fault) h = (h.2, h.3)
 
-pub list_ended : (first : ℕ) (rolled : List RecordData) (seat number : ℕ) (changes : List Change) (old new : WorldData) (result : Result Outcome Fault)
-    → staged_in number old.transactions ≡ changes → Happens (Commit seat number) old new (reply_of Ended result) → LeadsTo first rolled old
-    → IfOk result (λ outcome. IsEndedBy seat changes outcome (seen rolled old) (seen rolled new))
-list_ended first rolled seat number changes old new (Ok outcome) same happens leads =
+-- a transaction's judgement is that of its list
+judged_so : (subject : Subject) (t : TransactionData) (old new : PlainState) (outcome : Outcome) → IsJudgement subject t old new outcome → IsJudged subject t.changes old outcome
+judged_so subject t old new (outcomes.Applied version) h = (h.0, h.1)
+judged_so subject t old new (outcomes.Refused refusal denial) h = (h.0, h.1)
+
+one_seated : (seat : ℕ) (seats : List Subject) (one other : Subject) → IsSeated seat seats one → IsSeated seat seats other → one ≡ other
+one_seated seat seats one other h k = some_same one other (sym h ∙ k)
+  where
+    some_same : (a b : Subject) → Some a ≡ Some b → a ≡ b
+    some_same a b e = cc
+
+pub list_ended : (base : PlainState) (rolled : List RecordData) (seat number : ℕ) (changes : List Change) (old new : WorldData) (result : Result Outcome Fault)
+    → staged_in number old.transactions ≡ changes → Happens (Commit seat number) old new (reply_of Ended result)
+    → IfOk result (λ outcome. IsEndedBy seat changes outcome (seen base rolled old) (seen base rolled new))
+list_ended base rolled seat number changes old new (Ok outcome) same happens =
     let alone = adds_alone (Commit seat number) old new (Ended outcome) happens in
-    let staged = staged_in number old.transactions in
+    let ends = outcome_judgement seat number old new outcome happens in
+    let own : ends.0 ≡ alone.0 = one_seated seat old.seats ends.0 alone.0 ends.2 alone.1 in
+    let list : ends.1.changes ≡ changes = sym (staged_of number old.transactions ends.1 ends.3) ∙ same in
+    let judged : IsJudged ends.0 ends.1.changes old.state outcome = judged_so ends.0 ends.1 old.state new.state outcome ends.5 in
     record {
       subject = alone.0;
       seated = alone.1;
-      told = subst (λ (list : List Change). seen rolled new ≡ noted seat (deed_of alone.0 list outcome) (seen rolled old)) same
-          (adds (Commit seat number) old new (Ended outcome) first rolled seat (deed_of alone.0 staged outcome) tt happens
-          (decider_stays old.state alone.0 staged outcome) alone.2 leads).0;
+      judged = subst (λ (s : Subject). IsJudged s changes old.state outcome) own
+          (subst (λ (cs : List Change). IsJudged ends.0 cs old.state outcome) list judged);
+      told = subst (λ (cs : List Change). seen base rolled new ≡ noted seat (deed_of alone.0 cs outcome) (seen base rolled old)) same
+          (adds (Commit seat number) old new (Ended outcome) base rolled seat (deed_of alone.0 (staged_in number old.transactions) outcome) tt happens alone.2);
     }
-list_ended first rolled seat number changes old new (Err fault) same happens leads = tt
+list_ended base rolled seat number changes old new (Err fault) same happens = tt
 
-pub commit_refused : (rolled : List RecordData) (seat number : ℕ) (old new : WorldData) (result : Result Outcome Fault) → Happens (Commit seat number) old new (reply_of Ended result)
-    → OnErr result (seen rolled new ≡ seen rolled old)
-commit_refused rolled seat number old new (Ok outcome) happens = tt
-commit_refused rolled seat number old new (Err fault) happens = seen_same rolled old new (leaves (Commit seat number) old new fault happens)
+pub commit_refused : (base : PlainState) (rolled : List RecordData) (seat number : ℕ) (old new : WorldData) (result : Result Outcome Fault) → Happens (Commit seat number) old new (reply_of Ended result)
+    → OnErr result (seen base rolled new ≡ seen base rolled old)
+commit_refused base rolled seat number old new (Ok outcome) happens = tt
+commit_refused base rolled seat number old new (Err fault) happens = seen_same base rolled old new (leaves (Commit seat number) old new fault happens)
 
 -- Policies.
 
@@ -155,10 +154,10 @@ pub base_governed : (seat : ℕ) (document : DocumentData) (old new : WorldData)
 base_governed seat document old new (Ok edition) h = (h.2, h.3)
 base_governed seat document old new (Err fault) h = (h.2, h.3)
 
-pub governed_next : (first : ℕ) (rolled : List RecordData) (seat : ℕ) (decider : DeciderData) (old new : WorldData) (result : Result ℕ Fault)
+pub governed_next : (base : PlainState) (rolled : List RecordData) (seat : ℕ) (decider : DeciderData) (old new : WorldData) (result : Result ℕ Fault)
     → Happens (Govern seat decider.document) old new (reply_of Number result) → decider.edition ≡ old.state.decider.edition + 1
-    → IfOk result (λ edition. IsGovernedBy seat decider edition (seen rolled old) (seen rolled new))
-governed_next first rolled seat decider old new (Ok edition) happens fits =
+    → IfOk result (λ edition. IsGovernedBy seat decider edition (seen base rolled old) (seen base rolled new))
+governed_next base rolled seat decider old new (Ok edition) happens fits =
     let stewards = policy_stewards seat decider.document edition old new happens in
     let there : edition ≡ decider.edition = stewards.1 ∙ sym fits in
     record {
@@ -167,27 +166,24 @@ governed_next first rolled seat decider old new (Ok edition) happens fits =
       steward = stewards.0.2;
       edition_told = there;
       next = stewards.1;
-      told = governs (Govern seat decider.document) old new (Number edition) first rolled seat (governed decider.edition decider) decider tt happens refl
+      told = adds (Govern seat decider.document) old new (Number edition) base rolled seat (governed decider.edition decider) tt happens
           (subst (λ (n : ℕ). HasOneMore seat (governed n (record { document = decider.document; edition = n })) old new) there (adds_alone (Govern seat decider.document) old new (Number edition) happens));
     }
-governed_next first rolled seat decider old new (Err fault) happens fits = tt
+governed_next base rolled seat decider old new (Err fault) happens fits = tt
 
-pub govern_refused : (rolled : List RecordData) (seat : ℕ) (document : DocumentData) (old new : WorldData) (result : Result ℕ Fault) → Happens (Govern seat document) old new (reply_of Number result)
-    → OnErr result (seen rolled new ≡ seen rolled old)
-govern_refused rolled seat document old new (Ok edition) happens = tt
-govern_refused rolled seat document old new (Err fault) happens = seen_same rolled old new (leaves (Govern seat document) old new fault happens)
+pub govern_refused : (base : PlainState) (rolled : List RecordData) (seat : ℕ) (document : DocumentData) (old new : WorldData) (result : Result ℕ Fault) → Happens (Govern seat document) old new (reply_of Number result)
+    → OnErr result (seen base rolled new ≡ seen base rolled old)
+govern_refused base rolled seat document old new (Ok edition) happens = tt
+govern_refused base rolled seat document old new (Err fault) happens = seen_same base rolled old new (leaves (Govern seat document) old new fault happens)
 
 -- Rolling.
 
--- a roll that is refused leaves the chronicle unchanged
-pub roll_refused : (seat : ℕ) (old new : WorldData) (fault : Fault) (first : ℕ) (rolled : List RecordData) → Happens (Roll seat) old new (Failed fault) → LeadsTo first rolled old
-    → (seen rolled new ≡ seen rolled old) × LeadsTo first rolled new
-roll_refused seat old new fault first rolled happens leads =
-    let same = leaves (Roll seat) old new fault happens in
-    (seen_same rolled old new same, subst (λ (w : WorldData). LeadsTo first rolled w) (sym same) leads)
-
 -- a roll that takes the trail out keeps all records
-pub roll_kept : (seat : ℕ) (old new : WorldData) (piece : RolledData) (first : ℕ) (rolled : List RecordData) → IsSoundWorld old → Happens (Roll seat) old new (TakenOut piece) → LeadsTo first rolled old
-    → (seen (rolled ++ piece.records) new ≡ seen rolled old) × LeadsTo first (rolled ++ piece.records) new
-roll_kept seat old new piece first rolled sound happens leads =
-    rolls seat old new piece first rolled happens sound (piece_leads_on seat old new piece sound happens) (adds_alone (Roll seat) old new (TakenOut piece) happens).1 leads
+pub roll_kept : (seat : ℕ) (old new : WorldData) (piece : RolledData) (base : PlainState) (rolled : List RecordData) → IsSoundWorld old → Happens (Roll seat) old new (TakenOut piece)
+    → LeadsTo base rolled old → (seen base (rolled ++ piece.records) new ≡ seen base rolled old) × LeadsTo base (rolled ++ piece.records) new
+roll_kept seat old new piece base rolled sound happens leads =
+    rolls seat old new piece base rolled happens sound (piece_leads_on seat old new piece sound happens) (adds_alone (Roll seat) old new (TakenOut piece) happens).1 leads
+
+-- the piece has the trail's records
+pub roll_held : (seat : ℕ) (old new : WorldData) (piece : RolledData) → IsSoundWorld old → Happens (Roll seat) old new (TakenOut piece) → piece.records ≡ old.trail
+roll_held seat old new piece sound happens = (piece_leads_on seat old new piece sound happens).5

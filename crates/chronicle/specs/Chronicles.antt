@@ -1,70 +1,74 @@
--- What a hall sees of a world: the opening decider, the subjects of the seats, all records, and the
--- decider in force.
-use Rattle.std.specs.Prelude.{◌≡◌, ◌≤◌, ◌+◌, ℕ, List, [], ◌∷◌, ◌++◌, length, Result}
+-- What a hall sees of a world: what it was opened with, the subjects of the seats, all records, and
+-- the present state.
+use Rattle.std.specs.Prelude.{◌≡◌, ◌≤◌, ℕ, List, [], ◌∷◌, ◌++◌, length, Result}
 use Rattle.features.specs.declared.actors.Subject.{Subject}
-use Rattle.decision.specs.Deciders.{DeciderData}
-use Rattle.audit_trail.specs.Legal.{IsLegal, replay, subject_of}
-use Rattle.audit_trail.specs.Records.{DeedData, RecordData, governed}
+use Rattle.features.specs.Rows.{IsSortedById}
+use Rattle.policy_documents.specs.Documents.{DocumentData}
+use Rattle.audit_trail.specs.Legal.{IsLegal, replay, after_deed, subject_of}
+use Rattle.audit_trail.specs.Records.{DeedData, RecordData}
 use Rattle.judging.specs.States.{PlainState}
 use Rattle.plain_world.specs.Admitting.{given}
-use Rattle.plain_world.specs.Rolls.{RolledData}
 use Rattle.plain_world.specs.States.{WorldData, opening_state}
 use Rattle.plain_world.specs.declared.faults.Fault.{Fault}
 use Rattle.plain_world.specs.declared.settings.TheConstants.{SEAT_LIMIT}
 
--- the decider at the opening, the subjects of the seats that were given, the records of the pieces
--- and then those of the trail, and the decider in force
+-- what a world is opened with: who may have a seat, and the state at which it begins
+pub record Opening : Type 0 where
+  pub subjects : List Subject
+  pub base : PlainState
+
+-- with these subjects, no features, and this document as its first edition
+abbrev pub opening_by : List Subject → DocumentData → Opening
+opening_by subjects document =
+    record {
+      subjects = subjects;
+      base = opening_state 0 (record { document = document; edition = 1 });
+    }
+
 pub record ChronicleData : Type 0 where
-  pub opening : DeciderData
+  pub opening : Opening
+  -- the subject of each seat that was given, from seat 1 on
   pub seats : List Subject
+  -- the records that were rolled out, and then those of the trail
   pub records : List RecordData
-  pub decider : DeciderData
+  -- the features, the version, and the policy in force
+  pub state : PlainState
 
--- the records of pieces, piece after piece
-abbrev pub records_in : List RolledData → List RecordData
-records_in [] = []
-records_in (piece ∷ pieces) = piece.records ++ records_in pieces
-
--- a world, with the records that were rolled out of it
-abbrev pub seen : List RecordData → WorldData → ChronicleData
-seen rolled w = record {
-  opening = w.opening;
+-- a world that began at this base, with the records that were rolled out of it
+abbrev pub seen : PlainState → List RecordData → WorldData → ChronicleData
+seen base rolled w = record {
+  opening = record { subjects = w.subjects; base = base };
   seats = w.seats;
   records = rolled ++ w.trail;
-  decider = w.state.decider;
+  state = w.state;
 }
 
--- The records that were rolled out are legal from the opening on, and lead to the base of the
--- present trail. Their numbers begin with `first`, and the trail's follow them.
-pub record LeadsTo (first : ℕ) (rolled : List RecordData) (w : WorldData) : Type 0 where
-  pub version : w.starts.version ≡ 0
-  pub counted : first + length rolled ≡ w.first
-  pub legal : IsLegal w.seats (opening_state 0 w.opening) rolled
-  pub replayed : replay (opening_state 0 w.opening) rolled ≡ w.base
+-- The records that were rolled out are legal from the base on, and lead to the base of the present
+-- trail. Each of them had a number.
+pub record LeadsTo (base : PlainState) (rolled : List RecordData) (w : WorldData) : Type 0 where
+  pub counted : length rolled ≤ w.first
+  pub legal : IsLegal w.seats base rolled
+  pub replayed : replay base rolled ≡ w.base
 
--- All records are one legal trail from the opening on; its replay is a state that has the decider
--- in force. At most `SEAT_LIMIT` seats were given.
+-- All records are one legal trail from the opening on, and its replay is the state, whose features
+-- are sorted by id. At most `SEAT_LIMIT` seats were given.
 pub record IsSoundChronicle (c : ChronicleData) : Type 0 where
-  pub state : PlainState
-  pub legal : IsLegal c.seats (opening_state 0 c.opening) c.records
-  pub replayed : replay (opening_state 0 c.opening) c.records ≡ state
-  pub in_force : state.decider ≡ c.decider
+  pub legal : IsLegal c.seats c.opening.base c.records
+  pub replayed : replay c.opening.base c.records ≡ c.state
+  pub sorted : IsSortedById c.state.features
   pub few : length c.seats ≤ SEAT_LIMIT
 
--- a new chronicle with this decider
-abbrev pub opened_by : DeciderData → ChronicleData
-opened_by decider = record { opening = decider; seats = []; records = []; decider = decider }
+-- a chronicle that was just opened
+abbrev pub opened_with : Opening → ChronicleData
+opened_with opening = record { opening = opening; seats = []; records = []; state = opening.base }
 
 -- the subject of a seat that was given
 abbrev pub subject_given : ℕ → List Subject → Result Subject Fault
 subject_given seat seats = given (subject_of seat seats)
 
--- one more record
+-- one more record, and the state that its deed makes
 abbrev pub noted : ℕ → DeedData → ChronicleData → ChronicleData
-noted seat deed c = record c { records = c.records ++ record { seat = seat; deed = deed } ∷ [] }
-
--- a decider is put in force, and that is recorded
-abbrev pub governed_by : ℕ → DeciderData → ChronicleData → ChronicleData
-governed_by seat decider c = record (noted seat (governed decider.edition decider) c) {
-  decider = decider;
+noted seat deed c = record c {
+  records = c.records ++ record { seat = seat; deed = deed } ∷ [];
+  state = after_deed deed c.state;
 }

@@ -1,26 +1,31 @@
-//! A world and the pieces that were rolled out of it.
+//! A world with all its records.
 
-ghost use Rattle.std.specs.Prelude.{◌≡◌, ◌≤◌, IfOk, IfErr};
-ghost use Rattle.chronicle.specs.Chronicles.{IsSoundChronicle, opened_by};
+ghost use Rattle.std.specs.Prelude.{◌≡◌, ◌≤◌, [], length, IfOk, IfErr};
+ghost use Rattle.features.specs.Rows.{IsSortedById};
+ghost use Rattle.chronicle.specs.Chronicles.{IsSoundChronicle, opened_with, opening_by};
 ghost use Rattle.memory.specs.NoMemory.{out_of_memory};
+ghost use Rattle.plain_world.specs.States.{opening_state};
 
 use crate::due_slots::DueSlots;
-use audit_trail::RECORD_LIMIT;
+use audit_trail::{RECORD_LIMIT, Record};
 use feature_store::FEATURE_LIMIT;
 use features::Subjects;
 use policy_documents::Document;
 use std::alloc::{Allocator, Global};
 use std::marker::Model;
+use std::snapshot::Snapshot;
 use std::sync::Arc;
-use world::{Fault, Limits, ROLLED_LIMIT, Rolled, STEP_LIMIT, Starts, World};
+use world::{Base, Fault, Limits, ROLLED_LIMIT, STEP_LIMIT, Starts, World};
 
-/// A world and the pieces that were rolled out of it. Contracts see the opening decider, the
-/// subjects of the seats, all records and the decider in force.
+/// A world with all its records, also those that were rolled out of it. Contracts see what it was opened with, the
+/// subjects of the seats, all records and the present state.
 #[derive(Drop)]
 pub struct Chronicle<A: Allocator> {
     pub(crate) world: World<A>,
-    pub(crate) pieces: Vec<Arc<Rolled<A>, A>, A>,
-    pub(crate) first: u32,
+    /// The world as it was opened: for proofs alone, without bytes.
+    pub(crate) opened: Snapshot<World<A>>,
+    /// The records that were rolled out, in order.
+    pub(crate) rolled: Vec<Arc<Record<A>, A>, A>,
     pub(crate) due: DueSlots,
 }
 
@@ -28,7 +33,7 @@ impl<A: Allocator> Model for Chronicle<A> {
     ghost use Rattle.std.specs.Prelude.{map};
     ghost use Rattle.std.specs.Arc.{arc_value};
     ghost use Rattle.std.specs.Coded.{code_by, codes};
-    ghost use Rattle.chronicle.specs.Chronicles.{ChronicleData, LeadsTo, records_in, seen};
+    ghost use Rattle.chronicle.specs.Chronicles.{ChronicleData, LeadsTo, seen};
     ghost use Rattle.chronicle.specs.Coding.{StoredChronicle, stored_chronicle, restored_chronicle, restored_chronicle-stored_chronicle};
 
     ghost Value = { ChronicleData };
@@ -36,15 +41,17 @@ impl<A: Allocator> Model for Chronicle<A> {
     ghost coded = { code_by StoredChronicle (Prim.hlevel codes) stored_chronicle restored_chronicle
         restored_chronicle-stored_chronicle };
 
-    ghost view = { λ c. seen (records_in (map arc_value c.pieces.items)) c.world.plain };
+    ghost view = { λ c. seen c.opened.value.plain.base (map arc_value c.rolled.items)
+        c.world.plain };
 
-    ghost invariant = { λ c. LeadsTo c.first (records_in (map arc_value c.pieces.items))
+    ghost invariant = { λ c. LeadsTo c.opened.value.plain.base (map arc_value c.rolled.items)
         c.world.plain };
 }
 
 impl<A: Allocator> Chronicle<A> {
     /// A fact for callers, without effect: all records are one legal trail from the opening on, its
-    /// replay has the decider in force, and at most `SEAT_LIMIT` seats were given.
+    /// replay is the present state, whose features are sorted by id, and at most `SEAT_LIMIT` seats
+    /// were given.
     pub fn sound(&self)
         ensures { IsSoundChronicle self.now }
     {
@@ -62,7 +69,7 @@ impl<A: Allocator + Copy> Chronicle<A> {
         document: Document<Global>,
     ) -> Result<Self, (Document<Global>, Fault)>
         ensures ok { IfOk result
-            (λ c. c ≡ opened_by (record { document = document; edition = 1 })) }
+            (λ c. c ≡ opened_with (opening_by subjects document)) }
         ensures err { IfErr result (λ e. e ≡ (document, Fault.Memory out_of_memory)) }
     {
         Chronicle::open_at(
@@ -76,8 +83,8 @@ impl<A: Allocator + Copy> Chronicle<A> {
     }
 
     /// The same with other first numbers and other limits, for tests of what happens at their ends.
-    /// No list was applied before, no limit is above that of `Limits::GREATEST`, and at most
-    /// `ROLLED_LIMIT` records were rolled out before.
+    /// No limit is above that of `Limits::GREATEST`, and at most `ROLLED_LIMIT` records were rolled
+    /// out before.
     pub fn open_at(
         alloc: A,
         heap: Global,
@@ -86,22 +93,61 @@ impl<A: Allocator + Copy> Chronicle<A> {
         starts: Starts,
         limits: Limits,
     ) -> Result<Self, (Document<Global>, Fault)>
-        requires version { starts.version ≡ 0 }
         requires rolled { starts.rolled ≤ ROLLED_LIMIT }
         requires records { limits.records ≤ RECORD_LIMIT }
         requires features { limits.features ≤ FEATURE_LIMIT }
         requires steps { limits.steps ≤ STEP_LIMIT }
         ensures ok { IfOk result
-            (λ c. c ≡ opened_by (record { document = document; edition = starts.edition })) }
+            (λ c. c ≡ opened_with (record {
+              subjects = subjects;
+              base = opening_state starts.version
+                  (record { document = document; edition = starts.edition });
+            })) }
         ensures err { IfErr result (λ e. e ≡ (document, Fault.Memory out_of_memory)) }
     {
         let world = World::open_at(alloc, heap, subjects, document, starts, limits)?;
-        let first = world.trail().first();
-        Ok(Chronicle {
+        Ok(Chronicle::of(alloc, world))
+    }
+
+    /// A world that begins at a state: with its features, its version and its policy, no seats and no
+    /// records. The features rise by id. S4 to S7 where the index does not take them, X12 where an
+    /// allocation is refused.
+    pub fn open_from(
+        alloc: A,
+        subjects: Subjects,
+        base: Base<A>,
+        starts: Starts,
+        limits: Limits,
+    ) -> Result<Self, Fault>
+        requires sorted { IsSortedById base.features }
+        requires few { length base.features ≤ FEATURE_LIMIT }
+        requires rolled { starts.rolled ≤ ROLLED_LIMIT }
+        requires records { limits.records ≤ RECORD_LIMIT }
+        requires features { limits.features ≤ FEATURE_LIMIT }
+        requires steps { limits.steps ≤ STEP_LIMIT }
+        ensures { IfOk result
+            (λ c. c ≡ opened_with (record { subjects = subjects; base = base })) }
+    {
+        let world = World::open_from(alloc, subjects, base, starts, limits)?;
+        Ok(Chronicle::of(alloc, world))
+    }
+
+    /// The chronicle of a world that was just opened.
+    fn of(alloc: A, world: World<A>) -> Self
+        requires records { world.plain.trail ≡ [] }
+        requires seats { world.plain.seats ≡ [] }
+        requires state { world.plain.state ≡ world.plain.base }
+        ensures { result ≡ opened_with (record {
+          subjects = world.plain.subjects;
+          base = world.plain.base;
+        }) }
+    {
+        let opened = Snapshot::of(&world);
+        Chronicle {
             world,
-            pieces: Vec::new(alloc),
-            first,
+            opened,
+            rolled: Vec::new(alloc),
             due: DueSlots::none(),
-        })
+        }
     }
 }

@@ -1,12 +1,13 @@
 //! Policies, and rolls of the trail.
 
-ghost use Rattle.std.specs.Prelude.{◌≡◌, ◌<◌, ◌+◌, IfOk, OnErr};
+ghost use Rattle.std.specs.Prelude.{◌≡◌, ◌<◌, ◌+◌, ◌++◌, length, map, take, IfOk, OnOk, OnErr};
 ghost use Rattle.std.specs.Arc.{arc_value};
 ghost use Rattle.chronicle.specs.Noting.{IsGovernedBy};
 
 use crate::chronicles::Chronicle;
+use audit_trail::{Record, Trail};
 use decision::Decider;
-use memory::GrowVec;
+use memory::{GrowVec, NoMemory, another};
 use std::alloc::{Allocator, Global};
 use std::sync::Arc;
 use world::{Fault, Rolled};
@@ -17,15 +18,10 @@ impl<A: Allocator> Chronicle<A> {
     /// trail is full. Takes no memory.
     pub fn next_edition(&self, seat: u32) -> Result<u64, Fault>
         ensures { IfOk result
-            (λ edition. (edition ≡ self.now.decider.edition + 1)
-            × (self.now.decider.edition < u64.MAX)) }
+            (λ edition. (edition ≡ self.now.state.decider.edition + 1)
+            × (self.now.state.decider.edition < u64.MAX)) }
     {
         self.world.next_edition(seat)
-    }
-
-    /// The last piece that was rolled out, shared: a caller may make itself another owner.
-    pub fn last_piece(&self) -> Option<&Arc<Rolled<A>, A>> {
-        self.pieces.last()
     }
 }
 
@@ -35,8 +31,8 @@ impl<A: Allocator + Copy> Chronicle<A> {
     /// its subject is no steward, X8 where the present edition is `u64::MAX` (the decider's own
     /// edition is then ignored), X10 where the trail is full, X12 where an allocation is refused.
     pub fn govern_by(&mut self, seat: u32, decider: Arc<Decider>) -> Result<u64, Fault>
-        requires { self.old.decider.edition < u64.MAX
-            → (arc_value decider).edition ≡ self.old.decider.edition + 1 }
+        requires { self.old.state.decider.edition < u64.MAX
+            → (arc_value decider).edition ≡ self.old.state.decider.edition + 1 }
         ensures ok { IfOk result
             (λ edition. IsGovernedBy seat (arc_value decider) edition self.old self.new) }
         ensures err { OnErr result (self.new ≡ self.old) }
@@ -45,17 +41,45 @@ impl<A: Allocator + Copy> Chronicle<A> {
         self.world.govern_by(seat, decider)
     }
 
-    /// Takes the present trail out, and keeps it as a piece: all records stay. X1 where the seat was
-    /// not given, X7 where its subject is no steward, X8 where the numbers of the new trail would not
-    /// fit, X12 where an allocation is refused, in this order.
-    pub fn roll(&mut self, heap: Global, seat: u32) -> Result<(), Fault>
+    /// Takes the present trail out, with its lines; the chronicle keeps its records. X1 where the
+    /// seat was not given, X7 where its subject is no steward, X8 where the numbers of the new trail
+    /// would not fit, X12 where an allocation is refused, in this order.
+    pub fn roll(&mut self, heap: Global, seat: u32) -> Result<Arc<Rolled<A>, A>, Fault>
         ensures { self.new ≡ self.old }
     {
         self.world.fact_sound();
         self.world.may_roll(seat)?;
-        self.pieces.make_slot()?;
-        let piece = self.world.roll(heap, seat)?;
-        self.pieces.push_reserved(piece);
-        Ok(())
+        let before = self.rolled.len();
+        if let Err(refusal) = append_records(&mut self.rolled, self.world.trail()) {
+            self.rolled.truncate(before);
+            return Err(Fault::Memory(refusal));
+        }
+        match self.world.roll(heap, seat) {
+            Ok(piece) => Ok(piece),
+            Err(fault) => {
+                self.rolled.truncate(before);
+                Err(fault)
+            }
+        }
     }
+}
+
+/// Appends other owners of the records of a trail. Where memory is refused, only some of them are
+/// appended.
+fn append_records<A: Allocator>(
+    rolled: &mut Vec<Arc<Record<A>, A>, A>,
+    trail: &Trail<A>,
+) -> Result<(), NoMemory>
+    ensures ok { OnOk result
+        (map arc_value rolled.new.items ≡ map arc_value rolled.old.items ++ trail.now.records) }
+    ensures front { take (length rolled.old.items) rolled.new.items ≡ rolled.old.items }
+{
+    for index in 0..trail.len() {
+        let Some(record) = trail.get(trail.first() + index) else {
+            unreachable!()
+        };
+        rolled.make_slot()?;
+        rolled.push_reserved(another(record)?);
+    }
+    Ok(())
 }

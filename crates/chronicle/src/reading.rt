@@ -1,25 +1,27 @@
 //! Reading a chronicle.
 
-ghost use Rattle.std.specs.Prelude.{◌≡◌, ◌≤◌, length, map, option_map, None};
+ghost use Rattle.std.specs.Prelude.{◌≡◌, ◌<◌, ◌≤◌, ◌↔◌, ◌++◌, length, map, option_map, slice_get, None, IsSome, IfOk, IfErr};
 ghost use Rattle.std.specs.Arc.{arc_value};
 ghost use Rattle.std.specs.List.{last_or};
-ghost use Rattle.chronicle.specs.Chronicles.{records_in, subject_given};
+ghost use Rattle.features.specs.Rows.{IsSortedById};
+ghost use Rattle.memory.specs.NoMemory.{out_of_memory};
+ghost use Rattle.chronicle.specs.Chronicles.{subject_given};
 
 use crate::chronicles::Chronicle;
 use audit_trail::{Record, Trail};
 use decision::Decider;
+use feature_store::FEATURE_LIMIT;
 use features::Subject;
 use std::alloc::Allocator;
 use std::sync::Arc;
-use world::{Fault, Rolled, SEAT_LIMIT};
+use world::{Base, Fault, SEAT_LIMIT};
 
 impl<A: Allocator> Chronicle<A> {
     /// How many records there are, with those that were rolled out.
     pub fn len(&self) -> u64
         ensures { result ≡ length self.now.records }
     {
-        let trail = self.world.trail();
-        u64::from(trail.first() - self.first) + u64::from(trail.len())
+        self.rolled.len() as u64 + u64::from(self.world.trail().len())
     }
 
     /// How many seats were given: `SEAT_LIMIT` at most.
@@ -32,14 +34,14 @@ impl<A: Allocator> Chronicle<A> {
 
     /// The edition in force.
     pub fn edition(&self) -> u64
-        ensures { result ≡ self.now.decider.edition }
+        ensures { result ≡ self.now.state.decider.edition }
     {
         self.world.edition()
     }
 
     /// The decider in force, shared: a caller may make itself another owner.
     pub fn decider(&self) -> &Arc<Decider>
-        ensures { arc_value result.now ≡ self.now.decider }
+        ensures { arc_value result.now ≡ self.now.state.decider }
     {
         self.world.decider_in_force()
     }
@@ -56,40 +58,59 @@ impl<A: Allocator> Chronicle<A> {
         self.world.subject_at(seat)
     }
 
+    /// The record at a place, counted from 0 over all records, shared: a caller may make itself
+    /// another owner.
+    pub fn get(&self, place: u64) -> Option<&Arc<Record<A>, A>>
+        ensures value { option_map (λ r. arc_value r.now) result ≡ slice_get self.now.records place }
+        ensures found { IsSome result ↔ (place < length self.now.records) }
+    {
+        record_at(&self.rolled, self.world.trail(), place)
+    }
+
     /// The last record, shared: a caller may make itself another owner.
     pub fn last(&self) -> Option<&Arc<Record<A>, A>>
         ensures { option_map (λ r. arc_value r.now) result ≡ last_or None self.now.records }
     {
-        match last_of(self.world.trail()) {
-            Some(record) => Some(record),
-            None => last_in(&self.pieces),
+        let count = self.len();
+        if count == 0 {
+            return None;
         }
+        self.get(count - 1)
     }
 }
 
-/// The last record of a trail.
-fn last_of<A: Allocator>(trail: &Trail<A>) -> Option<&Arc<Record<A>, A>>
-    ensures { option_map (λ r. arc_value r.now) result ≡ last_or None trail.now.records }
-{
-    let count = trail.len();
-    if count == 0 {
-        return None;
+impl<A: Allocator + Copy> Chronicle<A> {
+    /// The present state, from which another chronicle can begin. X12 where an allocation is
+    /// refused.
+    pub fn present(&self) -> Result<Base<A>, Fault>
+        ensures ok { IfOk result (λ base. base ≡ self.now.state) }
+        ensures sorted { IfOk result (λ base. IsSortedById base.features) }
+        ensures few { IfOk result (λ base. length base.features ≤ FEATURE_LIMIT) }
+        ensures err { IfErr result (λ fault. fault ≡ Fault.Memory out_of_memory) }
+    {
+        self.world.present()
     }
-    trail.get(trail.first() + (count - 1))
 }
 
-/// The last record of these pieces.
-fn last_in<A: Allocator>(pieces: &[Arc<Rolled<A>, A>]) -> Option<&Arc<Record<A>, A>>
-    ensures { option_map (λ r. arc_value r.now) result
-        ≡ last_or None (records_in (map arc_value pieces.now)) }
+/// The record at a place of these records and then those of a trail.
+fn record_at<'a, A: Allocator>(
+    rolled: &'a [Arc<Record<A>, A>],
+    trail: &'a Trail<A>,
+    place: u64,
+) -> Option<&'a Arc<Record<A>, A>>
+    ensures value { option_map (λ r. arc_value r.now) result
+        ≡ slice_get (map arc_value rolled.now ++ trail.now.records) place }
+    ensures found { IsSome result
+        ↔ (place < length (map arc_value rolled.now ++ trail.now.records)) }
 {
-    let mut left = pieces.len();
-    while left > 0 {
-        left -= 1;
-        match last_of(pieces[left].trail()) {
-            Some(record) => return Some(record),
-            None => {}
-        }
+    let before = rolled.len() as u64;
+    if place < before {
+        return Some(&rolled[place as usize]);
     }
-    None
+    let behind = place - before;
+    if behind < u64::from(trail.len()) {
+        trail.get(trail.first() + behind as u32)
+    } else {
+        None
+    }
 }

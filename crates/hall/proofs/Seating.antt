@@ -37,3 +37,6 @@ seated_last seats s number e = subst (λ (n : ℕ). IsSeated n (seats ++ s ∷ [
 pub last_subject : (seats : List Subject) (s other : Subject) (number : ℕ) → number ≡ length seats + 1
     → subject_given number (seats ++ s ∷ []) ≡ Ok other → s ≡ other
 last_subject seats s other number e found = one_subject number (seats ++ s ∷ []) s other (seated_last seats s number e) found
+
+pub last_found : (seats : List Subject) (s : Subject) (number : ℕ) → number ≡ length seats + 1 → subject_given number (seats ++ s ∷ []) ≡ Ok s
+last_found seats s number e = ap given (seated_last seats s number e)

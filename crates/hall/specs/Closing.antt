@@ -1,20 +1,29 @@
 -- What a closed hall leaves, and why a hall does not close.
 use Rattle.std.specs.Prelude.{◌≡◌, ◌≢◌, ◌⊎◌, ℕ, Bool, true, List, length, All, Contains}
 use Rattle.audit_trail.specs.Calls.{calls_of}
-use Rattle.chronicle.specs.Chronicles.{ChronicleData, IsSoundChronicle}
+use Rattle.judging.specs.States.{PlainState}
+use Rattle.chronicle.specs.Chronicles.{ChronicleData, IsSoundChronicle, Opening}
 use Rattle.chronicle.specs.Comparing.{DifferFirst}
 use Rattle.hall.specs.declared.faults.CloseFault.{CloseFault}
 use Rattle.hall.specs.declared.faults.CloseFault.TheVariants.{Mismatch, SeatOut}
 use Rattle.hall.specs.Seats.{SeatData, IsKeptBy}
 
--- There is one legal trail of this many records, from which this many seats were given. The trail's
--- records of each of these seats are the seat's receipts.
-pub record IsClosed (records count : ℕ) (seats : List SeatData) : Type 0 where
+-- There is one legal trail of this many records from this opening on, and this many seats were given
+-- to subjects of the opening. The trail's records of each of these seats are the seat's receipts.
+pub record IsClosed (opening : Opening) (records count : ℕ) (seats : List SeatData) : Type 0 where
   pub chronicle : ChronicleData
+  pub opened : chronicle.opening ≡ opening
   pub sound : IsSoundChronicle chronicle
   pub counted : length chronicle.records ≡ records
   pub given : length chronicle.seats ≡ count
   pub kept : All (IsKeptBy chronicle.records) seats
+
+-- the state to which a legal trail leads from this opening on; another hall can begin with it
+pub record IsLeft (opening : Opening) (state : PlainState) : Type 0 where
+  pub chronicle : ChronicleData
+  pub opened : chronicle.opening ≡ opening
+  pub sound : IsSoundChronicle chronicle
+  pub last : chronicle.state ≡ state
 
 -- one of these seats has this number, and its receipts and its records first differ at this place
 pub record IsMismatch (named place : ℕ) (c : ChronicleData) (seats : List SeatData) : Type 0 where

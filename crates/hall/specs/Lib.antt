@@ -1,4 +1,5 @@
 pub mod FaultCodes
+pub mod Names
 pub mod Seats
 pub mod Calls
 pub mod Closing

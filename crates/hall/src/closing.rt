@@ -5,12 +5,12 @@ ghost use Rattle.hall.specs.Closing.{IsCause};
 ghost use Rattle.hall.specs.Seats.{IsKeptBy, receipts_of};
 
 use crate::faults::CloseFault;
+use crate::names::HallName;
 use crate::seats::Seat;
 use chronicle::Chronicle;
-use published_policies::ListName;
 use std::alloc::Allocator;
 use std::sync::Wait;
-use std::sync::ledger::{Ledger, Share};
+use std::sync::ledger::Share;
 
 /// The account of a closed hall.
 #[derive(Clone, Copy, Debug, PartialEq, Eq)]
@@ -22,7 +22,7 @@ pub struct Closed {
 }
 
 /// The first seat whose receipts are not its records, as C1; `None` if there is no such seat.
-pub(crate) fn mismatch<'h, L: Ledger + ListName, R: Wait + Drop, A: Allocator>(
+pub(crate) fn mismatch<'h, L: HallName, R: Wait + Drop, A: Allocator>(
     chronicle: &Chronicle<A>,
     seats: &Vec<Seat<'h, L, R, A>, A>,
 ) -> Option<CloseFault>
@@ -39,7 +39,7 @@ pub(crate) fn mismatch<'h, L: Ledger + ListName, R: Wait + Drop, A: Allocator>(
 }
 
 /// Merges a seat's share into the spare one.
-fn take_in<'h, L: Ledger + ListName, R: Wait + Drop, A: Allocator>(
+fn take_in<'h, L: HallName, R: Wait + Drop, A: Allocator>(
     spare: &mut Share<L>,
     seat: Seat<'h, L, R, A>,
 )
@@ -57,7 +57,7 @@ fn take_in<'h, L: Ledger + ListName, R: Wait + Drop, A: Allocator>(
 }
 
 /// Merges the shares of these seats into the spare one.
-pub(crate) fn gather<'h, L: Ledger + ListName, R: Wait + Drop, A: Allocator>(
+pub(crate) fn gather<'h, L: HallName, R: Wait + Drop, A: Allocator>(
     spare: &mut Share<L>,
     seats: Vec<Seat<'h, L, R, A>, A>,
 )

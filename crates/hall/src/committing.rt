@@ -3,19 +3,19 @@
 ghost use Rattle.std.specs.Prelude.{◌≡◌, ◌<◌, ◌+◌, IfOk, OnOk, OnErr};
 ghost use Rattle.std.specs.Arc.{arc_value};
 ghost use Rattle.plain_world.specs.Laws.{deed_of};
-ghost use Rattle.hall.specs.Calls.{IsCommitted};
+ghost use Rattle.hall.specs.Calls.{IsCommitted, IsOutcome};
 
 use crate::faults::HallFault;
 use crate::guarded::Guarded;
 use crate::halls::Hall;
+use crate::names::HallName;
 use crate::seats::Seat;
 use crate::sections::{Committing, Pause, TRY_LIMIT, Unfinished, events_in_section};
 use audit_trail::Record;
 use features::{Change, Subject};
 use memory::GrowVec;
-use published_policies::ListName;
 use std::alloc::Allocator;
-use std::sync::ledger::{Ledger, Share};
+use std::sync::ledger::Share;
 use std::sync::{Arc, MutexGuard, Wait};
 use world::{Fault, Outcome, TreeFault};
 
@@ -23,7 +23,7 @@ use world::{Fault, Outcome, TreeFault};
 /// ends, X15 until a transaction ends. The list's transaction is aborted then, and whoever waits
 /// for its end is woken. Ok where the list may be tried again: it waited, and `tries` leaves one
 /// more. H4 for S3.
-fn wait_or_give_up<L: Ledger + ListName, R: Wait + Drop, A: Allocator, W: Wait>(
+fn wait_or_give_up<L: HallName, R: Wait + Drop, A: Allocator, W: Wait>(
     rt: &W,
     hall: &Hall<L, R, A>,
     guarded: MutexGuard<'_, Guarded<L, R, A>>,
@@ -57,7 +57,7 @@ fn wait_or_give_up<L: Ledger + ListName, R: Wait + Drop, A: Allocator, W: Wait>(
 /// counted in the seat's share. A list that searches hold back, or that finds as many transactions
 /// open as may be, waits until one of them ends; H4 or X15 after `TRY_LIMIT` tries. After a fault
 /// no transaction is open.
-fn committed<L: Ledger + ListName, R: Wait + Drop, A: Allocator + Copy, W: Wait, P: Pause>(
+fn committed<L: HallName, R: Wait + Drop, A: Allocator + Copy, W: Wait, P: Pause>(
     rt: &W,
     hall: &Hall<L, R, A>,
     seat: u32,
@@ -67,6 +67,7 @@ fn committed<L: Ledger + ListName, R: Wait + Drop, A: Allocator + Copy, W: Wait,
     pause: &mut P,
 ) -> Result<(Outcome, Arc<Record<A>, A>), HallFault>
     requires { 0 < share.old.parts }
+    ensures judged { IfOk result (λ done. IsOutcome subject.now changes.now done.0) }
     ensures receipt { IfOk result
         (λ done. arc_value done.1
         ≡ record { seat = seat; deed = deed_of subject.now changes.now done.0 }) }
@@ -96,7 +97,7 @@ fn committed<L: Ledger + ListName, R: Wait + Drop, A: Allocator + Copy, W: Wait,
     unreachable!()
 }
 
-impl<'h, L: Ledger + ListName, R: Wait + Drop, A: Allocator + Copy> Seat<'h, L, R, A> {
+impl<'h, L: HallName, R: Wait + Drop, A: Allocator + Copy> Seat<'h, L, R, A> {
     /// Commits a list of changes, all or none. A list that a search holds back waits until a search
     /// ends, one that finds 64 transactions open until a transaction ends; it is then tried again,
     /// at most `TRY_LIMIT` times in all. H4 where a search held it back at the last try. H6 where

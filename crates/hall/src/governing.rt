@@ -4,16 +4,16 @@ ghost use Rattle.std.specs.Prelude.{◌≡◌, IfOk, OnErr};
 ghost use Rattle.hall.specs.Calls.{IsGoverned};
 
 use crate::faults::HallFault;
+use crate::names::HallName;
 use crate::seats::Seat;
 use memory::GrowVec;
 use policy_documents::Document;
-use published_policies::{Edition, ListName};
+use published_policies::Edition;
 use std::alloc::{Allocator, Global};
-use std::sync::ledger::Ledger;
 use std::sync::{Arc, Wait};
 use world::Rolled;
 
-impl<'h, L: Ledger + ListName, R: Wait + Drop, A: Allocator + Copy> Seat<'h, L, R, A> {
+impl<'h, L: HallName, R: Wait + Drop, A: Allocator + Copy> Seat<'h, L, R, A> {
     /// Puts a document in force, and returns its edition, which a view may be told. H6 where there
     /// is no memory for the receipt's place; H5 with X7 where the seat's subject is no steward, X8
     /// where the edition is at its end, X10 where the trail is full; then H6 where there is no
@@ -45,6 +45,6 @@ impl<'h, L: Ledger + ListName, R: Wait + Drop, A: Allocator + Copy> Seat<'h, L, 
         ensures { self.new ≡ self.old }
     {
         let hall = self.hall;
-        hall.lock.lock(rt).roll(rt, hall.heap, self.number)
+        hall.lock.lock(rt).roll(hall.heap, self.number)
     }
 }

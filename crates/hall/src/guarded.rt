@@ -1,34 +1,42 @@
 //! What the lock guards.
 
-ghost use Rattle.std.specs.Prelude.{◌≡◌, ◌<◌, ◌+◌, [], ◌∷◌, false, length, slice_get, None, Some, Ok, IfOk, IfErr, OnOk, OnErr, All};
+ghost use Rattle.std.specs.Prelude.{◌≡◌, ◌<◌, ◌≤◌, ◌+◌, [], ◌∷◌, false, length, slice_get, None, Some, Ok, IfOk, IfErr, OnOk, OnErr, All};
 ghost use Rattle.std.specs.Arc.{arc_value};
 ghost use Rattle.std.specs.List.{last_or};
 ghost use Rattle.audit_trail.specs.Records.{governed};
-ghost use Rattle.chronicle.specs.Chronicles.{IsSoundChronicle, subject_given};
+ghost use Rattle.features.specs.Rows.{IsSortedById};
+ghost use Rattle.features.specs.Subjects.{subject_named};
+ghost use Rattle.chronicle.specs.Chronicles.{IsSoundChronicle, opened_with, subject_given};
+ghost use Rattle.chronicle.specs.Coding.{opening_set};
 ghost use Rattle.chronicle.specs.Noting.{told_answer};
+ghost use Rattle.plain_world.specs.Answers.{IsAnswer};
 ghost use Rattle.plain_world.specs.Laws.{deed_of};
+ghost use Rattle.plain_world.specs.declared.settings.TheConstants.{SEAT_LIMIT};
 ghost use Rattle.published_policies.specs.Coding.{decider_set};
-ghost use Rattle.hall.specs.Calls.{IsNext, put_in_force};
+ghost use Rattle.published_policies.specs.Lists.{last_edition};
+ghost use Rattle.hall.specs.Calls.{IsNext, IsOutcome, put_in_force};
 ghost use Rattle.hall.specs.Closing.{IsCause};
 ghost use Rattle.hall.specs.Seats.{IsKeptBy, receipts_of};
 ghost use Rattle.hall.specs.declared.guarded.TheConstants.{LEDGER_PARTS};
 
 use crate::closing::{Closed, gather, mismatch};
 use crate::faults::{CloseFault, HallFault};
+use crate::names::HallName;
 use crate::seats::Seat;
 use crate::sections::{Committing, Searching, Unfinished};
 use audit_trail::Record;
 use chronicle::Chronicle;
 use decision::Decider;
+use feature_store::FEATURE_LIMIT;
 use features::{Change, Name, Subject};
 use memory::{NoMemory, another, shared};
 use plane::Shape;
 use policy_documents::Document;
-use published_policies::{Edition, ListName, Publisher, View};
+use published_policies::{Edition, Publisher, View};
 use std::alloc::{Allocator, Global};
 use std::sync::ledger::{Blank, Book, Ledger, Share};
 use std::sync::{Arc, Wait};
-use world::{Advance, Answer, Fault, Outcome, Rolled, SEAT_LIMIT, Visit};
+use world::{Advance, Answer, Base, Fault, Outcome, Rolled, SEAT_LIMIT, Visit};
 
 /// The parts of a hall's ledger: one for each seat that may be given, and one that stays.
 pub const LEDGER_PARTS: u64 = SEAT_LIMIT as u64 + 1;
@@ -40,7 +48,7 @@ pub(crate) const SLOTS_AT_ONCE: u32 = 16;
 /// and the number of records in a ledger, in which each seat has its share. Whoever gets the lock
 /// knows the facts below, and those of a chronicle.
 #[derive(Drop)]
-pub(crate) struct Guarded<L: Ledger + ListName, R: Wait + Drop, A: Allocator> {
+pub(crate) struct Guarded<L: HallName, R: Wait + Drop, A: Allocator> {
     chronicle: Chronicle<A>,
     publisher: Publisher<L, R>,
     /// How many views may still be given.
@@ -57,9 +65,9 @@ pub(crate) struct Guarded<L: Ledger + ListName, R: Wait + Drop, A: Allocator> {
     pub ghost counted: { book.total ≡ length chronicle.records },
     pub ghost idle: { gathered ≡ false → spare.amount ≡ 0 },
     pub ghost cut: { gathered ≡ false → spare.parts + length chronicle.seats ≡ LEDGER_PARTS },
-    pub ghost edition: { length publisher ≡ chronicle.decider.edition },
-    pub ghost begins: { slice_get publisher 0 ≡ Some chronicle.opening } by { decider_set _ _ },
-    pub ghost in_force: { last_or None publisher ≡ Some chronicle.decider } by { decider_set _ _ },
+    pub ghost opened: { chronicle.opening ≡ L.opening } by { opening_set _ _ },
+    pub ghost begins: { slice_get publisher 0 ≡ Some L.opening.base.decider } by { decider_set _ _ },
+    pub ghost in_force: { last_or None publisher ≡ Some chronicle.state.decider } by { decider_set _ _ },
 }
 
 /// Counts the last record, which was just written, in a seat's share, and returns another owner of
@@ -134,9 +142,9 @@ fn next_decider<A: Allocator>(
     }
 }
 
-impl<L: Ledger + ListName, R: Wait + Drop, A: Allocator> Guarded<L, R, A> {
-    /// A new chronicle whose first policy is published, with a new ledger, and this many views to
-    /// give.
+impl<L: HallName, R: Wait + Drop, A: Allocator> Guarded<L, R, A> {
+    /// A chronicle that was just opened, with its first policy published, a new ledger, and this
+    /// many views to give.
     pub(crate) fn new(
         chronicle: Chronicle<A>,
         publisher: Publisher<L, R>,
@@ -145,10 +153,8 @@ impl<L: Ledger + ListName, R: Wait + Drop, A: Allocator> Guarded<L, R, A> {
     ) -> Self
         requires name { blank.name ≡ L.name }
         requires parts { (blank.parts ≡ L.parts) × (L.parts ≡ LEDGER_PARTS) }
-        requires empty { (chronicle.records ≡ []) × (chronicle.seats ≡ []) }
-        requires in_force { chronicle.decider ≡ chronicle.opening }
-        requires first { chronicle.opening.edition ≡ 1 }
-        requires published { publisher ≡ chronicle.opening ∷ [] }
+        requires opened { chronicle ≡ opened_with L.opening }
+        requires published { publisher ≡ L.opening.base.decider ∷ [] }
         ensures { result.chronicle ≡ chronicle }
     {
         let (book, spare) = blank.open::<L>();
@@ -167,8 +173,10 @@ impl<L: Ledger + ListName, R: Wait + Drop, A: Allocator> Guarded<L, R, A> {
     /// hall is closed, H1 where there is no such subject, H2 where all seats are given, H5 where an
     /// allocation is refused.
     pub(crate) fn seat(&mut self, name: Name) -> Result<(u32, Subject, Share<L>), HallFault>
+        ensures next { IfOk result (λ given. given.0 ≡ length self.old.chronicle.seats + 1) }
+        ensures few { IfOk result (λ given. given.0 ≤ SEAT_LIMIT) }
+        ensures named { IfOk result (λ given. subject_named name L.opening.subjects ≡ Some given.1) }
         ensures share { IfOk result (λ given. (given.2.parts ≡ 1) × (given.2.amount ≡ 0)) }
-        ensures named { IfOk result (λ given. given.1.name ≡ name) }
     {
         let Guarded {
             chronicle,
@@ -189,6 +197,7 @@ impl<L: Ledger + ListName, R: Wait + Drop, A: Allocator> Guarded<L, R, A> {
     /// Gives a view of the policies. H3 where the hall is closed, H2 where all views are given.
     pub(crate) fn view(&mut self) -> Result<View<L>, HallFault>
         ensures list { IfOk result (λ view. view ≡ self.old.publisher) }
+        ensures begins { IfOk result (λ view. slice_get view 0 ≡ Some L.opening.base.decider) }
         ensures fewer { OnOk result (self.old.views_left ≡ self.new.views_left + 1) }
         ensures err { OnErr result (self.new.views_left ≡ self.old.views_left) }
     {
@@ -290,10 +299,12 @@ impl<L: Ledger + ListName, R: Wait + Drop, A: Allocator> Guarded<L, R, A> {
     }
 }
 
-impl<L: Ledger + ListName, R: Wait + Drop, A: Allocator> Guarded<L, R, A> {
-    /// A fact for callers, without effect: all records are one legal trail.
+impl<L: HallName, R: Wait + Drop, A: Allocator> Guarded<L, R, A> {
+    /// A fact for callers, without effect: all records are one legal trail, from what the hall was
+    /// opened with.
     pub(crate) fn sound(&self)
-        ensures { IsSoundChronicle self.now.chronicle }
+        ensures sound { IsSoundChronicle self.now.chronicle }
+        ensures opened { self.now.chronicle.opening ≡ L.opening }
     {
         self.chronicle.sound();
     }
@@ -344,7 +355,7 @@ impl<L: Ledger + ListName, R: Wait + Drop, A: Allocator> Guarded<L, R, A> {
     }
 }
 
-impl<L: Ledger + ListName, R: Wait + Drop, A: Allocator + Copy> Guarded<L, R, A> {
+impl<L: HallName, R: Wait + Drop, A: Allocator + Copy> Guarded<L, R, A> {
     /// Opens a search.
     fn open_search(&mut self, seat: u32, window: Shape) -> Result<u64, Fault> {
         self.chronicle.open_search(seat, window)
@@ -421,6 +432,17 @@ impl<L: Ledger + ListName, R: Wait + Drop, A: Allocator + Copy> Guarded<L, R, A>
         Err(Unfinished::More)
     }
 
+    /// The present state. X12 where an allocation is refused.
+    pub(crate) fn state(&self) -> Result<Base<A>, HallFault>
+        ensures state { IfOk result (λ base. base ≡ self.now.chronicle.state) }
+        ensures sorted { IfOk result (λ base. IsSortedById base.features) }
+        ensures few { IfOk result (λ base. length base.features ≤ FEATURE_LIMIT) }
+        ensures edition { IfOk result (λ base. 0 < base.decider.edition) }
+    {
+        let _edition = self.publisher.edition();
+        Ok(self.chronicle.present()?)
+    }
+
     /// Finishes a search of a seat of this subject for a window. The record is counted in the
     /// seat's share.
     fn finish<W: Wait>(
@@ -435,6 +457,7 @@ impl<L: Ledger + ListName, R: Wait + Drop, A: Allocator + Copy> Guarded<L, R, A>
         requires { 0 < share.old.parts }
         ensures subject { IfOk result (λ done. done.0.subject ≡ subject.now) }
         ensures window { IfOk result (λ done. done.0.window ≡ window.now) }
+        ensures shown { IfOk result (λ done. IsAnswer done.0) }
         ensures receipt { IfOk result
             (λ done. arc_value done.1 ≡ record { seat = seat; deed = told_answer done.0 }) }
         ensures amount { OnOk result (share.new.amount ≡ share.old.amount + 1) }
@@ -448,6 +471,7 @@ impl<L: Ledger + ListName, R: Wait + Drop, A: Allocator + Copy> Guarded<L, R, A>
         } = self;
         is_seat_of(chronicle, seat, subject)?;
         let answer = chronicle.finish(seat, number, window)?;
+        let _shown = answer.rows();
         Ok((answer, receipt(rt, chronicle, book, share)))
     }
 
@@ -466,6 +490,7 @@ impl<L: Ledger + ListName, R: Wait + Drop, A: Allocator + Copy> Guarded<L, R, A>
         requires { 0 < share.old.parts }
         ensures subject { IfOk result (λ done. done.0.subject ≡ subject.now) }
         ensures window { IfOk result (λ done. done.0.window ≡ window.now) }
+        ensures shown { IfOk result (λ done. IsAnswer done.0) }
         ensures receipt { IfOk result
             (λ done. arc_value done.1 ≡ record { seat = seat; deed = told_answer done.0 }) }
         ensures amount { OnOk result (share.new.amount ≡ share.old.amount + 1) }
@@ -490,6 +515,7 @@ impl<L: Ledger + ListName, R: Wait + Drop, A: Allocator + Copy> Guarded<L, R, A>
         changes: &[Change],
     ) -> Result<(Outcome, Arc<Record<A>, A>), Fault>
         requires { 0 < share.old.parts }
+        ensures judged { IfOk result (λ done. IsOutcome subject.now changes.now done.0) }
         ensures receipt { IfOk result
             (λ done. arc_value done.1
             ≡ record { seat = seat; deed = deed_of subject.now changes.now done.0 }) }
@@ -520,6 +546,7 @@ impl<L: Ledger + ListName, R: Wait + Drop, A: Allocator + Copy> Guarded<L, R, A>
         events: u32,
     ) -> Result<(Outcome, Arc<Record<A>, A>), Unfinished>
         requires { 0 < share.old.parts }
+        ensures judged { IfOk result (λ done. IsOutcome subject.now changes.now done.0) }
         ensures receipt { IfOk result
             (λ done. arc_value done.1
             ≡ record { seat = seat; deed = deed_of subject.now changes.now done.0 }) }
@@ -553,7 +580,7 @@ impl<L: Ledger + ListName, R: Wait + Drop, A: Allocator + Copy> Guarded<L, R, A>
             (λ done. arc_value done.1
             ≡ record {
               seat = seat;
-              deed = governed (length done.0) (put_in_force document done.0);
+              deed = governed (last_edition done.0) (put_in_force document done.0);
             }) }
         ensures amount { OnOk result (share.new.amount ≡ share.old.amount + 1) }
         ensures err { OnErr result (share.new.amount ≡ share.old.amount) }
@@ -573,22 +600,7 @@ impl<L: Ledger + ListName, R: Wait + Drop, A: Allocator + Copy> Guarded<L, R, A>
     }
 
     /// Takes the present trail out, and returns it. All its records stay in the chronicle.
-    pub(crate) fn roll<W: Wait>(
-        &mut self,
-        rt: &W,
-        heap: Global,
-        seat: u32,
-    ) -> Result<Arc<Rolled<A>, A>, HallFault> {
-        self.chronicle.roll(heap, seat)?;
-        for _ in rt.forever() {
-            match self.chronicle.last_piece() {
-                None => {}
-                Some(piece) => match another(piece) {
-                    Ok(piece) => return Ok(piece),
-                    Err(_) => {}
-                },
-            }
-        }
-        unreachable!()
+    pub(crate) fn roll(&mut self, heap: Global, seat: u32) -> Result<Arc<Rolled<A>, A>, HallFault> {
+        Ok(self.chronicle.roll(heap, seat)?)
     }
 }

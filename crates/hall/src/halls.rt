@@ -1,12 +1,18 @@
 //! The hall, and how it is opened, used and closed.
 
-ghost use Rattle.std.specs.Prelude.{◌≡◌, [], ◌∷◌, ◌≤◌, IfOk, IfErr, OnOk, length};
-ghost use Rattle.hall.specs.Closing.{IsClosed};
+ghost use Rattle.std.specs.Prelude.{◌≡◌, [], ◌∷◌, ◌<◌, ◌≤◌, IfOk, IfErr, OnOk, Some, length, slice_get};
+ghost use Rattle.features.specs.Rows.{IsSortedById};
+ghost use Rattle.features.specs.Subjects.{subject_named};
+ghost use Rattle.chronicle.specs.Chronicles.{opened_with, opening_by};
+ghost use Rattle.plain_world.specs.declared.settings.TheConstants.{SEAT_LIMIT};
+ghost use Rattle.hall.specs.declared.halls.TheConstants.{VIEW_LIMIT};
+ghost use Rattle.hall.specs.Closing.{IsClosed, IsLeft};
 ghost use Rattle.hall.specs.Seats.{receipts_of};
 
 use crate::closing::Closed;
 use crate::faults::{CloseFault, HallFault, OpenFault};
 use crate::guarded::{Guarded, LEDGER_PARTS, SLOTS_AT_ONCE};
+use crate::names::{HallName, Unnamed};
 use crate::seats::Seat;
 use audit_trail::RECORD_LIMIT;
 use chronicle::Chronicle;
@@ -16,36 +22,14 @@ use memory::another;
 use policy_documents::Document;
 use published_policies::{EmptyList, ListName, Publisher, View};
 use std::alloc::{Allocator, Global};
-use std::sync::ledger::{Blank, Ledger};
 use std::sync::{Condvar, Mutex, Wait};
-use world::{Limits, STEP_LIMIT, Starts};
+use world::{Base, Limits, ROLLED_LIMIT, STEP_LIMIT, Starts};
 
 /// The most views that a hall gives.
 pub const VIEW_LIMIT: usize = 64;
 
 /// The most critical sections in which `tend_round` tends what is due.
 const SECTIONS: u32 = 64;
-
-/// What proofs name a hall by: a new ledger, and a list of policies that has no policy yet. It is
-/// made before the function that opens, uses and closes the hall is called, so that this function's
-/// type parameter `L` can stand for it.
-#[derive(Drop)]
-pub struct Unnamed {
-    pub ledger: Blank,
-    pub list: EmptyList,
-}
-
-impl Unnamed {
-    /// A new ledger, with the parts that a hall needs, and a new list.
-    pub fn new() -> Self
-        ensures { result.ledger.parts ≡ LEDGER_PARTS }
-    {
-        Unnamed {
-            ledger: Blank::new(LEDGER_PARTS),
-            list: EmptyList::new(),
-        }
-    }
-}
 
 /// Publishes the policy with which a chronicle was opened, for this many views.
 fn publish_first<L: ListName, R: Wait + Drop, A: Allocator>(
@@ -56,9 +40,9 @@ fn publish_first<L: ListName, R: Wait + Drop, A: Allocator>(
     views: usize,
 ) -> Result<Publisher<L, R>, OpenFault>
     requires list { list ≡ L.book }
-    requires first { chronicle.now.decider.edition ≡ 1 }
-    requires views { views ≤ 64 }
-    ensures { IfOk result (λ publisher. publisher ≡ chronicle.now.decider ∷ []) }
+    requires first { 0 < chronicle.now.state.decider.edition }
+    requires views { views ≤ VIEW_LIMIT }
+    ensures { IfOk result (λ publisher. publisher ≡ chronicle.now.state.decider ∷ []) }
 {
     let first = another(chronicle.decider())?;
     // A pair of copies needs a reader; a hall for no views has one that it never gives out.
@@ -69,7 +53,7 @@ fn publish_first<L: ListName, R: Wait + Drop, A: Allocator>(
 /// One world that many threads share. Each event is made in a critical section of its one lock.
 /// Calls of the world are made through a seat.
 #[derive(Drop)]
-pub struct Hall<L: Ledger + ListName, R: Wait + Drop, A: Allocator> {
+pub struct Hall<L: HallName, R: Wait + Drop, A: Allocator> {
     pub(crate) lock: Mutex<Guarded<L, R, A>>,
     /// Notified when a search has ended: a list that it held back may be tried again, and a search
     /// that found as many open as may be.
@@ -81,7 +65,7 @@ pub struct Hall<L: Ledger + ListName, R: Wait + Drop, A: Allocator> {
     pub(crate) heap: Global,
 }
 
-impl<L: Ledger + ListName, R: Wait + Drop, A: Allocator + Copy> Hall<L, R, A> {
+impl<L: HallName, R: Wait + Drop, A: Allocator + Copy> Hall<L, R, A> {
     /// A hall with no features and no seats, with this document as its first edition, for this many
     /// views. `rt` is the hall's own handle, with which it publishes policies. `alloc` keeps
     /// features, records and receipts; `heap` keeps documents, the lines of a trail and what views
@@ -99,7 +83,9 @@ impl<L: Ledger + ListName, R: Wait + Drop, A: Allocator + Copy> Hall<L, R, A> {
         requires name { unnamed.ledger.name ≡ L.name }
         requires parts { (unnamed.ledger.parts ≡ L.parts) × (L.parts ≡ LEDGER_PARTS) }
         requires list { unnamed.list ≡ L.book }
-        ensures { IfErr result (λ e. e.0 ≡ document) }
+        requires opening { L.opening ≡ opening_by subjects document }
+        ensures ok { OnOk result (views ≤ VIEW_LIMIT) }
+        ensures err { IfErr result (λ e. e.0 ≡ document) }
     {
         let limits = Limits::GREATEST;
         Hall::open_within(rt, alloc, heap, unnamed, subjects, document, views, limits)
@@ -120,15 +106,16 @@ impl<L: Ledger + ListName, R: Wait + Drop, A: Allocator + Copy> Hall<L, R, A> {
         requires name { unnamed.ledger.name ≡ L.name }
         requires parts { (unnamed.ledger.parts ≡ L.parts) × (L.parts ≡ LEDGER_PARTS) }
         requires list { unnamed.list ≡ L.book }
+        requires opening { L.opening ≡ opening_by subjects document }
         requires records { limits.records ≤ RECORD_LIMIT }
         requires features { limits.features ≤ FEATURE_LIMIT }
         requires steps { limits.steps ≤ STEP_LIMIT }
-        ensures { IfErr result (λ e. e.0 ≡ document) }
+        ensures ok { OnOk result (views ≤ VIEW_LIMIT) }
+        ensures err { IfErr result (λ e. e.0 ≡ document) }
     {
         if views > VIEW_LIMIT {
             return Err((document, OpenFault::NoPlace));
         }
-        let Unnamed { ledger, list } = unnamed;
         // A fault returns this copy where the world has the document already.
         let copy = match document.copy(heap) {
             Ok(copy) => copy,
@@ -139,10 +126,73 @@ impl<L: Ledger + ListName, R: Wait + Drop, A: Allocator + Copy> Hall<L, R, A> {
             Ok(chronicle) => chronicle,
             Err((document, fault)) => return Err((document, OpenFault::Core(fault))),
         };
-        let publisher = match publish_first(rt, heap, list, &chronicle, views) {
-            Ok(publisher) => publisher,
-            Err(fault) => return Err((copy, fault)),
+        match Hall::over(rt, alloc, heap, unnamed, chronicle, views) {
+            Ok(hall) => Ok(hall),
+            Err(fault) => Err((copy, fault)),
+        }
+    }
+
+    /// A hall that begins at a state: with its features, its version and its policy, no seats and no
+    /// records. The features rise by id, and the edition is not 0. Before its first record `rolled`
+    /// records had a number. H2 where more than `VIEW_LIMIT` views are asked for, the world's S4 to
+    /// S7 where the index does not take the features; H6, or the world's X12, where an allocation
+    /// is refused.
+    pub fn open_from(
+        rt: R,
+        alloc: A,
+        heap: Global,
+        unnamed: Unnamed,
+        subjects: Subjects,
+        base: Base<A>,
+        rolled: u32,
+        views: usize,
+        limits: Limits,
+    ) -> Result<Self, OpenFault>
+        requires name { unnamed.ledger.name ≡ L.name }
+        requires parts { (unnamed.ledger.parts ≡ L.parts) × (L.parts ≡ LEDGER_PARTS) }
+        requires list { unnamed.list ≡ L.book }
+        requires opening { L.opening ≡ record { subjects = subjects; base = base } }
+        requires sorted { IsSortedById base.features }
+        requires few { length base.features ≤ FEATURE_LIMIT }
+        requires edition { 0 < base.decider.edition }
+        requires rolled { rolled ≤ ROLLED_LIMIT }
+        requires records { limits.records ≤ RECORD_LIMIT }
+        requires features { limits.features ≤ FEATURE_LIMIT }
+        requires steps { limits.steps ≤ STEP_LIMIT }
+        ensures { OnOk result (views ≤ VIEW_LIMIT) }
+    {
+        if views > VIEW_LIMIT {
+            return Err(OpenFault::NoPlace);
+        }
+        let starts = Starts {
+            rolled,
+            ..Starts::FIRST
         };
+        let chronicle = match Chronicle::open_from(alloc, subjects, base, starts, limits) {
+            Ok(chronicle) => chronicle,
+            Err(fault) => return Err(OpenFault::Core(fault)),
+        };
+        Hall::over(rt, alloc, heap, unnamed, chronicle, views)
+    }
+
+    /// The hall of a chronicle that was just opened.
+    fn over(
+        rt: R,
+        alloc: A,
+        heap: Global,
+        unnamed: Unnamed,
+        chronicle: Chronicle<A>,
+        views: usize,
+    ) -> Result<Self, OpenFault>
+        requires name { unnamed.ledger.name ≡ L.name }
+        requires parts { (unnamed.ledger.parts ≡ L.parts) × (L.parts ≡ LEDGER_PARTS) }
+        requires list { unnamed.list ≡ L.book }
+        requires opened { chronicle ≡ opened_with L.opening }
+        requires edition { 0 < L.opening.base.decider.edition }
+        requires views { views ≤ VIEW_LIMIT }
+    {
+        let Unnamed { ledger, list } = unnamed;
+        let publisher = publish_first(rt, heap, list, &chronicle, views)?;
         Ok(Hall {
             lock: Mutex::new(Guarded::new(chronicle, publisher, views, ledger)),
             search_ended: Condvar::new(),
@@ -155,7 +205,9 @@ impl<L: Ledger + ListName, R: Wait + Drop, A: Allocator + Copy> Hall<L, R, A> {
     /// Gives a seat to the subject of a name. H3 where the hall is closed, H1 where there is no
     /// such subject, H2 where all seats are given, H5 where an allocation is refused.
     pub fn seat<'h, W: Wait>(&'h self, rt: &W, name: Name) -> Result<Seat<'h, L, R, A>, HallFault>
-        ensures named { IfOk result (λ seat. seat.subject.name ≡ name) }
+        ensures number { IfOk result (λ seat. (0 < seat.number) × (seat.number ≤ SEAT_LIMIT)) }
+        ensures named { IfOk result
+            (λ seat. subject_named name L.opening.subjects ≡ Some seat.subject) }
         ensures receipts { IfOk result (λ seat. seat.receipts ≡ []) }
     {
         let (number, subject, share) = self.lock.lock(rt).seat(name)?;
@@ -170,8 +222,10 @@ impl<L: Ledger + ListName, R: Wait + Drop, A: Allocator + Copy> Hall<L, R, A> {
 
     /// A view of the policies, which asks how they rule without the lock and without waiting. H3
     /// where the hall is closed, H2 where all views are given; a view that was dropped is not given
-    /// again.
-    pub fn view<W: Wait>(&self, rt: &W) -> Result<View<L>, HallFault> {
+    /// again. The view's list begins with the policy that the hall was opened with.
+    pub fn view<W: Wait>(&self, rt: &W) -> Result<View<L>, HallFault>
+        ensures begins { IfOk result (λ view. slice_get view 0 ≡ Some L.opening.base.decider) }
+    {
         self.lock.lock(rt).view()
     }
 
@@ -219,11 +273,31 @@ impl<L: Ledger + ListName, R: Wait + Drop, A: Allocator + Copy> Hall<L, R, A> {
         ensures records { IfOk result (λ closed. closed.records ≡ receipts_of seats.entry.items) }
         ensures seats { IfOk result (λ closed. closed.seats ≡ length seats.entry.items) }
         ensures trail { IfOk result
-            (λ closed. IsClosed closed.records closed.seats seats.entry.items) }
+            (λ closed. IsClosed L.opening closed.records closed.seats seats.entry.items) }
         ensures back { IfErr result (λ e. e.1.items ≡ seats.entry.items) }
     {
         let mut guarded = self.lock.lock(rt);
         guarded.sound();
         guarded.settle(seats)
+    }
+
+    /// Ends the hall, and returns the state that it has come to: what another hall can begin with.
+    /// H5 with X12 where an allocation is refused.
+    pub fn into_state(self) -> Result<Base<A>, HallFault>
+        ensures left { IfOk result (IsLeft L.opening) }
+        ensures sorted { IfOk result (λ base. IsSortedById base.features) }
+        ensures few { IfOk result (λ base. length base.features ≤ FEATURE_LIMIT) }
+        ensures edition { IfOk result (λ base. 0 < base.decider.edition) }
+    {
+        let Hall {
+            lock,
+            search_ended: _search_ended,
+            transaction_ended: _transaction_ended,
+            alloc: _,
+            heap: _,
+        } = self;
+        let guarded = lock.into_inner();
+        guarded.sound();
+        guarded.state()
     }
 }

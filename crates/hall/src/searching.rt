@@ -3,27 +3,28 @@
 ghost use Rattle.std.specs.Prelude.{◌≡◌, ◌<◌, ◌+◌, IfOk, OnOk, OnErr};
 ghost use Rattle.std.specs.Arc.{arc_value};
 ghost use Rattle.chronicle.specs.Noting.{told_answer};
+ghost use Rattle.plain_world.specs.Answers.{IsAnswer};
 ghost use Rattle.hall.specs.Calls.{IsSearched};
 
 use crate::faults::HallFault;
 use crate::guarded::Guarded;
 use crate::halls::Hall;
+use crate::names::HallName;
 use crate::seats::Seat;
 use crate::sections::{Pause, Searching, TRY_LIMIT, Unfinished, events_in_section};
 use audit_trail::Record;
 use features::Subject;
 use memory::GrowVec;
 use plane::Shape;
-use published_policies::ListName;
 use std::alloc::Allocator;
-use std::sync::ledger::{Ledger, Share};
+use std::sync::ledger::Share;
 use std::sync::{Arc, MutexGuard, Wait};
 use world::{Answer, Fault, TreeFault};
 
 /// Ends a call of a search that is refused. S2 waits first, in this critical section, until a search
 /// ends; any other fault drops the search, and wakes whoever waits for its end. Ok where the search
 /// may be tried again: it waited, and `tries` leaves one more.
-fn wait_or_give_up<L: Ledger + ListName, R: Wait + Drop, A: Allocator, W: Wait>(
+fn wait_or_give_up<L: HallName, R: Wait + Drop, A: Allocator, W: Wait>(
     rt: &W,
     hall: &Hall<L, R, A>,
     guarded: MutexGuard<'_, Guarded<L, R, A>>,
@@ -52,7 +53,7 @@ fn wait_or_give_up<L: Ledger + ListName, R: Wait + Drop, A: Allocator, W: Wait>(
 /// Searches a window for a seat of this subject, in one critical section after another. The record
 /// is counted in the seat's share. A search that finds as many open as may be waits until one ends;
 /// S2 after `TRY_LIMIT` tries. After a fault no search is open.
-fn searched<L: Ledger + ListName, R: Wait + Drop, A: Allocator + Copy, W: Wait, P: Pause>(
+fn searched<L: HallName, R: Wait + Drop, A: Allocator + Copy, W: Wait, P: Pause>(
     rt: &W,
     hall: &Hall<L, R, A>,
     seat: u32,
@@ -64,6 +65,7 @@ fn searched<L: Ledger + ListName, R: Wait + Drop, A: Allocator + Copy, W: Wait, 
     requires { 0 < share.old.parts }
     ensures subject { IfOk result (λ done. done.0.subject ≡ subject.now) }
     ensures window { IfOk result (λ done. done.0.window ≡ window.now) }
+    ensures shown { IfOk result (λ done. IsAnswer done.0) }
     ensures receipt { IfOk result
         (λ done. arc_value done.1 ≡ record { seat = seat; deed = told_answer done.0 }) }
     ensures amount { OnOk result (share.new.amount ≡ share.old.amount + 1) }
@@ -91,7 +93,7 @@ fn searched<L: Ledger + ListName, R: Wait + Drop, A: Allocator + Copy, W: Wait, 
     unreachable!()
 }
 
-impl<'h, L: Ledger + ListName, R: Wait + Drop, A: Allocator + Copy> Seat<'h, L, R, A> {
+impl<'h, L: HallName, R: Wait + Drop, A: Allocator + Copy> Seat<'h, L, R, A> {
     /// Searches a window: lists what meets it and the seat's subject may read, when the search
     /// finishes. Where 16 searches are open, it waits until one ends, and is then tried again, at
     /// most `TRY_LIMIT` times. H6 where there is no memory for the receipt's place; H5 with S2

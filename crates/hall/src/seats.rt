@@ -4,18 +4,18 @@ ghost use Rattle.std.specs.Prelude.{◌≡◌, map};
 ghost use Rattle.std.specs.Arc.{arc_value};
 
 use crate::halls::Hall;
+use crate::names::HallName;
 use audit_trail::Record;
 use features::Subject;
-use published_policies::ListName;
 use std::alloc::Allocator;
 use std::marker::Model;
-use std::sync::ledger::{Ledger, Share};
+use std::sync::ledger::Share;
 use std::sync::{Arc, Wait};
 
 /// A seat of a hall, for one session. It keeps a receipt for each of its calls that is recorded:
 /// another owner of the record itself. Contracts see its number, its subject and its receipts.
 #[derive(Drop)]
-pub struct Seat<'h, L: Ledger + ListName, R: Wait + Drop, A: Allocator> {
+pub struct Seat<'h, L: HallName, R: Wait + Drop, A: Allocator> {
     pub(crate) hall: &'h Hall<L, R, A>,
     pub(crate) number: u32,
     pub(crate) subject: Subject,
@@ -23,7 +23,7 @@ pub struct Seat<'h, L: Ledger + ListName, R: Wait + Drop, A: Allocator> {
     pub(crate) receipts: Vec<Arc<Record<A>, A>, A>,
 }
 
-impl<'h, L: Ledger + ListName, R: Wait + Drop, A: Allocator> Model for Seat<'h, L, R, A> {
+impl<'h, L: HallName, R: Wait + Drop, A: Allocator> Model for Seat<'h, L, R, A> {
     ghost use Rattle.std.specs.Prelude.{◌≡◌, map, length};
     ghost use Rattle.std.specs.Arc.{arc_value};
     ghost use Rattle.std.specs.Coded.{code_by, codes};
@@ -44,7 +44,7 @@ impl<'h, L: Ledger + ListName, R: Wait + Drop, A: Allocator> Model for Seat<'h, 
     ghost invariant = { λ s. (s.share.parts ≡ 1) × (s.share.amount ≡ length s.receipts.items) };
 }
 
-impl<'h, L: Ledger + ListName, R: Wait + Drop, A: Allocator> Seat<'h, L, R, A> {
+impl<'h, L: HallName, R: Wait + Drop, A: Allocator> Seat<'h, L, R, A> {
     /// The seat's number, from 1.
     pub fn number(&self) -> u32
         ensures { result ≡ self.now.number }

@@ -5,6 +5,7 @@ use Rattle.std.proofs.lemmas.List.{set-get_or}
 use mathlib.Core.List.{IsPrefix}
 use Rattle.policy_documents.specs.Documents.{DocumentData}
 use Rattle.decision.specs.Deciders.{DeciderData}
+use Rattle.published_policies.specs.Lists.{last_edition}
 use Rattle.hall.specs.declared.faults.HallFault.{HallFault}
 use Rattle.hall.specs.Calls.{IsGoverned}
 use Rattle.hall.specs.Seats.{SeatData}
@@ -55,10 +56,10 @@ module _ {T : Type 0} (show : T → SaidData) (Changes : T → SeatData → Seat
 pub governed : (document : DocumentData) (list : List DeciderData) (seats : List SeatData) (len place : ℕ) (seat next : SeatData) (before after : List DeciderData)
     → len ≡ length seats → place < len → seat ≡ slice_index_or seats place seat
     → IsGoverned document list seat next → IsPrefix before after → IsPrefix list after
-    → Calls (λ list. line (Edition (length list))) (λ list. PutsInForce document list) (session place seats before)
-    (session place (slice_set seats place next) after) (line (Edition (length list)))
+    → Calls (λ list. line (Edition (last_edition list))) (λ list. PutsInForce document list) (session place seats before)
+    (session place (slice_set seats place next) after) (line (Edition (last_edition list)))
 governed document list seats len place seat next before after counted within is done kept told_of =
-    let show : List DeciderData → SaidData = λ list. line (Edition (length list)) in
+    let show : List DeciderData → SaidData = λ list. line (Edition (last_edition list)) in
     let old : SessionData = session place seats before in
     let new : SessionData = session place (slice_set seats place next) after in
     let in_force : PutsInForce document list seat old new = record { next = next; governed = done; before = kept; told = told_of; only = refl } in

@@ -2,12 +2,14 @@
 use Rattle.std.specs.Prelude.{◌≡◌, ◌⊎◌, ℕ, List, [], ◌∷◌, ◌++◌, length, MatchOption, MatchResult, Result, Some, None}
 use Rattle.std.specs.List.{last_or}
 use mathlib.Core.List.{IsPrefix}
+use Rattle.features.specs.declared.actors.Subject.{Subject}
+use Rattle.features.specs.Subjects.{subject_named}
 use Rattle.policy_documents.specs.Documents.{DocumentData}
 use Rattle.combining.specs.declared.questions.Question.{Question}
 use Rattle.decision.specs.Deciders.{DeciderData}
 use Rattle.decision.specs.Rulings.{Rules}
 use Rattle.decision.specs.declared.rulings.Ruling.{Ruling}
-use Rattle.published_policies.specs.Lists.{IsPublished}
+use Rattle.published_policies.specs.Lists.{IsPublished, last_edition}
 use Rattle.hall.specs.Calls.{IsSearched, IsCommitted, IsGoverned}
 use Rattle.hall.specs.declared.faults.HallFault.{HallFault}
 use Rattle.hall.specs.Seats.{SeatData}
@@ -71,30 +73,31 @@ pub record ExplainsInHall (question : Question) (old new : SessionData) (said : 
     pub reply : said ≡ line (ruling_reply decider ruling)
     pub only : new ≡ record old { view = new.view }
 
--- a session begins where the subject of its name is given a seat: it has no receipts yet, and is
--- appended to the seats of the worker's earlier sessions
-abbrev pub BeginsInHall : List ℕ → SessionData → SessionData → SaidData → Type 0
-BeginsInHall name old new said =
+-- a session begins where the subject of its name, among those who may have a seat, is given one: it
+-- has no receipts yet, and is appended to the seats of the worker's earlier sessions
+abbrev pub BeginsInHall : List Subject → List ℕ → SessionData → SessionData → SaidData → Type 0
+BeginsInHall subjects name old new said =
     (end : Result SeatData HallFault) × (said ≡ hall_told (λ seat. line (Greets name)) end)
     × MatchResult end
-    (λ seat. (seat.subject.name ≡ name) × (seat.receipts ≡ [])
+    (λ seat. (subject_named name subjects ≡ Some seat.subject) × (seat.receipts ≡ [])
     × (new ≡ session (length old.seats) (old.seats ++ seat ∷ []) old.view))
     (λ fault. new ≡ old)
 
--- What a call makes of a session, and what is said. A search, a commit or a document that succeeds
+-- What a call makes of a session of a hall in which these subjects may have seats, and what is said.
+-- A search, a commit or a document that succeeds
 -- adds one receipt, and the reply says what the receipt records; a roll adds none. A question is
 -- ruled by the last policy that the view reads, or there is none to read; it changes no seat.
-abbrev pub ServesInHall : Call → SessionData → SessionData → SaidData → Type 0
-ServesInHall (Hello name) old new said = BeginsInHall name old new said
-ServesInHall (Search window) old new said =
+abbrev pub ServesInHall : List Subject → Call → SessionData → SessionData → SaidData → Type 0
+ServesInHall subjects (Hello name) old new said = BeginsInHall subjects name old new said
+ServesInHall subjects (Search window) old new said =
     CallsSeat rows (λ answer. IsSearched window answer) old new said
-ServesInHall (Commit changes) old new said =
+ServesInHall subjects (Commit changes) old new said =
     CallsSeat (λ outcome. line (outcome_reply outcome)) (λ outcome. IsCommitted changes outcome) old
     new said
-ServesInHall (Govern document) old new said =
-    Calls (λ list. line (Edition (length list))) (λ list. PutsInForce document list) old new said
-ServesInHall (Explain question) old new said =
+ServesInHall subjects (Govern document) old new said =
+    Calls (λ list. line (Edition (last_edition list))) (λ list. PutsInForce document list) old new said
+ServesInHall subjects (Explain question) old new said =
     OnlySays (Error NotRead) old new said ⊎ ExplainsInHall question old new said
-ServesInHall Roll old new said =
+ServesInHall subjects Roll old new said =
     CallsSeat {T = RolledData} rolled (λ piece seat next. next ≡ seat) old new said
-ServesInHall Leave old new said = (new ≡ unbegun old.seats old.view) × (said ≡ line Bye)
+ServesInHall subjects Leave old new said = (new ≡ unbegun old.seats old.view) × (said ≡ line Bye)

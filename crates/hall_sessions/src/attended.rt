@@ -5,21 +5,20 @@ ghost use Rattle.std.specs.Prelude.{◌≡◌, length};
 use crate::replies::{explained_reply, hall_reply};
 use combining::Question;
 use features::{Change, Name, Subject};
-use hall::{Hall, HallFault, ListName, Pause, Seat, View};
+use hall::{Hall, HallFault, HallName, Pause, Seat, View};
 use memory::GrowVec;
 use plane::Shape;
 use policy_documents::Document;
 use session_lines::{LineFault, Reply, Said, Service, outcome_reply};
 use std::alloc::{Allocator, Global};
 use std::sync::Wait;
-use std::sync::ledger::Ledger;
 
 /// A session over a hall. HELLO takes a seat, and appends it to those of the worker's earlier
 /// sessions. It stays there when the session ends, since a hall is closed with all its seats. The
 /// pause is that of its calls. EXPLAIN asks the worker's view, which needs no seat
 /// and no lock; the view is told of each document that the session puts in force.
 #[derive(Drop)]
-pub struct Attended<'a, 'h, L: Ledger + ListName, R: Wait + Drop, A: Allocator, W: Wait, P: Pause> {
+pub struct Attended<'a, 'h, L: HallName, R: Wait + Drop, A: Allocator, W: Wait, P: Pause> {
     rt: &'a W,
     hall: &'h Hall<L, R, A>,
     seats: &'a mut Vec<Seat<'h, L, R, A>, A>,
@@ -29,7 +28,7 @@ pub struct Attended<'a, 'h, L: Ledger + ListName, R: Wait + Drop, A: Allocator, 
     earlier: usize,
 }
 
-impl<'a, 'h, L: Ledger + ListName, R: Wait + Drop, A: Allocator + Copy, W: Wait, P: Pause> Attended<
+impl<'a, 'h, L: HallName, R: Wait + Drop, A: Allocator + Copy, W: Wait, P: Pause> Attended<
     'a,
     'h,
     L,
@@ -65,7 +64,7 @@ impl<'a, 'h, L: Ledger + ListName, R: Wait + Drop, A: Allocator + Copy, W: Wait,
     }
 }
 
-impl<'a, 'h, L: Ledger + ListName, R: Wait + Drop, A: Allocator + Copy, W: Wait, P: Pause> Service
+impl<'a, 'h, L: HallName, R: Wait + Drop, A: Allocator + Copy, W: Wait, P: Pause> Service
     for Attended<'a, 'h, L, R, A, W, P> {
     ghost use Rattle.std.specs.Prelude.{◌≡◌};
     ghost use Rattle.hall_sessions.specs.Services.{ServesInHall};
@@ -77,7 +76,7 @@ impl<'a, 'h, L: Ledger + ListName, R: Wait + Drop, A: Allocator + Copy, W: Wait,
 
     ghost serves = { λ call old new said. (new.seats.ghost_name ≡ old.seats.ghost_name)
         × (new.view.ghost_name ≡ old.view.ghost_name)
-        × ServesInHall call (session old.earlier old.seats.now.items old.view.now)
+        × ServesInHall L.opening.subjects call (session old.earlier old.seats.now.items old.view.now)
         (session new.earlier new.seats.now.items new.view.now) said };
 
     fn subject(&self) -> Option<Subject> {

@@ -3,16 +3,15 @@ ghost use Rattle.std.specs.Prelude.{◌≡◌};
 
 use crate::halls::{ROADS, applied, document, name, opened, road, rows, seat, square};
 use features::Change;
-use hall::{Closed, Hall, HallFault, LEDGER_PARTS, ListName, NoPause, Seat, Unnamed};
+use hall::{Closed, Hall, HallFault, HallName, LEDGER_PARTS, NoPause, Seat, Unnamed};
 use std::alloc::Global;
 use std::marker::Brand;
 use std::process::Abort;
 use std::sync::Wait;
-use std::sync::ledger::Ledger;
 use world::Fault;
 
 /// A refused call leaves no receipt.
-fn refuse_one<L: Ledger + ListName, H: Wait + Drop, R: Wait + Abort>(
+fn refuse_one<L: HallName, H: Wait + Drop, R: Wait + Abort>(
     rt: &R,
     heap: Global,
     hall: &Hall<L, H, Global>,
@@ -29,7 +28,7 @@ fn refuse_one<L: Ledger + ListName, H: Wait + Drop, R: Wait + Abort>(
 }
 
 /// Adds and deletes features, and tends the index in between.
-fn tend_all<L: Ledger + ListName, H: Wait + Drop, R: Wait + Abort>(
+fn tend_all<L: HallName, H: Wait + Drop, R: Wait + Abort>(
     rt: &R,
     hall: &Hall<L, H, Global>,
     north: &mut Seat<'_, L, H, Global>,
@@ -48,7 +47,7 @@ fn tend_all<L: Ledger + ListName, H: Wait + Drop, R: Wait + Abort>(
 }
 
 /// Closes a hall with its one seat. It then gives no seats and cannot be tended.
-fn close_one<'h, L: Ledger + ListName, H: Wait + Drop, R: Wait + Abort>(
+fn close_one<'h, L: HallName, H: Wait + Drop, R: Wait + Abort>(
     rt: &R,
     heap: Global,
     hall: &'h Hall<L, H, Global>,
@@ -72,7 +71,7 @@ fn close_one<'h, L: Ledger + ListName, H: Wait + Drop, R: Wait + Abort>(
     assert!(rt; hall.tend_round(rt) == Err(HallFault::Closed));
 }
 
-fn opens_and_closes_in<L: Ledger + ListName, H: Wait + Drop, R: Wait + Abort>(
+fn opens_and_closes_in<L: HallName, H: Wait + Drop, R: Wait + Abort>(
     rt: &R,
     own: H,
     heap: Global,
@@ -96,7 +95,7 @@ fn opens_and_closes(rt: HostRuntime) {
 }
 
 /// A hall that gave no seat can be closed, and closed again.
-fn empty_in<L: Ledger + ListName, H: Wait + Drop, R: Wait + Abort>(
+fn empty_in<L: HallName, H: Wait + Drop, R: Wait + Abort>(
     rt: &R,
     own: H,
     heap: Global,

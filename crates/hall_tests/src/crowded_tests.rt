@@ -3,13 +3,12 @@ ghost use Rattle.std.specs.Prelude.{◌≡◌};
 
 use crate::halls::{applied, opened, road, rows, seat, square, wait_for};
 use crate::pauses::wait_for_at_least;
-use hall::{Hall, LEDGER_PARTS, ListName, NoPause, Pause, Seat, Unnamed};
+use hall::{Hall, HallName, LEDGER_PARTS, NoPause, Pause, Seat, Unnamed};
 use std::alloc::Global;
 use std::marker::Brand;
 use std::process::Abort;
 use std::sync::Wait;
 use std::sync::atomic::{AtomicU64, Ordering};
-use std::sync::ledger::Ledger;
 use std::thread::{Threads, join, yield_now};
 use world::{SEARCH_LIMIT, TRANSACTION_LIMIT};
 
@@ -28,7 +27,7 @@ struct Crowd {
 /// A pause of calls one in another, by steps: at its first call within a call it makes the next
 /// call, with another seat. The innermost one waits while all are open.
 #[derive(Drop)]
-struct Nest<'a, 'h, L: Ledger + ListName, H: Wait + Drop, R: Wait + Abort> {
+struct Nest<'a, 'h, L: HallName, H: Wait + Drop, R: Wait + Abort> {
     rt: &'a R,
     /// The seats of the calls that are still to be made.
     waiting: Vec<Seat<'h, L, H, Global>>,
@@ -39,7 +38,7 @@ struct Nest<'a, 'h, L: Ledger + ListName, H: Wait + Drop, R: Wait + Abort> {
     answered: u64,
 }
 
-impl<'a, 'h, L: Ledger + ListName, H: Wait + Drop, R: Wait + Abort> Nest<'a, 'h, L, H, R> {
+impl<'a, 'h, L: HallName, H: Wait + Drop, R: Wait + Abort> Nest<'a, 'h, L, H, R> {
     /// Makes a call with the next seat, and returns whether there was one.
     fn call_next(&mut self) -> bool {
         let rt = self.rt;
@@ -65,8 +64,7 @@ impl<'a, 'h, L: Ledger + ListName, H: Wait + Drop, R: Wait + Abort> Nest<'a, 'h,
     }
 }
 
-impl<'a, 'h, L: Ledger + ListName, H: Wait + Drop, R: Wait + Abort> Pause
-    for Nest<'a, 'h, L, H, R> {
+impl<'a, 'h, L: HallName, H: Wait + Drop, R: Wait + Abort> Pause for Nest<'a, 'h, L, H, R> {
     fn between(&mut self) {
         if self.crowd.full.load(Ordering::SeqCst) > 0 || self.call_next() {
             return;
@@ -85,7 +83,7 @@ impl<'a, 'h, L: Ledger + ListName, H: Wait + Drop, R: Wait + Abort> Pause
 }
 
 /// Makes the calls of a nest. The call of the other thread is then answered, too.
-fn make_calls<'h, L: Ledger + ListName, H: Wait + Drop, R: Wait + Abort>(
+fn make_calls<'h, L: HallName, H: Wait + Drop, R: Wait + Abort>(
     rt: &R,
     seats: Vec<Seat<'h, L, H, Global>>,
     searches: bool,
@@ -104,7 +102,7 @@ fn make_calls<'h, L: Ledger + ListName, H: Wait + Drop, R: Wait + Abort>(
 }
 
 /// Makes one more call while as many as may be are open.
-fn one_more<'h, L: Ledger + ListName, H: Wait + Drop, R: Wait + Abort>(
+fn one_more<'h, L: HallName, H: Wait + Drop, R: Wait + Abort>(
     rt: &R,
     seat: Seat<'h, L, H, Global>,
     searches: bool,
@@ -123,7 +121,7 @@ fn one_more<'h, L: Ledger + ListName, H: Wait + Drop, R: Wait + Abort>(
 
 fn crowded_in<L, H, R>(rt: &R, own: H, heap: Global, unnamed: Unnamed, searches: bool, most: usize)
 where
-    L: Ledger + ListName + Send + Sync,
+    L: HallName + Send + Sync,
     H: Wait + Drop + Send,
     R: Threads + Wait + Abort + Sync,
     requires name { unnamed.ledger.name ≡ L.name }

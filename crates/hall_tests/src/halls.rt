@@ -5,14 +5,13 @@ use audit_trail::RECORD_LIMIT;
 use combining::Question;
 use feature_store::FEATURE_LIMIT;
 use features::{Action, Change, Name, Subject, Subjects};
-use hall::{Closed, Hall, LEDGER_PARTS, ListName, Pause, Seat, Unnamed, View};
+use hall::{Closed, Hall, HallName, LEDGER_PARTS, Pause, Seat, Unnamed, View};
 use plane::{Point, Shape};
 use policy_text::{Document, read_document};
 use std::alloc::{Allocator, Global};
 use std::process::Abort;
 use std::sync::Wait;
 use std::sync::atomic::{AtomicU64, Ordering};
-use std::sync::ledger::Ledger;
 use std::thread;
 use world::{Limits, Outcome, STEP_LIMIT};
 
@@ -91,7 +90,7 @@ pub fn subjects(rt: &impl Abort) -> Subjects {
 }
 
 /// A hall in which everything is permitted, with room for this many views.
-pub fn opened<L: Ledger + ListName, H: Wait + Drop>(
+pub fn opened<L: HallName, H: Wait + Drop>(
     rt: &impl Abort,
     own: H,
     heap: Global,
@@ -106,7 +105,7 @@ pub fn opened<L: Ledger + ListName, H: Wait + Drop>(
 }
 
 /// The same, with an allocator of the test's own.
-pub fn opened_in<L: Ledger + ListName, H: Wait + Drop, A: Allocator + Copy>(
+pub fn opened_in<L: HallName, H: Wait + Drop, A: Allocator + Copy>(
     rt: &impl Abort,
     own: H,
     alloc: A,
@@ -126,7 +125,7 @@ pub fn opened_in<L: Ledger + ListName, H: Wait + Drop, A: Allocator + Copy>(
 }
 
 /// A hall in which everything is permitted, with no views, within these limits.
-pub fn opened_within<L: Ledger + ListName, H: Wait + Drop>(
+pub fn opened_within<L: HallName, H: Wait + Drop>(
     rt: &impl Abort,
     own: H,
     heap: Global,
@@ -149,7 +148,7 @@ pub fn opened_within<L: Ledger + ListName, H: Wait + Drop>(
 }
 
 /// A view of the policies.
-pub fn view<L: Ledger + ListName, H: Wait + Drop>(
+pub fn view<L: HallName, H: Wait + Drop>(
     rt: &(impl Abort + Wait),
     hall: &Hall<L, H, Global>,
 ) -> View<L> {
@@ -171,7 +170,7 @@ pub fn question(rt: &impl Abort) -> Question {
 }
 
 /// A seat for the subject of this name.
-pub fn seat<'h, L: Ledger + ListName, H: Wait + Drop, A: Allocator + Copy>(
+pub fn seat<'h, L: HallName, H: Wait + Drop, A: Allocator + Copy>(
     rt: &(impl Abort + Wait),
     hall: &'h Hall<L, H, A>,
     office: &str,
@@ -183,7 +182,7 @@ pub fn seat<'h, L: Ledger + ListName, H: Wait + Drop, A: Allocator + Copy>(
 }
 
 /// Commits a list of one change. Returns its version, or `None` if it is not applied.
-pub fn applied<L: Ledger + ListName, H: Wait + Drop, A: Allocator + Copy, P: Pause>(
+pub fn applied<L: HallName, H: Wait + Drop, A: Allocator + Copy, P: Pause>(
     rt: &impl Wait,
     seat: &mut Seat<'_, L, H, A>,
     change: Change,
@@ -196,7 +195,7 @@ pub fn applied<L: Ledger + ListName, H: Wait + Drop, A: Allocator + Copy, P: Pau
 }
 
 /// How many rows a search returns; `None` if it fails.
-pub fn rows<L: Ledger + ListName, H: Wait + Drop, A: Allocator + Copy, P: Pause>(
+pub fn rows<L: HallName, H: Wait + Drop, A: Allocator + Copy, P: Pause>(
     rt: &impl Wait,
     seat: &mut Seat<'_, L, H, A>,
     window: Shape,
@@ -256,7 +255,7 @@ impl Pause for Meeting<'_> {
 
 /// Searches the square, and waits after the first visit until a flag is set. Returns the seat and
 /// the number of rows.
-pub fn search_meeting<'h, L: Ledger + ListName, H: Wait + Drop, R: Wait + Abort>(
+pub fn search_meeting<'h, L: HallName, H: Wait + Drop, R: Wait + Abort>(
     rt: &R,
     seat: Seat<'h, L, H, Global>,
     seen: &AtomicU64,
@@ -269,7 +268,7 @@ pub fn search_meeting<'h, L: Ledger + ListName, H: Wait + Drop, R: Wait + Abort>
 }
 
 /// Closes a hall with its two seats, and checks the number of records.
-pub fn close_two<'h, L: Ledger + ListName, H: Wait + Drop, R: Wait + Abort>(
+pub fn close_two<'h, L: HallName, H: Wait + Drop, R: Wait + Abort>(
     rt: &R,
     heap: Global,
     hall: &'h Hall<L, H, Global>,

@@ -3,14 +3,13 @@ ghost use Rattle.std.specs.Prelude.{◌≡◌};
 
 use crate::halls::{TURNS, applied, opened, point, road, rows, search_meeting, seat, wait_for};
 use hall::{
-    CloseFault, Hall, HallFault, LEDGER_PARTS, ListName, NoPause, Seat, TRY_LIMIT, Unnamed,
+    CloseFault, Hall, HallFault, HallName, LEDGER_PARTS, NoPause, Seat, TRY_LIMIT, Unnamed,
 };
 use std::alloc::Global;
 use std::marker::Brand;
 use std::process::Abort;
 use std::sync::Wait;
 use std::sync::atomic::{AtomicU64, Ordering};
-use std::sync::ledger::Ledger;
 use std::thread::{Threads, join};
 
 /// The state of the list, shared between threads: not answered yet.
@@ -23,7 +22,7 @@ const HELD: u64 = 1;
 const OTHER: u64 = 2;
 
 /// Commits a list once the first search waits, and stores how it was answered.
-fn commit_held<'h, L: Ledger + ListName, H: Wait + Drop, R: Wait + Abort>(
+fn commit_held<'h, L: HallName, H: Wait + Drop, R: Wait + Abort>(
     rt: &R,
     seat: Seat<'h, L, H, Global>,
     seen: &AtomicU64,
@@ -41,7 +40,7 @@ fn commit_held<'h, L: Ledger + ListName, H: Wait + Drop, R: Wait + Abort>(
 
 /// Searches elsewhere repeatedly until the list is answered. Returns the seat and the number of
 /// searches.
-fn search_elsewhere<'h, L: Ledger + ListName, H: Wait + Drop, R: Wait + Abort>(
+fn search_elsewhere<'h, L: HallName, H: Wait + Drop, R: Wait + Abort>(
     rt: &R,
     seat: Seat<'h, L, H, Global>,
     answered: &AtomicU64,
@@ -63,7 +62,7 @@ fn search_elsewhere<'h, L: Ledger + ListName, H: Wait + Drop, R: Wait + Abort>(
 /// the number of searches.
 fn hold_beside<
     'h,
-    L: Ledger + ListName + Send + Sync,
+    L: HallName + Send + Sync,
     H: Wait + Drop + Send,
     R: Threads + Wait + Abort + Sync,
 >(
@@ -86,7 +85,7 @@ fn hold_beside<
 }
 
 /// Removes and returns the last seat.
-fn last_of<'h, L: Ledger + ListName, H: Wait + Drop>(
+fn last_of<'h, L: HallName, H: Wait + Drop>(
     rt: &impl Abort,
     seats: &mut Vec<Seat<'h, L, H, Global>>,
 ) -> Seat<'h, L, H, Global> {
@@ -98,12 +97,7 @@ fn last_of<'h, L: Ledger + ListName, H: Wait + Drop>(
 
 /// The search of the first seat waits and holds back the second seat's list until that is answered
 /// `Held`. Meanwhile the third seat's searches end one after another.
-fn hold<
-    'h,
-    L: Ledger + ListName + Send + Sync,
-    H: Wait + Drop + Send,
-    R: Threads + Wait + Abort + Sync,
->(
+fn hold<'h, L: HallName + Send + Sync, H: Wait + Drop + Send, R: Threads + Wait + Abort + Sync>(
     rt: &R,
     first: Seat<'h, L, H, Global>,
     others: Vec<Seat<'h, L, H, Global>>,
@@ -122,7 +116,7 @@ fn hold<
 }
 
 fn held_sixty_four_times_in<
-    L: Ledger + ListName + Send + Sync,
+    L: HallName + Send + Sync,
     H: Wait + Drop + Send,
     R: Threads + Wait + Abort + Sync,
 >(rt: &R, own: H, heap: Global, unnamed: Unnamed)
@@ -152,7 +146,7 @@ fn held_sixty_four_times_in<
 }
 
 /// The hall cannot be closed without the third seat, and can be closed with all three.
-fn close_three<'h, L: Ledger + ListName, H: Wait + Drop, R: Wait + Abort>(
+fn close_three<'h, L: HallName, H: Wait + Drop, R: Wait + Abort>(
     rt: &R,
     heap: Global,
     hall: &'h Hall<L, H, Global>,
@@ -178,7 +172,7 @@ fn close_three<'h, L: Ledger + ListName, H: Wait + Drop, R: Wait + Abort>(
 }
 
 /// Closes the hall with all three seats.
-fn close_all<'h, L: Ledger + ListName, H: Wait + Drop, R: Wait + Abort>(
+fn close_all<'h, L: HallName, H: Wait + Drop, R: Wait + Abort>(
     rt: &R,
     hall: &'h Hall<L, H, Global>,
     seats: Vec<Seat<'h, L, H, Global>>,

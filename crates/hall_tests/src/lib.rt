@@ -10,6 +10,8 @@ mod halls;
 #[cfg(test)]
 mod held_tests;
 #[cfg(test)]
+mod life_tests;
+#[cfg(test)]
 mod memory_tests;
 #[cfg(test)]
 mod pauses;

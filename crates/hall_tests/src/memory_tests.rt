@@ -6,13 +6,12 @@ use crate::halls::{
 };
 use chronicle::Chronicle;
 use features::Change;
-use hall::{Hall, HallFault, LEDGER_PARTS, ListName, NoPause, Seat, Unnamed};
+use hall::{Hall, HallFault, HallName, LEDGER_PARTS, NoPause, Seat, Unnamed};
 use refusing::Refusing;
 use std::alloc::Global;
 use std::marker::Brand;
 use std::process::Abort;
 use std::sync::Wait;
-use std::sync::ledger::Ledger;
 use world::{Fault, Limits, ROLLED_LIMIT, Starts, TreeFault, Visit};
 
 /// More allocations than any of the calls makes.
@@ -29,7 +28,7 @@ enum Taking {
 }
 
 /// Makes the call, and returns its fault, if any.
-fn call<L: Ledger + ListName, H: Wait + Drop, R: Wait + Abort>(
+fn call<L: HallName, H: Wait + Drop, R: Wait + Abort>(
     rt: &R,
     heap: Global,
     chief: &mut Seat<'_, L, H, &Refusing<Global>>,
@@ -59,7 +58,7 @@ fn is_memory(fault: &HallFault) -> bool {
 /// Makes the call with allocation number `at` refused. The call then fails with a memory fault,
 /// leaves no receipt and changes no feature, and the same call succeeds afterwards. Returns whether
 /// the allocation was reached.
-fn is_refused<L: Ledger + ListName, H: Wait + Drop, R: Wait + Abort>(
+fn is_refused<L: HallName, H: Wait + Drop, R: Wait + Abort>(
     rt: &R,
     heap: Global,
     memory: &Refusing<Global>,
@@ -88,7 +87,7 @@ fn is_refused<L: Ledger + ListName, H: Wait + Drop, R: Wait + Abort>(
 }
 
 /// Closes a hall with its two seats.
-fn close_two<'h, 'm, L: Ledger + ListName, H: Wait + Drop, R: Wait + Abort>(
+fn close_two<'h, 'm, L: HallName, H: Wait + Drop, R: Wait + Abort>(
     rt: &R,
     memory: &'m Refusing<Global>,
     hall: &'h Hall<L, H, &'m Refusing<Global>>,
@@ -108,7 +107,7 @@ fn close_two<'h, 'm, L: Ledger + ListName, H: Wait + Drop, R: Wait + Abort>(
 
 /// Opens a hall with one road and two seats, and lets the chief make the call with allocation
 /// number `at` refused. Returns whether the allocation was reached.
-fn refused_in<L: Ledger + ListName, H: Wait + Drop, R: Wait + Abort>(
+fn refused_in<L: HallName, H: Wait + Drop, R: Wait + Abort>(
     rt: &R,
     own: H,
     heap: Global,
@@ -162,7 +161,7 @@ fn each_allocation_of_a_call_refused(rt: HostRuntime) {
 
 /// Asks for a seat with allocation number `at` refused. None is then given, and the next request
 /// succeeds. Returns whether the allocation was reached.
-fn seat_refused_in<L: Ledger + ListName, H: Wait + Drop, R: Wait + Abort>(
+fn seat_refused_in<L: HallName, H: Wait + Drop, R: Wait + Abort>(
     rt: &R,
     own: H,
     heap: Global,
@@ -252,17 +251,17 @@ fn rolls_are_refused_in_order(rt: HostRuntime) {
     let mut chronicle = begun(&rt, &memory, heap, ROLLED_LIMIT);
     search(&rt, &mut chronicle);
     memory.refuse(1);
-    assert!(&rt; chronicle.roll(heap, 3) == Err(Fault::NoSuch));
-    assert!(&rt; chronicle.roll(heap, 1) == Err(Fault::NotSteward));
-    assert!(&rt; chronicle.roll(heap, 2) == Err(Fault::Spent));
+    assert!(&rt; matches!(chronicle.roll(heap, 3), Err(Fault::NoSuch)));
+    assert!(&rt; matches!(chronicle.roll(heap, 1), Err(Fault::NotSteward)));
+    assert!(&rt; matches!(chronicle.roll(heap, 2), Err(Fault::Spent)));
     assert!(&rt; !memory.has_refused());
     memory.refuse(0);
     let mut chronicle = begun(&rt, &memory, heap, 0);
     search(&rt, &mut chronicle);
     memory.refuse(1);
-    assert!(&rt; chronicle.roll(heap, 1) == Err(Fault::NotSteward));
+    assert!(&rt; matches!(chronicle.roll(heap, 1), Err(Fault::NotSteward)));
     assert!(&rt; matches!(chronicle.roll(heap, 2), Err(Fault::Memory(_))));
     assert!(&rt; memory.has_refused());
     memory.refuse(0);
-    assert!(&rt; chronicle.roll(heap, 2) == Ok(()));
+    assert!(&rt; chronicle.roll(heap, 2).is_ok());
 }

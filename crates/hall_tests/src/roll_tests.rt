@@ -2,13 +2,12 @@
 ghost use Rattle.std.specs.Prelude.{◌≡◌};
 
 use crate::halls::{TURNS, applied, close_two, opened, road, rows, seat, square};
-use hall::{LEDGER_PARTS, ListName, NoPause, Seat, Unnamed};
+use hall::{HallName, LEDGER_PARTS, NoPause, Seat, Unnamed};
 use std::alloc::Global;
 use std::marker::Brand;
 use std::process::Abort;
 use std::sync::Wait;
 use std::sync::atomic::{AtomicU64, Ordering};
-use std::sync::ledger::Ledger;
 use std::thread::{Threads, join, yield_now};
 
 /// How often the steward rolls.
@@ -25,7 +24,7 @@ const PATIENCE: u64 = 100 * TURNS;
 
 /// In each round, adds a road and finds all roads added so far, until the steward has rolled for
 /// the last time. Returns the seat and the number of rounds.
-fn work<'h, L: Ledger + ListName, H: Wait + Drop, R: Wait + Abort>(
+fn work<'h, L: HallName, H: Wait + Drop, R: Wait + Abort>(
     rt: &R,
     seat: Seat<'h, L, H, Global>,
     rounds: &AtomicU64,
@@ -60,7 +59,7 @@ fn wait_for_rounds(rt: &impl Abort, rounds: &AtomicU64, least: u64) {
 
 /// Rolls a piece, checks that it begins with the record of this number, and returns the number
 /// after its last one.
-fn roll_on<L: Ledger + ListName, H: Wait + Drop, R: Wait + Abort>(
+fn roll_on<L: HallName, H: Wait + Drop, R: Wait + Abort>(
     rt: &R,
     chief: &mut Seat<'_, L, H, Global>,
     first: u32,
@@ -78,7 +77,7 @@ fn roll_on<L: Ledger + ListName, H: Wait + Drop, R: Wait + Abort>(
 
 /// Rolls repeatedly, each time after the editor has made some more rounds. Returns the seat and the
 /// number after the last rolled record.
-fn roll_beside<'h, L: Ledger + ListName, H: Wait + Drop, R: Wait + Abort>(
+fn roll_beside<'h, L: HallName, H: Wait + Drop, R: Wait + Abort>(
     rt: &R,
     chief: Seat<'h, L, H, Global>,
     rounds: &AtomicU64,
@@ -101,7 +100,7 @@ fn roll_beside<'h, L: Ledger + ListName, H: Wait + Drop, R: Wait + Abort>(
 /// record, and the editor's with the number of its rounds.
 fn roll_and_work<
     'h,
-    L: Ledger + ListName + Send + Sync,
+    L: HallName + Send + Sync,
     H: Wait + Drop + Send,
     R: Threads + Wait + Abort + Sync,
 >(
@@ -120,7 +119,7 @@ fn roll_and_work<
 }
 
 fn rolls_beside_work_in<
-    L: Ledger + ListName + Send + Sync,
+    L: HallName + Send + Sync,
     H: Wait + Drop + Send,
     R: Threads + Wait + Abort + Sync,
 >(rt: &R, own: H, heap: Global, unnamed: Unnamed)

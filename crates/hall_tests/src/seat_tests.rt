@@ -5,15 +5,16 @@ use crate::halls::{document, name, opened, point, road, seat, square, view};
 use combining::Question;
 use decision::Ruling;
 use features::{Action, Change, Subject, Subjects};
-use hall::{Closed, Hall, HallFault, LEDGER_PARTS, ListName, NoPause, Seat, Unnamed, View};
+use hall::{
+    Closed, Hall, HallFault, HallName, LEDGER_PARTS, ListName, NoPause, Seat, Unnamed, View,
+};
 use std::alloc::Global;
 use std::marker::Brand;
 use std::process::Abort;
 use std::sync::Wait;
-use std::sync::ledger::Ledger;
 use world::{Denial, Outcome, SEAT_LIMIT};
 
-fn all_seats_in<L: Ledger + ListName, H: Wait + Drop, R: Wait + Abort>(
+fn all_seats_in<L: HallName, H: Wait + Drop, R: Wait + Abort>(
     rt: &R,
     own: H,
     heap: Global,
@@ -83,7 +84,7 @@ fn people(rt: &impl Abort) -> Subjects {
 }
 
 /// A hall of these people under that document, with room for one view.
-fn offices<L: Ledger + ListName, H: Wait + Drop>(
+fn offices<L: HallName, H: Wait + Drop>(
     rt: &impl Abort,
     own: H,
     heap: Global,
@@ -110,7 +111,7 @@ fn mast(rt: &impl Abort, id: u64, x: i32, y: i32) -> Change {
 }
 
 /// The denial of a list of one change.
-fn denied<L: Ledger + ListName, H: Wait + Drop, R: Wait + Abort>(
+fn denied<L: HallName, H: Wait + Drop, R: Wait + Abort>(
     rt: &R,
     seat: &mut Seat<'_, L, H, Global>,
     change: Change,
@@ -122,7 +123,7 @@ fn denied<L: Ledger + ListName, H: Wait + Drop, R: Wait + Abort>(
 }
 
 /// The ids, the offices and the classes of the rows of a search of the square.
-fn check_rows<L: Ledger + ListName, H: Wait + Drop, R: Wait + Abort>(
+fn check_rows<L: HallName, H: Wait + Drop, R: Wait + Abort>(
     rt: &R,
     seat: &mut Seat<'_, L, H, Global>,
     expected: &[(u64, &str, &str)],
@@ -142,10 +143,7 @@ fn check_rows<L: Ledger + ListName, H: Wait + Drop, R: Wait + Abort>(
 }
 
 /// What each of the three is permitted and denied.
-fn rule_people<L: Ledger + ListName, H: Wait + Drop, R: Wait + Abort>(
-    rt: &R,
-    hall: &Hall<L, H, Global>,
-) {
+fn rule_people<L: HallName, H: Wait + Drop, R: Wait + Abort>(rt: &R, hall: &Hall<L, H, Global>) {
     let mut ada = seat(rt, hall, "ada");
     let mut ben = seat(rt, hall, "ben");
     let mut cleo = seat(rt, hall, "cleo");
@@ -197,7 +195,7 @@ fn check_ruling<L: ListName>(
     assert!(rt; explained.rule == Some(name(rt, rule)), "{rule}");
 }
 
-fn people_in<L: Ledger + ListName, H: Wait + Drop, R: Wait + Abort>(
+fn people_in<L: HallName, H: Wait + Drop, R: Wait + Abort>(
     rt: &R,
     own: H,
     heap: Global,

@@ -4,14 +4,13 @@ ghost use Rattle.std.specs.Prelude.{◌≡◌};
 use crate::halls::{applied, opened, point, road, rows, seat, square};
 use crate::pauses::Counting;
 use features::Change;
-use hall::{Hall, LEDGER_PARTS, ListName, NoPause, SECTION_EVENTS, Seat, Unnamed};
+use hall::{Hall, HallName, LEDGER_PARTS, NoPause, SECTION_EVENTS, Seat, Unnamed};
 use plane::{Point, Shape};
 use std::alloc::Global;
 use std::marker::Brand;
 use std::process::Abort;
 use std::sync::Wait;
 use std::sync::atomic::{AtomicU64, Ordering};
-use std::sync::ledger::Ledger;
 use std::thread::{Threads, join};
 use world::Outcome;
 
@@ -25,7 +24,7 @@ fn sixteen(rt: &impl Abort, first: u64, x: i32) -> [Change; 16] {
 }
 
 /// Commits a list, and counts the calls of its pause.
-fn calls_of_commit<L: Ledger + ListName, H: Wait + Drop, R: Wait + Abort>(
+fn calls_of_commit<L: HallName, H: Wait + Drop, R: Wait + Abort>(
     rt: &R,
     seat: &mut Seat<'_, L, H, Global>,
     changes: &[Change],
@@ -45,7 +44,7 @@ fn calls_of_commit<L: Ledger + ListName, H: Wait + Drop, R: Wait + Abort>(
 }
 
 /// Searches a window, and counts the rows and the calls of the search's pause.
-fn calls_of_search<L: Ledger + ListName, H: Wait + Drop, R: Wait + Abort>(
+fn calls_of_search<L: HallName, H: Wait + Drop, R: Wait + Abort>(
     rt: &R,
     seat: &mut Seat<'_, L, H, Global>,
     window: Shape,
@@ -64,7 +63,7 @@ fn calls_of_search<L: Ledger + ListName, H: Wait + Drop, R: Wait + Abort>(
     (found, calls.load(Ordering::SeqCst))
 }
 
-fn sections_in<L: Ledger + ListName, H: Wait + Drop, R: Wait + Abort>(
+fn sections_in<L: HallName, H: Wait + Drop, R: Wait + Abort>(
     rt: &R,
     own: H,
     heap: Global,
@@ -101,7 +100,7 @@ fn one_section_or_one_an_event(rt: HostRuntime) {
 const CALLS: u64 = 400;
 
 /// Searches again and again. Returns the seat and the calls of the pause.
-fn search_all<'h, L: Ledger + ListName, H: Wait + Drop, R: Wait + Abort>(
+fn search_all<'h, L: HallName, H: Wait + Drop, R: Wait + Abort>(
     rt: &R,
     seat: Seat<'h, L, H, Global>,
 ) -> (Seat<'h, L, H, Global>, u64) {
@@ -115,7 +114,7 @@ fn search_all<'h, L: Ledger + ListName, H: Wait + Drop, R: Wait + Abort>(
 }
 
 /// Adds roads in the window of the searches. Returns the seat and the calls of the pause.
-fn add_all<'h, L: Ledger + ListName, H: Wait + Drop, R: Wait + Abort>(
+fn add_all<'h, L: HallName, H: Wait + Drop, R: Wait + Abort>(
     rt: &R,
     seat: Seat<'h, L, H, Global>,
 ) -> (Seat<'h, L, H, Global>, u64) {
@@ -128,7 +127,7 @@ fn add_all<'h, L: Ledger + ListName, H: Wait + Drop, R: Wait + Abort>(
 
 fn beside_in<L, H, R>(rt: &R, own: H, heap: Global, unnamed: Unnamed)
 where
-    L: Ledger + ListName + Send + Sync,
+    L: HallName + Send + Sync,
     H: Wait + Drop + Send,
     R: Threads + Wait + Abort + Sync,
     requires name { unnamed.ledger.name ≡ L.name }
@@ -174,7 +173,7 @@ fn all(rt: &impl Abort) -> Shape {
     }
 }
 
-fn long_in<L: Ledger + ListName, H: Wait + Drop, R: Wait + Abort>(
+fn long_in<L: HallName, H: Wait + Drop, R: Wait + Abort>(
     rt: &R,
     own: H,
     heap: Global,

@@ -4,13 +4,12 @@ ghost use Rattle.std.specs.Prelude.{◌≡◌};
 use crate::halls::{OPEN, document, name, opened, point, seat, subjects};
 use chronicle::Chronicle;
 use features::Change;
-use hall::{Hall, ListName, NoPause, Seat, Unnamed};
+use hall::{Hall, HallName, NoPause, Seat, Unnamed};
 use plane::{Point, Shape};
 use std::alloc::Global;
 use std::marker::Brand;
 use std::process::Abort;
 use std::sync::Wait;
-use std::sync::ledger::Ledger;
 use world::{Advance, Outcome, Tending, Visit};
 
 /// More than the steps of a search or of the walks of a list, and more than the slots that are due.
@@ -252,7 +251,7 @@ fn a_round_comes_where_too_much_is_due(rt: HostRuntime) {
 }
 
 /// Commits a list of a seat, which has to be applied.
-fn commit<L: Ledger + ListName, H: Wait + Drop, R: Wait + Abort>(
+fn commit<L: HallName, H: Wait + Drop, R: Wait + Abort>(
     rt: &R,
     north: &mut Seat<'_, L, H, Global>,
     change: Change,
@@ -262,10 +261,7 @@ fn commit<L: Ledger + ListName, H: Wait + Drop, R: Wait + Abort>(
 }
 
 /// Tends in rounds until one has nothing to do.
-fn rounds<L: Ledger + ListName, H: Wait + Drop, R: Wait + Abort>(
-    rt: &R,
-    hall: &Hall<L, H, Global>,
-) {
+fn rounds<L: HallName, H: Wait + Drop, R: Wait + Abort>(rt: &R, hall: &Hall<L, H, Global>) {
     for _ in 0..MOST {
         if hall.tend_round(rt) == Ok(0) {
             return;
@@ -275,7 +271,7 @@ fn rounds<L: Ledger + ListName, H: Wait + Drop, R: Wait + Abort>(
 }
 
 /// A round over all slots finds this many of them, and nothing to do.
-fn swept<L: Ledger + ListName, H: Wait + Drop, R: Wait + Abort>(
+fn swept<L: HallName, H: Wait + Drop, R: Wait + Abort>(
     rt: &R,
     hall: &Hall<L, H, Global>,
     slots: u32,
@@ -288,7 +284,7 @@ fn swept<L: Ledger + ListName, H: Wait + Drop, R: Wait + Abort>(
     assert!(rt; hall.tend_round(rt) == Ok(0));
 }
 
-fn idle_rounds_in<L: Ledger + ListName, H: Wait + Drop, R: Wait + Abort>(
+fn idle_rounds_in<L: HallName, H: Wait + Drop, R: Wait + Abort>(
     rt: &R,
     own: H,
     heap: Global,

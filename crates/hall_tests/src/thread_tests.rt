@@ -6,19 +6,18 @@ use crate::halls::{
     view, wait_for,
 };
 use decision::Ruling;
-use hall::{Hall, LEDGER_PARTS, ListName, NoPause, Seat, Unnamed};
+use hall::{Hall, HallName, LEDGER_PARTS, NoPause, Seat, Unnamed};
 use std::alloc::Global;
 use std::marker::Brand;
 use std::process::Abort;
 use std::sync::Wait;
 use std::sync::atomic::{AtomicU64, Ordering};
-use std::sync::ledger::Ledger;
 use std::test::Fail;
 use std::thread::{Threads, join};
 
 /// Commits once the other seat's search waits, then sets `done` to let it go on. Returns the seat,
 /// and the version if all went well.
-fn commit_meeting<'h, L: Ledger + ListName, H: Wait + Drop, R: Wait + Abort>(
+fn commit_meeting<'h, L: HallName, H: Wait + Drop, R: Wait + Abort>(
     rt: &R,
     seat: Seat<'h, L, H, Global>,
     seen: &AtomicU64,
@@ -33,12 +32,7 @@ fn commit_meeting<'h, L: Ledger + ListName, H: Wait + Drop, R: Wait + Abort>(
 
 /// Runs two seats concurrently: a search that waits after its first step until the other seat's
 /// list is applied.
-fn meet<
-    'h,
-    L: Ledger + ListName + Send + Sync,
-    H: Wait + Drop + Send,
-    R: Threads + Wait + Abort + Sync,
->(
+fn meet<'h, L: HallName + Send + Sync, H: Wait + Drop + Send, R: Threads + Wait + Abort + Sync>(
     rt: &R,
     one: Seat<'h, L, H, Global>,
     two: Seat<'h, L, H, Global>,
@@ -57,7 +51,7 @@ fn meet<
 }
 
 fn two_threads_in<
-    L: Ledger + ListName + Send + Sync,
+    L: HallName + Send + Sync,
     H: Wait + Drop + Send,
     R: Threads + Wait + Abort + Sync,
 >(rt: &R, own: H, heap: Global, unnamed: Unnamed)
@@ -84,7 +78,7 @@ fn two_threads_in<
 }
 
 /// The steward puts a document in force; a view that is told of it explains by it.
-fn assert_told<L: Ledger + ListName, H: Wait + Drop, R: Wait + Abort>(
+fn assert_told<L: HallName, H: Wait + Drop, R: Wait + Abort>(
     rt: &R,
     heap: Global,
     hall: &Hall<L, H, Global>,

@@ -5,13 +5,13 @@ use crate::halls::{OPEN, ROADS, document, opened, question, seat, subjects, view
 use combining::Question;
 use decision::Ruling;
 use hall::{
-    Explained, Hall, HallFault, LEDGER_PARTS, ListName, OpenFault, Seat, Unnamed, VIEW_LIMIT, View,
+    Explained, Hall, HallFault, HallName, LEDGER_PARTS, ListName, OpenFault, Seat, Unnamed,
+    VIEW_LIMIT, View,
 };
 use std::alloc::{AllocError, Global};
 use std::marker::Brand;
 use std::process::Abort;
 use std::sync::Wait;
-use std::sync::ledger::Ledger;
 use std::test::Fail;
 use std::thread;
 use std::thread::{Threads, join};
@@ -81,7 +81,7 @@ fn watch_all<L: ListName + Send, R: Threads + Abort + Sync>(
 }
 
 /// Puts documents in force, up to the last edition.
-fn govern_all<'h, L: Ledger + ListName, H: Wait + Drop, R: Wait + Abort>(
+fn govern_all<'h, L: HallName, H: Wait + Drop, R: Wait + Abort>(
     rt: &R,
     heap: Global,
     seat: Seat<'h, L, H, Global>,
@@ -105,7 +105,7 @@ fn govern_beside<'h, L, H, R>(
     views: Vec<View<L>>,
 ) -> Result<Vec<Watched>, AllocError>
 where
-    L: Ledger + ListName + Send + Sync,
+    L: HallName + Send + Sync,
     H: Wait + Drop + Send,
     R: Threads + Wait + Abort + Sync,
 {
@@ -125,7 +125,7 @@ fn editions_never_go_back_in<L, H, R>(
     unnamed: Unnamed,
 ) -> Result<(), Fail>
 where
-    L: Ledger + ListName + Send + Sync,
+    L: HallName + Send + Sync,
     H: Wait + Drop + Send,
     R: Threads + Wait + Abort + Sync,
     requires name { unnamed.ledger.name ≡ L.name }
@@ -154,7 +154,7 @@ fn editions_never_go_back(rt: HostRuntime) -> Result<(), Fail> {
 
 /// A hall gives the number of views it was opened for, and none once it is closed. A view goes on
 /// until the hall is dropped.
-fn views_are_given_in<L: Ledger + ListName, H: Wait + Drop, R: Wait + Abort>(
+fn views_are_given_in<L: HallName, H: Wait + Drop, R: Wait + Abort>(
     rt: &R,
     own: H,
     heap: Global,
@@ -183,7 +183,7 @@ fn views_are_given(rt: HostRuntime) {
 }
 
 /// A hall opened for no views gives none.
-fn no_views_in<L: Ledger + ListName, H: Wait + Drop, R: Wait + Abort>(
+fn no_views_in<L: HallName, H: Wait + Drop, R: Wait + Abort>(
     rt: &R,
     own: H,
     heap: Global,
@@ -203,7 +203,7 @@ fn no_views(rt: HostRuntime) {
 }
 
 /// A hall cannot be opened for more than 64 views.
-fn too_many_views_in<L: Ledger + ListName, H: Wait + Drop>(
+fn too_many_views_in<L: HallName, H: Wait + Drop>(
     rt: &impl Abort,
     own: H,
     heap: Global,

@@ -6,14 +6,13 @@ use crate::halls::{
 };
 use crate::pauses::{Arriving, Counting, Holding, Signals, wait_for_at_least};
 use features::Change;
-use hall::{Hall, HallFault, LEDGER_PARTS, ListName, NoPause, Seat, TRY_LIMIT, Unnamed};
+use hall::{Hall, HallFault, HallName, LEDGER_PARTS, NoPause, Seat, TRY_LIMIT, Unnamed};
 use plane::Shape;
 use std::alloc::Global;
 use std::marker::Brand;
 use std::process::Abort;
 use std::sync::Wait;
 use std::sync::atomic::{AtomicU64, Ordering};
-use std::sync::ledger::Ledger;
 use std::thread::{Threads, join};
 use world::{Fault, Limits, Outcome, TreeFault};
 
@@ -26,7 +25,7 @@ enum Ended {
 
 /// Searches a window, and waits after its first visits until the lists are about to be placed. Then
 /// all of them have to be answered, since no search is left that holds them back.
-fn search_holding<'h, L: Ledger + ListName, H: Wait + Drop, R: Wait + Abort>(
+fn search_holding<'h, L: HallName, H: Wait + Drop, R: Wait + Abort>(
     rt: &R,
     seat: Seat<'h, L, H, Global>,
     window: Shape,
@@ -43,7 +42,7 @@ fn search_holding<'h, L: Ledger + ListName, H: Wait + Drop, R: Wait + Abort>(
 }
 
 /// Commits a list while the search waits, by steps or at once.
-fn commit_held<'h, L: Ledger + ListName, H: Wait + Drop, R: Wait + Abort>(
+fn commit_held<'h, L: HallName, H: Wait + Drop, R: Wait + Abort>(
     rt: &R,
     seat: Seat<'h, L, H, Global>,
     changes: &[Change],
@@ -75,7 +74,7 @@ fn commit_two<'h, L, H, R>(
     signals: &Signals,
 ) -> (Seat<'h, L, H, Global>, Seat<'h, L, H, Global>)
 where
-    L: Ledger + ListName + Send + Sync,
+    L: HallName + Send + Sync,
     H: Wait + Drop + Send,
     R: Threads + Wait + Abort + Sync,
 {
@@ -91,7 +90,7 @@ where
 
 fn two_lists_in<L, H, R>(rt: &R, own: H, heap: Global, unnamed: Unnamed)
 where
-    L: Ledger + ListName + Send + Sync,
+    L: HallName + Send + Sync,
     H: Wait + Drop + Send,
     R: Threads + Wait + Abort + Sync,
     requires name { unnamed.ledger.name ≡ L.name }
@@ -141,7 +140,7 @@ fn search_and_list<'h, L, H, R>(
     (Seat<'h, L, H, Global>, Ended),
 )
 where
-    L: Ledger + ListName + Send + Sync,
+    L: HallName + Send + Sync,
     H: Wait + Drop + Send,
     R: Threads + Wait + Abort + Sync,
 {
@@ -157,7 +156,7 @@ where
 const RACES: u64 = 1_000;
 
 /// Asks for the lock again and again, until the list is answered. It ends no search.
-fn contend<L: Ledger + ListName, H: Wait + Drop, R: Wait + Abort>(
+fn contend<L: HallName, H: Wait + Drop, R: Wait + Abort>(
     rt: &R,
     hall: &Hall<L, H, Global>,
     signals: &Signals,
@@ -182,7 +181,7 @@ fn last_in_the_square(rt: &impl Abort) -> [Change; 16] {
 /// A search, a list that it holds back, and a thread that asks for the lock.
 fn race_in<L, H, R>(rt: &R, own: H, heap: Global, unnamed: Unnamed, race: u64)
 where
-    L: Ledger + ListName + Send + Sync,
+    L: HallName + Send + Sync,
     H: Wait + Drop + Send,
     R: Threads + Wait + Abort + Sync,
     requires name { unnamed.ledger.name ≡ L.name }
@@ -222,7 +221,7 @@ fn a_search_that_ends_as_a_list_begins_to_wait(rt: HostRuntime) {
 
 fn full_trail_in<L, H, R>(rt: &R, own: H, heap: Global, unnamed: Unnamed)
 where
-    L: Ledger + ListName + Send + Sync,
+    L: HallName + Send + Sync,
     H: Wait + Drop + Send,
     R: Threads + Wait + Abort + Sync,
     requires name { unnamed.ledger.name ≡ L.name }
@@ -288,7 +287,7 @@ fn wide(rt: &impl Abort) -> Shape {
 }
 
 /// Adds a feature at each place of a column.
-fn add_column<L: Ledger + ListName, H: Wait + Drop, R: Wait + Abort>(
+fn add_column<L: HallName, H: Wait + Drop, R: Wait + Abort>(
     rt: &R,
     seat: &mut Seat<'_, L, H, Global>,
     x: i32,
@@ -311,7 +310,7 @@ fn everywhere(rt: &impl Abort) -> [Change; 16] {
 
 fn overrun_in<L, H, R>(rt: &R, own: H, heap: Global, unnamed: Unnamed)
 where
-    L: Ledger + ListName + Send + Sync,
+    L: HallName + Send + Sync,
     H: Wait + Drop + Send,
     R: Threads + Wait + Abort + Sync,
     requires name { unnamed.ledger.name ≡ L.name }
@@ -359,7 +358,7 @@ fn a_search_of_too_many_steps_wakes_a_held_list(rt: HostRuntime) {
 }
 
 /// Searches elsewhere, again and again, until the list is answered.
-fn search_elsewhere<'h, L: Ledger + ListName, H: Wait + Drop, R: Wait + Abort>(
+fn search_elsewhere<'h, L: HallName, H: Wait + Drop, R: Wait + Abort>(
     rt: &R,
     seat: Seat<'h, L, H, Global>,
     answered: &AtomicU64,
@@ -378,7 +377,7 @@ fn search_elsewhere<'h, L: Ledger + ListName, H: Wait + Drop, R: Wait + Abort>(
 }
 
 /// Commits a list that a search holds back at each try, and counts the calls of the pause.
-fn commit_counted<'h, L: Ledger + ListName, H: Wait + Drop, R: Wait + Abort>(
+fn commit_counted<'h, L: HallName, H: Wait + Drop, R: Wait + Abort>(
     rt: &R,
     seat: Seat<'h, L, H, Global>,
     steps: bool,
@@ -396,7 +395,7 @@ fn commit_counted<'h, L: Ledger + ListName, H: Wait + Drop, R: Wait + Abort>(
 
 fn tries_in<L, H, R>(rt: &R, own: H, heap: Global, unnamed: Unnamed, steps: bool, expected: u64)
 where
-    L: Ledger + ListName + Send + Sync,
+    L: HallName + Send + Sync,
     H: Wait + Drop + Send,
     R: Threads + Wait + Abort + Sync,
     requires name { unnamed.ledger.name ≡ L.name }
@@ -444,7 +443,7 @@ fn a_held_list_is_tried_just_so_often(rt: HostRuntime) {
 const REFUSED: u32 = 70;
 
 /// Lists that cannot be staged, and lists and searches that find the trail full.
-fn refused_in<L: Ledger + ListName, H: Wait + Drop, R: Wait + Abort>(
+fn refused_in<L: HallName, H: Wait + Drop, R: Wait + Abort>(
     rt: &R,
     own: H,
     heap: Global,
@@ -473,7 +472,7 @@ fn refused_in<L: Ledger + ListName, H: Wait + Drop, R: Wait + Abort>(
 }
 
 /// The same of lists and searches that have no steps.
-fn overruns_in<L: Ledger + ListName, H: Wait + Drop, R: Wait + Abort>(
+fn overruns_in<L: HallName, H: Wait + Drop, R: Wait + Abort>(
     rt: &R,
     own: H,
     heap: Global,

@@ -1,13 +1,14 @@
 -- What holds where all that was served is closed.
 use Rattle.std.specs.Prelude.{◌≡◌, List, length}
+use Rattle.chronicle.specs.Chronicles.{Opening}
 use Rattle.hall.specs.Closing.{IsClosed}
 use Rattle.hall.specs.Seats.{SeatData, receipts_of}
 use Rattle.hall.specs.declared.closing.Closed.{Closed}
 
 -- The sessions had these seats. There is one legal trail: its records of each of these seats are
 -- the seat's receipts, and all its records are receipts of these seats.
-pub record IsServed (closed : Closed) : Type 0 where
+pub record IsServed (opening : Opening) (closed : Closed) : Type 0 where
   pub seats : List SeatData
-  pub trail : IsClosed closed.records closed.seats seats
+  pub trail : IsClosed opening closed.records closed.seats seats
   pub records : closed.records ≡ receipts_of seats
   pub given : closed.seats ≡ length seats

@@ -1,6 +1,7 @@
 //! Serving a Unix socket.
 
 ghost use Rattle.std.specs.Prelude.{IfOk};
+ghost use Rattle.chronicle.specs.Chronicles.{opening_by};
 ghost use Rattle.server.specs.Served.{IsServed};
 
 use crate::faults::ServerFault;
@@ -115,7 +116,7 @@ fn serve_listener<H, R>(
 where
     H: Wait + Drop + Send,
     R: Threads + Wait + Clock + Log + Print + Sync,
-    ensures { IfOk result IsServed }
+    ensures { IfOk result (IsServed (opening_by serving.subjects serving.document)) }
 {
     tell_ready(rt, heap, path)?;
     if let Some(stop) = options.stop {
@@ -156,7 +157,7 @@ pub fn serve_socket<H, R>(
 where
     H: Wait + Drop + Send,
     R: Threads + Wait + Clock + Log + Files<File = File> + Net + Print + Sync,
-    ensures { IfOk result IsServed }
+    ensures { IfOk result (IsServed (opening_by serving.subjects serving.document)) }
 {
     let bound = listen(rt, path, options.takeover)?;
     let file = bound.file;

@@ -3,13 +3,14 @@
 ghost use Rattle.std.specs.Prelude.{◌≡◌, IfOk};
 ghost use Rattle.std.specs.Iterator.{IsFinite};
 ghost use Rattle.std.specs.Thread.{IsSend, IsSync};
+ghost use Rattle.chronicle.specs.Chronicles.{opening_by};
 ghost use Rattle.server.specs.Served.{IsServed};
 
 use crate::faults::{NoMemoryForChannel, ServerFault};
 use crate::workers::{tend, work};
 use crossbeam_channel::{Receiver, Sender, bounded};
 use features::Subjects;
-use hall::{Closed, Hall, LEDGER_PARTS, ListName, Pause, Seat, Unnamed, VIEW_LIMIT, View};
+use hall::{Closed, Hall, HallName, LEDGER_PARTS, Pause, Seat, Unnamed, VIEW_LIMIT, View};
 use log::{Log, warn};
 use memory::{GrowVec, vec_with_slots};
 use plain_world::SEAT_LIMIT;
@@ -17,7 +18,6 @@ use policy_documents::Document;
 use std::alloc::Global;
 use std::io::{Read, Write};
 use std::marker::Brand;
-use std::sync::ledger::Ledger;
 use std::sync::{Mutex, Wait};
 use std::thread;
 use std::thread::Threads;
@@ -70,7 +70,7 @@ fn hand_out<R: Wait + Log, T: Drop, S: Iterator<Item = T> + Drop>(
 }
 
 /// Views of the policies, one for each worker.
-fn views_of<L: Ledger + ListName, H: Wait + Drop, R: Wait>(
+fn views_of<L: HallName, H: Wait + Drop, R: Wait>(
     rt: &R,
     heap: Global,
     hall: &Hall<L, H, Global>,
@@ -86,7 +86,7 @@ fn views_of<L: Ledger + ListName, H: Wait + Drop, R: Wait>(
 
 /// Serves what comes in by workers, one for each view, and returns when all of it is served.
 /// `NoWorker` where none of them could be started.
-fn serve_all<'h, L: Ledger + ListName + Send + Sync, H, R, I, O, G, S>(
+fn serve_all<'h, L: HallName + Send + Sync, H, R, I, O, G, S>(
     rt: &R,
     heap: Global,
     hall: &'h Hall<L, H, Global>,
@@ -143,7 +143,7 @@ where
 
 /// Serves what comes in by workers, one for each view, beside one thread that tends the index.
 /// Returns the seats of all sessions; `NoWorker` where none of the workers could be started.
-fn serve_tended<'h, L: Ledger + ListName + Send + Sync, H, R, I, O, G, S>(
+fn serve_tended<'h, L: HallName + Send + Sync, H, R, I, O, G, S>(
     rt: &R,
     heap: Global,
     hall: &'h Hall<L, H, Global>,
@@ -190,7 +190,7 @@ where
 }
 
 /// Serves what comes in over a hall of the name `L`, and closes the hall.
-fn serve_hall<L: Ledger + ListName + Send + Sync, H, R, I, O, G, S>(
+fn serve_hall<L: HallName + Send + Sync, H, R, I, O, G, S>(
     rt: &R,
     own: H,
     heap: Global,
@@ -208,9 +208,10 @@ where
     requires name { unnamed.ledger.name ≡ L.name }
     requires parts { (unnamed.ledger.parts ≡ L.parts) × (L.parts ≡ LEDGER_PARTS) }
     requires list { unnamed.list ≡ L.book }
+    requires opening { L.opening ≡ opening_by serving.subjects serving.document }
     requires can { S.can_next incoming }
     requires ends { IsFinite (S.remaining incoming) }
-    ensures { IfOk result IsServed }
+    ensures { IfOk result (IsServed L.opening) }
 {
     let Serving {
         subjects,
@@ -254,7 +255,7 @@ where
     S: Iterator<Item = (I, O, G)> + Drop,
     requires can { S.can_next incoming }
     requires ends { IsFinite (S.remaining incoming) }
-    ensures { IfOk result IsServed }
+    ensures { IfOk result (IsServed (opening_by serving.subjects serving.document)) }
 {
     let unnamed = Unnamed::new();
     serve_hall::<Brand, H, R, I, O, G, S>(rt, own, heap, unnamed, serving, incoming)

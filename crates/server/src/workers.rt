@@ -2,7 +2,7 @@
 
 use byte_streams::let_go;
 use crossbeam_channel::{Receiver, RecvTimeoutError};
-use hall::{Hall, ListName, Pause, Seat, View};
+use hall::{Hall, HallName, Pause, Seat, View};
 use hall_sessions::Attended;
 use line_streams::ServeFault;
 use log::{Log, warn};
@@ -10,7 +10,6 @@ use memory::buffered;
 use session_lines::serve;
 use std::alloc::Global;
 use std::io::{Read, Write};
-use std::sync::ledger::Ledger;
 use std::sync::{Mutex, Wait};
 use std::time::{Clock, Duration};
 
@@ -22,15 +21,7 @@ const PAUSES: u32 = 1_500;
 
 /// Serves a session whose replies are buffered. If it ends with a fault, what is left in the buffer
 /// is not written.
-fn serve_buffered<
-    'h,
-    L: Ledger + ListName,
-    H: Wait + Drop,
-    R: Wait,
-    I: Read,
-    O: Write + Drop,
-    G: Pause,
->(
+fn serve_buffered<'h, L: HallName, H: Wait + Drop, R: Wait, I: Read, O: Write + Drop, G: Pause>(
     rt: &R,
     heap: Global,
     hall: &'h Hall<L, H, Global>,
@@ -54,7 +45,7 @@ fn serve_buffered<
 /// Serves one stream to its end. A fault ends this session alone, with a warning.
 fn serve_stream<
     'h,
-    L: Ledger + ListName,
+    L: HallName,
     H: Wait + Drop,
     R: Wait + Log,
     I: Read + Drop,
@@ -79,7 +70,7 @@ fn serve_stream<
 /// The sessions use the view in turn.
 pub(crate) fn work<
     'h,
-    L: Ledger + ListName,
+    L: HallName,
     H: Wait + Drop,
     R: Wait + Log,
     I: Read + Drop,
@@ -108,7 +99,7 @@ pub(crate) fn work<
 
 /// Tends in rounds, until the sender of `ends` is dropped: what is due, and at long intervals all
 /// slots. A round that is refused is the last, with a warning.
-pub(crate) fn tend<L: Ledger + ListName, H: Wait + Drop, R: Wait + Clock + Log>(
+pub(crate) fn tend<L: HallName, H: Wait + Drop, R: Wait + Clock + Log>(
     rt: &R,
     hall: &Hall<L, H, Global>,
     ends: Receiver<()>,

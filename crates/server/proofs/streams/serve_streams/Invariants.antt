@@ -1,3 +1,4 @@
+use Rattle.chronicle.specs.Chronicles.{opening_by}
 use Rattle.server.proofs.streams.serve_streams.Given as goal
 
 abbrev pub ghosts-serve_hall-L-Ledger : goal.ghosts-serve_hall-L-Ledger
@@ -5,3 +6,6 @@ ghosts-serve_hall-L-Ledger g a = record { name = a.unnamed.ledger.name; parts = 
 
 abbrev pub ghosts-serve_hall-L-ListName : goal.ghosts-serve_hall-L-ListName
 ghosts-serve_hall-L-ListName g a = record { book = a.unnamed.list }
+
+abbrev pub ghosts-serve_hall-L-HallName : goal.ghosts-serve_hall-L-HallName
+ghosts-serve_hall-L-HallName g a = record { opening = opening_by a.serving.subjects a.serving.document }

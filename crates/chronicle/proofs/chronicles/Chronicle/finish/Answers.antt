@@ -4,7 +4,7 @@ use Rattle.std.specs.Prelude.{IfOk}
 use Rattle.plane.specs.declared.point.Point.{Point}
 use Rattle.plain_world.specs.Events.{Finish, Rows, reply_of}
 use Rattle.plain_world.proofs.RecordLemmas.{adds_alone}
-use Rattle.chronicle.specs.Chronicles.{ChronicleData, records_in, seen}
+use Rattle.chronicle.specs.Chronicles.{ChronicleData, seen}
 use Rattle.chronicle.specs.Noting.{IsAnswered}
 use Rattle.chronicle.proofs.EventLemmas.{leads_on}
 use Rattle.chronicle.proofs.NotingLemmas.{base_answered, search_answered}
@@ -18,15 +18,15 @@ invariant_of-self g c =
     let reply = reply_of Rows c.finish-finished.result in
     let happens = c.finish-finished.ensures.happens in
     let base = base_answered c.args.seat c.args.number old new c.finish-finished.result (adds_alone event old new reply happens) in
-    leads_on event old new reply c.self.inside.first (records_in (map arc_value c.self.inside.pieces.items)) happens base.0 base.1 c.self.invariant
+    leads_on event old new reply c.self.inside.opened.value.plain.base (map arc_value c.self.inside.rolled.items) happens base.0 base.1 c.self.invariant
 
 pub returns-then-eq-clause-ok : goal.returns-then-eq-clause-ok
 returns-then-eq-clause-ok g c =
-    let rolled = records_in (map arc_value c.self.inside.pieces.items) in
+    let rolled = map arc_value c.self.inside.rolled.items in
     let old = c.self.inside.world.plain in
     let new = c.finish-finished.new.self.plain in
     let search = c.in_ok-search.search in
     let same : search.window ≡ c.args.window.now = c.eq.ensures.exact.0 c.if-eq.true in
-    subst (λ (d : ChronicleData). IfOk c.finish-finished.result (λ answer. IsAnswered c.args.seat c.args.window.now answer d (seen rolled new))) c.self.view_is
-    (subst (λ (w : List Point). IfOk c.finish-finished.result (λ answer. IsAnswered c.args.seat w answer (seen rolled old) (seen rolled new))) same
-    (search_answered c.self.inside.first rolled c.args.seat c.args.number search old new c.finish-finished.result (sym c.in_ok-search.ensures) c.finish-finished.ensures.happens c.self.invariant))
+    subst (λ (d : ChronicleData). IfOk c.finish-finished.result (λ answer. IsAnswered c.args.seat c.args.window.now answer d (seen c.self.inside.opened.value.plain.base rolled new))) c.self.view_is
+    (subst (λ (w : List Point). IfOk c.finish-finished.result (λ answer. IsAnswered c.args.seat w answer (seen c.self.inside.opened.value.plain.base rolled old) (seen c.self.inside.opened.value.plain.base rolled new))) same
+    (search_answered c.self.inside.opened.value.plain.base rolled c.args.seat c.args.number search old new c.finish-finished.result (sym c.in_ok-search.ensures) c.finish-finished.ensures.happens))

@@ -2,7 +2,6 @@ use Rattle.std.proofs.Common.{map, ◌∙◌}
 use Rattle.std.specs.Arc.{arc_value}
 use Rattle.plain_world.specs.Events.{OpenSearch, Number, reply_of}
 use Rattle.plain_world.proofs.RecordLemmas.{adds_alone}
-use Rattle.chronicle.specs.Chronicles.{records_in}
 use Rattle.chronicle.proofs.EventLemmas.{stands}
 use Rattle.chronicle.proofs.chronicles.Chronicle.open_search.Goals as goal
 
@@ -13,7 +12,7 @@ invariant_of-self g c =
     let new = c.open_search.new.self.plain in
     let reply = reply_of Number c.open_search.result in
     let happens = c.open_search.ensures.happens in
-    (stands event old new reply c.self.inside.first (records_in (map arc_value c.self.inside.pieces.items)) tt happens
+    (stands event old new reply c.self.inside.opened.value.plain.base (map arc_value c.self.inside.rolled.items) tt happens
     (adds_alone event old new reply happens) c.self.invariant).1
 
 pub returns : goal.returns
@@ -23,6 +22,6 @@ returns g c =
     let new = c.open_search.new.self.plain in
     let reply = reply_of Number c.open_search.result in
     let happens = c.open_search.ensures.happens in
-    (stands event old new reply c.self.inside.first (records_in (map arc_value c.self.inside.pieces.items)) tt happens
+    (stands event old new reply c.self.inside.opened.value.plain.base (map arc_value c.self.inside.rolled.items) tt happens
     (adds_alone event old new reply happens) c.self.invariant).0
     ∙ c.self.view_is

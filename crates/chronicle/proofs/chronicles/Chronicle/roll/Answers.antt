@@ -1,30 +1,32 @@
 use Rattle.std.proofs.Common.{◌≡◌, List, ◌++◌, map, subst, sym, ap, ◌∙◌}
 use Rattle.std.specs.Arc.{arc_value}
 use Rattle.audit_trail.specs.Records.{RecordData}
-use Rattle.chronicle.specs.Chronicles.{LeadsTo, records_in, seen}
-use Rattle.chronicle.proofs.NotingLemmas.{roll_kept, roll_refused}
-use Rattle.chronicle.proofs.TrailLemmas.{piece_pushed}
+use Rattle.chronicle.specs.Chronicles.{LeadsTo, seen}
+use Rattle.chronicle.proofs.NotingLemmas.{roll_held, roll_kept}
 use Rattle.chronicle.proofs.chronicles.Chronicle.roll.Goals as goal
 
-pub invariant_of-self-in_err-piece : goal.invariant_of-self-in_err-piece
-invariant_of-self-in_err-piece g c =
-    rw c.make_slot.ensures.items
-    (roll_refused c.args.seat c.self.inside.world.plain c.roll.new.self.plain c.in_err-piece.field-0.0 c.self.inside.first
-    (records_in (map arc_value c.self.inside.pieces.items)) c.in_err-piece.ensures.happens c.self.invariant).1
+pub invariant_of-self-in-Ok : goal.invariant_of-self-in-Ok
+invariant_of-self-in-Ok g c =
+    let base = c.self.inside.opened.value.plain.base in
+    let old = c.self.inside.world.plain in
+    let before = map arc_value c.self.inside.rolled.items in
+    let piece = arc_value c.in-Ok.piece in
+    let sound = c.fact_sound.ensures.sound in
+    let happens = c.in-Ok.ensures.happens in
+    let held : c.trail.result.now.records ≡ piece.records = c.trail.ensures.records ∙ sym (roll_held c.args.seat old c.roll.new.self.plain piece sound happens) in
+    let more = c.in_default.ensures.ok ∙ ap (λ (records : List RecordData). before ++ records) held in
+    subst (λ (rolled : List RecordData). LeadsTo base rolled c.roll.new.self.plain) (sym more)
+    (roll_kept c.args.seat old c.roll.new.self.plain piece base before sound happens c.self.invariant).1
 
-pub invariant_of-self-2 : goal.invariant_of-self-2
-invariant_of-self-2 g c =
-    let piece = c.in_ok-piece.piece in
-    let more = piece_pushed arc_value c.self.inside.pieces.items c.make_slot.new.self.items c.push_reserved.new.self.items piece c.make_slot.ensures.items c.push_reserved.ensures.items in
-    subst (λ (rolled : List RecordData). LeadsTo c.self.inside.first rolled c.roll.new.self.plain) (sym more)
-    (roll_kept c.args.seat c.self.inside.world.plain c.roll.new.self.plain (arc_value piece) c.self.inside.first
-    (records_in (map arc_value c.self.inside.pieces.items)) c.fact_sound.ensures.sound c.in_ok-piece.ensures.happens c.self.invariant).1
-
-pub returns : goal.returns
-returns g c =
-    let piece = c.in_ok-piece.piece in
-    let more = piece_pushed arc_value c.self.inside.pieces.items c.make_slot.new.self.items c.push_reserved.new.self.items piece c.make_slot.ensures.items c.push_reserved.ensures.items in
-    ap (λ (rolled : List RecordData). seen rolled c.roll.new.self.plain) more
-    ∙ (roll_kept c.args.seat c.self.inside.world.plain c.roll.new.self.plain (arc_value piece) c.self.inside.first
-    (records_in (map arc_value c.self.inside.pieces.items)) c.fact_sound.ensures.sound c.in_ok-piece.ensures.happens c.self.invariant).0
-    ∙ c.self.view_is
+pub returns-in-Ok : goal.returns-in-Ok
+returns-in-Ok g c =
+    let base = c.self.inside.opened.value.plain.base in
+    let old = c.self.inside.world.plain in
+    let before = map arc_value c.self.inside.rolled.items in
+    let piece = arc_value c.in-Ok.piece in
+    let sound = c.fact_sound.ensures.sound in
+    let happens = c.in-Ok.ensures.happens in
+    let held : c.trail.result.now.records ≡ piece.records = c.trail.ensures.records ∙ sym (roll_held c.args.seat old c.roll.new.self.plain piece sound happens) in
+    let more = c.in_default.ensures.ok ∙ ap (λ (records : List RecordData). before ++ records) held in
+    ap (λ (rolled : List RecordData). seen base rolled c.roll.new.self.plain) more
+    ∙ (roll_kept c.args.seat old c.roll.new.self.plain piece base before sound happens c.self.invariant).0 ∙ c.self.view_is

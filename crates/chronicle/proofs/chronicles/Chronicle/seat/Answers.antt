@@ -3,7 +3,7 @@ use Rattle.std.specs.Arc.{arc_value}
 use Rattle.std.specs.Prelude.{IfOk, OnErr, ◌≡◌}
 use Rattle.plain_world.specs.Events.{TakeSeat, Number, reply_of}
 use Rattle.plain_world.proofs.RecordLemmas.{adds_alone}
-use Rattle.chronicle.specs.Chronicles.{ChronicleData, records_in, seen}
+use Rattle.chronicle.specs.Chronicles.{ChronicleData, seen}
 use Rattle.chronicle.specs.Noting.{IsSeatGiven}
 use Rattle.chronicle.proofs.EventLemmas.{leads_on}
 use Rattle.chronicle.proofs.NotingLemmas.{seat_given, seat_refused}
@@ -17,16 +17,16 @@ invariant_of-self g c =
     let reply = reply_of Number c.seat.result in
     let happens = c.seat.ensures.happens in
     let alone = adds_alone event old new reply happens in
-    leads_on event old new reply c.self.inside.first (records_in (map arc_value c.self.inside.pieces.items)) happens alone.2 alone.3 c.self.invariant
+    leads_on event old new reply c.self.inside.opened.value.plain.base (map arc_value c.self.inside.rolled.items) happens alone.2 alone.3 c.self.invariant
 
 pub returns-clause-ok : goal.returns-clause-ok
 returns-clause-ok g c =
-    let rolled = records_in (map arc_value c.self.inside.pieces.items) in
-    subst (λ (d : ChronicleData). IfOk c.seat.result (λ number. IsSeatGiven c.args.name number d (seen rolled c.seat.new.self.plain))) c.self.view_is
-    (seat_given rolled c.args.name c.self.inside.world.plain c.seat.new.self.plain c.seat.result c.seat.ensures.happens c.seat.ensures.few)
+    let rolled = map arc_value c.self.inside.rolled.items in
+    subst (λ (d : ChronicleData). IfOk c.seat.result (λ number. IsSeatGiven c.args.name number d (seen c.self.inside.opened.value.plain.base rolled c.seat.new.self.plain))) c.self.view_is
+    (seat_given c.self.inside.opened.value.plain.base rolled c.args.name c.self.inside.world.plain c.seat.new.self.plain c.seat.result c.seat.ensures.happens c.seat.ensures.few)
 
 pub returns-clause-err : goal.returns-clause-err
 returns-clause-err g c =
-    let rolled = records_in (map arc_value c.self.inside.pieces.items) in
-    subst (λ (d : ChronicleData). OnErr c.seat.result (seen rolled c.seat.new.self.plain ≡ d)) c.self.view_is
-    (seat_refused rolled c.args.name c.self.inside.world.plain c.seat.new.self.plain c.seat.result c.seat.ensures.happens)
+    let rolled = map arc_value c.self.inside.rolled.items in
+    subst (λ (d : ChronicleData). OnErr c.seat.result (seen c.self.inside.opened.value.plain.base rolled c.seat.new.self.plain ≡ d)) c.self.view_is
+    (seat_refused c.self.inside.opened.value.plain.base rolled c.args.name c.self.inside.world.plain c.seat.new.self.plain c.seat.result c.seat.ensures.happens)

@@ -1,3 +1,7 @@
+use Rattle.std.proofs.Common.{Some, ap, subst, sym, ◌∙◌}
+use Rattle.features.specs.declared.actors.Subject.{Subject}
+use Rattle.chronicle.specs.Noting.{IsJudged}
+use Rattle.hall.proofs.Governed.{decider_stays}
 use Rattle.hall.proofs.Lasts.{pushed_last}
 use Rattle.hall.proofs.Seating.{one_subject}
 use Rattle.hall.proofs.guarded.Guarded.commit.Goals as goal
@@ -8,3 +12,19 @@ returns-clause-receipt g c =
     let own = one_subject c.args.seat c.args.self.now.chronicle.seats done.subject c.args.subject.now done.seated c.in_ok-is_seat_of.ensures in
     let last = rw done.told at c.receipt.ensures.last in
     rw (← own) (pushed_last c.args.self.now.chronicle.records _ _ last)
+
+pub invariant_of-self-2-clause-in_force : goal.invariant_of-self-2-clause-in_force
+invariant_of-self-2-clause-in_force g c =
+    let old = c.args.self.now in
+    let done = c.in_ok-outcome.ensures.ok in
+    rw done.told (old.in_force ∙ ap Some (sym (decider_stays old.chronicle.state done.subject c.args.changes.now c.in_ok-outcome.outcome)))
+
+pub returns-clause-judged : goal.returns-clause-judged
+returns-clause-judged g c =
+    let old = c.args.self.now.chronicle in
+    let done = c.in_ok-outcome.ensures.ok in
+    let own = one_subject c.args.seat old.seats done.subject c.args.subject.now done.seated c.in_ok-is_seat_of.ensures in
+    record {
+      state = old.state;
+      judged = subst (λ (s : Subject). IsJudged s c.args.changes.now old.state c.in_ok-outcome.outcome) own done.judged;
+    }

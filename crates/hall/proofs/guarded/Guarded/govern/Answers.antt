@@ -2,9 +2,15 @@ use Rattle.std.proofs.Common.{◌+◌, ◌∷◌, ◌++◌, [], ℕ, None, ap, s
 use Rattle.std.specs.Arc.{arc_value}
 use Rattle.decision.specs.Deciders.{DeciderData}
 use Rattle.published_policies.proofs.ListLemmas.{last_push}
-use Rattle.hall.proofs.Governed.{GoesOn, ends_so, told_so}
+use Rattle.hall.proofs.Governed.{GoesOn, ends_so, next_published, told_so}
 use Rattle.hall.proofs.Lasts.{first_push, pushed_last}
 use Rattle.hall.proofs.guarded.Guarded.govern.Goals as goal
+
+pub publish-edition-requires : goal.publish-edition-requires
+publish-edition-requires g c =
+    let old = c.args.self.now in
+    ap (λ (d : DeciderData). d.edition) c.in_ok-published.ensures
+    ∙ next_published old.publisher old.chronicle.state.decider (arc_value c.in_ok-decider.decider).edition old.in_force c.in_ok-decider.ensures.edition
 
 pub invariant_of-self-2-clause-in_force : goal.invariant_of-self-2-clause-in_force
 invariant_of-self-2-clause-in_force g c =
@@ -13,7 +19,7 @@ invariant_of-self-2-clause-in_force g c =
 pub invariant_of-self-2-clause-begins : goal.invariant_of-self-2-clause-begins
 invariant_of-self-2-clause-begins g c =
     let old = c.args.self.now in
-    rw (c.publish-edition.ensures.list, c.in_ok-govern_by.ensures.ok.told) (first_push old.publisher (arc_value c.in_ok-published.published) old.chronicle.opening old.begins)
+    rw c.publish-edition.ensures.list (first_push old.publisher (arc_value c.in_ok-published.published) _ old.begins)
 
 pub returns-clause-last : goal.returns-clause-last
 returns-clause-last g c =
@@ -21,7 +27,6 @@ returns-clause-last g c =
     let next = c.in_ok-decider.ensures in
     let on : GoesOn c.args.document old.publisher (arc_value c.in_ok-decider.decider) c.publish-edition.result = record {
       document = next.document;
-      edition = next.edition ∙ ap (λ (n : ℕ). n + 1) (sym old.edition);
       list = c.publish-edition.ensures.edition ∙ ap (λ (d : DeciderData). old.publisher ++ d ∷ []) c.in_ok-published.ensures;
     } in
     ends_so _ _ _ _ on
@@ -32,7 +37,6 @@ returns-clause-receipt g c =
     let next = c.in_ok-decider.ensures in
     let on : GoesOn c.args.document old.publisher (arc_value c.in_ok-decider.decider) c.publish-edition.result = record {
       document = next.document;
-      edition = next.edition ∙ ap (λ (n : ℕ). n + 1) (sym old.edition);
       list = c.publish-edition.ensures.edition ∙ ap (λ (d : DeciderData). old.publisher ++ d ∷ []) c.in_ok-published.ensures;
     } in
     let last = rw c.in_ok-govern_by.ensures.ok.told at c.receipt.ensures.last in

@@ -1,12 +1,22 @@
-use Rattle.std.proofs.Common.{◌≡◌, Ok, subst, sym}
-use Rattle.chronicle.specs.Chronicles.{ChronicleData, subject_given}
-use Rattle.hall.proofs.Seating.{last_subject}
+use Rattle.std.proofs.Common.{◌≡◌, Ok, Some, ap, subst, sym, ◌∙◌}
+use Rattle.features.specs.Subjects.{subject_named}
+use Rattle.chronicle.specs.Chronicles.{ChronicleData, Opening, subject_given}
+use Rattle.hall.proofs.Seating.{last_found, last_subject}
 use Rattle.hall.proofs.guarded.Guarded.seat.Goals as goal
 
 pub returns-clause-named : goal.returns-clause-named
 returns-clause-named g c =
+    let old = c.args.self.now in
     let sat = c.in_ok-number.ensures.ok in
     let number = c.in_ok-number.number in
     let subject = c.in-Ok.subject in
     let found = subst (λ (d : ChronicleData). subject_given number d.seats ≡ Ok subject) sat.given (sym c.in-Ok.ensures) in
-    rw (← last_subject c.args.self.now.chronicle.seats sat.subject subject number sat.next found) sat.named
+    let named : subject_named c.args.name old.chronicle.opening.subjects ≡ Some subject = sat.named ∙ ap Some (last_subject old.chronicle.seats sat.subject subject number sat.next found) in
+    subst (λ (o : Opening). subject_named c.args.name o.subjects ≡ Some subject) old.opened named
+
+pub unreachable-requires : goal.unreachable-requires
+unreachable-requires g c =
+    let sat = c.in_ok-number.ensures.ok in
+    let number = c.in_ok-number.number in
+    c.in_default.not-Ok sat.subject (c.subject_at.ensures ∙ ap (λ (d : ChronicleData). subject_given number d.seats) sat.given
+    ∙ last_found c.args.self.now.chronicle.seats sat.subject number sat.next)

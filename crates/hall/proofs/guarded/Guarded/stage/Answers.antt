@@ -8,7 +8,7 @@ invariant_of-self g c =
       counted = rw c.stage.ensures old.counted;
       idle = old.idle;
       cut = rw c.stage.ensures old.cut;
-      edition = rw c.stage.ensures old.edition;
-      begins = rw c.stage.ensures old.begins;
+      opened = rw c.stage.ensures old.opened;
+      begins = old.begins;
       in_force = rw c.stage.ensures old.in_force;
     }

@@ -1,4 +1,5 @@
-use Rattle.std.proofs.Common.{◌≡◌, List, Err, length, refl, ap}
+use Rattle.std.proofs.Common.{◌≡◌, List, Err, refl, ap}
+use Rattle.published_policies.specs.Lists.{last_edition}
 use Rattle.hall.specs.Seats.{SeatData}
 use Rattle.session_lines.specs.declared.replies.Reply.TheVariants.{Edition}
 use Rattle.session_lines.specs.Replies.{line}
@@ -16,7 +17,7 @@ returns-in-Err g c =
     let same = written_back s.seats.now.items s.earlier seat c.govern.new.self is c.in-Err.ensures.err in (
       refl,
       refl,
-      called (λ list. line (Edition (length list))) (λ list. PutsInForce c.args.document list) (Err c.in-Err.fault) _ _ _ seat here
+      called (λ list. line (Edition (last_edition list))) (λ list. PutsInForce c.args.document list) (Err c.in-Err.fault) _ _ _ seat here
           (ap line c.hall_reply.ensures) (ap (λ (seats : List SeatData). session s.earlier seats s.view.now) same),
     )
 
@@ -25,6 +26,6 @@ returns-in-Ok g c =
     let s = c.args.self.now in (
       refl,
       refl,
-      rw c.number-number.ensures.length (governed c.args.document c.in-Ok.edition s.seats.now.items _ s.earlier c.in-Some.seat.now c.govern.new.self
+      rw c.number-number.ensures.last (governed c.args.document c.in-Ok.edition s.seats.now.items _ s.earlier c.in-Some.seat.now c.govern.new.self
           s.view.now _ s.seats.now.ok.0 (c.in-Some.ensures.variant.0 refl) c.in-Some.ensures.value c.in-Ok.ensures.ok c.told.ensures.before c.told.ensures.edition),
     )

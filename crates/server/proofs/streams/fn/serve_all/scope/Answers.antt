@@ -18,6 +18,6 @@ spawn-requires-send-F g c κs within =
     let sends = c.requires.hall in
     let stream = c.requires.crosses in
     param_send _ _ (arg_send _ no _ (over_six_send _ _ _ _ _ _ _ (shr_send _ _ _ c.requires.shares) std.send
-    (shr_send _ _ _ (hall_sync L H g.L.Ledger g.L.ListName sends.0 sends.1)) (shr_send _ _ _ (mutex.the_sync _ (std.Vec-send _ (seat_send L H g.L.Ledger g.L.ListName sends.0 sends.1 _))))
+    (shr_send _ _ _ (hall_sync L H g.L.Ledger g.L.ListName g.L.HallName sends.0 sends.1)) (shr_send _ _ _ (mutex.the_sync _ (std.Vec-send _ (seat_send L H g.L.Ledger g.L.ListName g.L.HallName sends.0 sends.1 _))))
     (receiver.the_send _ heap ghosts (over_three_send _ _ _ _ stream.0 stream.1 stream.2) std.send std.sync std.frees)
     (view_send L g.L.ListName sends.0)))
