@@ -7,7 +7,7 @@ use Rattle.std.specs.contracts.impls.GlobalAllocator.TheImpl.{ghosts}
 use Rattle.std.proofs.Crossing.{send, sync, frees}
 use Rattle.std.proofs.sync.Arc.TheSendSync as arc
 use Rattle.std.proofs.vec.Vec.TheSendSync as vec
-use Rattle.policy_documents.proofs.CrossingLemmas.{◌&◌, u32_send, model_send}
+use Rattle.policy_documents.proofs.CrossingLemmas.{◌&◌, u64_send, model_send}
 use Rattle.decision.proofs.CrossingLemmas.{decider_send, decider_sync}
 use Rattle.audit_trail.proofs.CrossingLemmas.{record_send, record_sync}
 use Rattle.audit_trail.specs.contracts.records.Record as Record
@@ -24,7 +24,7 @@ module _ (A : RattleType) (g : Ghosts A.Denot) (s : IsSend A) (y : IsSync A) (f 
   chronicle_send =
       let piece = arc.the_send _ A g (rolled_send A g s y f) s (rolled_sync A g s y f) y f in
       let pieces = vec.the_send _ A g piece s f in
-      model_send (inside.the_type A g) (world_send A g s y f & pieces & u32_send & due.the_field_send & tt)
+      model_send (inside.the_type A g) (world_send A g s y f & pieces & u64_send & due.the_field_send & tt)
 
 -- the same in the heap, without premises
 pub heap_record_send : IsSend (Record.the_row heap ghosts)

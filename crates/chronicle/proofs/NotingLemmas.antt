@@ -64,9 +64,9 @@ sat_by_name name w subject e = go (subject_named name w.subjects) refl e
     full true x e = absurd cc
     full false x e = cc
 
-    go : (o : Option Subject) → subject_named name w.subjects ≡ o → placed (length w.seats) o ≡ Ok subject → subject.name ≡ name
+    go : (o : Option Subject) → subject_named name w.subjects ≡ o → placed w.limits.seats (length w.seats) o ≡ Ok subject → subject.name ≡ name
     go None is e = absurd cc
-    go (Some x) is e = ap (λ (y : Subject). y.name) (sym (full (nat_le SEAT_LIMIT (length w.seats)) x e)) ∙ named_so name w.subjects x is
+    go (Some x) is e = ap (λ (y : Subject). y.name) (sym (full (nat_le w.limits.seats (length w.seats)) x e)) ∙ named_so name w.subjects x is
 
 pub seat_given : (rolled : List RecordData) (name : List ℕ) (old new : WorldData) (result : Result ℕ Fault) → Happens (TakeSeat name) old new (reply_of Number result)
     → IfOk result (λ number. number ≤ SEAT_LIMIT) → IfOk result (λ number. IsSeatGiven name number (seen rolled old) (seen rolled new))

@@ -12,7 +12,7 @@ use policy_documents::Document;
 use std::alloc::{Allocator, Global};
 use std::marker::Model;
 use std::sync::Arc;
-use world::{Fault, Limits, ROLLED_LIMIT, Rolled, STEP_LIMIT, Starts, World};
+use world::{Fault, Limits, ROLLED_LIMIT, Rolled, SEAT_LIMIT, STEP_LIMIT, Starts, World};
 
 /// A world and the pieces that were rolled out of it. Contracts see the opening decider, the
 /// subjects of the seats, all records and the decider in force.
@@ -20,7 +20,7 @@ use world::{Fault, Limits, ROLLED_LIMIT, Rolled, STEP_LIMIT, Starts, World};
 pub struct Chronicle<A: Allocator> {
     pub(crate) world: World<A>,
     pub(crate) pieces: Vec<Arc<Rolled<A>, A>, A>,
-    pub(crate) first: u32,
+    pub(crate) first: u64,
     pub(crate) due: DueSlots,
 }
 
@@ -71,7 +71,7 @@ impl<A: Allocator + Copy> Chronicle<A> {
             subjects,
             document,
             Starts::FIRST,
-            Limits::GREATEST,
+            Limits::DEFAULT,
         )
     }
 
@@ -91,6 +91,7 @@ impl<A: Allocator + Copy> Chronicle<A> {
         requires records { limits.records ≤ RECORD_LIMIT }
         requires features { limits.features ≤ FEATURE_LIMIT }
         requires steps { limits.steps ≤ STEP_LIMIT }
+        requires seats { limits.seats ≤ SEAT_LIMIT }
         ensures ok { IfOk result
             (λ c. c ≡ opened_by (record { document = document; edition = starts.edition })) }
         ensures err { IfErr result (λ e. e ≡ (document, Fault.Memory out_of_memory)) }

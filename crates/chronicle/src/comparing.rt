@@ -79,7 +79,7 @@ fn follow<A: Allocator>(
 {
     let mut told = before;
     for index in 0..trail.len() {
-        let Some(record) = trail.get(trail.first() + index) else {
+        let Some(record) = trail.get(trail.first() + u64::from(index)) else {
             unreachable!()
         };
         if record.seat() == seat {

@@ -19,7 +19,7 @@ impl<A: Allocator> Chronicle<A> {
         ensures { result ≡ length self.now.records }
     {
         let trail = self.world.trail();
-        u64::from(trail.first() - self.first) + u64::from(trail.len())
+        trail.first() - self.first + u64::from(trail.len())
     }
 
     /// How many seats were given: `SEAT_LIMIT` at most.
@@ -75,7 +75,7 @@ fn last_of<A: Allocator>(trail: &Trail<A>) -> Option<&Arc<Record<A>, A>>
     if count == 0 {
         return None;
     }
-    trail.get(trail.first() + (count - 1))
+    trail.get(trail.first() + u64::from(count - 1))
 }
 
 /// The last record of these pieces.

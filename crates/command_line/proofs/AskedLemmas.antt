@@ -18,7 +18,7 @@ use Rattle.clap.specs.declared.parser.matches.ArgMatches.{ArgMatches}
 use Rattle.clap.specs.declared.parser.matches.ArgMatches.TheViews.{out-ArgMatches, out-SubCommand}
 use Rattle.clap.specs.declared.parser.matches.SubCommand.{SubCommand}
 use Rattle.command_line.specs.CommandLine.{check_line, command_for, command_line, completions_line, connect_line, draw_line, flag_rule, man_line, needed, option_rule, refusals, script_line, serve_line, up_to}
-use Rattle.command_line.specs.declared.options.TheConstants.{CONNECTION_LIMIT, IDLE_LIMIT, WORKER_LIMIT}
+use Rattle.command_line.specs.declared.options.TheConstants.{CONNECTION_LIMIT, FEATURES_LIMIT, IDLE_LIMIT, WORKER_LIMIT}
 use Rattle.command_line.proofs.HelpLemmas.{EntersNoHelp, IsNoHelp, walk_no_help}
 use Rattle.command_line.proofs.NumberLemmas.{Passes, has_first, passes}
 use Rattle.command_line.proofs.RowLemmas.{AreKnown, ArePassed, level_passed, level_steps}
@@ -76,6 +76,9 @@ workers_rule = filled (up_to WORKER_LIMIT (option_rule (codes "workers")))
 abbrev pub idle_rule : Rule
 idle_rule = filled (up_to IDLE_LIMIT (option_rule (codes "idle")))
 
+abbrev pub features_rule : Rule
+features_rule = filled (up_to FEATURES_LIMIT (option_rule (codes "features")))
+
 abbrev pub takeover_rule : Rule
 takeover_rule = filled (flag_rule (codes "takeover"))
 
@@ -85,7 +88,10 @@ until_rule = filled (flag_rule (codes "until-stdin-ends"))
 script_known : AreKnown script_built.rules script_built.rules
 script_known = (
   record { plain = inl (tt, inl refl); own = refl; defaults = refl },
-  (record { plain = inl (tt, inl refl); own = refl; defaults = refl }, (record { plain = inr refl; own = refl; defaults = refl }, tt)),
+  (
+    record { plain = inl (tt, inl refl); own = refl; defaults = refl },
+    (record { plain = inl (tt, inl refl); own = refl; defaults = refl }, (record { plain = inr refl; own = refl; defaults = refl }, tt)),
+  ),
 )
 
 serve_known : AreKnown serve_built.rules serve_built.rules
@@ -100,10 +106,13 @@ serve_known = (
         (
           record { plain = inl (tt, inl refl); own = refl; defaults = refl },
           (
-            record { plain = inl (tt, inr tt); own = refl; defaults = refl },
+            record { plain = inl (tt, inl refl); own = refl; defaults = refl },
             (
               record { plain = inl (tt, inr tt); own = refl; defaults = refl },
-              (record { plain = inr refl; own = refl; defaults = refl }, tt),
+              (
+                record { plain = inl (tt, inr tt); own = refl; defaults = refl },
+                (record { plain = inr refl; own = refl; defaults = refl }, tt),
+              ),
             ),
           ),
         ),
@@ -126,9 +135,9 @@ completions_known = (record { plain = inl (tt, inl refl); own = refl; defaults =
 
 -- ---- what clap lets through
 
--- `script` has its FILE
+-- `script` has its FILE, and the number of features passed
 abbrev pub NamesFile : List Row → Type 0
-NamesFile rows = is_some (first_of (codes "FILE") rows) ≡ true
+NamesFile rows = (is_some (first_of (codes "FILE") rows) ≡ true) × Passes features_rule rows
 
 -- `connect` has its socket
 abbrev pub NamesSocket : List Row → Type 0
@@ -153,6 +162,7 @@ pub record HasNeeded (rows : List Row) : Type 0 where
   pub connections : Passes connections_rule rows
   pub workers : Passes workers_rule rows
   pub idle : Passes idle_rule rows
+  pub features : Passes features_rule rows
   pub takeover : Passes takeover_rule rows
   pub until_stdin_ends : Passes until_rule rows
 
@@ -170,7 +180,7 @@ script_passed words e =
     let rows = finished script_built.rules (walk script_built.rules [] nothing_held words).held in
     let passed : ArePassed script_built.rules rows = level_passed script_built [] words false [] script_known e in
     let file : Passes file_rule rows = passes script_built.rules file_rule rows refl passed in
-    has_first file_rule rows file (wanted (is_given (codes "FILE") rows) (level_steps script_built [] words false [] e).3)
+    (has_first file_rule rows file (wanted (is_given (codes "FILE") rows) (level_steps script_built [] words false [] e).3), passes script_built.rules features_rule rows refl passed)
 
 serve_passed : (words : List Text) → level_fault serve_built [] nothing_held words false [] ≡ [] → HasNeeded (rows_at serve_built words).1
 serve_passed words e =
@@ -186,6 +196,7 @@ serve_passed words e =
       connections = connections;
       workers = passes rules workers_rule rows refl passed;
       idle = passes rules idle_rule rows refl passed;
+      features = passes rules features_rule rows refl passed;
       takeover = passes rules takeover_rule rows refl passed;
       until_stdin_ends = passes rules until_rule rows refl passed;
     }

@@ -39,6 +39,25 @@ configured_config : given_by configured (codes "config") ≡ Some (codes "a.json
 unfolding clap_on_literals
 configured_config = refl
 
+plain_features : given_by plain (codes "features") ≡ None
+unfolding clap_on_literals
+plain_features = refl
+
+abbrev roomy : List Text
+roomy = codes "landmap" ∷ codes "script" ∷ codes "--features=4000000" ∷ codes "day.map" ∷ []
+
+roomy_is_taken : refusals roomy ≡ []
+unfolding clap_on_literals
+roomy_is_taken = refl
+
+roomy_features : number_at (given_by roomy) (codes "features") ≡ Some 4000000
+unfolding clap_on_literals
+roomy_features = refl
+
+too_many_features : refusals (codes "landmap" ∷ codes "script" ∷ codes "--features=4000001" ∷ codes "day.map" ∷ []) ≡ ValueValidation ∷ []
+unfolding clap_on_literals
+too_many_features = refl
+
 -- a server with its required options, and with more
 abbrev serving : List Text
 serving = codes "landmap" ∷ codes "serve" ∷ codes "--socket" ∷ codes "m.sock" ∷ codes "--connections" ∷ codes "1024" ∷ []

@@ -5,7 +5,7 @@ use Rattle.command_line.specs.CommandLine.{AreTurnedDown, AskFor, AskForHelp, co
 use Rattle.command_line.specs.declared.commands.Reading.{Reading}
 use Rattle.command_line.specs.declared.commands.Reading.TheVariants.{Given, Told}
 use Rattle.command_line.specs.declared.options.ServerOptions.{ServerOptions}
-use Rattle.command_line.specs.declared.options.TheConstants.{CONNECTION_LIMIT, DEFAULT_WORKERS, IDLE_LIMIT, WORKER_LIMIT}
+use Rattle.command_line.specs.declared.options.TheConstants.{CONNECTION_LIMIT, DEFAULT_FEATURES, DEFAULT_WORKERS, FEATURES_LIMIT, IDLE_LIMIT, WORKER_LIMIT}
 use Rattle.command_line.specs.declared.words.Asked.{Asked}
 use Rattle.command_line.specs.declared.words.Asked.TheVariants.{Check, Completions, Connect, Draw, Help, Man, Mistake, Script, Serve}
 use Rattle.command_line.specs.declared.words.ScriptWords.{ScriptWords}
@@ -27,22 +27,29 @@ IsGiven name rows = (words : List Text) × (refusals words ≡ [])
 abbrev pub IsUpTo : ℕ → ℕ → Type 0
 IsUpTo most n = (1 ≤ n) × (n ≤ most)
 
+-- how many features are given, or those where no number is given
+abbrev pub features_at : (Text → Option Text) → ℕ
+features_at given = unwrap_or (number_at given (codes "features")) DEFAULT_FEATURES
+
 -- the options of a server are the given ones, within their limits
 pub record HasOptions (given : Text → Option Text) (options : ServerOptions) : Type 0 where
   pub socket : given (codes "socket") ≡ Some options.socket.now
   pub connections : number_at given (codes "connections") ≡ Some options.connections
   pub workers : options.workers ≡ unwrap_or (number_at given (codes "workers")) DEFAULT_WORKERS
   pub idle : options.idle_seconds ≡ number_at given (codes "idle")
+  pub features : options.features ≡ features_at given
   pub takeover : options.takeover ≡ flag_at given (codes "takeover")
   pub until_stdin_ends : options.until_stdin_ends ≡ flag_at given (codes "until-stdin-ends")
   pub connections_fit : IsUpTo CONNECTION_LIMIT options.connections
   pub workers_fit : IsUpTo WORKER_LIMIT options.workers
   pub idle_fits : IfSome options.idle_seconds (IsUpTo IDLE_LIMIT)
+  pub features_fit : IsUpTo FEATURES_LIMIT options.features
 
--- the files of a script
+-- the files of a script, and its features
 abbrev pub HasFiles : (Text → Option Text) → ScriptWords → Type 0
 HasFiles given files = (given (codes "FILE") ≡ Some files.script.now)
     × (given (codes "config") ≡ option_map (λ name. name.now) files.config)
+    × (files.features ≡ features_at given) × IsUpTo FEATURES_LIMIT files.features
 
 -- the options of a server and its configuration's file
 abbrev pub HasServer : (Text → Option Text) → ServeWords → Type 0

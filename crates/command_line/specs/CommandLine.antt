@@ -1,4 +1,4 @@
--- The command line, as clap reads it: `landmap script [--config FILE] FILE`, `landmap serve` with
+-- The command line, as clap reads it: `landmap script` with its options and FILE, `landmap serve` with
 -- its options, `landmap connect --socket PATH`, `landmap check --config FILE`, `landmap draw
 -- SCRIPT`, `landmap man`, and `landmap completions SHELL`.
 use Rattle.std.specs.Prelude.{◌≡◌, ◌≢◌, ◌⊎◌, ℕ, Bool, true, false, List, [], ◌∷◌, Option, None, Some, codes, if◌then◌else◌, fold, option_map, option_and_then, pos}
@@ -16,7 +16,7 @@ use Rattle.clap.specs.declared.error.kind.ErrorKind.TheVariants.{DisplayHelp}
 use Rattle.clap.specs.declared.builder.value_parser.ValueParser.TheVariants.{Signed}
 use Rattle.command_line.specs.declared.shells.Shell.{Shell}
 use Rattle.command_line.specs.declared.shells.Shell.TheVariants.{Bash, Fish, Zsh}
-use Rattle.command_line.specs.declared.options.TheConstants.{CONNECTION_LIMIT, IDLE_LIMIT, WORKER_LIMIT}
+use Rattle.command_line.specs.declared.options.TheConstants.{CONNECTION_LIMIT, FEATURES_LIMIT, IDLE_LIMIT, WORKER_LIMIT}
 
 -- `--NAME VALUE`
 abbrev pub option_rule : Text → Rule
@@ -45,20 +45,21 @@ IsCommand app command = (app_of command ≡ app) × ((out-Command command).has_g
 abbrev pub subcommand_line : Text → List Rule → App
 subcommand_line name rules = fold with_rule (new_app name) rules
 
--- `script [--config FILE] FILE`
+-- `script [--config FILE] [--features N] FILE`
 abbrev pub script_line : App
-script_line = subcommand_line (codes "script")
-    (option_rule (codes "config") ∷ needed (new_rule (codes "FILE")) ∷ [])
+script_line = subcommand_line (codes "script") (
+    option_rule (codes "config") ∷ up_to FEATURES_LIMIT (option_rule (codes "features")) ∷ needed
+    (new_rule (codes "FILE")) ∷ [])
 
--- `serve --socket PATH [--config FILE] --connections N [--workers N] [--idle SECONDS] [--takeover]
--- [--until-stdin-ends]`
+-- `serve --socket PATH [--config FILE] --connections N [--workers N] [--idle SECONDS]
+-- [--features N] [--takeover] [--until-stdin-ends]`
 abbrev pub serve_line : App
 serve_line = subcommand_line (codes "serve") (
     needed (option_rule (codes "socket")) ∷ option_rule (codes "config") ∷ needed
     (up_to CONNECTION_LIMIT (option_rule (codes "connections")))
     ∷ up_to WORKER_LIMIT (option_rule (codes "workers")) ∷ up_to IDLE_LIMIT
     (option_rule (codes "idle"))
-    ∷ flag_rule (codes "takeover") ∷ flag_rule (codes "until-stdin-ends") ∷ [])
+    ∷ up_to FEATURES_LIMIT (option_rule (codes "features")) ∷ flag_rule (codes "takeover") ∷ flag_rule (codes "until-stdin-ends") ∷ [])
 
 -- `connect --socket PATH`
 abbrev pub connect_line : App

@@ -1,20 +1,20 @@
 //! The host's words, and how clap reads them. Only this module makes a `NoMemoryForWords`.
 
-ghost use Rattle.std.specs.Prelude.{◌≡◌, map, string_bytes, IfOk};
+ghost use Rattle.std.specs.Prelude.{◌≡◌, codes, map, string_bytes, IfOk};
 ghost use Rattle.clap.specs.Words.{app_of};
 ghost use Rattle.command_line.specs.Asking.{IsReading};
-ghost use Rattle.command_line.specs.CommandLine.{IsArgument, IsCommand, bare_line, check_line, command_line, completions_line, connect_line, draw_line, flag_rule, man_line, option_rule, script_line, serve_line};
+ghost use Rattle.command_line.specs.CommandLine.{IsArgument, IsCommand, bare_line, check_line, command_line, completions_line, connect_line, draw_line, flag_rule, man_line, option_rule, script_line, serve_line, up_to};
 
 use crate::help_texts::{
     ABOUT, CHECK_ABOUT, CHECK_CONFIG_HELP, CHECK_EXAMPLES, CHECK_LONG_ABOUT, COMPLETIONS_ABOUT,
     COMPLETIONS_EXAMPLES, COMPLETIONS_LONG_ABOUT, CONFIG_HELP, CONNECT_ABOUT, CONNECT_EXAMPLES,
     CONNECT_LONG_ABOUT, CONNECT_SOCKET_HELP, CONNECTIONS_HELP, DRAW_ABOUT, DRAW_EXAMPLES,
-    DRAW_LONG_ABOUT, DRAW_SCRIPT_HELP, EXAMPLES, IDLE_HELP, LONG_ABOUT, MAN_ABOUT, MAN_EXAMPLES,
-    MAN_LONG_ABOUT, SCRIPT_ABOUT, SCRIPT_EXAMPLES, SCRIPT_FILE_HELP, SCRIPT_LONG_ABOUT,
-    SERVE_ABOUT, SERVE_EXAMPLES, SERVE_LONG_ABOUT, SHELL_HELP, SOCKET_HELP, TAKEOVER_HELP,
-    UNTIL_STDIN_ENDS_HELP, WORKERS_HELP,
+    DRAW_LONG_ABOUT, DRAW_SCRIPT_HELP, EXAMPLES, FEATURES_HELP, IDLE_HELP, LONG_ABOUT, MAN_ABOUT,
+    MAN_EXAMPLES, MAN_LONG_ABOUT, SCRIPT_ABOUT, SCRIPT_EXAMPLES, SCRIPT_FILE_HELP,
+    SCRIPT_LONG_ABOUT, SERVE_ABOUT, SERVE_EXAMPLES, SERVE_LONG_ABOUT, SHELL_HELP, SOCKET_HELP,
+    TAKEOVER_HELP, UNTIL_STDIN_ENDS_HELP, WORKERS_HELP,
 };
-use crate::options::{CONNECTION_LIMIT, IDLE_LIMIT, WORKER_LIMIT};
+use crate::options::{CONNECTION_LIMIT, FEATURES_LIMIT, IDLE_LIMIT, WORKER_LIMIT};
 use clap::error::ErrorKind;
 use clap::{Arg, ArgAction, ArgMatches, Command, Error, value_parser};
 use std::alloc::{AllocError, Global};
@@ -69,6 +69,14 @@ fn option_argument<'a>(alloc: Global, name: &'a str, value_name: &'a str, help: 
         .help(help)
 }
 
+/// The option for the number of features.
+fn features_argument<'a>(alloc: Global) -> Arg<'a>
+    ensures { IsArgument (up_to FEATURES_LIMIT (option_rule (codes "features"))) result }
+{
+    let range = value_parser!(u32).range(1..=i64::from(FEATURES_LIMIT));
+    option_argument(alloc, "features", "N", FEATURES_HELP).value_parser(range)
+}
+
 /// A flag, `--NAME`.
 fn flag_argument<'a>(alloc: Global, name: &'a str, help: &'a str) -> Arg<'a>
     ensures { IsArgument (flag_rule name.entry.now) result }
@@ -91,6 +99,7 @@ fn script_command<'a>(alloc: Global) -> Result<Command<'a>, AllocError>
         .long_about(SCRIPT_LONG_ABOUT)
         .after_long_help(SCRIPT_EXAMPLES)
         .arg(option_argument(alloc, "config", "FILE", CONFIG_HELP))?
+        .arg(features_argument(alloc))?
         .arg(file)
 }
 
@@ -116,6 +125,7 @@ fn serve_command<'a>(alloc: Global) -> Result<Command<'a>, AllocError>
         .arg(connections)?
         .arg(workers)?
         .arg(idle)?
+        .arg(features_argument(alloc))?
         .arg(flag_argument(alloc, "takeover", TAKEOVER_HELP))?
         .arg(flag_argument(alloc, "until-stdin-ends", UNTIL_STDIN_ENDS_HELP))
 }

@@ -133,6 +133,9 @@ pub(crate) const CONNECTIONS_HELP: &str = "How many connections are served, 1 to
 
 pub(crate) const WORKERS_HELP: &str = "How many of them at a time, 1 to 64 [default: 4]";
 
+pub(crate) const FEATURES_HELP: &str =
+    "How many features there may be, 1 to 4000000 [default: 100000]";
+
 pub(crate) const IDLE_HELP: &str = "How long a client may be idle, 1 to 86400";
 
 pub(crate) const TAKEOVER_HELP: &str = "Takes over a socket that nobody listens on";

@@ -12,6 +12,12 @@ pub const DEFAULT_WORKERS: u8 = 4;
 /// The greatest idle time, in seconds: a day.
 pub const IDLE_LIMIT: u32 = 86_400;
 
+/// The most features that a world may be given room for.
+pub const FEATURES_LIMIT: u32 = 4_000_000;
+
+/// The most features of a world if the command line gives no number.
+pub const DEFAULT_FEATURES: u32 = 100_000;
+
 /// The options of a server, apart from its configuration.
 #[derive(Clone, Copy, Debug, PartialEq, Eq)]
 pub struct ServerOptions<'a> {
@@ -24,6 +30,8 @@ pub struct ServerOptions<'a> {
     /// The idle time in seconds, 1 to `IDLE_LIMIT`: a session ends after its client has neither
     /// sent nor read for so long. `None`: never.
     pub idle_seconds: Option<u32>,
+    /// How many features there may be: 1 to `FEATURES_LIMIT`.
+    pub features: u32,
     /// Whether a socket's file at the path is taken over if nobody listens on it.
     pub takeover: bool,
     /// Whether the server stops accepting at the end of standard input.

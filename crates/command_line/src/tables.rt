@@ -8,10 +8,10 @@ use crate::help_texts::{
     ABOUT, CHECK_ABOUT, CHECK_CONFIG_HELP, CHECK_EXAMPLES, CHECK_LONG_ABOUT, COMPLETIONS_ABOUT,
     COMPLETIONS_EXAMPLES, COMPLETIONS_LONG_ABOUT, CONFIG_HELP, CONNECT_ABOUT, CONNECT_EXAMPLES,
     CONNECT_LONG_ABOUT, CONNECT_SOCKET_HELP, CONNECTIONS_HELP, DRAW_ABOUT, DRAW_EXAMPLES,
-    DRAW_LONG_ABOUT, DRAW_SCRIPT_HELP, EXAMPLES, IDLE_HELP, LONG_ABOUT, MAN_ABOUT, MAN_EXAMPLES,
-    MAN_LONG_ABOUT, SCRIPT_ABOUT, SCRIPT_EXAMPLES, SCRIPT_FILE_HELP, SCRIPT_LONG_ABOUT,
-    SERVE_ABOUT, SERVE_EXAMPLES, SERVE_LONG_ABOUT, SHELL_HELP, SOCKET_HELP, TAKEOVER_HELP,
-    UNTIL_STDIN_ENDS_HELP, WORKERS_HELP,
+    DRAW_LONG_ABOUT, DRAW_SCRIPT_HELP, EXAMPLES, FEATURES_HELP, IDLE_HELP, LONG_ABOUT, MAN_ABOUT,
+    MAN_EXAMPLES, MAN_LONG_ABOUT, SCRIPT_ABOUT, SCRIPT_EXAMPLES, SCRIPT_FILE_HELP,
+    SCRIPT_LONG_ABOUT, SERVE_ABOUT, SERVE_EXAMPLES, SERVE_LONG_ABOUT, SHELL_HELP, SOCKET_HELP,
+    TAKEOVER_HELP, UNTIL_STDIN_ENDS_HELP, WORKERS_HELP,
 };
 
 /// How many commands there are.
@@ -65,8 +65,16 @@ const CONFIG: ArgumentText = ArgumentText {
     help: CONFIG_HELP,
 };
 
-const SCRIPT_ARGUMENTS: [ArgumentText; 2] = [
+const FEATURES: ArgumentText = ArgumentText {
+    dashes: "--",
+    name: "features",
+    value: "N",
+    help: FEATURES_HELP,
+};
+
+const SCRIPT_ARGUMENTS: [ArgumentText; 3] = [
     CONFIG,
+    FEATURES,
     ArgumentText {
         dashes: "",
         name: "FILE",
@@ -75,7 +83,7 @@ const SCRIPT_ARGUMENTS: [ArgumentText; 2] = [
     },
 ];
 
-const SERVE_ARGUMENTS: [ArgumentText; 7] = [
+const SERVE_ARGUMENTS: [ArgumentText; 8] = [
     ArgumentText {
         dashes: "--",
         name: "socket",
@@ -101,6 +109,7 @@ const SERVE_ARGUMENTS: [ArgumentText; 7] = [
         value: "SECONDS",
         help: IDLE_HELP,
     },
+    FEATURES,
     ArgumentText {
         dashes: "--",
         name: "takeover",

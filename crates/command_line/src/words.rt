@@ -6,7 +6,7 @@ ghost use Rattle.command_line.specs.CommandLine.{refusals};
 ghost use Rattle.command_line.specs.Asking.{HasFiles, HasServer, IsAsked, IsAskedShell, IsGiven};
 
 use crate::commands::{NoMemoryForWords, Reading, clap_reading};
-use crate::options::{DEFAULT_WORKERS, ServerOptions};
+use crate::options::{DEFAULT_FEATURES, DEFAULT_WORKERS, ServerOptions};
 use crate::shells::{Shell, shell_named};
 use clap::error::ErrorKind;
 use clap::{ArgMatches, Error};
@@ -57,13 +57,15 @@ pub enum Asked<'a> {
     Mistake(Shown<'a>),
 }
 
-/// The files that `script` names.
+/// What `script` is given.
 #[derive(Clone, Copy)]
 pub struct ScriptWords<'a> {
     /// The script's file.
     pub script: &'a str,
     /// The configuration's file; `None` for the built-in configuration.
     pub config: Option<&'a str>,
+    /// How many features there may be: 1 to `FEATURES_LIMIT`.
+    pub features: u32,
 }
 
 /// What `serve` is given.
@@ -86,6 +88,7 @@ fn script_words<'a>(given: &ArgMatches<'a>) -> ScriptWords<'a>
     ScriptWords {
         script,
         config: given.get_str("config"),
+        features: given.get_one::<u32>("features").unwrap_or(DEFAULT_FEATURES),
     }
 }
 
@@ -105,6 +108,7 @@ fn serve_words<'a>(given: &ArgMatches<'a>) -> ServeWords<'a>
         connections,
         workers: given.get_one::<u8>("workers").unwrap_or(DEFAULT_WORKERS),
         idle_seconds: given.get_one::<u32>("idle"),
+        features: given.get_one::<u32>("features").unwrap_or(DEFAULT_FEATURES),
         takeover: given.get_flag("takeover"),
         until_stdin_ends: given.get_flag("until-stdin-ends"),
     };

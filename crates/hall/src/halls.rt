@@ -18,7 +18,7 @@ use published_policies::{EmptyList, ListName, Publisher, View};
 use std::alloc::{Allocator, Global};
 use std::sync::ledger::{Blank, Ledger};
 use std::sync::{Condvar, Mutex, Wait};
-use world::{Limits, STEP_LIMIT, Starts};
+use world::{Limits, SEAT_LIMIT, STEP_LIMIT, Starts};
 
 /// The most views that a hall gives.
 pub const VIEW_LIMIT: usize = 64;
@@ -86,7 +86,7 @@ impl<L: Ledger + ListName, R: Wait + Drop, A: Allocator + Copy> Hall<L, R, A> {
     /// views. `rt` is the hall's own handle, with which it publishes policies. `alloc` keeps
     /// features, records and receipts; `heap` keeps documents, the lines of a trail and what views
     /// read. H2 where more than `VIEW_LIMIT` views are asked for; H6, or the world's X12, where an
-    /// allocation is refused. A fault returns the document. The limits are the greatest.
+    /// allocation is refused. A fault returns the document. The limits are `Limits::DEFAULT`.
     pub fn open(
         rt: R,
         alloc: A,
@@ -101,7 +101,7 @@ impl<L: Ledger + ListName, R: Wait + Drop, A: Allocator + Copy> Hall<L, R, A> {
         requires list { unnamed.list ≡ L.book }
         ensures { IfErr result (λ e. e.0 ≡ document) }
     {
-        let limits = Limits::GREATEST;
+        let limits = Limits::DEFAULT;
         Hall::open_within(rt, alloc, heap, unnamed, subjects, document, views, limits)
     }
 
@@ -123,6 +123,7 @@ impl<L: Ledger + ListName, R: Wait + Drop, A: Allocator + Copy> Hall<L, R, A> {
         requires records { limits.records ≤ RECORD_LIMIT }
         requires features { limits.features ≤ FEATURE_LIMIT }
         requires steps { limits.steps ≤ STEP_LIMIT }
+        requires seats { limits.seats ≤ SEAT_LIMIT }
         ensures { IfErr result (λ e. e.0 ≡ document) }
     {
         if views > VIEW_LIMIT {

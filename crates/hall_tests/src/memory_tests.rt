@@ -226,7 +226,7 @@ fn begun<'m>(
         subjects(rt),
         document,
         starts,
-        Limits::GREATEST,
+        Limits::DEFAULT,
     );
     assert!(rt; opened.is_ok());
     let mut chronicle = opened.ok().unwrap();

@@ -11,7 +11,7 @@ use std::marker::Brand;
 use std::process::Abort;
 use std::sync::Wait;
 use std::sync::ledger::Ledger;
-use world::{Denial, Outcome, SEAT_LIMIT};
+use world::{DEFAULT_SEATS, Denial, Outcome};
 
 fn all_seats_in<L: Ledger + ListName, H: Wait + Drop, R: Wait + Abort>(
     rt: &R,
@@ -25,7 +25,7 @@ fn all_seats_in<L: Ledger + ListName, H: Wait + Drop, R: Wait + Abort>(
 {
     let hall = opened::<L, H>(rt, own, heap, unnamed, 0);
     let mut seats = Vec::new(heap);
-    for number in 0..SEAT_LIMIT {
+    for number in 0..DEFAULT_SEATS as usize {
         let given = seat(rt, &hall, "north");
         assert_eq!(rt; given.number() as usize, number + 1);
         assert!(rt; seats.push(given).is_ok());
@@ -36,7 +36,7 @@ fn all_seats_in<L: Ledger + ListName, H: Wait + Drop, R: Wait + Abort>(
             closed,
             Closed {
                 records: 0,
-                seats: SEAT_LIMIT
+                seats: DEFAULT_SEATS as usize
             }
         ),
         Err((fault, _)) => panic!(rt; "not closed: {fault}"),

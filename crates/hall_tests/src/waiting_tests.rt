@@ -231,7 +231,7 @@ where
 {
     let limits = Limits {
         records: 1,
-        ..Limits::GREATEST
+        ..Limits::DEFAULT
     };
     let hall = opened_within::<L, H>(rt, own, heap, unnamed, limits);
     let mut one = seat(rt, &hall, "north");
@@ -320,7 +320,7 @@ where
 {
     let limits = Limits {
         steps: FEW_STEPS,
-        ..Limits::GREATEST
+        ..Limits::DEFAULT
     };
     let hall = opened_within::<L, H>(rt, own, heap, unnamed, limits);
     let mut one = seat(rt, &hall, "north");
@@ -456,7 +456,7 @@ fn refused_in<L: Ledger + ListName, H: Wait + Drop, R: Wait + Abort>(
 {
     let limits = Limits {
         records: 0,
-        ..Limits::GREATEST
+        ..Limits::DEFAULT
     };
     let hall: Hall<L, H, Global> = opened_within(rt, own, heap, unnamed, limits);
     let mut one = seat(rt, &hall, "north");
@@ -485,7 +485,7 @@ fn overruns_in<L: Ledger + ListName, H: Wait + Drop, R: Wait + Abort>(
 {
     let limits = Limits {
         steps: 0,
-        ..Limits::GREATEST
+        ..Limits::DEFAULT
     };
     let hall: Hall<L, H, Global> = opened_within(rt, own, heap, unnamed, limits);
     let mut one = seat(rt, &hall, "north");

@@ -104,6 +104,7 @@ fn planned(heap: Global, server: WantedServer<'_>) -> Result<Plan, NoMemory> {
             subjects: config.subjects,
             document: config.document,
             workers: usize::from(options.workers),
+            features: options.features,
         },
         path: text(heap, options.socket)?,
         connections: options.connections,

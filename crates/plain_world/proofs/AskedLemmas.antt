@@ -15,7 +15,6 @@ use Rattle.plain_world.specs.declared.faults.Fault.TheVariants as faults
 use Rattle.tree_answers.specs.declared.fault.TreeFault.TheVariants as tree
 use Rattle.plain_world.specs.declared.outcomes.Outcome.TheVariants as outcomes
 use Rattle.plain_world.specs.declared.open_searches.Search.{Search}
-use Rattle.plain_world.specs.declared.settings.TheConstants.{SEAT_LIMIT}
 use Rattle.plain_world.specs.declared.advances.Advance.TheVariants as advances
 use Rattle.tree_answers.specs.declared.answers.Step.TheVariants as steps
 use Rattle.tree_answers.specs.declared.answers.Visit.TheVariants as visits
@@ -164,9 +163,9 @@ sat name w subject e = go (subject_named name w.subjects) e
     full true x e = absurd cc
     full false x e = cc
 
-    go : (o : Option Subject) → placed (length w.seats) o ≡ Ok subject → o ≡ Some subject
+    go : (o : Option Subject) → placed w.limits.seats (length w.seats) o ≡ Ok subject → o ≡ Some subject
     go None e = absurd cc
-    go (Some x) e = ap (λ (y : Subject). Some y) (full (nat_le SEAT_LIMIT (length w.seats)) x e)
+    go (Some x) e = ap (λ (y : Subject). Some y) (full (nat_le w.limits.seats (length w.seats)) x e)
 
 -- Each event.
 

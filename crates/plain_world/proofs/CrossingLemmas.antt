@@ -9,7 +9,6 @@ use Rattle.std.proofs.string.String.TheSendSync as string
 use Rattle.std.proofs.vec.Vec.TheSendSync as vec
 use Rattle.plane.proofs.shape.Shape.TheSendSync as area
 use Rattle.features.proofs.actors.Subject.TheSendSync as subject
-use Rattle.features.proofs.actors.Subjects.TheSendSync as subjects
 use Rattle.features.proofs.rows.Feature.TheSendSync as feature
 use Rattle.feature_store.proofs.stores.Store.TheSendSync as store
 use Rattle.policy_documents.proofs.CrossingLemmas.{◌&◌, u32_send, u64_send, u64_sync, model_send, model_sync}
@@ -18,6 +17,7 @@ use Rattle.decision.proofs.CrossingLemmas.{shared_decider_send, shared_decider_s
 use Rattle.judging.proofs.causes.Refusal.TheSendSync as refusal
 use Rattle.audit_trail.proofs.CrossingLemmas.{trail_send, trail_sync}
 use Rattle.plain_world.proofs.open_searches.Searches.TheSendSync as searches
+use Rattle.plain_world.proofs.seats.Seats.TheSendSync as seats
 use Rattle.plain_world.proofs.settings.Limits.TheSendSync as limits
 use Rattle.plain_world.proofs.settings.Starts.TheSendSync as starts
 use Rattle.plain_world.proofs.open_transactions.Transaction.TheSendSync as transaction
@@ -72,7 +72,6 @@ module _ (A : RattleType) (g : Ghosts A.Denot) (s : IsSend A) (y : IsSync A) (f 
 
   pub plain_world_send : IsSend (PlainWorld.the_row A g)
   plain_world_send =
-      let seats = vec.the_send _ A g subject.the_send s f in
       let base = base_send A g s f in
       let trail = trail_send A g s y f in
       let features = store.the_send A g s f in
@@ -80,6 +79,6 @@ module _ (A : RattleType) (g : Ghosts A.Denot) (s : IsSend A) (y : IsSync A) (f 
       let open_ones = vec.the_send _ A g (transaction.the_send A g s f) s f in
       let under_way = running & u64_send & open_ones & u64_send & tt in
       let standing = base & trail & features & u64_send & shared_decider_send & under_way in
-      let given = starts.the_field_send & limits.the_field_send & seats & standing in
+      let given = starts.the_field_send & limits.the_field_send & seats.the_send A g s f & standing in
       -- by its fields, in their order
-      model_send (world_inside.the_type A g) (s & subjects.the_send & shared_decider_send & given)
+      model_send (world_inside.the_type A g) (s & shared_decider_send & given)

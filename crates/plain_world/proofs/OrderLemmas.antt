@@ -219,19 +219,19 @@ ordered_run old [] new e h = ordered_same old new e h
 ordered_run old (event ∷ events) new run h = ordered_run run.0 events new run.2 (ordered_event event.0 old run.0 event.1 run.1 h)
 
 -- a world that has just been opened
-pub opened_sound : (subjects : List Subject) (decider : DeciderData) (starts : Starts) (limits : Limits) → IsSoundWorld (opened subjects decider starts limits)
-opened_sound subjects decider starts limits =
+pub opened_sound : (subjects : List Subject) (decider : DeciderData) (starts : Starts) (limits : Limits) → limits.seats ≤ SEAT_LIMIT → IsSoundWorld (opened subjects decider starts limits)
+opened_sound subjects decider starts limits seats =
     let few : 0 ≤ SEAT_LIMIT = omega arith in
-    record { legal = tt; replayed = refl; few_seats = few }
+    record { legal = tt; replayed = refl; few_seats = few; seats_end = seats }
 
 pub opened_ordered : (subjects : List Subject) (decider : DeciderData) (starts : Starts) (limits : Limits) → IsOrdered (opened subjects decider starts limits)
 opened_ordered subjects decider starts limits = record { sorted = tt; apart = tt }
 
 -- a world that has just been opened at a state
-pub opened_from_sound : (subjects : List Subject) (base : PlainState) (starts : Starts) (limits : Limits) → IsSoundWorld (opened_from subjects base starts limits)
-opened_from_sound subjects base starts limits =
+pub opened_from_sound : (subjects : List Subject) (base : PlainState) (starts : Starts) (limits : Limits) → limits.seats ≤ SEAT_LIMIT → IsSoundWorld (opened_from subjects base starts limits)
+opened_from_sound subjects base starts limits seats =
     let few : 0 ≤ SEAT_LIMIT = omega arith in
-    record { legal = tt; replayed = refl; few_seats = few }
+    record { legal = tt; replayed = refl; few_seats = few; seats_end = seats }
 
 pub opened_from_ordered : (subjects : List Subject) (base : PlainState) (starts : Starts) (limits : Limits) → IsSortedById base.features → IsOrdered (opened_from subjects base starts limits)
 opened_from_ordered subjects base starts limits sorted = record { sorted = sorted; apart = tt }

@@ -17,7 +17,6 @@ use Rattle.plain_world.specs.declared.faults.Fault.TheVariants as faults
 use Rattle.tree_answers.specs.declared.fault.TreeFault.TheVariants as tree
 use Rattle.plain_world.specs.declared.outcomes.Outcome.TheVariants as outcomes
 use Rattle.plain_world.specs.declared.open_searches.Search.{Search}
-use Rattle.plain_world.specs.declared.settings.TheConstants.{SEAT_LIMIT}
 use Rattle.plain_world.specs.declared.advances.Advance.TheVariants as advances
 use Rattle.tree_answers.specs.declared.answers.Step.TheVariants as steps
 use Rattle.tree_answers.specs.declared.answers.Visit.TheVariants as visits
@@ -52,11 +51,11 @@ given_ok None x e = absurd cc
 pub same_ok : {A : Type 0} (x y : A) → ◌≡◌ {A = Result A Fault} (Ok x) (Ok y) → x ≡ y
 same_ok x y e = cc
 
-few_placed : (n : ℕ) (o : Option Subject) (s : Subject) → placed n o ≡ Ok s → n < SEAT_LIMIT
-few_placed n None s e = absurd cc
-few_placed n (Some t) s e = go (nat_le SEAT_LIMIT n) refl e
+few_placed : (limit n : ℕ) (o : Option Subject) (s : Subject) → placed limit n o ≡ Ok s → n < limit
+few_placed limit n None s e = absurd cc
+few_placed limit n (Some t) s e = go (nat_le limit n) refl e
   where
-    go : (b : Bool) → nat_le SEAT_LIMIT n ≡ b → (if b then Err Fault.NoPlace else Ok t) ≡ Ok s → n < SEAT_LIMIT
+    go : (b : Bool) → nat_le limit n ≡ b → (if b then Err Fault.NoPlace else Ok t) ≡ Ok s → n < limit
     go true h e = absurd cc
     go false h e = grind (arith, nat_tests, h)
 
@@ -127,7 +126,7 @@ sound_advances number t old new reply d h = go (next_placement t) d
 
 sound_finishes : (seat : ℕ) (who : Subject × Search) (old new : WorldData) (reply : Reply) → IsSeated seat old.seats who.0 → Finishes seat who old new reply → IsSoundWorld old → IsSoundWorld new
 sound_finishes seat who old new reply seated d h =
-    sound_same _ new d.3 (sound_added old.seats old.base old.trail old.state _ h (seated, (d.0, d.1, refl, refl)))
+    sound_same _ new d.3 (sound_added old.limits old.seats old.base old.trail old.state _ h (seated, (d.0, d.1, refl, refl)))
 
 sound_applies : (seat number : ℕ) (subject : Subject) (changes : List Change) (old new : WorldData) (reply : Reply) → IsSeated seat old.seats subject
     → Judged old.state subject changes judgements.Accepted → Applies seat number subject changes old new reply → IsSoundWorld old → IsSoundWorld new
@@ -137,25 +136,25 @@ sound_applies seat number subject changes old new reply seated judged d h =
     go : (last full : Bool) → MatchBool last ((new ≡ old) × (reply ≡ Failed faults.Spent)) (MatchBool full ((new ≡ old) × (reply ≡ Failed faults.StoreFull)) ((reply ≡ Ended (outcomes.Applied (old.state.version + 1))) × (new ≡ without_transaction number (recorded seat (applied subject (old.state.version + 1) changes) old)))) → IsSoundWorld new
     go true full d = sound_same old new d.0 h
     go false true d = sound_same old new d.0 h
-    go false false d = sound_same _ new d.1 (sound_added old.seats old.base old.trail old.state _ h (seated, judged, refl))
+    go false false d = sound_same _ new d.1 (sound_added old.limits old.seats old.base old.trail old.state _ h (seated, judged, refl))
 
 sound_commits_as : (judgement : Judgement) (seat number : ℕ) (subject : Subject) (changes : List Change) (old new : WorldData) (reply : Reply) → IsSeated seat old.seats subject
     → Judged old.state subject changes judgement → CommitsAs judgement seat number subject changes old new reply → IsSoundWorld old → IsSoundWorld new
 sound_commits_as judgements.Accepted seat number subject changes old new reply seated judged d h = sound_applies seat number subject changes old new reply seated judged d h
 sound_commits_as (judgements.Refused refusal question) seat number subject changes old new reply seated judged d h =
-    sound_same _ new d.1 (sound_added old.seats old.base old.trail old.state _ h (seated, (question, judged)))
+    sound_same _ new d.1 (sound_added old.limits old.seats old.base old.trail old.state _ h (seated, (question, judged)))
 
 sound_governs : (seat : ℕ) (document : DocumentData) (old new : WorldData) (reply : Reply) → ((subject : Subject) × IsSeated seat old.seats subject × IsTrue subject.steward) → Governs seat document old new reply → IsSoundWorld old → IsSoundWorld new
 sound_governs seat document old new reply seated d h =
-    sound_same _ new d.1 (sound_added old.seats old.base old.trail old.state _ h (seated, refl, refl))
+    sound_same _ new d.1 (sound_added old.limits old.seats old.base old.trail old.state _ h (seated, refl, refl))
 
 sound_rolls : (old new : WorldData) (reply : Reply) → Rolls old new reply → IsSoundWorld old → IsSoundWorld new
-sound_rolls old new reply d h = sound_same _ new d.1 (record { legal = tt; replayed = refl; few_seats = h.few_seats })
+sound_rolls old new reply d h = sound_same _ new d.1 (record { legal = tt; replayed = refl; few_seats = h.few_seats; seats_end = h.seats_end })
 
 pub sound_event : (event : Event) (old new : WorldData) (reply : Reply) → Happens event old new reply → IsSoundWorld old → IsSoundWorld new
 sound_event (TakeSeat name) old new reply happens h =
     sound_if (may_sit name old) old new reply _ happens h (λ subject may d. sound_unless (is_memory reply) old new _ d h
-    (λ d. sound_same _ new d.0 (sound_seated old.seats old.base old.trail old.state subject h (few_placed _ _ _ may))))
+    (λ d. sound_same _ new d.0 (sound_seated old.limits old.seats old.base old.trail old.state subject h (few_placed _ _ _ _ may))))
 sound_event (OpenSearch seat window) old new reply happens h =
     sound_if (may_open seat old) old new reply _ happens h (λ number may d. sound_unless (is_memory reply) old new _ d h (λ d. sound_same _ new d.0 h))
 sound_event (VisitNext seat number) old new reply happens h =

@@ -10,7 +10,7 @@ use Rattle.plain_world.specs.declared.faults.Fault.{Fault}
 use Rattle.plain_world.specs.declared.faults.Fault.TheVariants.{NoSuch, NotYours, NotReady, NotPlaced, NamedTwice, TooManyChanges, NotSteward, Spent, Tree, TrailFull, NoSubject, NoPlace, TooMany}
 use Rattle.tree_answers.specs.declared.fault.TreeFault.TheVariants as tree
 use Rattle.plain_world.specs.declared.open_searches.Search.{Search}
-use Rattle.plain_world.specs.declared.settings.TheConstants.{SEAT_LIMIT, SEARCH_LIMIT, TRANSACTION_LIMIT, CHANGE_LIMIT}
+use Rattle.plain_world.specs.declared.settings.TheConstants.{SEARCH_LIMIT, TRANSACTION_LIMIT, CHANGE_LIMIT}
 use Rattle.plain_world.specs.Staging.{TransactionData, transaction_with, placements, names}
 use Rattle.plain_world.specs.States.{WorldData}
 
@@ -36,13 +36,13 @@ LAST = 18446744073709551615
 
 -- Seats.
 
--- the subject of a name, if a seat is left
-abbrev pub placed : ℕ → Option Subject → Result Subject Fault
-placed seats None = Err NoSubject
-placed seats (Some subject) = if nat_le SEAT_LIMIT seats then Err NoPlace else Ok subject
+-- the subject of a name, if fewer seats than the limit were given
+abbrev pub placed : ℕ → ℕ → Option Subject → Result Subject Fault
+placed limit seats None = Err NoSubject
+placed limit seats (Some subject) = if nat_le limit seats then Err NoPlace else Ok subject
 
 abbrev pub may_sit : List ℕ → WorldData → Result Subject Fault
-may_sit name w = placed (length w.seats) (subject_named name w.subjects)
+may_sit name w = placed w.limits.seats (length w.seats) (subject_named name w.subjects)
 
 -- the subject of a seat that was given
 abbrev pub subject_at : ℕ → WorldData → Result Subject Fault

@@ -2,6 +2,7 @@ pub mod FaultCodes
 pub mod StoreFaults
 pub mod Staging
 pub mod Answers
+pub mod Seats
 pub mod States
 pub mod Keeping
 pub mod Rolls

@@ -33,15 +33,17 @@ pub record WorldData : Type 0 where
   pub transactions : List TransactionData
   pub next_transaction : ℕ
 
--- the trail is legal from its base, and the state is its replay
-pub record IsSound (seats : List Subject) (base : PlainState) (trail : List RecordData)
-    (state : PlainState) : Type 0 where
+-- the trail is legal from its base, and the state is its replay; the seats that were given, and
+-- those that may be given, are at most the greatest number
+pub record IsSound (limits : Limits) (seats : List Subject) (base : PlainState)
+    (trail : List RecordData) (state : PlainState) : Type 0 where
   pub legal : IsLegal seats base trail
   pub replayed : replay base trail ≡ state
   pub few_seats : length seats ≤ SEAT_LIMIT
+  pub seats_end : limits.seats ≤ SEAT_LIMIT
 
 abbrev pub IsSoundWorld : WorldData → Type 0
-IsSoundWorld w = IsSound w.seats w.base w.trail w.state
+IsSoundWorld w = IsSound w.limits w.seats w.base w.trail w.state
 
 -- the state of a world that has just been opened by a decider
 abbrev pub opening_state : ℕ → DeciderData → PlainState
@@ -75,7 +77,7 @@ opened subjects decider starts limits =
 -- ones, and its trail is within its limit
 pub record Keeps (limits : Limits) (seats : List Subject) (base : PlainState)
     (trail : List RecordData) (state : PlainState) : Type 0 where
-  pub sound : IsSound seats base trail state
+  pub sound : IsSound limits seats base trail state
   pub records : limits.records ≤ RECORD_LIMIT
   pub features : limits.features ≤ FEATURE_LIMIT
   pub few : length trail ≤ limits.records

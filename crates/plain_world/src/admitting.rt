@@ -2,14 +2,15 @@
 
 ghost use Rattle.std.specs.Prelude.{◌≡◌, ◌≤◌, ◌<◌, ◌+◌, length, OnOk, IfOk, IsTrue, Some};
 ghost use Rattle.features.specs.Changes.{change_id, IsUnnamed};
-ghost use Rattle.audit_trail.specs.Legal.{subject_of, IsSeated};
+ghost use Rattle.audit_trail.specs.Legal.{IsSeated};
 ghost use Rattle.plain_world.specs.Admitting.{may_sit, subject_at, stewarded, own_search, next_search, may_open, may_go_on, has_answered_ready, may_record, may_finish, next_transaction, may_begin, own_transaction, may_step, may_add, may_stage, all_placed, may_commit, edition_left, may_govern, may_roll, map_ok};
+ghost use Rattle.plain_world.specs.Seats.{subject_there};
 ghost use Rattle.plain_world.specs.Staging.{TransactionData, transaction_with};
 
 use crate::faults::Fault;
 use crate::open_searches::Search;
 use crate::open_transactions::{Transaction, names, placement_count, transaction_in};
-use crate::settings::{CHANGE_LIMIT, SEARCH_LIMIT, SEAT_LIMIT, TRANSACTION_LIMIT};
+use crate::settings::{CHANGE_LIMIT, SEARCH_LIMIT, TRANSACTION_LIMIT};
 use crate::worlds::PlainWorld;
 use audit_trail::FIRST_LIMIT;
 use features::{Change, Name, Subject};
@@ -17,25 +18,27 @@ use std::alloc::Allocator;
 use tree_answers::TreeFault;
 
 impl<A: Allocator> PlainWorld<A> {
-    /// The subject of a name. X13 where there is none, X14 where all seats are given.
-    pub(crate) fn may_sit(&self, name: Name) -> Result<Subject, Fault>
-        ensures value { result ≡ may_sit name self.now }
-        ensures few { OnOk result (length self.now.seats < SEAT_LIMIT) }
+    /// The place of a name's subject. X13 where there is none, X14 where all seats are given.
+    pub(crate) fn may_sit(&self, name: Name) -> Result<u8, Fault>
+        ensures value { map_ok (subject_there self.now.subjects) result
+            ≡ may_sit name self.now }
+        ensures within { IfOk result (λ place. place < length self.now.subjects) }
+        ensures left { OnOk result (length self.now.seats < self.now.limits.seats) }
     {
-        let Some(subject) = self.subjects.get(name) else {
+        let Some(place) = self.seats.place_of(name) else {
             return Err(Fault::NoSubject);
         };
-        if self.seats.len() >= SEAT_LIMIT {
+        if self.seats.len() >= self.limits.seats {
             return Err(Fault::NoPlace);
         }
-        Ok(subject)
+        Ok(place)
     }
 
     /// The subject of a seat. X1 where the seat was not given.
     pub fn subject_at(&self, seat: u32) -> Result<Subject, Fault>
         ensures { result ≡ subject_at seat self.now }
     {
-        match subject_in(&self.seats, seat) {
+        match self.seats.subject_of(seat) {
             Some(subject) => Ok(subject),
             None => Err(Fault::NoSuch),
         }
@@ -224,8 +227,8 @@ impl<A: Allocator> PlainWorld<A> {
     {
         let subject = self.subject_at(seat)?;
         stewarded(&subject)?;
-        let next = self.trail.first() as u64 + self.trail.len() as u64;
-        if next > FIRST_LIMIT as u64 {
+        let next = self.trail.first() + u64::from(self.trail.len());
+        if next > FIRST_LIMIT {
             return Err(Fault::Spent);
         }
         Ok(())
@@ -277,14 +280,4 @@ fn may_add(changes: &[Change], change: &Change) -> Result<(), Fault>
         return Err(Fault::NamedTwice);
     }
     Ok(())
-}
-
-/// The subject of a seat; seats are numbered from 1.
-fn subject_in(seats: &[Subject], seat: u32) -> Option<Subject>
-    ensures { result ≡ subject_of seat seats.now }
-{
-    if seat == 0 {
-        return None;
-    }
-    seats.get(seat as usize - 1).copied()
 }

@@ -1,6 +1,6 @@
 //! Transactions: staged, placed, and committed as a whole or not at all.
 
-ghost use Rattle.std.specs.Prelude.{◌≡◌, ◌<◌, length, OnOk, Option};
+ghost use Rattle.std.specs.Prelude.{◌≡◌, ◌<◌, ◌≤◌, length, OnOk, Option};
 ghost use Rattle.std.specs.Arc.{arc_value};
 ghost use Rattle.features.specs.Changes.{after, CanApply};
 ghost use Rattle.combining.specs.declared.questions.Question.{Question};
@@ -16,6 +16,7 @@ use crate::denials::denial_for;
 use crate::faults::Fault;
 use crate::open_transactions::{Transaction, end, stage_in, staged_in};
 use crate::outcomes::Outcome;
+use crate::settings::CHANGE_LIMIT;
 use crate::worlds::PlainWorld;
 use audit_trail::{Deed, Record};
 use combining::Question;
@@ -124,6 +125,7 @@ impl<A: Allocator + Copy> PlainWorld<A> {
         requires seated { IsSeated seat self.old.seats subject }
         requires accepted { Judged self.old.state subject changes.items judgements.Accepted }
         requires distinct { AreDistinct changes.items }
+        requires few { length changes.items ≤ CHANGE_LIMIT }
         requires below { length self.old.trail < self.old.limits.records }
         ensures { UnlessMemory self.old self.new (reply_of Ended result)
             (Applies seat number subject changes.items self.old self.new (reply_of Ended result)) }

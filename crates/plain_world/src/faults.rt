@@ -38,7 +38,7 @@ pub enum Fault {
     Memory(NoMemory),
     /// X13: no subject has this name.
     NoSubject,
-    /// X14: all `SEAT_LIMIT` seats are given.
+    /// X14: `Limits::seats` seats were given.
     NoPlace,
     /// X15: `TRANSACTION_LIMIT` transactions are open.
     TooMany,

@@ -1,6 +1,6 @@
 //! Laws over runs. The functions do nothing; their contracts state the laws.
 
-ghost use Rattle.std.specs.Prelude.{◌≡◌, ◌⊎◌, ℕ, ◌++◌, ◌∷◌, [], IsTrue, List, Some};
+ghost use Rattle.std.specs.Prelude.{◌≡◌, ◌≤◌, ◌⊎◌, ℕ, ◌++◌, ◌∷◌, [], IsTrue, List, Some};
 ghost use Rattle.features.specs.Rows.{IsSortedById};
 ghost use Rattle.policy_documents.specs.Documents.{DocumentData};
 ghost use Rattle.decision.specs.Deciders.{DeciderData};
@@ -18,7 +18,7 @@ ghost use Rattle.plain_world.specs.States.{WorldData, IsSoundWorld, opened, open
 ghost use Rattle.plain_world.specs.declared.faults.Fault.{Fault};
 ghost use Rattle.plain_world.specs.declared.outcomes.Outcome.{Outcome};
 
-use crate::settings::{Limits, Starts};
+use crate::settings::{Limits, SEAT_LIMIT, Starts};
 use features::Subject;
 
 /// A run followed by one more event is a run, and two runs are one where the second begins at the
@@ -111,10 +111,11 @@ pub fn every_refusal_changes_nothing()
 /// id.
 pub fn every_run_is_ordered()
     ensures opened { (subjects : List Subject) (decider : DeciderData) (starts : Starts)
-        (limits : Limits) → IsSoundWorld (opened subjects decider starts limits)
+        (limits : Limits) → limits.seats ≤ SEAT_LIMIT
+        → IsSoundWorld (opened subjects decider starts limits)
         × IsOrdered (opened subjects decider starts limits) }
     ensures opened_from { (subjects : List Subject) (base : PlainState) (starts : Starts)
-        (limits : Limits) → IsSortedById base.features
+        (limits : Limits) → IsSortedById base.features → limits.seats ≤ SEAT_LIMIT
         → IsSoundWorld (opened_from subjects base starts limits)
         × IsOrdered (opened_from subjects base starts limits) }
     ensures run { (old new : WorldData) (steps : List (Event × Reply)) → IsOrdered old

@@ -18,6 +18,7 @@ mod open_transactions;
 mod outcomes;
 mod rolling;
 mod searching;
+mod seats;
 mod settings;
 mod worlds;
 
@@ -36,7 +37,7 @@ pub use open_searches::Search;
 pub use outcomes::Outcome;
 pub use rolling::Rolled;
 pub use settings::{
-    CHANGE_LIMIT, Limits, ROLLED_LIMIT, SEARCH_LIMIT, SEAT_LIMIT, STEP_LIMIT, Starts,
-    TRANSACTION_LIMIT,
+    CHANGE_LIMIT, DEFAULT_FEATURES, DEFAULT_SEATS, Limits, ROLLED_LIMIT, SEARCH_LIMIT, SEAT_LIMIT,
+    STEP_LIMIT, Starts, TRANSACTION_LIMIT,
 };
 pub use worlds::{Base, PlainWorld};

@@ -14,7 +14,7 @@ use crate::settings::SEAT_LIMIT;
 use crate::worlds::PlainWorld;
 use feature_store::Meter;
 use features::{Action, Name, Subject};
-use memory::{GrowVec, NoMemory, another};
+use memory::{NoMemory, another};
 use plane::Shape;
 use std::alloc::Allocator;
 
@@ -26,10 +26,9 @@ impl<A: Allocator> PlainWorld<A> {
         ensures happens { Happens (TakeSeat name) self.old self.new (reply_of Number result) }
         ensures few { IfOk result (λ number. number ≤ SEAT_LIMIT) }
     {
-        let subject = self.may_sit(name)?;
-        self.seats.make_room(1)?;
-        self.seats.push_reserved(subject);
-        Ok(self.seats.len() as u32)
+        let place = self.may_sit(name)?;
+        self.seats.give(place)?;
+        Ok(self.seats.len())
     }
 
     /// Drops a search. X1 where the seat was not given or no such search is open, X2 where it is

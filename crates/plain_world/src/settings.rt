@@ -18,7 +18,7 @@ pub struct Starts {
     /// The edition of the opening document.
     pub edition: u64,
     /// How many records were rolled out before.
-    pub rolled: u32,
+    pub rolled: u64,
 }
 
 impl Starts {
@@ -42,19 +42,36 @@ pub struct Limits {
     pub records: u32,
     /// The most features.
     pub features: u32,
+    /// The most seats that are given in the world's life.
+    pub seats: u32,
 }
 
 impl Limits {
+    /// The limits of a world for which no others are given.
+    pub const DEFAULT: Limits = Limits {
+        steps: STEP_LIMIT,
+        records: RECORD_LIMIT,
+        features: DEFAULT_FEATURES,
+        seats: DEFAULT_SEATS,
+    };
+
     /// The greatest limits that a world may have.
     pub const GREATEST: Limits = Limits {
         steps: STEP_LIMIT,
         records: RECORD_LIMIT,
         features: FEATURE_LIMIT as u32,
+        seats: SEAT_LIMIT as u32,
     };
 }
 
-/// The most seats that a world gives in its life.
-pub const SEAT_LIMIT: usize = 1_024;
+/// The most features of a world for which no other limit is given.
+pub const DEFAULT_FEATURES: u32 = 100_000;
+
+/// The most seats that a world gives in its life if no other limit is given.
+pub const DEFAULT_SEATS: u32 = 1_024;
+
+/// The most seats that any world gives in its life.
+pub const SEAT_LIMIT: usize = 16_777_216;
 
 /// The most searches that are open at once.
 pub const SEARCH_LIMIT: usize = 16;
@@ -70,4 +87,4 @@ pub const STEP_LIMIT: u32 = MAX_STEPS as u32;
 
 /// The most records that may be rolled out in the life of a world, so that each record's number
 /// fits.
-pub const ROLLED_LIMIT: u32 = FIRST_LIMIT - 1;
+pub const ROLLED_LIMIT: u64 = FIRST_LIMIT - 1;

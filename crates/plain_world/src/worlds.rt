@@ -12,6 +12,7 @@ ghost use Rattle.plain_world.specs.States.{IsSoundWorld, opened, opened_from};
 use crate::faults::Fault;
 use crate::open_searches::Searches;
 use crate::open_transactions::{Transaction, staged_in};
+use crate::seats::Seats;
 use crate::settings::{CHANGE_LIMIT, Limits, ROLLED_LIMIT, SEAT_LIMIT, STEP_LIMIT, Starts};
 use audit_trail::{RECORD_LIMIT, Trail};
 use decision::Decider;
@@ -58,11 +59,10 @@ impl<A: Allocator> Model for Base<A> {
 #[derive(Drop)]
 pub struct PlainWorld<A: Allocator> {
     pub(crate) alloc: A,
-    pub(crate) subjects: Subjects,
     pub(crate) opening: Arc<Decider>,
     pub(crate) starts: Starts,
     pub(crate) limits: Limits,
-    pub(crate) seats: Vec<Subject, A>,
+    pub(crate) seats: Seats<A>,
     pub(crate) base: Base<A>,
     pub(crate) trail: Trail<A>,
     pub(crate) store: Store<A>,
@@ -86,11 +86,11 @@ impl<A: Allocator> Model for PlainWorld<A> {
         restored_world-stored_world };
 
     ghost view = { λ w. record {
-      subjects = w.subjects;
+      subjects = w.seats.subjects;
       opening = arc_value w.opening;
       starts = w.starts;
       limits = w.limits;
-      seats = w.seats.items;
+      seats = w.seats.given;
       base = w.base;
       first = w.trail.first;
       trail = w.trail.records;
@@ -101,7 +101,7 @@ impl<A: Allocator> Model for PlainWorld<A> {
       next_transaction = w.next_transaction;
     } };
 
-    ghost invariant = { λ w. Keeps w.limits w.seats.items w.base w.trail.records
+    ghost invariant = { λ w. Keeps w.limits w.seats.given w.base w.trail.records
         (record { features = w.store; version = w.version; decider = arc_value w.decider }) };
 }
 
@@ -164,7 +164,7 @@ impl<A: Allocator> PlainWorld<A> {
         ensures value { result ≡ length self.now.seats }
         ensures most { result ≤ SEAT_LIMIT }
     {
-        self.seats.len()
+        self.seats.len() as usize
     }
 
     /// The changes that the transaction of a number has staged, in order; none where no such
@@ -204,6 +204,7 @@ impl<A: Allocator + Copy> PlainWorld<A> {
         requires rolled { starts.rolled ≤ ROLLED_LIMIT }
         requires records { limits.records ≤ RECORD_LIMIT }
         requires features { limits.features ≤ FEATURE_LIMIT }
+        requires seats { limits.seats ≤ SEAT_LIMIT }
         requires steps { limits.steps ≤ STEP_LIMIT }
         ensures ok { IfOk result
             (λ w. w ≡ opened subjects (record { document = document; edition = starts.edition })
@@ -231,6 +232,7 @@ impl<A: Allocator + Copy> PlainWorld<A> {
         requires rolled { starts.rolled ≤ ROLLED_LIMIT }
         requires records { limits.records ≤ RECORD_LIMIT }
         requires features { limits.features ≤ FEATURE_LIMIT }
+        requires seats { limits.seats ≤ SEAT_LIMIT }
         ensures { IfOk result (λ w. w ≡ opened subjects (arc_value decider) starts limits) }
     {
         let base = Base {
@@ -256,6 +258,7 @@ impl<A: Allocator + Copy> PlainWorld<A> {
         requires rolled { starts.rolled ≤ ROLLED_LIMIT }
         requires records { limits.records ≤ RECORD_LIMIT }
         requires features { limits.features ≤ FEATURE_LIMIT }
+        requires seats { limits.seats ≤ SEAT_LIMIT }
         ensures { IfOk result (λ w. w ≡ opened_from subjects base starts limits) }
     {
         let store = stored(alloc, base.features.as_slice())?;
@@ -265,11 +268,10 @@ impl<A: Allocator + Copy> PlainWorld<A> {
         let version = base.version;
         Ok(PlainWorld {
             alloc,
-            subjects,
             opening,
             starts,
             limits,
-            seats: Vec::new(alloc),
+            seats: Seats::new(alloc, subjects),
             base,
             trail: Trail::starting_at(alloc, starts.rolled + 1),
             store,

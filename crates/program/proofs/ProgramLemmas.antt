@@ -1,5 +1,5 @@
 -- What is done for the words of a command line, and what is returned.
-use Rattle.std.proofs.Common.{◌≡◌, ℕ, List, Option, Some, Result, Ok, Err, codes, option_map, refl, sym, subst}
+use Rattle.std.proofs.Common.{◌≡◌, ℕ, List, Option, Some, Result, Ok, Err, codes, option_map, refl, sym, subst, subst₂}
 use Rattle.command_line.specs.Asking.{HasOptions, IsAsked}
 use Rattle.command_line.specs.CommandLine.{AreTurnedDown, AskFor, given_by}
 use Rattle.command_line.specs.declared.shells.Shell.{Shell}
@@ -25,17 +25,17 @@ config_name files = option_map (λ name. name.now) files.config
 
 module _ (words : List (List ℕ)) (held : List ℕ → Option (List ℕ)) (before after : Option (List ℕ)) where
   -- the script that the words ask for was served
-  pub script_served : (asked : Asked) (files : ScriptWords) → IsAsked words asked → asked ≡ Script files → RanScript held (config_name files) files.script.now before after → IsDone words held before after
+  pub script_served : (asked : Asked) (files : ScriptWords) → IsAsked words asked → asked ≡ Script files → RanScript held (config_name files) files.features files.script.now before after → IsDone words held before after
   script_served asked files is_asked is ran =
       let of_files = subst (IsAsked words) is is_asked in
-      IsDone.serves files.script.now of_files.0 of_files.1.0 (subst (λ c. RanScript held c files.script.now before after) (sym of_files.1.1) ran)
+      IsDone.serves files.script.now of_files.0 of_files.1.0 (subst₂ (λ (c : Option (List ℕ)) (n : ℕ). RanScript held c n files.script.now before after) (sym of_files.1.1) of_files.1.2 ran)
 
   -- or its run broke off
-  pub script_broke : (closed : List ℕ → Type 0) (asked : Asked) (files : ScriptWords) (fault : ProgramFault) → IsAsked words asked → asked ≡ Script files → BrokeOff held closed (config_name files) files.script.now before after fault
+  pub script_broke : (closed : List ℕ → Type 0) (asked : Asked) (files : ScriptWords) (fault : ProgramFault) → IsAsked words asked → asked ≡ Script files → BrokeOff held closed (config_name files) files.features files.script.now before after fault
       → IsFault words held closed before after fault
   script_broke closed asked files fault is_asked is broke =
       let of_files = subst (IsAsked words) is is_asked in
-      IsFault.script files.script.now fault of_files.0 of_files.1.0 (subst (λ c. BrokeOff held closed c files.script.now before after fault) (sym of_files.1.1) broke)
+      IsFault.script files.script.now fault of_files.0 of_files.1.0 (subst₂ (λ (c : Option (List ℕ)) (n : ℕ). BrokeOff held closed c n files.script.now before after fault) (sym of_files.1.1) of_files.1.2 broke)
 
 -- the words ask for a server, and this is it
 pub server_wanted : (words : List (List ℕ)) (held : List ℕ → Option (List ℕ)) (asked : Asked) (given : ServeWords) (server : WantedServer) → IsAsked words asked → asked ≡ Serve given

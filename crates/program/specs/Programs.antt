@@ -1,7 +1,7 @@
 -- What a run of the program writes and returns.
 use Rattle.std.specs.Prelude.{◌≡◌, ℕ, List, Option, Some, Result, Ok, Err, codes, option_map}
 use Rattle.byte_streams.specs.Written.{Took}
-use Rattle.command_line.specs.Asking.{HasOptions}
+use Rattle.command_line.specs.Asking.{HasOptions, features_at}
 use Rattle.command_line.specs.CommandLine.{AreTurnedDown, AskFor, AskForHelp, given_by}
 use Rattle.configuration.specs.Configs.{config_data}
 use Rattle.program.specs.Checks.{AskForPage, DrawBroke, IsDrawn, IsFoundRight, IsWritten, LookBroke, PageBroke}
@@ -27,7 +27,8 @@ pub data IsDone (words : List (List ℕ)) (held : List ℕ
   -- they ask for a script, and it was served
   serves : (script : List ℕ) → AskFor (codes "script") words
       → given_by words (codes "FILE") ≡ Some script
-      → RanScript held (given_by words (codes "config")) script before after
+      → RanScript held (given_by words (codes "config")) (features_at (given_by words)) script
+      before after
       → IsDone words held before after
   -- they ask for a look at a configuration, and it is right
   checks : (name : List ℕ) → AskFor (codes "check") words
@@ -50,7 +51,8 @@ pub data IsFault (words : List (List ℕ)) (held : List ℕ → Option (List ℕ
   -- they ask for a script, and its run broke off
   script : (name : List ℕ) (fault : ProgramFault) → AskFor (codes "script") words
       → given_by words (codes "FILE") ≡ Some name
-      → BrokeOff held closed (given_by words (codes "config")) name before after fault
+      → BrokeOff held closed (given_by words (codes "config")) (features_at (given_by words)) name
+      before after fault
       → IsFault words held closed before after fault
   -- they ask for a server, but there is no configuration
   no_server : (fault : ProgramFault) → AskFor (codes "serve") words

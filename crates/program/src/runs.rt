@@ -1,6 +1,6 @@
 //! Runs of the program, from the words of the command line to its end.
 
-ghost use Rattle.std.specs.Prelude.{◌≡◌, ℕ, List, Option, Some, OnOk, IfOk, IfErr, IfSome, map, option_map, string_bytes};
+ghost use Rattle.std.specs.Prelude.{◌≡◌, ◌≤◌, ℕ, List, Option, Some, OnOk, IfOk, IfErr, IfSome, map, option_map, string_bytes};
 ghost use Rattle.configuration.specs.Configs.{config_data};
 ghost use Rattle.program.specs.Ends.{IsUnwritten};
 ghost use Rattle.program.specs.Programs.{DrawAnswered, IsAnswer, IsNext, IsServerFault, IsServerOf, LookAnswered, PageAnswered};
@@ -15,10 +15,11 @@ use crate::telling::tell;
 use byte_streams::{Flushed, NotOpened, flush, write_shown};
 use command_line::{Asked, ScriptWords, ServeWords, Shell, Shown, read_words};
 use configuration::{Config, FileFault, ReadFault, read_config_file};
+use feature_store::FEATURE_LIMIT;
 use scripts::run_script;
 use std::alloc::{Allocator, Global};
 use std::io::{Read, Write};
-use world::World;
+use world::{Limits, Starts, World};
 
 /// The folder of the files that the command line names.
 pub trait Folder {
@@ -38,25 +39,39 @@ pub trait Folder {
         ensures closed { IfErr result (λ failed. closed self.now name.now) };
 }
 
-/// Runs a script over the world that a configuration opens, and writes the replies.
+/// Runs a script over the world that a configuration opens, with room for this many features, and
+/// writes the replies.
 /// Faults: `World` if there is no memory for the world; `CannotWrite` if a write or the final flush
 /// fails; else the fault of the run.
 pub fn run_file<'a, A: Allocator + Copy, R: Read, W: Write>(
     alloc: A,
     heap: Global,
     config: Config<Global>,
+    features: u32,
     file: &mut R,
     output: &mut W,
 ) -> Result<Flushed, ProgramFault<'a>>
+    requires { features ≤ FEATURE_LIMIT }
     ensures served { OnOk result
         (IfSome (R.remaining file.old)
-        (λ script. Served (config_data config) script (W.contents output.old)
+        (λ script. Served (config_data config) features script (W.contents output.old)
         (W.contents output.new))) }
     ensures err { IfErr result
-        (IsOfRun (config_data config) (R.remaining file.old) (W.contents output.old)
+        (IsOfRun (config_data config) features (R.remaining file.old) (W.contents output.old)
         (W.contents output.new)) }
 {
-    let mut world = match World::open(alloc, heap, config.subjects, config.document) {
+    let limits = Limits {
+        features,
+        ..Limits::DEFAULT
+    };
+    let mut world = match World::open_at(
+        alloc,
+        heap,
+        config.subjects,
+        config.document,
+        Starts::FIRST,
+        limits,
+    ) {
         Ok(world) => world,
         Err((_, fault)) => return Err(ProgramFault::World(fault)),
     };
@@ -121,13 +136,14 @@ pub fn run_named<'a, F: Folder, W: Write>(
     folder: &F,
     output: &mut W,
 ) -> Result<Flushed, ProgramFault<'a>>
+    requires { words.entry.features ≤ FEATURE_LIMIT }
     ensures ran { OnOk result
         (RanScript (F.holds folder.now) (option_map (λ name. name.now) words.entry.config)
-        words.entry.script.now (W.contents output.old) (W.contents output.new)) }
+        words.entry.features words.entry.script.now (W.contents output.old) (W.contents output.new)) }
     ensures err { IfErr result
         (BrokeOff (F.holds folder.now) (F.closed folder.now)
-        (option_map (λ name. name.now) words.entry.config) words.entry.script.now
-        (W.contents output.old) (W.contents output.new)) }
+        (option_map (λ name. name.now) words.entry.config) words.entry.features
+        words.entry.script.now (W.contents output.old) (W.contents output.new)) }
 {
     let config = match asked_config(heap, words.config, folder) {
         Ok(config) => config,
@@ -140,7 +156,7 @@ pub fn run_named<'a, F: Folder, W: Write>(
             return Err(ProgramFault::CannotRead(words.script, fault));
         }
     };
-    run_file(heap, heap, config, &mut file, output)
+    run_file(heap, heap, config, words.features, &mut file, output)
 }
 
 /// Writes help to the output, and flushes it.

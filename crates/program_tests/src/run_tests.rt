@@ -374,6 +374,7 @@ fn without_memory(rt: &impl Abort, alloc: Global, at: u64) -> Result<Vec<u8>, Al
         &memory,
         alloc,
         config.unwrap(),
+        100_000,
         &mut FIRST_POINT.as_bytes(),
         &mut output,
     );

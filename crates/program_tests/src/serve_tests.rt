@@ -13,12 +13,13 @@ const PLAIN: ServerOptions<'static> = ServerOptions {
     connections: 7,
     workers: 4,
     idle_seconds: None,
+    features: 100_000,
     takeover: false,
     until_stdin_ends: false,
 };
 
 /// Lines that clap rejects, each with the beginning of its message.
-const TURNED_DOWN: [(&str, &str); 15] = [
+const TURNED_DOWN: [(&str, &str); 19] = [
     (
         "serve",
         "error: the following required arguments were not provided:\n  --socket <PATH>\n  --connections <N>\n",
@@ -58,6 +59,22 @@ const TURNED_DOWN: [(&str, &str); 15] = [
     (
         "serve --socket m.sock --connections 7 --idle 86401",
         "error: invalid value '86401' for '--idle <SECONDS>': 86401 is not in 1..=86400\n",
+    ),
+    (
+        "serve --socket m.sock --connections 7 --features 0",
+        "error: invalid value '0' for '--features <N>': 0 is not in 1..=4000000\n",
+    ),
+    (
+        "serve --socket m.sock --connections 7 --features 4000001",
+        "error: invalid value '4000001' for '--features <N>': 4000001 is not in 1..=4000000\n",
+    ),
+    (
+        "script --features 0 day.map",
+        "error: invalid value '0' for '--features <N>': 0 is not in 1..=4000000\n",
+    ),
+    (
+        "script --features 4000001 day.map",
+        "error: invalid value '4000001' for '--features <N>': 4000001 is not in 1..=4000000\n",
     ),
     (
         "serve --socket m.sock --connections 7 --connections 8",
@@ -122,6 +139,7 @@ fn is_same(rt: &impl Abort, options: &ServerOptions<'_>, expected: &ServerOption
     assert_eq!(rt; options.connections, expected.connections);
     assert_eq!(rt; options.workers, expected.workers);
     assert_eq!(rt; options.idle_seconds, expected.idle_seconds);
+    assert_eq!(rt; options.features, expected.features);
     assert_eq!(rt; options.takeover, expected.takeover);
     assert_eq!(rt; options.until_stdin_ends, expected.until_stdin_ends);
 }
@@ -140,20 +158,23 @@ fn gives(
 
 #[test]
 fn the_ends_of_numbers(rt: HostRuntime) -> Result<(), Fail> {
-    let numbers: [(&str, u16, u8, Option<u32>); 7] = [
-        ("--connections 7", 7, 4, None),
-        ("--connections 1", 1, 4, None),
-        ("--connections=1024", 1024, 4, None),
-        ("--connections 7 --workers 1", 7, 1, None),
-        ("--workers=64 --connections 7", 7, 64, None),
-        ("--connections 7 --idle 1", 7, 4, Some(1)),
-        ("--idle=86400 --connections +7", 7, 4, Some(86_400)),
+    let numbers: [(&str, u16, u8, Option<u32>, u32); 9] = [
+        ("--connections 7", 7, 4, None, 100_000),
+        ("--connections 1", 1, 4, None, 100_000),
+        ("--connections=1024", 1024, 4, None, 100_000),
+        ("--connections 7 --workers 1", 7, 1, None, 100_000),
+        ("--workers=64 --connections 7", 7, 64, None, 100_000),
+        ("--connections 7 --idle 1", 7, 4, Some(1), 100_000),
+        ("--idle=86400 --connections +7", 7, 4, Some(86_400), 100_000),
+        ("--connections 7 --features 1", 7, 4, None, 1),
+        ("--features=4000000 --connections 7", 7, 4, None, 4_000_000),
     ];
-    for (line, connections, workers, idle_seconds) in numbers {
+    for (line, connections, workers, idle_seconds, features) in numbers {
         let options = ServerOptions {
             connections,
             workers,
             idle_seconds,
+            features,
             ..PLAIN
         };
         gives(&rt, &rt, line, &options)?;
@@ -271,6 +292,7 @@ fn help_of_servers(rt: HostRuntime) -> Result<(), Fail> {
             "How many connections are served, 1 to 1024\n",
             "How many of them at a time, 1 to 64 [default: 4]\n",
             "How long a client may be idle, 1 to 86400\n",
+            "How many features there may be, 1 to 4000000 [default: 100000]\n",
             "Takes over a socket that nobody listens on\n",
             "Accepts nobody once standard input ends\n",
             "\n  `landmap serve --socket map.sock --connections 100` writes\n\n    listening map.sock\n",

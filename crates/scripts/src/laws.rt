@@ -12,7 +12,7 @@ ghost use Rattle.scripts.specs.declared.scripts.TheConstants.{LABEL_LIMIT};
 ghost use Rattle.line_streams.specs.declared.streams.Next.{Next};
 ghost use Rattle.line_streams.specs.declared.streams.TheConstants.{LINE_LIMIT, READ_LIMIT};
 ghost use Rattle.plain_world.specs.States.{WorldData, opened};
-ghost use Rattle.plain_world.specs.declared.settings.TheConstants.{CHANGE_LIMIT, ROLLED_LIMIT, SEARCH_LIMIT, SEAT_LIMIT, STEP_LIMIT, TRANSACTION_LIMIT};
+ghost use Rattle.plain_world.specs.declared.settings.TheConstants.{CHANGE_LIMIT, DEFAULT_SEATS, ROLLED_LIMIT, SEARCH_LIMIT, SEAT_LIMIT, STEP_LIMIT, TRANSACTION_LIMIT};
 
 use features::Subject;
 use world::{Limits, Starts};
@@ -36,18 +36,20 @@ pub fn lines_leave_worlds_at_rest()
 {}
 
 /// The limits that the definitions name, in numbers. Of lines: labels of a script, bytes of a line
-/// without its end, reads of a run. Of the world: seats in its life, open searches, open
-/// transactions, changes of a list, steps of a search or of the walk for one change (also the most
-/// that STEP takes), records rolled out before it was opened, and the first number of its trail.
+/// without its end, reads of a run. Of the world: seats in its life, at most and where nothing else
+/// is said, open searches, open transactions, changes of a list, steps of a search or of the walk
+/// for one change (also the most that STEP takes), records rolled out before it was opened, and the
+/// first number of its trail.
 pub fn limits_in_numbers()
     ensures labels { LABEL_LIMIT ≡ 64 }
     ensures line { LINE_LIMIT ≡ 65536 }
     ensures reads { READ_LIMIT ≡ 16777216 }
-    ensures seats { SEAT_LIMIT ≡ 1024 }
+    ensures seats { SEAT_LIMIT ≡ 16777216 }
+    ensures default_seats { DEFAULT_SEATS ≡ 1024 }
     ensures searches { SEARCH_LIMIT ≡ 16 }
     ensures transactions { TRANSACTION_LIMIT ≡ 64 }
     ensures changes { CHANGE_LIMIT ≡ 16 }
     ensures steps { STEP_LIMIT ≡ 1000000 }
-    ensures rolled { ROLLED_LIMIT ≡ 4293918719 }
-    ensures first { FIRST_LIMIT ≡ 4293918720 }
+    ensures rolled { ROLLED_LIMIT ≡ 18446744073708503038 }
+    ensures first { FIRST_LIMIT ≡ 18446744073708503039 }
 {}

@@ -8,11 +8,12 @@ ghost use Rattle.server.specs.Served.{IsServed};
 use crate::faults::{NoMemoryForChannel, ServerFault};
 use crate::workers::{tend, work};
 use crossbeam_channel::{Receiver, Sender, bounded};
+use feature_store::FEATURE_LIMIT;
 use features::Subjects;
 use hall::{Closed, Hall, LEDGER_PARTS, ListName, Pause, Seat, Unnamed, VIEW_LIMIT, View};
 use log::{Log, warn};
 use memory::{GrowVec, vec_with_slots};
-use plain_world::SEAT_LIMIT;
+use plain_world::{DEFAULT_SEATS, Limits};
 use policy_documents::Document;
 use std::alloc::Global;
 use std::io::{Read, Write};
@@ -42,6 +43,8 @@ pub struct Serving {
     /// How many sessions are served side by side, from 1 to `WORKER_LIMIT`; any other number is
     /// taken as the nearest of these.
     pub workers: usize,
+    /// How many features there may be; a number above `FEATURE_LIMIT` is taken as that.
+    pub features: u32,
 }
 
 /// A channel with room for this many messages.
@@ -164,7 +167,7 @@ where
     let (stop, stopped) = channel::<()>(heap, 1)?;
     // All seats that a hall may give have their places before anything is served, so none of them
     // is lost at the end.
-    let gathered = Mutex::new(vec_with_slots(heap, SEAT_LIMIT)?);
+    let gathered = Mutex::new(vec_with_slots(heap, DEFAULT_SEATS as usize)?);
     let seats = &gathered;
     let served = thread::scope(
         thread::scope_env(),
@@ -216,9 +219,16 @@ where
         subjects,
         document,
         workers,
+        features,
     } = serving;
     let workers = workers.clamp(1, WORKER_LIMIT);
-    let opened = Hall::open(own, heap, heap, unnamed, subjects, document, workers);
+    let limits = Limits {
+        features: features.min(FEATURE_LIMIT as u32),
+        ..Limits::DEFAULT
+    };
+    let opened = Hall::open_within(
+        own, heap, heap, unnamed, subjects, document, workers, limits,
+    );
     let hall: Hall<L, H, Global> = match opened {
         Ok(hall) => hall,
         Err((_document, fault)) => return Err(ServerFault::Open(fault)),

@@ -53,6 +53,7 @@ pub fn serving_by(rt: &impl Abort, heap: Global, workers: usize) -> Serving {
         subjects: three_subjects(rt),
         document: open_document(rt, heap),
         workers,
+        features: 100_000,
     }
 }
 

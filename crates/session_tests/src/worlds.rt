@@ -17,6 +17,7 @@ pub const LIMITS: Limits = Limits {
     steps: 1_000,
     records: 1_000,
     features: 1_000,
+    seats: 1_024,
 };
 
 /// The document that permits everything.

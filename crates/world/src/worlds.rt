@@ -26,8 +26,8 @@ use features::{Change, Feature, Subject, Subjects};
 use frame_keys::Frames;
 use memory::NoMemory;
 use plain_world::{
-    Base, CHANGE_LIMIT, Fault, Limits, PlainWorld, ROLLED_LIMIT, SEAT_LIMIT, STEP_LIMIT, Search,
-    Starts,
+    Base, CHANGE_LIMIT, DEFAULT_FEATURES, DEFAULT_SEATS, Fault, Limits, PlainWorld, ROLLED_LIMIT,
+    SEAT_LIMIT, STEP_LIMIT, Search, Starts,
 };
 use policy_documents::Document;
 use search_tree::{Tree, TreeFault};
@@ -225,8 +225,12 @@ impl<A: Allocator + Copy> World<A> {
               version = 0;
               edition = 1;
               rolled = 0;
-            }) (record
-            { steps = STEP_LIMIT; records = RECORD_LIMIT; features = FEATURE_LIMIT })) }
+            }) (record {
+              steps = STEP_LIMIT;
+              records = RECORD_LIMIT;
+              features = DEFAULT_FEATURES;
+              seats = DEFAULT_SEATS;
+            })) }
         ensures index { IfOk result (λ w. IsFirst frames 0 0 1 STEP_LIMIT w.index) }
         ensures walks { IfOk result (λ w. w.walks ≡ []) }
         ensures err { IfErr result (λ e. e ≡ (document, Fault.Memory out_of_memory)) }
@@ -237,7 +241,7 @@ impl<A: Allocator + Copy> World<A> {
             subjects,
             document,
             Starts::FIRST,
-            Limits::GREATEST,
+            Limits::DEFAULT,
         )
     }
 
@@ -256,6 +260,7 @@ impl<A: Allocator + Copy> World<A> {
         requires records { limits.records ≤ RECORD_LIMIT }
         requires features { limits.features ≤ FEATURE_LIMIT }
         requires steps { limits.steps ≤ STEP_LIMIT }
+        requires seats { limits.seats ≤ SEAT_LIMIT }
         ensures ok { IfOk result
             (λ w. w.plain ≡ opened subjects
             (record { document = document; edition = starts.edition }) starts limits) }
@@ -298,6 +303,7 @@ impl<A: Allocator + Copy> World<A> {
         requires records { limits.records ≤ RECORD_LIMIT }
         requires features { limits.features ≤ FEATURE_LIMIT }
         requires steps { limits.steps ≤ STEP_LIMIT }
+        requires seats { limits.seats ≤ SEAT_LIMIT }
         ensures ok { IfOk result (λ w. w.plain ≡ opened_from subjects base starts limits) }
         ensures walks { IfOk result (λ w. w.walks ≡ []) }
     {

@@ -85,6 +85,7 @@ fn opened(rt: &impl Abort, heap: Global) -> World<Global> {
         steps: 1_000,
         records: RECORDS,
         features: FEATURES,
+        seats: 1_024,
     };
     let opened = World::open_at(
         heap,
@@ -153,7 +154,12 @@ fn feature(rt: &impl Abort, mark: &Mark) -> Feature {
 /// Checks that the newest record is that of this seat and this deed.
 fn check_newest(rt: &impl Abort, world: &World<Global>, seat: u32, deed: Deed<Global>) {
     let trail = world.trail();
-    let found = trail.get(trail.first().saturating_add(trail.len()).saturating_sub(1));
+    let found = trail.get(
+        trail
+            .first()
+            .saturating_add(u64::from(trail.len()))
+            .saturating_sub(1),
+    );
     assert!(rt; found.is_some());
     assert!(rt; **found.unwrap() == Record::new(seat, deed));
 }

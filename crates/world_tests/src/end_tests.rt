@@ -11,8 +11,8 @@ use policy_text::{ZONE_LIMIT, print_document};
 use std::alloc::Global;
 use std::process::Abort;
 use world::{
-    Advance, CHANGE_LIMIT, Fault, Limits, Outcome, ROLLED_LIMIT, SEARCH_LIMIT, SEAT_LIMIT,
-    STEP_LIMIT, Starts, Step, TRANSACTION_LIMIT, TreeFault, Visit, World,
+    Advance, CHANGE_LIMIT, DEFAULT_FEATURES, DEFAULT_SEATS, Fault, Limits, Outcome, ROLLED_LIMIT,
+    SEARCH_LIMIT, SEAT_LIMIT, STEP_LIMIT, Starts, Step, TRANSACTION_LIMIT, TreeFault, Visit, World,
 };
 
 /// The line of the record of `add_mast`.
@@ -117,6 +117,7 @@ fn recording(rt: &impl Abort, heap: Global, records: u32) -> World<Global> {
         steps: 10,
         records,
         features: 10,
+        seats: 1_024,
     };
     seated(rt, heap, heap, OPEN, STARTS, limits)
 }
@@ -152,7 +153,7 @@ fn find_nothing(rt: &impl Abort, world: &mut World<Global>) {
 
 /// The trail can be rolled while it is empty, but not once it has a record.
 fn roll_in_vain(rt: &impl Abort, heap: Global, world: &mut World<Global>) {
-    assert!(rt; world.trail().first() == 4_293_918_720);
+    assert!(rt; world.trail().first() == 18_446_744_073_708_503_039);
     check_rolled(rt, heap, world, &[]);
     find_nothing(rt, world);
     let before = picture(rt, heap, world);
@@ -306,9 +307,13 @@ fn check_placed(rt: &impl Abort, world: &mut World<Global>, count: u64) {
 fn limits_of_every_world(rt: HostRuntime) {
     assert_eq!(rt; (LIMIT, LISTED_LIMIT), (10_000_000, 64));
     assert_eq!(rt; (SUBJECT_LIMIT, ZONE_LIMIT), (64, 64));
-    assert_eq!(rt; (FEATURE_LIMIT, RECORD_LIMIT), (100_000, 1_048_576));
-    assert_eq!(rt; (FIRST_LIMIT, ROLLED_LIMIT), (4_293_918_720, 4_293_918_719));
-    assert_eq!(rt; (SEAT_LIMIT, SEARCH_LIMIT), (1_024, 16));
+    assert_eq!(rt; (FEATURE_LIMIT, RECORD_LIMIT), (4_000_000, 1_048_576));
+    assert_eq!(rt; (DEFAULT_FEATURES, DEFAULT_SEATS), (100_000, 1_024));
+    assert_eq!(rt;
+        (FIRST_LIMIT, ROLLED_LIMIT),
+        (18_446_744_073_708_503_039, 18_446_744_073_708_503_038)
+    );
+    assert_eq!(rt; (SEAT_LIMIT, SEARCH_LIMIT), (16_777_216, 16));
     assert_eq!(rt; (TRANSACTION_LIMIT, CHANGE_LIMIT), (64, 16));
     assert_eq!(rt; STEP_LIMIT, 1_000_000);
 }

@@ -16,6 +16,7 @@ fn small(rt: &impl Abort, heap: Global) -> World<Global> {
         steps: 10,
         records: 4,
         features: 2,
+        seats: 1_024,
     };
     seated(rt, heap, heap, OPEN, STARTS, limits)
 }

@@ -33,6 +33,7 @@ fn next_edition_and_its_refusals(rt: HostRuntime) -> Result<(), Fail> {
         steps: 10,
         records: 1,
         features: 1,
+        seats: 1_024,
     };
     let mut world = seated(&rt, heap, heap, OPEN, STARTS, limits);
     assert!(rt; world.decider_in_force().edition() == 1);

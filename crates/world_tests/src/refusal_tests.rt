@@ -54,6 +54,22 @@ fn take_each_place(rt: &impl Abort, heap: Global, world: &mut World<Global>) {
     check_same(rt, heap, world, before.as_str());
 }
 
+/// Gives seats until there are none left, in a world of fewer and in one of more.
+fn take_other_places(rt: &impl Abort, heap: Global) {
+    for seats in [5, 2_000] {
+        let limits = Limits { seats, ..LIMITS };
+        let mut world = seated(rt, heap, heap, OPEN, STARTS, limits);
+        for number in 4..seats + 1 {
+            assert!(rt; world.seat(name(rt, "south")) == Ok(number));
+        }
+        assert!(rt; world.seat(name(rt, "chief")) == Err(Fault::NoPlace));
+        assert!(rt; world.seats_given() == seats as usize);
+        assert!(rt; world.subject_at(seats).map(|subject| subject.steward) == Ok(false));
+        assert!(rt; world.subject_at(3).map(|subject| subject.steward) == Ok(true));
+        assert!(rt; world.subject_at(seats + 1) == Err(Fault::NoSuch));
+    }
+}
+
 /// Tries each event of a seat that was not given.
 fn try_all(rt: &impl Abort, heap: Global, world: &mut World<Global>, seat: u32) {
     try_searching(rt, world, seat);
@@ -358,6 +374,7 @@ fn limited(rt: &impl Abort, heap: Global, records: u32, features: u32) -> World<
         steps: 10,
         records,
         features,
+        seats: 1_024,
     };
     seated(rt, heap, heap, OPEN, STARTS, limits)
 }
@@ -509,6 +526,11 @@ fn refused_to_lists_and_policies(rt: HostRuntime) {
 }
 
 /// A fault is displayed as its code, and a fault of the index as the index's code.
+#[test]
+fn other_limits_of_seats(rt: HostRuntime) {
+    take_other_places(&rt, rt.alloc());
+}
+
 #[test]
 fn codes_of_faults(rt: HostRuntime) -> Result<(), Fail> {
     let heap = rt.alloc();

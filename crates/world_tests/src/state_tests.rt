@@ -73,7 +73,7 @@ fn state_of<A: Allocator + Copy>(rt: &impl Abort, world: &World<A>) -> Base<A> {
 /// seats.
 fn reopened(rt: &impl Abort, heap: Global, world: &World<Global>) -> World<Global> {
     let trail = world.trail();
-    let next = trail.first().saturating_add(trail.len());
+    let next = trail.first().saturating_add(u64::from(trail.len()));
     let starts = Starts {
         rolled: next.saturating_sub(1),
         ..STARTS

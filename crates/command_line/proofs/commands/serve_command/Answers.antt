@@ -35,5 +35,6 @@ returns c =
     let three = adds _ _ _ _ c.value_parser-connections.result two connections c.in_ok-arg-3.ensures in
     let four = adds _ _ _ _ c.value_parser-workers.result three workers c.in_ok-arg-4.ensures in
     let five = adds _ _ _ _ c.value_parser-idle.result four idle c.in_ok-arg-5.ensures in
-    let six = adds _ _ _ _ c.flag_argument.result five c.flag_argument.ensures c.in_ok-arg-6.ensures in
-    IfOk-weaker c.arg-7.result _ _ (λ command h. adds _ _ _ command c.flag_argument-2.result six c.flag_argument-2.ensures h) c.arg-7.ensures
+    let six = adds _ _ _ _ c.features_argument.result five c.features_argument.ensures c.in_ok-arg-6.ensures in
+    let seven = adds _ _ _ _ c.flag_argument.result six c.flag_argument.ensures c.in_ok-arg-7.ensures in
+    IfOk-weaker c.arg-8.result _ _ (λ command h. adds _ _ _ command c.flag_argument-2.result seven c.flag_argument-2.ensures h) c.arg-8.ensures

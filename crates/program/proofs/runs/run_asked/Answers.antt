@@ -4,6 +4,12 @@ use Rattle.program.specs.Programs.{IsFault}
 use Rattle.program.proofs.ProgramLemmas.{draw_answers, look_answers, page_answers, script_broke, script_served, server_failed, server_wanted}
 use Rattle.program.proofs.runs.run_asked.Goals as goal
 
+pub run_named-requires : goal.run_named-requires
+run_named-requires g c =
+    let words : List (List ℕ) = map (λ word. string_bytes word) c.args.words.now in
+    let asked = subst (λ r. IfOk r (IsAsked words)) c.in-Ok-Script.is c.read_words.ensures in
+    (subst (IsAsked words) c.in-Ok-Script.field-0-is asked).1.3.1
+
 pub returns-in-Ok : goal.returns-in-Ok
 returns-in-Ok g c =
     let words : List (List ℕ) = map (λ word. string_bytes word) c.args.words.now in

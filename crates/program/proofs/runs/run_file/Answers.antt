@@ -13,8 +13,8 @@ returns-in_err-end-clause-err g c =
     let after = g.W.Write.contents c.flush.new.writer in
     let fault = c.in_err-end.field-0.0 in
     let ran = c.in_err-end.ensures.ran in
-    let far = came opened (Err fault) c.in-Ok.world.plain ran.1 ran.0 script (g.R.Read.remaining c.run_script-end.new.reader) before (g.W.Write.contents c.run_script-end.new.writer) after c.in-Ok.ensures.ok ran.2 c.flush.ensures in
-    left_by c.from_residual-in_err-end.result _ (λ r. IfErr r (IsOfRun opened script before after)) c.from_residual-in_err-end.ensures.1 (of_run opened fault script before after far)
+    let far = came opened c.args.features (Err fault) c.in-Ok.world.plain ran.1 ran.0 script (g.R.Read.remaining c.run_script-end.new.reader) before (g.W.Write.contents c.run_script-end.new.writer) after c.in-Ok.ensures.ok ran.2 c.flush.ensures in
+    left_by c.from_residual-in_err-end.result _ (λ r. IfErr r (IsOfRun opened c.args.features script before after)) c.from_residual-in_err-end.ensures.1 (of_run opened c.args.features fault script before after far)
 
 pub returns-in_err-flushed-clause-err : goal.returns-in_err-flushed-clause-err
 returns-in_err-flushed-clause-err g c =
@@ -24,9 +24,9 @@ returns-in_err-flushed-clause-err g c =
     let after = g.W.Write.contents c.flush.new.writer in
     let end = c.run_script-end.result in
     let ran = c.run_script-end.ensures.ran in
-    let far = came opened end c.in-Ok.world.plain ran.1 ran.0 script (g.R.Read.remaining c.run_script-end.new.reader) before (g.W.Write.contents c.run_script-end.new.writer) after c.in-Ok.ensures.ok ran.2 c.flush.ensures in
-    left_by c.from_residual.result _ (λ r. IfErr r (IsOfRun opened script before after)) c.from_residual.ensures.1 (end, far)
+    let far = came opened c.args.features end c.in-Ok.world.plain ran.1 ran.0 script (g.R.Read.remaining c.run_script-end.new.reader) before (g.W.Write.contents c.run_script-end.new.writer) after c.in-Ok.ensures.ok ran.2 c.flush.ensures in
+    left_by c.from_residual.result _ (λ r. IfErr r (IsOfRun opened c.args.features script before after)) c.from_residual.ensures.1 (end, far)
 
 pub returns-clause-served : goal.returns-clause-served
 returns-clause-served g c =
-    served (config_data c.args.config) (g.R.Read.remaining c.args.file.now) (g.W.Write.contents c.args.output.now) (g.W.Write.contents c.run_script-end.new.writer) (g.W.Write.contents c.flush.new.writer) c.in-Ok.world.plain c.run_script-end.new.world.plain c.in-Ok.ensures.ok c.in_ok-end.ensures.script_text c.flush.ensures
+    served (config_data c.args.config) c.args.features (g.R.Read.remaining c.args.file.now) (g.W.Write.contents c.args.output.now) (g.W.Write.contents c.run_script-end.new.writer) (g.W.Write.contents c.flush.new.writer) c.in-Ok.world.plain c.run_script-end.new.world.plain c.in-Ok.ensures.ok c.in_ok-end.ensures.script_text c.flush.ensures

@@ -1,4 +1,4 @@
-use Rattle.std.proofs.Common.{◌+◌, refl}
+use Rattle.std.proofs.Common.{◌+◌, arith, refl}
 use Rattle.std.specs.Arc.{arc_value}
 use Rattle.judging.proofs.AcceptedLemmas.{can_apply}
 use Rattle.plain_world.proofs.EventLemmas.{too_many}
@@ -15,10 +15,14 @@ returns-then-len_after-self g c =
     let counted = rw (c.as_slice.ensures.value) at (c.len_after.ensures (c.self.inside.version + 1) c.args.subject.office) in
     rw (← c.self.view_is) (too_many c.args.seat c.args.number c.args.subject c.args.changes.items _ c.len_after.result c.if-self.false c.if-len_after-self.true counted)
 
-pub apply-requires : goal.apply-requires
-apply-requires g c =
+pub apply-requires-clause-can : goal.apply-requires-clause-can
+apply-requires-clause-can g c =
     let accepted = rw (← c.self.view_is) at c.requires.accepted in
     rw (c.changes_in.ensures, c.deref.ensures, c.in_ok-entry.ensures.entry, c.applied-told.ensures) (can_apply (arc_value c.self.inside.decider).document c.self.inside.store c.args.subject c.args.changes.items c.requires.distinct accepted)
+
+pub apply-requires-clause-few : goal.apply-requires-clause-few
+apply-requires-clause-few g c =
+    rw (c.changes_in.ensures, c.deref.ensures, c.in_ok-entry.ensures.entry, c.applied-told.ensures) (omega (arith, c.requires.few))
 
 pub invariant_of-self-2 : goal.invariant_of-self-2
 invariant_of-self-2 g c =
