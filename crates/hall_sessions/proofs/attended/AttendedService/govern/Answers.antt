@@ -27,5 +27,5 @@ returns-in-Ok g c =
       refl,
       refl,
       rw c.number-number.ensures.last (governed c.args.document c.in-Ok.edition s.seats.now.items _ s.earlier c.in-Some.seat.now c.govern.new.self
-          s.view.now _ s.seats.now.ok.0 (c.in-Some.ensures.variant.0 refl) c.in-Some.ensures.value c.in-Ok.ensures.ok c.told.ensures.before c.told.ensures.edition),
+          s.view.now _ s.seats.now.ok.0 (c.in-Some.ensures.variant.0 refl) c.in-Some.ensures.value c.in-Ok.ensures.ok c.catch_up.ensures.before c.catch_up.ensures.edition),
     )
