@@ -1,6 +1,6 @@
 #!/usr/bin/env bash
 # What docs/TUTORIAL.md shows is so: the day, the questions and the recipes with the replies beside them, the commands with what they print, and
-# the two pictures. Skipped where there is no python3.
+# the three pictures. Skipped where there is no python3.
 #   tutorial.sh PROGRAM      in an empty folder
 set -euo pipefail
 top=$(cd "$(dirname "${BASH_SOURCE[0]}")/.." && pwd)
@@ -86,6 +86,15 @@ for command in re.findall(r"^    (\S.*)$", pictures, re.M):
 for name in ("denied_road.svg", "noon.svg"):
     if open(name).read() != open(f"{top}/docs/{name}").read():
         wrong(f"docs/{name} is another picture than the page's commands make")
+# The map from a GIS, without what needs one, or a server.
+gis = rest.split("## A map from a GIS\n")[1].split("\n## ")[0]
+printed = []
+for command in re.findall(r"^    (\S.*)$", gis, re.M):
+    if not command.startswith("ogr2ogr ") and "--socket" not in command:
+        printed += said(command)
+same(re.search(r"```text\n(.*?)\n```", gis, re.S).group(1).split("\n"), printed, "a map from a GIS")
+if open("lakeside.svg").read() != open(f"{top}/docs/lakeside.svg").read():
+    wrong("docs/lakeside.svg is another picture than the page's commands make")
 commands = re.findall(r"^ {8}\$ (.*)\n((?: {8}[^$\n].*\n)*)", rest, re.M)
 if len(commands) != 5:
     wrong(f"there are {len(commands)} commands behind a dollar")

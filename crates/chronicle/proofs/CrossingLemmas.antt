@@ -7,7 +7,7 @@ use Rattle.std.specs.contracts.impls.GlobalAllocator.TheImpl.{ghosts}
 use Rattle.std.proofs.Crossing.{crosses as std_crosses, send, sync, frees}
 use Rattle.std.proofs.sync.Arc.TheSendSync as arc
 use Rattle.std.proofs.vec.Vec.TheSendSync as vec
-use Rattle.policy_documents.proofs.CrossingLemmas.{◌&◌, model_send}
+use Rattle.policy_documents.proofs.CrossingLemmas.{◌&◌, model_send, u64_send}
 use Rattle.decision.proofs.CrossingLemmas.{decider_send, decider_sync}
 use Rattle.audit_trail.proofs.CrossingLemmas.{record_send, record_sync}
 use Rattle.audit_trail.specs.contracts.records.Record as Record
@@ -24,7 +24,7 @@ module _ (A : RattleType) (g : Ghosts A.Denot) (s : IsSend A) (y : IsSync A) (f 
   chronicle_send =
       let owner = arc.the_send _ A g (record_send A g s f) s (record_sync A g y) y f in
       let rolled = vec.the_send _ A g owner s f in
-      model_send (inside.the_type A g) (world_send A g s y f & (search (std_crosses, sendable) depth 10) & rolled & due.the_field_send & tt)
+      model_send (inside.the_type A g) (world_send A g s y f & (search (std_crosses, sendable) depth 10) & rolled & u64_send & due.the_field_send & tt)
 
 -- the same in the heap, without premises
 pub heap_record_send : IsSend (Record.the_row heap ghosts)

@@ -1,5 +1,8 @@
 -- What an event changes of what a hall sees of a world.
-use Rattle.std.proofs.Common.{◌≡◌, ◌⊎◌, ◌≤◌, ℕ, ◌+◌, List, [], ◌∷◌, ◌++◌, length, sym, ap, ◌∙◌, subst, ⊎_elim, append_assoc, append-nil, length-append, arith}
+use Rattle.std.proofs.Common.{◌≡◌, ◌⊎◌, ◌≤◌, ℕ, ◌+◌, List, [], ◌∷◌, ◌++◌, drop, length, refl, sym, ap, ◌∙◌, subst, ⊎_elim, append_assoc, append-nil, length-append, arith}
+use Rattle.std.specs.Prelude.{All}
+use Rattle.std.proofs.lemmas.List.{drop-append-le, drop_all}
+use Rattle.std.proofs.lemmas.List.Elements.{All-nil, All-push}
 use Rattle.features.specs.declared.actors.Subject.{Subject}
 use Rattle.features.specs.Rows.{IsSortedById}
 use Rattle.audit_trail.specs.Legal.{IsLegal, replay, after_deed}
@@ -14,7 +17,7 @@ use Rattle.plain_world.specs.States.{WorldData, IsSoundWorld}
 use Rattle.plain_world.proofs.AskedLemmas.{is_asked}
 use Rattle.plain_world.proofs.JoinLemmas.{Grows, Moves, moves}
 use Rattle.plain_world.proofs.SettingsLemmas.{settled}
-use Rattle.chronicle.specs.Chronicles.{IsSoundChronicle, LeadsTo, noted, seen}
+use Rattle.chronicle.specs.Chronicles.{ChangesNothing, IsHeld, IsLastChange, IsSoundChronicle, LeadsTo, noted, seen}
 
 -- who may have a seat is unchanged
 subjects_by : (event : Event) (reply : Reply) (old new : WorldData) → IsSettled event old new reply → new.subjects ≡ old.subjects
@@ -61,15 +64,60 @@ seats_stay event old new reply unseating asked =
 pub no_seat_given : (event : Event) (old new : WorldData) (reply : Reply) → GivesNoSeat event → Happens event old new reply → new.seats ≡ old.seats
 no_seat_given event old new reply unseating happens = seats_stay event old new reply unseating (is_asked event old new reply happens).seats
 
+-- an event that leaves the trail, its base and its first number as they are
+pub held_on : (event : Event) (old new : WorldData) (reply : Reply) (base : PlainState) (rolled : List RecordData) (changed : ℕ) → Happens event old new reply
+    → StandsAs old new → IsHeld base rolled changed old → IsHeld base rolled changed new
+held_on event old new reply base rolled changed happens h held =
+    record {
+      leads = leads_on event old new reply base rolled happens h.2 h.3 held.leads;
+      last_change = subst (λ (trail : List RecordData). IsLastChange changed (rolled ++ trail)) (sym h.0) held.last_change;
+    }
+
 -- an event that records nothing and gives no seat: the chronicle is unchanged
-pub stands : (event : Event) (old new : WorldData) (reply : Reply) (base : PlainState) (rolled : List RecordData) → GivesNoSeat event → Happens event old new reply
-    → StandsAs old new → LeadsTo base rolled old → (seen base rolled new ≡ seen base rolled old) × LeadsTo base rolled new
-stands event old new reply base rolled unseating happens h leads =
+pub stands : (event : Event) (old new : WorldData) (reply : Reply) (base : PlainState) (rolled : List RecordData) (changed : ℕ) → GivesNoSeat event → Happens event old new reply
+    → StandsAs old new → IsHeld base rolled changed old → (seen base rolled new ≡ seen base rolled old) × IsHeld base rolled changed new
+stands event old new reply base rolled changed unseating happens h held =
     let u = subjects_stay event old new reply happens in
     let s = no_seat_given event old new reply unseating happens in (
       λ i. record { opening = record { subjects = u i; base = base }; seats = s i; records = rolled ++ h.0 i; state = h.1 i },
-      leads_on event old new reply base rolled happens h.2 h.3 leads,
+      held_on event old new reply base rolled changed happens h held,
     )
+
+-- one more record, which changes no state
+still_behind : (changed : ℕ) (records : List RecordData) (r : RecordData) → ChangesNothing r → IsLastChange changed records → IsLastChange changed (records ++ r ∷ [])
+still_behind changed records r nothing h =
+    record {
+      within = omega (arith, h.within, length-append records (r ∷ []));
+      still = subst (All ChangesNothing) (sym (drop-append-le changed records (r ∷ []) h.within)) (All-push ChangesNothing (drop changed records) r h.still nothing);
+    }
+
+-- no record is behind all of them
+pub changed_now : (records : List RecordData) → IsLastChange (length records) records
+changed_now records =
+    record { within = omega arith; still = subst (All ChangesNothing) (sym (drop_all (length records) records (omega arith))) (All-nil ChangesNothing) }
+
+-- an event that adds a record which changes no state
+pub held_still : (event : Event) (old new : WorldData) (reply : Reply) (base : PlainState) (rolled : List RecordData) (changed seat : ℕ) (deed : DeedData)
+    → Happens event old new reply → ((state : PlainState) → after_deed deed state ≡ state) → HasOneMore seat deed old new
+    → IsHeld base rolled changed old → IsHeld base rolled changed new
+held_still event old new reply base rolled changed seat deed happens nothing h held =
+    let r : RecordData = record { seat = seat; deed = deed } in
+    let records : (rolled ++ old.trail) ++ r ∷ [] ≡ rolled ++ new.trail =
+    append_assoc rolled old.trail (r ∷ []) ∙ sym (ap (λ (trail : List RecordData). rolled ++ trail) h.0) in
+    record {
+      leads = leads_on event old new reply base rolled happens h.2 h.3 held.leads;
+      last_change = subst (IsLastChange changed) records (still_behind changed (rolled ++ old.trail) r nothing held.last_change);
+    }
+
+-- an event that adds a record which changes the state
+pub held_changed : (event : Event) (old new : WorldData) (reply : Reply) (base : PlainState) (rolled : List RecordData) (changed now seat : ℕ) (deed : DeedData)
+    → Happens event old new reply → HasOneMore seat deed old new → now ≡ length (rolled ++ new.trail)
+    → IsHeld base rolled changed old → IsHeld base rolled now new
+held_changed event old new reply base rolled changed now seat deed happens h all held =
+    record {
+      leads = leads_on event old new reply base rolled happens h.2 h.3 held.leads;
+      last_change = subst (λ (n : ℕ). IsLastChange n (rolled ++ new.trail)) (sym all) (changed_now (rolled ++ new.trail));
+    }
 
 -- an event that adds one record
 pub adds : (event : Event) (old new : WorldData) (reply : Reply) (base : PlainState) (rolled : List RecordData) (seat : ℕ) (deed : DeedData)
@@ -119,3 +167,11 @@ rolls seat old new piece base rolled happens sound h state leads =
   where
     counted_on : (rolled more : List RecordData) (base next : ℕ) → length rolled ≤ base → base + length more ≡ next → length (rolled ++ more) ≤ next
     counted_on rolled more base next h k = omega (arith, h, k, length-append rolled more)
+
+-- a world that was just opened, of which nothing was rolled out
+pub begins : (w : WorldData) → w.trail ≡ [] → IsHeld w.base [] 0 w
+begins w e =
+    record {
+      leads = record { counted = omega arith; legal = tt; replayed = refl };
+      last_change = subst (IsLastChange 0) (sym e) (changed_now []);
+    }

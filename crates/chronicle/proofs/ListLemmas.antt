@@ -136,3 +136,10 @@ last_none (x ∷ xs) e = absurd (some_last x xs e)
 pub last_at : {X : Type 0} (o : Option X) (x : X) (xs : List X) → last_or o (x ∷ xs) ≡ slice_get (x ∷ xs) (length xs)
 last_at o x [] = refl
 last_at o x (y ∷ ys) = last_at (Some x) y ys
+
+-- an item behind a first part
+pub slice_get-drop : {X : Type 0} (k : ℕ) (xs : List X) (i j : ℕ) → j ≡ k + i → slice_get (drop k xs) i ≡ slice_get xs j
+slice_get-drop zero xs i j e = let same : i ≡ j = omega arith in ap (slice_get xs) same
+slice_get-drop (suc k) [] i j e = refl
+slice_get-drop (suc k) (x ∷ xs) i zero e = absurd (omega arith)
+slice_get-drop (suc k) (x ∷ xs) i (suc j) e = slice_get-drop k xs i j (omega arith)

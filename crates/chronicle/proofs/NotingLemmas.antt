@@ -31,9 +31,10 @@ use Rattle.plain_world.proofs.OutcomeLemmas.{outcome_judgement}
 use Rattle.plain_world.proofs.RecordLemmas.{adds_alone}
 use Rattle.plain_world.proofs.RefusalLemmas.{leaves}
 use Rattle.plain_world.proofs.RunLemmas.{and_then_ok, given_ok}
-use Rattle.chronicle.specs.Chronicles.{LeadsTo, noted, seen}
+use Rattle.chronicle.specs.Changing.{after_list, after_policy}
+use Rattle.chronicle.specs.Chronicles.{ChronicleData, IsHeld, IsLastChange, noted, seen}
 use Rattle.chronicle.specs.Noting.{IsAnswered, IsEndedBy, IsGovernedBy, IsJudged, IsSeatGiven, told_answer}
-use Rattle.chronicle.proofs.EventLemmas.{adds, rolls}
+use Rattle.chronicle.proofs.EventLemmas.{adds, held_changed, held_on, held_still, rolls}
 
 -- an unchanged world is seen as an unchanged chronicle
 seen_same : (base : PlainState) (rolled : List RecordData) (old new : WorldData) → new ≡ old → seen base rolled new ≡ seen base rolled old
@@ -77,10 +78,14 @@ runs seat number w s e =
     let b = and_then_ok (given (search_with number w.searches)) (owned seat) s a.2 in
     given_ok (search_with number w.searches) b.0 b.1 ∙ ap Some (seat_same seat b.0 s b.2).0
 
-pub base_answered : (seat number : ℕ) (old new : WorldData) (result : Result AnswerData Fault) → AddsAlone (Finish seat number) old new (reply_of Rows result)
-    → (new.base ≡ old.base) × (new.first ≡ old.first)
-base_answered seat number old new (Ok answer) h = (h.2, h.3)
-base_answered seat number old new (Err fault) h = (h.2, h.3)
+-- what a chronicle keeps, after a search was to be finished
+pub held_answered : (seat number : ℕ) (old new : WorldData) (result : Result AnswerData Fault) (base : PlainState) (rolled : List RecordData) (changed : ℕ)
+    → Happens (Finish seat number) old new (reply_of Rows result) → IsHeld base rolled changed old → IsHeld base rolled changed new
+held_answered seat number old new (Ok answer) base rolled changed happens held =
+    held_still (Finish seat number) old new (Rows answer) base rolled changed seat (told_answer answer) happens (λ state. refl)
+    (adds_alone (Finish seat number) old new (Rows answer) happens) held
+held_answered seat number old new (Err fault) base rolled changed happens held =
+    held_on (Finish seat number) old new (Failed fault) base rolled changed happens (adds_alone (Finish seat number) old new (Failed fault) happens) held
 
 pub search_answered : (base : PlainState) (rolled : List RecordData) (seat number : ℕ) (s : Search) (old new : WorldData) (result : Result AnswerData Fault)
     → may_go_on seat number old ≡ Ok s → Happens (Finish seat number) old new (reply_of Rows result)
@@ -107,10 +112,20 @@ finish_refused base rolled seat number old new (Err fault) happens = seen_same b
 
 -- Lists of changes.
 
-pub base_committed : (seat number : ℕ) (old new : WorldData) (result : Result Outcome Fault) → AddsAlone (Commit seat number) old new (reply_of Ended result)
-    → (new.base ≡ old.base) × (new.first ≡ old.first)
-base_committed seat number old new (Ok outcome) h = (h.2.2, h.2.3)
-base_committed seat number old new (Err fault) h = (h.2, h.3)
+-- what a chronicle keeps, after a list was to be committed
+pub held_committed : (seat number : ℕ) (old new : WorldData) (result : Result Outcome Fault) (base : PlainState) (rolled : List RecordData) (changed now : ℕ)
+    → Happens (Commit seat number) old new (reply_of Ended result) → now ≡ length (rolled ++ new.trail) → IsHeld base rolled changed old
+    → IsHeld base rolled (after_list result changed now) new
+held_committed seat number old new (Ok (outcomes.Applied version)) base rolled changed now happens all held =
+    let alone = adds_alone (Commit seat number) old new (Ended (outcomes.Applied version)) happens in
+    held_changed (Commit seat number) old new (Ended (outcomes.Applied version)) base rolled changed now seat
+    (deed_of alone.0 (staged_in number old.transactions) (outcomes.Applied version)) happens alone.2 all held
+held_committed seat number old new (Ok (outcomes.Refused refusal denial)) base rolled changed now happens all held =
+    let alone = adds_alone (Commit seat number) old new (Ended (outcomes.Refused refusal denial)) happens in
+    held_still (Commit seat number) old new (Ended (outcomes.Refused refusal denial)) base rolled changed seat
+    (deed_of alone.0 (staged_in number old.transactions) (outcomes.Refused refusal denial)) happens (λ state. refl) alone.2 held
+held_committed seat number old new (Err fault) base rolled changed now happens all held =
+    held_on (Commit seat number) old new (Failed fault) base rolled changed happens (adds_alone (Commit seat number) old new (Failed fault) happens) held
 
 -- a transaction's judgement is that of its list
 judged_so : (subject : Subject) (t : TransactionData) (old new : PlainState) (outcome : Outcome) → IsJudgement subject t old new outcome → IsJudged subject t.changes old outcome
@@ -149,10 +164,15 @@ commit_refused base rolled seat number old new (Err fault) happens = seen_same b
 
 -- Policies.
 
-pub base_governed : (seat : ℕ) (document : DocumentData) (old new : WorldData) (result : Result ℕ Fault) → AddsAlone (Govern seat document) old new (reply_of Number result)
-    → (new.base ≡ old.base) × (new.first ≡ old.first)
-base_governed seat document old new (Ok edition) h = (h.2, h.3)
-base_governed seat document old new (Err fault) h = (h.2, h.3)
+-- what a chronicle keeps, after a document was to be put in force
+pub held_governed : (seat : ℕ) (document : DocumentData) (old new : WorldData) (result : Result ℕ Fault) (base : PlainState) (rolled : List RecordData) (changed now : ℕ)
+    → Happens (Govern seat document) old new (reply_of Number result) → now ≡ length (rolled ++ new.trail) → IsHeld base rolled changed old
+    → IsHeld base rolled (after_policy result changed now) new
+held_governed seat document old new (Ok edition) base rolled changed now happens all held =
+    held_changed (Govern seat document) old new (Number edition) base rolled changed now seat (governed edition (record { document = document; edition = edition })) happens
+    (adds_alone (Govern seat document) old new (Number edition) happens) all held
+held_governed seat document old new (Err fault) base rolled changed now happens all held =
+    held_on (Govern seat document) old new (Failed fault) base rolled changed happens (adds_alone (Govern seat document) old new (Failed fault) happens) held
 
 pub governed_next : (base : PlainState) (rolled : List RecordData) (seat : ℕ) (decider : DeciderData) (old new : WorldData) (result : Result ℕ Fault)
     → Happens (Govern seat decider.document) old new (reply_of Number result) → decider.edition ≡ old.state.decider.edition + 1
@@ -179,10 +199,13 @@ govern_refused base rolled seat document old new (Err fault) happens = seen_same
 -- Rolling.
 
 -- a roll that takes the trail out keeps all records
-pub roll_kept : (seat : ℕ) (old new : WorldData) (piece : RolledData) (base : PlainState) (rolled : List RecordData) → IsSoundWorld old → Happens (Roll seat) old new (TakenOut piece)
-    → LeadsTo base rolled old → (seen base (rolled ++ piece.records) new ≡ seen base rolled old) × LeadsTo base (rolled ++ piece.records) new
-roll_kept seat old new piece base rolled sound happens leads =
-    rolls seat old new piece base rolled happens sound (piece_leads_on seat old new piece sound happens) (adds_alone (Roll seat) old new (TakenOut piece) happens).1 leads
+pub roll_kept : (seat : ℕ) (old new : WorldData) (piece : RolledData) (base : PlainState) (rolled : List RecordData) (changed : ℕ) → IsSoundWorld old → Happens (Roll seat) old new (TakenOut piece)
+    → IsHeld base rolled changed old → (seen base (rolled ++ piece.records) new ≡ seen base rolled old) × IsHeld base (rolled ++ piece.records) changed new
+roll_kept seat old new piece base rolled changed sound happens held =
+    let kept = rolls seat old new piece base rolled happens sound (piece_leads_on seat old new piece sound happens) (adds_alone (Roll seat) old new (TakenOut piece) happens).1 held.leads in (
+      kept.0,
+      record { leads = kept.1; last_change = subst (IsLastChange changed) (sym (ap (λ (c : ChronicleData). c.records) kept.0)) held.last_change },
+    )
 
 -- the piece has the trail's records
 pub roll_held : (seat : ℕ) (old new : WorldData) (piece : RolledData) → IsSoundWorld old → Happens (Roll seat) old new (TakenOut piece) → piece.records ≡ old.trail

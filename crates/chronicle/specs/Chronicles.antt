@@ -1,6 +1,6 @@
 -- What a hall sees of a world: what it was opened with, the subjects of the seats, all records, and
 -- the present state.
-use Rattle.std.specs.Prelude.{◌≡◌, ◌≤◌, ℕ, List, [], ◌∷◌, ◌++◌, length, Result}
+use Rattle.std.specs.Prelude.{◌≡◌, ◌≤◌, ℕ, List, [], ◌∷◌, ◌++◌, All, drop, length, Result}
 use Rattle.features.specs.declared.actors.Subject.{Subject}
 use Rattle.features.specs.Rows.{IsSortedById}
 use Rattle.policy_documents.specs.Documents.{DocumentData}
@@ -49,6 +49,22 @@ pub record LeadsTo (base : PlainState) (rolled : List RecordData) (w : WorldData
   pub counted : length rolled ≤ w.first
   pub legal : IsLegal w.seats base rolled
   pub replayed : replay base rolled ≡ w.base
+
+-- a record that changes no state: that of an answer, or of a list that was turned away
+abbrev pub ChangesNothing : RecordData → Type 0
+ChangesNothing r = (state : PlainState) → after_deed r.deed state ≡ state
+
+-- behind the first so many of these records, no record changes a state
+pub record IsLastChange (changed : ℕ) (records : List RecordData) : Type 0 where
+  pub within : changed ≤ length records
+  pub still : All ChangesNothing (drop changed records)
+
+-- what a chronicle keeps beside its world goes with the world: the records that were rolled out, and
+-- how many records there were when the state was changed last
+pub record IsHeld (base : PlainState) (rolled : List RecordData) (changed : ℕ) (w : WorldData)
+    : Type 0 where
+  pub leads : LeadsTo base rolled w
+  pub last_change : IsLastChange changed (rolled ++ w.trail)
 
 -- All records are one legal trail from the opening on, and its replay is the state, whose features
 -- are sorted by id. At most `SEAT_LIMIT` seats were given.

@@ -1,3 +1,4 @@
+pub mod Changing
 pub mod Chronicles
 pub mod Coding
 pub mod Comparing

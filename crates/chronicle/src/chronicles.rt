@@ -26,6 +26,8 @@ pub struct Chronicle<A: Allocator> {
     pub(crate) opened: Snapshot<World<A>>,
     /// The records that were rolled out, in order.
     pub(crate) rolled: Vec<Arc<Record<A>, A>, A>,
+    /// How many records there were when the last list was applied or policy put in force.
+    pub(crate) changed: u64,
     pub(crate) due: DueSlots,
 }
 
@@ -33,7 +35,7 @@ impl<A: Allocator> Model for Chronicle<A> {
     ghost use Rattle.std.specs.Prelude.{map};
     ghost use Rattle.std.specs.Arc.{arc_value};
     ghost use Rattle.std.specs.Coded.{code_by, codes};
-    ghost use Rattle.chronicle.specs.Chronicles.{ChronicleData, LeadsTo, seen};
+    ghost use Rattle.chronicle.specs.Chronicles.{ChronicleData, IsHeld, seen};
     ghost use Rattle.chronicle.specs.Coding.{StoredChronicle, stored_chronicle, restored_chronicle, restored_chronicle-stored_chronicle};
 
     ghost Value = { ChronicleData };
@@ -44,8 +46,8 @@ impl<A: Allocator> Model for Chronicle<A> {
     ghost view = { λ c. seen c.opened.value.plain.base (map arc_value c.rolled.items)
         c.world.plain };
 
-    ghost invariant = { λ c. LeadsTo c.opened.value.plain.base (map arc_value c.rolled.items)
-        c.world.plain };
+    ghost invariant = { λ c. IsHeld c.opened.value.plain.base (map arc_value c.rolled.items)
+        c.changed c.world.plain };
 }
 
 impl<A: Allocator> Chronicle<A> {
@@ -147,6 +149,7 @@ impl<A: Allocator + Copy> Chronicle<A> {
             world,
             opened,
             rolled: Vec::new(alloc),
+            changed: 0,
             due: DueSlots::none(),
         }
     }

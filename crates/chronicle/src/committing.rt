@@ -1,9 +1,11 @@
 //! Transactions.
 
 ghost use Rattle.std.specs.Prelude.{◌≡◌, IfOk, OnErr};
+ghost use Rattle.chronicle.specs.Changing.{after_list};
 ghost use Rattle.chronicle.specs.Noting.{IsEndedBy};
 
 use crate::chronicles::Chronicle;
+use crate::reading::count;
 use features::{Change, same_changes};
 use std::alloc::Allocator;
 use world::{Advance, Fault, Outcome};
@@ -63,9 +65,22 @@ impl<A: Allocator + Copy> Chronicle<A> {
             self.due.note_old(&self.world, changes);
             let committed = self.world.commit(seat, number);
             self.due.committed(&self.world, changes, &committed);
+            let now = count(&self.rolled, self.world.trail());
+            self.changed = changed_by_list(&committed, self.changed, now);
             committed
         } else {
             Err(Fault::NoSuch)
         }
+    }
+}
+
+/// How many records there were at the last change, where a list has ended: `before` if it changed
+/// nothing, and `now`, how many there are, if it was applied.
+fn changed_by_list(ended: &Result<Outcome, Fault>, before: u64, now: u64) -> u64
+    ensures { result ≡ after_list ended.now before now }
+{
+    match ended {
+        Ok(Outcome::Applied(_)) => now,
+        Ok(Outcome::Refused(..)) | Err(_) => before,
     }
 }

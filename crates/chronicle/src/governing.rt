@@ -2,9 +2,11 @@
 
 ghost use Rattle.std.specs.Prelude.{◌≡◌, ◌<◌, ◌+◌, ◌++◌, length, map, take, IfOk, OnOk, OnErr};
 ghost use Rattle.std.specs.Arc.{arc_value};
+ghost use Rattle.chronicle.specs.Changing.{after_policy};
 ghost use Rattle.chronicle.specs.Noting.{IsGovernedBy};
 
 use crate::chronicles::Chronicle;
+use crate::reading::count;
 use audit_trail::{Record, Trail};
 use decision::Decider;
 use memory::{GrowVec, NoMemory, another};
@@ -38,7 +40,10 @@ impl<A: Allocator + Copy> Chronicle<A> {
         ensures err { OnErr result (self.new ≡ self.old) }
     {
         self.world.next_edition(seat)?;
-        self.world.govern_by(seat, decider)
+        let governed = self.world.govern_by(seat, decider);
+        let now = count(&self.rolled, self.world.trail());
+        self.changed = changed_by_policy(&governed, self.changed, now);
+        governed
     }
 
     /// Takes the present trail out, with its lines; the chronicle keeps its records. X1 where the
@@ -82,4 +87,15 @@ fn append_records<A: Allocator>(
         rolled.push_reserved(another(record)?);
     }
     Ok(())
+}
+
+/// How many records there were at the last change, where a document was to be put in force: `before`
+/// if it was refused, and otherwise `now`, how many there are.
+fn changed_by_policy(governed: &Result<u64, Fault>, before: u64, now: u64) -> u64
+    ensures { result ≡ after_policy governed.now before now }
+{
+    match governed {
+        Ok(_) => now,
+        Err(_) => before,
+    }
 }

@@ -1,17 +1,18 @@
 //! Reading a chronicle.
 
-ghost use Rattle.std.specs.Prelude.{◌≡◌, ◌<◌, ◌≤◌, ◌↔◌, ◌++◌, length, map, option_map, slice_get, None, IsSome, IfOk, IfErr};
+ghost use Rattle.std.specs.Prelude.{◌≡◌, ◌<◌, ◌≤◌, ◌↔◌, ◌-◌, ℕ, ◌++◌, drop, length, map, min, option_map, slice_get, take, vec_capacity, vec_len, None, IsSome, IfOk, IfErr, OnOk, OnErr};
 ghost use Rattle.std.specs.Arc.{arc_value};
 ghost use Rattle.std.specs.List.{last_or};
 ghost use Rattle.features.specs.Rows.{IsSortedById};
 ghost use Rattle.memory.specs.NoMemory.{out_of_memory};
-ghost use Rattle.chronicle.specs.Chronicles.{subject_given};
+ghost use Rattle.chronicle.specs.Chronicles.{IsLastChange, subject_given};
 
 use crate::chronicles::Chronicle;
 use audit_trail::{Record, Trail};
 use decision::Decider;
 use feature_store::FEATURE_LIMIT;
 use features::Subject;
+use memory::{NoMemory, another};
 use std::alloc::Allocator;
 use std::sync::Arc;
 use world::{Base, Fault, SEAT_LIMIT};
@@ -21,7 +22,15 @@ impl<A: Allocator> Chronicle<A> {
     pub fn len(&self) -> u64
         ensures { result ≡ length self.now.records }
     {
-        self.rolled.len() as u64 + u64::from(self.world.trail().len())
+        count(&self.rolled, self.world.trail())
+    }
+
+    /// How many records there were when the last list was applied or policy put in force, or 0:
+    /// all behind them are of answers and of lists that were turned away, and change no state.
+    pub fn last_change(&self) -> u64
+        ensures { IsLastChange result self.now.records }
+    {
+        self.changed
     }
 
     /// How many seats were given: `SEAT_LIMIT` at most.
@@ -67,6 +76,31 @@ impl<A: Allocator> Chronicle<A> {
         record_at(&self.rolled, self.world.trail(), place)
     }
 
+    /// Appends other owners of the records from a place on, counted from 0 over all records, in order:
+    /// as many as there are, but at most `most`, and no more than `into` has room for. A fault where
+    /// one of them has as many owners as there may be; those before it are appended. Takes no memory.
+    pub fn copy_from(
+        &self,
+        place: u64,
+        most: u64,
+        into: &mut Vec<Arc<Record<A>, A>, A>,
+    ) -> Result<(), NoMemory>
+        ensures ok { OnOk result (map arc_value into.new.items ≡ map arc_value into.old.items
+            ++ take (min most (vec_capacity into.old - vec_len into.old))
+            (drop place self.now.records)) }
+        ensures err { OnErr result ((copied : ℕ) × (map arc_value into.new.items
+            ≡ map arc_value into.old.items ++ take copied (drop place self.now.records))) }
+    {
+        let count = most_copied(self.len(), place, most, room_in(into));
+        for index in 0..count {
+            let Some(record) = self.get(place + index) else {
+                unreachable!()
+            };
+            into.push_reserved(another(record)?);
+        }
+        Ok(())
+    }
+
     /// The last record, shared: a caller may make itself another owner.
     pub fn last(&self) -> Option<&Arc<Record<A>, A>>
         ensures { option_map (λ r. arc_value r.now) result ≡ last_or None self.now.records }
@@ -90,6 +124,28 @@ impl<A: Allocator + Copy> Chronicle<A> {
     {
         self.world.present()
     }
+}
+
+/// How many records these are and those of a trail.
+pub(crate) fn count<A: Allocator>(rolled: &[Arc<Record<A>, A>], trail: &Trail<A>) -> u64
+    ensures { result ≡ length (map arc_value rolled.now ++ trail.now.records) }
+{
+    rolled.len() as u64 + u64::from(trail.len())
+}
+
+/// How many more items a list has room for.
+fn room_in<A: Allocator>(list: &Vec<Arc<Record<A>, A>, A>) -> u64
+    ensures { result ≡ vec_capacity list.now - vec_len list.now }
+{
+    list.capacity().saturating_sub(list.len()) as u64
+}
+
+/// How many of `count` records can be copied from a place on: as many as there are, but at most
+/// `most`, and no more than there is room for.
+fn most_copied(count: u64, place: u64, most: u64, room: u64) -> u64
+    ensures { result ≡ min (min most room) (count - place) }
+{
+    most.min(room).min(count.saturating_sub(place))
 }
 
 /// The record at a place of these records and then those of a trail.

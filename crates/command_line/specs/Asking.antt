@@ -1,13 +1,16 @@
 -- What the words of a command line ask for.
-use Rattle.std.specs.Prelude.{◌≡◌, ◌≤◌, ℕ, List, [], IfSome, Option, Some, codes, None, option_and_then, option_map, unwrap_or}
+use Rattle.std.specs.Prelude.{◌≡◌, ◌≤◌, ℕ, false, List, [], IfSome, Option, Some, codes, None, option_and_then, option_map, unwrap_or}
 use Rattle.clap.specs.Words.{IsAmong, Row, Text, kind_of, subcommand_of, subcommand_rows_of}
-use Rattle.command_line.specs.CommandLine.{AreTurnedDown, AskFor, AskForHelp, command_line, flag_at, given_by, number_at, refusals, shell_at, shell_named}
+use Rattle.command_line.specs.CommandLine.{AreTurnedDown, AskFor, AskForHelp, command_line, action_at, flag_at, format_at, given_by, number_at, refusals, shell_at, shell_named, waits_at}
 use Rattle.command_line.specs.declared.commands.Reading.{Reading}
 use Rattle.command_line.specs.declared.commands.Reading.TheVariants.{Given, Told}
 use Rattle.command_line.specs.declared.options.ServerOptions.{ServerOptions}
-use Rattle.command_line.specs.declared.options.TheConstants.{CONNECTION_LIMIT, DEFAULT_WORKERS, IDLE_LIMIT, WORKER_LIMIT}
+use Rattle.command_line.specs.declared.options.TheConstants.{CONNECTION_LIMIT, DEFAULT_WORKERS, FIRST_ID_LIMIT, IDLE_LIMIT, WORKER_LIMIT}
+use Rattle.command_line.specs.declared.stores.StoreWords.{StoreWords}
+use Rattle.command_line.specs.declared.transfers.ExportWords.{ExportWords}
+use Rattle.command_line.specs.declared.transfers.ImportWords.{ImportWords}
 use Rattle.command_line.specs.declared.words.Asked.{Asked}
-use Rattle.command_line.specs.declared.words.Asked.TheVariants.{Check, Completions, Connect, Draw, Help, Man, Mistake, Script, Serve}
+use Rattle.command_line.specs.declared.words.Asked.TheVariants.{Check, Completions, Connect, Draw, Export, Help, Import, Man, Mistake, Script, Serve, Store}
 use Rattle.command_line.specs.declared.words.ScriptWords.{ScriptWords}
 use Rattle.command_line.specs.declared.words.ServeWords.{ServeWords}
 
@@ -39,15 +42,74 @@ pub record HasOptions (given : Text → Option Text) (options : ServerOptions) :
   pub workers_fit : IsUpTo WORKER_LIMIT options.workers
   pub idle_fits : IfSome options.idle_seconds (IsUpTo IDLE_LIMIT)
 
--- the files of a script
+-- the files of a script, and the folder of its store
 abbrev pub HasFiles : (Text → Option Text) → ScriptWords → Type 0
 HasFiles given files = (given (codes "FILE") ≡ Some files.script.now)
     × (given (codes "config") ≡ option_map (λ name. name.now) files.config)
+    × (given (codes "store") ≡ option_map (λ name. name.now) files.store)
 
--- the options of a server and its configuration's file
-abbrev pub HasServer : (Text → Option Text) → ServeWords → Type 0
-HasServer given server = HasOptions given server.options
-    × (given (codes "config") ≡ option_map (λ name. name.now) server.config)
+-- the options of a server, its configuration's file, the folder of its store, and for which records
+-- its replies wait
+pub record HasServer (given : Text → Option Text) (server : ServeWords) : Type 0 where
+  pub options : HasOptions given server.options
+  pub config : given (codes "config") ≡ option_map (λ name. name.now) server.config
+  pub store : given (codes "store") ≡ option_map (λ name. name.now) server.store
+  pub waits : waits_at given (codes "wait") ≡ Some server.waits
+
+-- what is asked of a store: what is done, its folder, and whether features are meant
+pub record HasStore (given : Text → Option Text) (words : StoreWords) : Type 0 where
+  pub action : action_at given (codes "ACTION") ≡ Some words.action
+  pub folder : given (codes "DIR") ≡ Some words.folder.now
+  pub features : words.features ≡ flag_at given (codes "features")
+
+-- what an export is given: a server, a subject and a form, and perhaps a window, a class and a
+-- configuration's file
+pub record HasExport (given : Text → Option Text) (words : ExportWords) : Type 0 where
+  pub socket : given (codes "socket") ≡ Some words.socket.now
+  pub subject : given (codes "as") ≡ Some words.subject.now
+  pub window : given (codes "window") ≡ option_map (λ text. text.now) words.window
+  pub class : given (codes "class") ≡ option_map (λ text. text.now) words.class
+  pub config : given (codes "config") ≡ option_map (λ text. text.now) words.config
+  pub format : format_at given (codes "format") ≡ Some words.format
+
+-- what an import is given: a subject and a file, and perhaps a server, a class, a first id within
+-- its limit, flags, and a configuration's file
+pub record HasImport (given : Text → Option Text) (words : ImportWords) : Type 0 where
+  pub file : given (codes "FILE") ≡ Some words.file.now
+  pub subject : given (codes "as") ≡ Some words.subject.now
+  pub socket : given (codes "socket") ≡ option_map (λ text. text.now) words.socket
+  pub class : given (codes "class") ≡ option_map (λ text. text.now) words.class
+  pub config : given (codes "config") ≡ option_map (λ text. text.now) words.config
+  pub first_id : words.first_id ≡ number_at given (codes "first-id")
+  pub first_id_fits : IfSome words.first_id (IsUpTo FIRST_ID_LIMIT)
+  pub whole : words.whole ≡ flag_at given (codes "whole")
+  pub split : words.split ≡ flag_at given (codes "split")
+  pub script : words.script ≡ flag_at given (codes "script")
+
+-- an export, or nothing, since there is no form of the name that is given
+abbrev pub IsAskedExport : (Text → Option Text) → Asked → Type 0
+IsAskedExport given (Export words) = HasExport given words
+IsAskedExport given (Mistake text) = format_at given (codes "format") ≡ None
+IsAskedExport given _ = ⊥
+
+-- an import, or nothing, since it would go neither to a server nor into a script
+abbrev pub IsAskedImport : (Text → Option Text) → Asked → Type 0
+IsAskedImport given (Import words) = HasImport given words
+IsAskedImport given (Mistake text) =
+    (given (codes "socket") ≡ None) × (flag_at given (codes "script") ≡ false)
+IsAskedImport given _ = ⊥
+
+-- a server, or nothing, since its replies would wait for what there is not
+abbrev pub IsAskedServer : (Text → Option Text) → Asked → Type 0
+IsAskedServer given (Serve words) = HasServer given words
+IsAskedServer given (Mistake text) = waits_at given (codes "wait") ≡ None
+IsAskedServer given _ = ⊥
+
+-- a look at a store, or nothing, since nothing of the name that is given is done with one
+abbrev pub IsAskedStore : (Text → Option Text) → Asked → Type 0
+IsAskedStore given (Store words) = HasStore given words
+IsAskedStore given (Mistake text) = action_at given (codes "ACTION") ≡ None
+IsAskedStore given _ = ⊥
 
 -- completions for the shell that is given, or nothing, since there are none for it
 abbrev pub IsAskedShell : Option Text → Asked → Type 0
@@ -56,8 +118,8 @@ IsAskedShell given (Mistake text) = option_and_then shell_named given ≡ None
 IsAskedShell given _ = ⊥
 
 -- a script of these files; this server; a talk with the server at this path; a look at the
--- configuration in this file; a drawing of the script in this file; the manual page; completions
--- for this shell; help; or nothing, since the words are wrong
+-- configuration in this file; a drawing of the script in this file; this export; this import; this
+-- look at a store; the manual page; completions for this shell; help; or nothing, since the words are wrong
 abbrev pub IsAsked : List (List ℕ) → Asked → Type 0
 IsAsked words (Script files) = AskFor (codes "script") words × HasFiles (given_by words) files
 IsAsked words (Serve server) = AskFor (codes "serve") words × HasServer (given_by words) server
@@ -67,6 +129,9 @@ IsAsked words (Check config) =
     AskFor (codes "check") words × (given_by words (codes "config") ≡ Some config.now)
 IsAsked words (Draw script) = AskFor (codes "draw") words
     × (given_by words (codes "SCRIPT") ≡ Some script.now)
+IsAsked words (Export given) = AskFor (codes "export") words × HasExport (given_by words) given
+IsAsked words (Import given) = AskFor (codes "import") words × HasImport (given_by words) given
+IsAsked words (Store given) = AskFor (codes "store") words × HasStore (given_by words) given
 IsAsked words Man = AskFor (codes "man") words
 IsAsked words (Completions shell) =
     AskFor (codes "completions") words × (shell_at (given_by words) (codes "SHELL") ≡ Some shell)

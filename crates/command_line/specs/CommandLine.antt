@@ -1,6 +1,7 @@
 -- The command line, as clap reads it: `landmap script [--config FILE] FILE`, `landmap serve` with
 -- its options, `landmap connect --socket PATH`, `landmap check --config FILE`, `landmap draw
--- SCRIPT`, `landmap man`, and `landmap completions SHELL`.
+-- SCRIPT`, `landmap export` and `landmap import` with their options, `landmap store ACTION DIR
+-- [--features]`, `landmap man`, and `landmap completions SHELL`.
 use Rattle.std.specs.Prelude.{◌≡◌, ◌≢◌, ◌⊎◌, ℕ, Bool, true, false, List, [], ◌∷◌, Option, None, Some, codes, if◌then◌else◌, fold, option_map, option_and_then, pos}
 use Rattle.std.specs.Option.{option_map_or}
 use Rattle.std.specs.Str.{bytes_eq}
@@ -14,9 +15,15 @@ use Rattle.clap.specs.declared.builder.command.Command.TheViews.{out-Command}
 use Rattle.clap.specs.declared.error.kind.ErrorKind.{ErrorKind}
 use Rattle.clap.specs.declared.error.kind.ErrorKind.TheVariants.{DisplayHelp}
 use Rattle.clap.specs.declared.builder.value_parser.ValueParser.TheVariants.{Signed}
+use Rattle.command_line.specs.declared.formats.Format.{Format}
+use Rattle.command_line.specs.declared.formats.Format.TheVariants.{Csv, GeoJson, GeoJsonSeq}
 use Rattle.command_line.specs.declared.shells.Shell.{Shell}
 use Rattle.command_line.specs.declared.shells.Shell.TheVariants.{Bash, Fish, Zsh}
-use Rattle.command_line.specs.declared.options.TheConstants.{CONNECTION_LIMIT, IDLE_LIMIT, WORKER_LIMIT}
+use Rattle.command_line.specs.declared.options.TheConstants.{CONNECTION_LIMIT, FIRST_ID_LIMIT, IDLE_LIMIT, WORKER_LIMIT}
+use Rattle.command_line.specs.declared.stores.StoreAction.{StoreAction}
+use Rattle.command_line.specs.declared.stores.StoreAction.TheVariants as actions
+use Rattle.command_line.specs.declared.stores.Waits.{Waits}
+use Rattle.command_line.specs.declared.stores.Waits.TheVariants.{All, Changes}
 
 -- `--NAME VALUE`
 abbrev pub option_rule : Text → Rule
@@ -45,20 +52,22 @@ IsCommand app command = (app_of command ≡ app) × ((out-Command command).has_g
 abbrev pub subcommand_line : Text → List Rule → App
 subcommand_line name rules = fold with_rule (new_app name) rules
 
--- `script [--config FILE] FILE`
+-- `script [--config FILE] [--store DIR] FILE`
 abbrev pub script_line : App
 script_line = subcommand_line (codes "script")
-    (option_rule (codes "config") ∷ needed (new_rule (codes "FILE")) ∷ [])
+    (option_rule (codes "config") ∷ option_rule (codes "store") ∷ needed (new_rule (codes "FILE"))
+    ∷ [])
 
 -- `serve --socket PATH [--config FILE] --connections N [--workers N] [--idle SECONDS] [--takeover]
--- [--until-stdin-ends]`
+-- [--until-stdin-ends] [--store DIR] [--wait WHAT]`
 abbrev pub serve_line : App
 serve_line = subcommand_line (codes "serve") (
     needed (option_rule (codes "socket")) ∷ option_rule (codes "config") ∷ needed
     (up_to CONNECTION_LIMIT (option_rule (codes "connections")))
     ∷ up_to WORKER_LIMIT (option_rule (codes "workers")) ∷ up_to IDLE_LIMIT
     (option_rule (codes "idle"))
-    ∷ flag_rule (codes "takeover") ∷ flag_rule (codes "until-stdin-ends") ∷ [])
+    ∷ flag_rule (codes "takeover") ∷ flag_rule (codes "until-stdin-ends")
+    ∷ option_rule (codes "store") ∷ option_rule (codes "wait") ∷ [])
 
 -- `connect --socket PATH`
 abbrev pub connect_line : App
@@ -71,6 +80,28 @@ check_line = subcommand_line (codes "check") (needed (option_rule (codes "config
 -- `draw SCRIPT`
 abbrev pub draw_line : App
 draw_line = subcommand_line (codes "draw") (needed (new_rule (codes "SCRIPT")) ∷ [])
+
+-- `export --socket PATH --as NAME [--window SHAPE] [--class NAME] [--config FILE] --format FORMAT`
+abbrev pub export_line : App
+export_line = subcommand_line (codes "export") (
+    needed (option_rule (codes "socket")) ∷ needed (option_rule (codes "as"))
+    ∷ option_rule (codes "window") ∷ option_rule (codes "class") ∷ option_rule (codes "config")
+    ∷ needed (option_rule (codes "format")) ∷ [])
+
+-- `import [--socket PATH] --as NAME [--class NAME] [--first-id N] [--whole] [--split] [--config FILE]
+-- [--script] FILE`
+abbrev pub import_line : App
+import_line = subcommand_line (codes "import") (
+    option_rule (codes "socket") ∷ needed (option_rule (codes "as")) ∷ option_rule (codes "class")
+    ∷ up_to FIRST_ID_LIMIT (option_rule (codes "first-id")) ∷ flag_rule (codes "whole")
+    ∷ flag_rule (codes "split") ∷ option_rule (codes "config") ∷ flag_rule (codes "script")
+    ∷ needed (new_rule (codes "FILE")) ∷ [])
+
+-- `store ACTION DIR [--features]`
+abbrev pub store_line : App
+store_line = subcommand_line (codes "store") (
+    needed (new_rule (codes "ACTION")) ∷ needed (new_rule (codes "DIR"))
+    ∷ flag_rule (codes "features") ∷ [])
 
 -- `man`
 abbrev pub man_line : App
@@ -87,8 +118,8 @@ bare_line = on_top (λ s. record s { subcommand_required = true; arg_required_el
 
 -- the subcommands, in the order of help
 abbrev pub subcommands : List App
-subcommands = script_line ∷ serve_line ∷ connect_line ∷ check_line ∷ draw_line ∷ man_line
-    ∷ completions_line ∷ []
+subcommands = script_line ∷ serve_line ∷ connect_line ∷ check_line ∷ draw_line
+    ∷ export_line ∷ import_line ∷ store_line ∷ man_line ∷ completions_line ∷ []
 
 -- the command line with its subcommands
 abbrev pub command_line : App
@@ -136,9 +167,55 @@ abbrev pub NameNoShell : List Text → Type 0
 NameNoShell words = AskFor (codes "completions") words
     × (shell_at (given_by words) (codes "SHELL") ≡ None)
 
--- the words are wrong
-abbrev pub AreTurnedDown : List Text → Type 0
-AreTurnedDown words = AreRejected words ⊎ NameNoShell words
+-- the form of a file of this name
+abbrev pub format_named : Text → Option Format
+format_named name =
+    if bytes_eq name (codes "geojson") then Some GeoJson
+    else if bytes_eq name (codes "geojsonseq") then Some GeoJsonSeq
+    else if bytes_eq name (codes "csv") then Some Csv
+    else None
+
+-- the form that is given for an argument
+abbrev pub format_at : (Text → Option Text) → Text → Option Format
+format_at given id = option_and_then format_named (given id)
+
+-- the words ask for an export in a form that there is not
+abbrev pub NameNoFormat : List Text → Type 0
+NameNoFormat words = AskFor (codes "export") words
+    × (format_at (given_by words) (codes "format") ≡ None)
+
+-- for which records replies wait, by the name of it
+abbrev pub waits_named : Text → Option Waits
+waits_named name =
+    if bytes_eq name (codes "all") then Some All
+    else if bytes_eq name (codes "changes") then Some Changes
+    else None
+
+-- for which records replies wait by what is given; all, if nothing is
+abbrev pub waits_at : (Text → Option Text) → Text → Option Waits
+waits_at given id = option_map_or waits_named (given id) (Some All)
+
+-- what is done with a store, by the name of it
+abbrev pub action_named : Text → Option StoreAction
+action_named name =
+    if bytes_eq name (codes "check") then Some actions.Check
+    else if bytes_eq name (codes "list") then Some actions.List
+    else if bytes_eq name (codes "export") then Some actions.Export
+    else None
+
+-- what is done with a store by what is given
+abbrev pub action_at : (Text → Option Text) → Text → Option StoreAction
+action_at given id = option_and_then action_named (given id)
+
+-- the words ask for a server whose replies wait for what there is not
+abbrev pub NameNoWait : List Text → Type 0
+NameNoWait words = AskFor (codes "serve") words
+    × (waits_at (given_by words) (codes "wait") ≡ None)
+
+-- the words ask for what is not done with a store
+abbrev pub NameNoAction : List Text → Type 0
+NameNoAction words = AskFor (codes "store") words
+    × (action_at (given_by words) (codes "ACTION") ≡ None)
 
 -- the number that digits spell, after an optional plus
 abbrev pub number_of : Text → ℕ
@@ -150,3 +227,13 @@ number_at given id = option_map number_of (given id)
 
 abbrev pub flag_at : (Text → Option Text) → Text → Bool
 flag_at given id = option_map_or (λ text. bytes_eq text (codes "true")) (given id) false
+
+-- the words ask for an import that goes neither to a server nor into a script
+abbrev pub NameNoServer : List Text → Type 0
+NameNoServer words = AskFor (codes "import") words × (given_by words (codes "socket") ≡ None)
+    × (flag_at (given_by words) (codes "script") ≡ false)
+
+-- the words are wrong
+abbrev pub AreTurnedDown : List Text → Type 0
+AreTurnedDown words = AreRejected words ⊎ (NameNoShell words ⊎ (NameNoFormat words
+    ⊎ (NameNoServer words ⊎ (NameNoWait words ⊎ NameNoAction words))))

@@ -1,20 +1,25 @@
 //! The host's words, and how clap reads them. Only this module makes a `NoMemoryForWords`.
 
-ghost use Rattle.std.specs.Prelude.{◌≡◌, map, string_bytes, IfOk};
-ghost use Rattle.clap.specs.Words.{app_of};
+ghost use Rattle.std.specs.Prelude.{◌≡◌, codes, map, string_bytes, IfOk};
+ghost use Rattle.clap.specs.Words.{app_of, new_rule};
 ghost use Rattle.command_line.specs.Asking.{IsReading};
-ghost use Rattle.command_line.specs.CommandLine.{IsArgument, IsCommand, bare_line, check_line, command_line, completions_line, connect_line, draw_line, flag_rule, man_line, option_rule, script_line, serve_line};
+ghost use Rattle.command_line.specs.declared.options.TheConstants.{FIRST_ID_LIMIT};
+ghost use Rattle.command_line.specs.CommandLine.{IsArgument, IsCommand, bare_line, check_line, command_line, completions_line, connect_line, draw_line, export_line, flag_rule, import_line, man_line, needed, option_rule, script_line, serve_line, store_line, up_to};
 
 use crate::help_texts::{
-    ABOUT, CHECK_ABOUT, CHECK_CONFIG_HELP, CHECK_EXAMPLES, CHECK_LONG_ABOUT, COMPLETIONS_ABOUT,
-    COMPLETIONS_EXAMPLES, COMPLETIONS_LONG_ABOUT, CONFIG_HELP, CONNECT_ABOUT, CONNECT_EXAMPLES,
-    CONNECT_LONG_ABOUT, CONNECT_SOCKET_HELP, CONNECTIONS_HELP, DRAW_ABOUT, DRAW_EXAMPLES,
-    DRAW_LONG_ABOUT, DRAW_SCRIPT_HELP, EXAMPLES, IDLE_HELP, LONG_ABOUT, MAN_ABOUT, MAN_EXAMPLES,
-    MAN_LONG_ABOUT, SCRIPT_ABOUT, SCRIPT_EXAMPLES, SCRIPT_FILE_HELP, SCRIPT_LONG_ABOUT,
-    SERVE_ABOUT, SERVE_EXAMPLES, SERVE_LONG_ABOUT, SHELL_HELP, SOCKET_HELP, TAKEOVER_HELP,
-    UNTIL_STDIN_ENDS_HELP, WORKERS_HELP,
+    ABOUT, AS_HELP, CHECK_ABOUT, CHECK_CONFIG_HELP, CHECK_EXAMPLES, CHECK_LONG_ABOUT,
+    COMPLETIONS_ABOUT, COMPLETIONS_EXAMPLES, COMPLETIONS_LONG_ABOUT, CONFIG_HELP, CONNECT_ABOUT,
+    CONNECT_EXAMPLES, CONNECT_LONG_ABOUT, CONNECT_SOCKET_HELP, CONNECTIONS_HELP, DRAW_ABOUT,
+    DRAW_EXAMPLES, DRAW_LONG_ABOUT, DRAW_SCRIPT_HELP, EXAMPLES, EXPORT_ABOUT, EXPORT_CLASS_HELP,
+    EXPORT_EXAMPLES, EXPORT_LONG_ABOUT, FIRST_ID_HELP, FORMAT_HELP, GRID_HELP, IDLE_HELP,
+    IMPORT_ABOUT, IMPORT_CLASS_HELP, IMPORT_EXAMPLES, IMPORT_FILE_HELP, IMPORT_LONG_ABOUT,
+    IMPORT_SCRIPT_HELP, LONG_ABOUT, MAN_ABOUT, MAN_EXAMPLES, MAN_LONG_ABOUT, SCRIPT_ABOUT,
+    SCRIPT_EXAMPLES, SCRIPT_FILE_HELP, SCRIPT_LONG_ABOUT, SERVE_ABOUT, SERVE_EXAMPLES,
+    SERVE_LONG_ABOUT, SHELL_HELP, SOCKET_HELP, SPLIT_HELP, STORE_ABOUT, STORE_ACTION_HELP,
+    STORE_EXAMPLES, STORE_FEATURES_HELP, STORE_FOLDER_HELP, STORE_HELP, STORE_LONG_ABOUT,
+    TAKEOVER_HELP, UNTIL_STDIN_ENDS_HELP, WAIT_HELP, WHOLE_HELP, WINDOW_HELP, WORKERS_HELP,
 };
-use crate::options::{CONNECTION_LIMIT, IDLE_LIMIT, WORKER_LIMIT};
+use crate::options::{CONNECTION_LIMIT, FIRST_ID_LIMIT, IDLE_LIMIT, WORKER_LIMIT};
 use clap::error::ErrorKind;
 use clap::{Arg, ArgAction, ArgMatches, Command, Error, value_parser};
 use std::alloc::{AllocError, Global};
@@ -79,19 +84,24 @@ fn flag_argument<'a>(alloc: Global, name: &'a str, help: &'a str) -> Arg<'a>
         .help(help)
 }
 
+/// A required argument with a place of its own.
+fn place_argument<'a>(alloc: Global, name: &'a str, help: &'a str) -> Arg<'a>
+    ensures { IsArgument (needed (new_rule name.entry.now)) result }
+{
+    Arg::new(alloc, name).help(help).required(true)
+}
+
 /// The subcommand that runs a script.
 fn script_command<'a>(alloc: Global) -> Result<Command<'a>, AllocError>
     ensures { IfOk result (IsCommand script_line) }
 {
-    let file = Arg::new(alloc, "FILE")
-        .help(SCRIPT_FILE_HELP)
-        .required(true);
     Command::new(alloc, "script")
         .about(SCRIPT_ABOUT)
         .long_about(SCRIPT_LONG_ABOUT)
         .after_long_help(SCRIPT_EXAMPLES)
         .arg(option_argument(alloc, "config", "FILE", CONFIG_HELP))?
-        .arg(file)
+        .arg(option_argument(alloc, "store", "DIR", STORE_HELP))?
+        .arg(place_argument(alloc, "FILE", SCRIPT_FILE_HELP))
 }
 
 /// The subcommand that serves a socket.
@@ -117,7 +127,9 @@ fn serve_command<'a>(alloc: Global) -> Result<Command<'a>, AllocError>
         .arg(workers)?
         .arg(idle)?
         .arg(flag_argument(alloc, "takeover", TAKEOVER_HELP))?
-        .arg(flag_argument(alloc, "until-stdin-ends", UNTIL_STDIN_ENDS_HELP))
+        .arg(flag_argument(alloc, "until-stdin-ends", UNTIL_STDIN_ENDS_HELP))?
+        .arg(option_argument(alloc, "store", "DIR", STORE_HELP))?
+        .arg(option_argument(alloc, "wait", "WHAT", WAIT_HELP))
 }
 
 /// The subcommand that talks with a server.
@@ -154,6 +166,71 @@ fn draw_command<'a>(alloc: Global) -> Result<Command<'a>, AllocError>
         .long_about(DRAW_LONG_ABOUT)
         .after_long_help(DRAW_EXAMPLES)
         .arg(script)
+}
+
+/// The subcommand that writes the features of a server.
+fn export_command<'a>(alloc: Global) -> Result<Command<'a>, AllocError>
+    ensures { IfOk result (IsCommand export_line) }
+{
+    Command::new(alloc, "export")
+        .about(EXPORT_ABOUT)
+        .long_about(EXPORT_LONG_ABOUT)
+        .after_long_help(EXPORT_EXAMPLES)
+        .arg(option_argument(alloc, "socket", "PATH", CONNECT_SOCKET_HELP).required(true))?
+        .arg(option_argument(alloc, "as", "NAME", AS_HELP).required(true))?
+        .arg(option_argument(alloc, "window", "SHAPE", WINDOW_HELP))?
+        .arg(option_argument(alloc, "class", "NAME", EXPORT_CLASS_HELP))?
+        .arg(option_argument(alloc, "config", "FILE", GRID_HELP))?
+        .arg(option_argument(alloc, "format", "FORMAT", FORMAT_HELP).required(true))
+}
+
+/// The argument `--first-id N`.
+fn first_id_argument<'a>(alloc: Global) -> Arg<'a>
+    ensures { IsArgument (up_to FIRST_ID_LIMIT (option_rule (codes "first-id"))) result }
+{
+    let id_range = value_parser!(u32).range(1..=i64::from(FIRST_ID_LIMIT));
+    option_argument(alloc, "first-id", "N", FIRST_ID_HELP).value_parser(id_range)
+}
+
+/// The required argument FILE of an import.
+fn file_argument<'a>(alloc: Global) -> Arg<'a>
+    ensures { IsArgument (needed (new_rule (codes "FILE"))) result }
+{
+    Arg::new(alloc, "FILE")
+        .help(IMPORT_FILE_HELP)
+        .required(true)
+}
+
+/// The subcommand that adds the features of a file to a server.
+fn import_command<'a>(alloc: Global) -> Result<Command<'a>, AllocError>
+    ensures { IfOk result (IsCommand import_line) }
+{
+    Command::new(alloc, "import")
+        .about(IMPORT_ABOUT)
+        .long_about(IMPORT_LONG_ABOUT)
+        .after_long_help(IMPORT_EXAMPLES)
+        .arg(option_argument(alloc, "socket", "PATH", CONNECT_SOCKET_HELP))?
+        .arg(option_argument(alloc, "as", "NAME", AS_HELP).required(true))?
+        .arg(option_argument(alloc, "class", "NAME", IMPORT_CLASS_HELP))?
+        .arg(first_id_argument(alloc))?
+        .arg(flag_argument(alloc, "whole", WHOLE_HELP))?
+        .arg(flag_argument(alloc, "split", SPLIT_HELP))?
+        .arg(option_argument(alloc, "config", "FILE", GRID_HELP))?
+        .arg(flag_argument(alloc, "script", IMPORT_SCRIPT_HELP))?
+        .arg(file_argument(alloc))
+}
+
+/// The subcommand that looks at a store.
+fn store_command<'a>(alloc: Global) -> Result<Command<'a>, AllocError>
+    ensures { IfOk result (IsCommand store_line) }
+{
+    Command::new(alloc, "store")
+        .about(STORE_ABOUT)
+        .long_about(STORE_LONG_ABOUT)
+        .after_long_help(STORE_EXAMPLES)
+        .arg(place_argument(alloc, "ACTION", STORE_ACTION_HELP))?
+        .arg(place_argument(alloc, "DIR", STORE_FOLDER_HELP))?
+        .arg(flag_argument(alloc, "features", STORE_FEATURES_HELP))
 }
 
 /// The subcommand that prints the manual page.
@@ -200,6 +277,9 @@ fn command<'a>(alloc: Global) -> Result<Command<'a>, AllocError>
         .subcommand(connect_command(alloc)?)?
         .subcommand(check_command(alloc)?)?
         .subcommand(draw_command(alloc)?)?
+        .subcommand(export_command(alloc)?)?
+        .subcommand(import_command(alloc)?)?
+        .subcommand(store_command(alloc)?)?
         .subcommand(man_command(alloc))?
         .subcommand(completions_command(alloc)?)
 }

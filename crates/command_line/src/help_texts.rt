@@ -16,9 +16,10 @@ pub(crate) const EXAMPLES: &str = "Examples:
 `landmap script --help` has the lines of a script, and the codes by which a run
 ends; `landmap serve --help` has the options of a server, and its codes;
 `landmap connect --help` tells how to talk to a server. `landmap check` looks at
-a configuration alone; `landmap draw` makes a picture of a script; `landmap man`
-and `landmap completions` print the manual page, and what a shell needs to
-complete command lines.
+a configuration alone; `landmap draw` makes a picture of a script; `landmap
+export` and `landmap import` bring features out of a server into a file, and
+back; `landmap man` and `landmap completions` print the manual page, and what a
+shell needs to complete command lines.
 
 Exit status:
   0  what was asked is done
@@ -89,8 +90,12 @@ Exit status:
        B5        there was no memory for the configuration
        X12       there was no memory for the world
        V4        there was no memory for the buffers or the command line
+       Q1 to Q4  the store is in use (Q1), cannot be read or written (Q2), is
+                 damaged (Q3), or has no number for a record (Q4)
 
   2  the command line is wrong"#;
+
+pub(crate) const STORE_HELP: &str = "Keeps all in this folder, and begins with its state";
 
 pub(crate) const SCRIPT_FILE_HELP: &str = "The script: lines `label: command`; `-`: standard input";
 
@@ -108,8 +113,15 @@ a script.
 
 After N connections nobody more is accepted. Once the last session has ended,
 the socket's file is removed and `closed R records` is printed, R being the
-number of records in the audit trail. Nothing is stored: then, or when the
-process is killed, features, policies and records are gone.
+number of records in the audit trail. Without --store nothing is stored: then,
+or when the process is killed, features, policies and records are gone.
+
+With --store features, policy and records are kept in the folder DIR, which has
+to be there. The first start begins it with the configuration's policies; later
+ones begin with the features and the policy that it keeps. No reply leaves
+before the records on which it rests are on the disk. With --wait changes a
+reply waits for the changes of features and policies alone, so records of the
+last answers may be lost in a crash. A store is for one server at a time.
 
 With --idle, a client that neither sends nor reads for so many seconds is left,
 and its worker serves another. Without it a silent client keeps its worker.
@@ -139,6 +151,8 @@ pub(crate) const TAKEOVER_HELP: &str = "Takes over a socket that nobody listens 
 
 pub(crate) const UNTIL_STDIN_ENDS_HELP: &str = "Accepts nobody once standard input ends";
 
+pub(crate) const WAIT_HELP: &str = "What replies wait for: all or changes [default: all]";
+
 pub(crate) const SERVE_EXAMPLES: &str = r#"Examples:
   `landmap serve --socket map.sock --connections 100` writes
 
@@ -162,6 +176,9 @@ pub(crate) const SERVE_EXAMPLES: &str = r#"Examples:
   landmap serve --socket map.sock --connections 1024 --workers 16 --idle 60
     serves sixteen clients at a time, and leaves one that is idle for a minute
 
+  landmap serve --socket map.sock --connections 1024 --store /var/lib/landmap
+    keeps all in that folder, and goes on there when it is started again
+
 Exit status:
   0  all sessions have ended, and their records are those of the trail
   1  one line on standard error says why: `landmap: cannot read FILE`,
@@ -176,6 +193,8 @@ Exit status:
        V4        there was no memory for the buffers or the command line
        C1        a session was told of another record than the trail has
        C2        a session did not give back its seat
+       Q1 to Q4  the store is in use (Q1), cannot be read or written (Q2), is
+                 damaged (Q3), or has no number for a record (Q4)
 
   2  the command line is wrong"#;
 
@@ -285,6 +304,174 @@ Exit status:
        V4        there was no memory
        G1        there are more than 100,000 windows and features
 
+  2  the command line is wrong";
+
+pub(crate) const EXPORT_ABOUT: &str = "Writes the features of a server, as GeoJSON or CSV";
+
+pub(crate) const EXPORT_LONG_ABOUT: &str = r#"Writes the features of a server, as GeoJSON or CSV.
+
+Connects to the Unix socket at PATH, says HELLO as NAME, and makes one search:
+of SHAPE, or of everything. So what is written is what NAME may read, all of one
+moment, and the trail has one record of it. Each feature is written to standard
+output as it comes.
+
+The forms are
+
+  geojson      a FeatureCollection (RFC 7946)
+  geojsonseq   a feature on each line
+  csv          the columns id, version, office, class and WKT, the shape, as
+               `ogr2ogr` reads them
+
+A feature has the properties id, office, class and version. Coordinates are
+those of the configuration's grid; without one they are whole numbers. SHAPE is
+well-known text with such coordinates."#;
+
+pub(crate) const AS_HELP: &str = "The subject whose session it is";
+
+pub(crate) const WINDOW_HELP: &str = "The shape that the features meet [default: everything]";
+
+pub(crate) const EXPORT_CLASS_HELP: &str = "Writes the features of this class only";
+
+pub(crate) const GRID_HELP: &str = "A configuration, for its grid";
+
+pub(crate) const FORMAT_HELP: &str = "The form: geojson, geojsonseq or csv";
+
+pub(crate) const EXPORT_EXAMPLES: &str = r#"Examples:
+  landmap export --socket map.sock --as north --format geojson > all.geojson
+  landmap export --socket map.sock --as north --class mast --format csv \
+      --window 'POLYGON ((0 0, 50 0, 50 50, 0 50, 0 0))' > masts.csv
+  ogr2ogr -f GPKG all.gpkg all.geojson
+    makes a GeoPackage of it
+
+Exit status:
+  0  all features are written
+  1  one line on standard error says why not: `landmap: cannot read FILE`,
+     `landmap: cannot connect PATH`, `landmap: the server answers REPLY`,
+     `landmap: the server has ended the connection` or another line that begins
+     so, `landmap: no name NAME`, `landmap: out of memory`,
+     `landmap: cannot write`, or `landmap: CODE`, where CODE is
+
+       B1, B2, N1 to N3, D2 to D8, B5
+                 the configuration is at fault: `landmap script --help` has how
+       K1 to K3, L4, M1 to M3, P1 to P9
+                 SHAPE is at fault: `landmap import --help` has how
+       V4        there was no memory for a buffer or the command line
+
+     What is written then is not whole: a FeatureCollection has no end
+  2  the command line is wrong"#;
+
+pub(crate) const IMPORT_ABOUT: &str = "Adds the features of a file to a server";
+
+pub(crate) const IMPORT_LONG_ABOUT: &str = r#"Adds the features of a file to a server.
+
+FILE is GeoJSON, a FeatureCollection (RFC 7946) or a sequence of features (RFC
+8142, or one on each line); or CSV as `ogr2ogr -f CSV -lco GEOMETRY=AS_WKT`
+writes it, with a column WKT. Rows are its features, counted from 1.
+
+A feature has an id, a whole number, as a member or a property, and the property
+class; in CSV these are columns. With --class all are of that class; with
+--first-id the first row has the id N, the next one N + 1, and so on.
+Coordinates are those of the configuration's grid; without one they are whole
+numbers.
+
+Rows go to the server by lists of 16, as NAME. A row that is no feature, or that
+the server refuses, is written to FILE.refused.csv, with its code or the
+server's reply; the others go on. With --whole the import ends there. How many
+rows are settled is kept in FILE.done: the same command goes on from there after
+it was cut off. What the server has already, just as it is in the file, counts
+as done.
+
+A shape is a point, a segment or a convex ring of at most 16 corners. With
+--split lines are cut into segments, and regions, with their holes, into convex
+parts; of the row with the id I, the parts have the ids 1000 * I, 1000 * I + 1,
+and so on.
+
+With --script session lines are written to standard output in place of being
+sent, for `landmap script`."#;
+
+pub(crate) const IMPORT_CLASS_HELP: &str = "The class of all features";
+
+pub(crate) const FIRST_ID_HELP: &str = "The id of the first row, 1 to 4294967295";
+
+pub(crate) const WHOLE_HELP: &str = "Ends where a row is refused";
+
+pub(crate) const SPLIT_HELP: &str = "Cuts lines into segments, regions into convex parts";
+
+pub(crate) const IMPORT_SCRIPT_HELP: &str = "Writes session lines, and sends nothing";
+
+pub(crate) const IMPORT_FILE_HELP: &str = "The features: GeoJSON, a sequence of it, or CSV";
+
+pub(crate) const IMPORT_EXAMPLES: &str = r#"Examples:
+  landmap import --socket map.sock --as north --class mast masts.geojson
+  ogr2ogr -f GeoJSONSeq -t_srs EPSG:4326 roads.geojsons roads.gpkg
+  landmap import --socket map.sock --as north --class road --first-id 1000 \
+      --split --config agency.json roads.geojsons
+  landmap import --script --as north --class mast masts.geojson > masts.map
+
+Exit status:
+  0  all rows are settled: `rows R`, `applied A`, `present P` and `refused F`
+     say how
+  1  one line on standard error says why not: `landmap: cannot read FILE`,
+     `landmap: cannot keep FILE.done` (or FILE.refused.csv),
+     `landmap: cannot connect PATH`, `landmap: the server answers REPLY`,
+     `landmap: the server has ended the connection` or another line that begins
+     so, `landmap: a row is refused, see FILE.refused.csv` (with --whole),
+     `landmap: no name NAME`, `landmap: out of memory`,
+     `landmap: cannot write`, `landmap: CODE` of the configuration, as
+     `landmap script --help` has it, or `landmap: CODE behind row R`, where CODE is
+
+       F1        the file is neither GeoJSON nor CSV with a column WKT
+       F2        it ends within a feature or a collection
+       F3        a feature has more than 4,194,304 bytes
+       V1        a read of the file failed
+       V4        there was no memory for a row
+
+     The codes in FILE.refused.csv, beside those of the server's replies, are
+
+       J1 to J3  it is no JSON, has not the form of a feature, has another type
+       K1 to K3  its well-known text begins with another word, is of a kind that
+                 is not read, has something missing or too much
+       M1 to M3  a number is none, between two steps of the grid, beyond it
+       I1, I2    it has no id, or --split makes one of more than 64 bits; it has
+                 no class
+       L1 to L3  a region crosses itself, has a hole outside, has too many parts
+       L4        several parts or holes, or a line of more than two points:
+                 --split cuts them
+       P1 to P9  the points make no shape
+
+  2  the command line is wrong"#;
+
+pub(crate) const STORE_ABOUT: &str = "Looks at the folder of a store";
+
+pub(crate) const STORE_LONG_ABOUT: &str = "Looks at the folder of a store, which no server has open.
+
+ACTION is
+
+  check    reads all of it: each volume, its tables, and that no record is
+           missing; `right: V volumes, R records` is printed
+  list     tells what each volume has
+  export   writes the records, one on each line, as ROLL does; with --features
+           the features, as `id,version,office,class,shape`
+
+The files are SQLite's: sqlite3, ogrinfo and QGIS read those of a server that
+has ended. Nothing but landmap should write them.";
+
+pub(crate) const STORE_ACTION_HELP: &str = "What is done: check, list or export";
+
+pub(crate) const STORE_FOLDER_HELP: &str = "The folder of the store";
+
+pub(crate) const STORE_FEATURES_HELP: &str = "Exports features in place of records";
+
+pub(crate) const STORE_EXAMPLES: &str = "Examples:
+  landmap store check /var/lib/landmap
+  landmap store export /var/lib/landmap > records.jsonl
+  landmap store export --features /var/lib/landmap > features.csv
+
+Exit status:
+  0  it is done; for `check`, the store is right
+  1  one line on standard error says why not: `landmap: Q1 DIR: ..` (in use),
+     `landmap: Q2 FILE: ..` (cannot be read), `landmap: Q3 FILE: ..` (damaged),
+     `landmap: cannot write`, or `landmap: V4` (no memory)
   2  the command line is wrong";
 
 pub(crate) const MAN_ABOUT: &str = "Prints the manual page";

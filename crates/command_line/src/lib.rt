@@ -3,16 +3,24 @@
 #![tactic(auto)]
 
 mod commands;
+mod formats;
 mod help_texts;
 mod laws;
 mod options;
 mod shells;
+mod stores;
 mod tables;
+mod transfers;
 mod words;
 
 pub use commands::{NoMemoryForWords, WordsFault, host_words};
+pub use formats::Format;
 pub use laws::option_limits_in_numbers;
-pub use options::{CONNECTION_LIMIT, DEFAULT_WORKERS, IDLE_LIMIT, ServerOptions, WORKER_LIMIT};
+pub use options::{
+    CONNECTION_LIMIT, DEFAULT_WORKERS, FIRST_ID_LIMIT, IDLE_LIMIT, ServerOptions, WORKER_LIMIT,
+};
 pub use shells::Shell;
+pub use stores::{StoreAction, StoreWords, Waits};
 pub use tables::{ArgumentText, COMMAND_COUNT, CommandText, HelpTable, help_table};
+pub use transfers::{ExportWords, ImportWords};
 pub use words::{Asked, ScriptWords, ServeWords, Shown, read_words};

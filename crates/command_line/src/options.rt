@@ -12,6 +12,9 @@ pub const DEFAULT_WORKERS: u8 = 4;
 /// The greatest idle time, in seconds: a day.
 pub const IDLE_LIMIT: u32 = 86_400;
 
+/// The greatest id that `--first-id` gives.
+pub const FIRST_ID_LIMIT: u32 = 4_294_967_295;
+
 /// The options of a server, apart from its configuration.
 #[derive(Clone, Copy, Debug, PartialEq, Eq)]
 pub struct ServerOptions<'a> {

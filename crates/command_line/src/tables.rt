@@ -5,17 +5,21 @@ ghost use Rattle.command_line.specs.CommandLine.{subcommands};
 ghost use Rattle.command_line.specs.Tables.{line_words, table_words};
 
 use crate::help_texts::{
-    ABOUT, CHECK_ABOUT, CHECK_CONFIG_HELP, CHECK_EXAMPLES, CHECK_LONG_ABOUT, COMPLETIONS_ABOUT,
-    COMPLETIONS_EXAMPLES, COMPLETIONS_LONG_ABOUT, CONFIG_HELP, CONNECT_ABOUT, CONNECT_EXAMPLES,
-    CONNECT_LONG_ABOUT, CONNECT_SOCKET_HELP, CONNECTIONS_HELP, DRAW_ABOUT, DRAW_EXAMPLES,
-    DRAW_LONG_ABOUT, DRAW_SCRIPT_HELP, EXAMPLES, IDLE_HELP, LONG_ABOUT, MAN_ABOUT, MAN_EXAMPLES,
-    MAN_LONG_ABOUT, SCRIPT_ABOUT, SCRIPT_EXAMPLES, SCRIPT_FILE_HELP, SCRIPT_LONG_ABOUT,
-    SERVE_ABOUT, SERVE_EXAMPLES, SERVE_LONG_ABOUT, SHELL_HELP, SOCKET_HELP, TAKEOVER_HELP,
-    UNTIL_STDIN_ENDS_HELP, WORKERS_HELP,
+    ABOUT, AS_HELP, CHECK_ABOUT, CHECK_CONFIG_HELP, CHECK_EXAMPLES, CHECK_LONG_ABOUT,
+    COMPLETIONS_ABOUT, COMPLETIONS_EXAMPLES, COMPLETIONS_LONG_ABOUT, CONFIG_HELP, CONNECT_ABOUT,
+    CONNECT_EXAMPLES, CONNECT_LONG_ABOUT, CONNECT_SOCKET_HELP, CONNECTIONS_HELP, DRAW_ABOUT,
+    DRAW_EXAMPLES, DRAW_LONG_ABOUT, DRAW_SCRIPT_HELP, EXAMPLES, EXPORT_ABOUT, EXPORT_CLASS_HELP,
+    EXPORT_EXAMPLES, EXPORT_LONG_ABOUT, FIRST_ID_HELP, FORMAT_HELP, GRID_HELP, IDLE_HELP,
+    IMPORT_ABOUT, IMPORT_CLASS_HELP, IMPORT_EXAMPLES, IMPORT_FILE_HELP, IMPORT_LONG_ABOUT,
+    IMPORT_SCRIPT_HELP, LONG_ABOUT, MAN_ABOUT, MAN_EXAMPLES, MAN_LONG_ABOUT, SCRIPT_ABOUT,
+    SCRIPT_EXAMPLES, SCRIPT_FILE_HELP, SCRIPT_LONG_ABOUT, SERVE_ABOUT, SERVE_EXAMPLES,
+    SERVE_LONG_ABOUT, SHELL_HELP, SOCKET_HELP, SPLIT_HELP, STORE_ABOUT, STORE_ACTION_HELP,
+    STORE_EXAMPLES, STORE_FEATURES_HELP, STORE_FOLDER_HELP, STORE_HELP, STORE_LONG_ABOUT,
+    TAKEOVER_HELP, UNTIL_STDIN_ENDS_HELP, WAIT_HELP, WHOLE_HELP, WINDOW_HELP, WORKERS_HELP,
 };
 
 /// How many commands there are.
-pub const COMMAND_COUNT: usize = 7;
+pub const COMMAND_COUNT: usize = 10;
 
 /// An argument of a command.
 #[derive(Clone, Copy, Debug)]
@@ -65,8 +69,16 @@ const CONFIG: ArgumentText = ArgumentText {
     help: CONFIG_HELP,
 };
 
-const SCRIPT_ARGUMENTS: [ArgumentText; 2] = [
+const STORE_OPTION: ArgumentText = ArgumentText {
+    dashes: "--",
+    name: "store",
+    value: "DIR",
+    help: STORE_HELP,
+};
+
+const SCRIPT_ARGUMENTS: [ArgumentText; 3] = [
     CONFIG,
+    STORE_OPTION,
     ArgumentText {
         dashes: "",
         name: "FILE",
@@ -75,7 +87,7 @@ const SCRIPT_ARGUMENTS: [ArgumentText; 2] = [
     },
 ];
 
-const SERVE_ARGUMENTS: [ArgumentText; 7] = [
+const SERVE_ARGUMENTS: [ArgumentText; 9] = [
     ArgumentText {
         dashes: "--",
         name: "socket",
@@ -113,6 +125,13 @@ const SERVE_ARGUMENTS: [ArgumentText; 7] = [
         value: "",
         help: UNTIL_STDIN_ENDS_HELP,
     },
+    STORE_OPTION,
+    ArgumentText {
+        dashes: "--",
+        name: "wait",
+        value: "WHAT",
+        help: WAIT_HELP,
+    },
 ];
 
 const CONNECT_ARGUMENTS: [ArgumentText; 1] = [ArgumentText {
@@ -135,6 +154,123 @@ const DRAW_ARGUMENTS: [ArgumentText; 1] = [ArgumentText {
     value: "",
     help: DRAW_SCRIPT_HELP,
 }];
+
+const EXPORT_ARGUMENTS: [ArgumentText; 6] = [
+    ArgumentText {
+        dashes: "--",
+        name: "socket",
+        value: "PATH",
+        help: CONNECT_SOCKET_HELP,
+    },
+    ArgumentText {
+        dashes: "--",
+        name: "as",
+        value: "NAME",
+        help: AS_HELP,
+    },
+    ArgumentText {
+        dashes: "--",
+        name: "window",
+        value: "SHAPE",
+        help: WINDOW_HELP,
+    },
+    ArgumentText {
+        dashes: "--",
+        name: "class",
+        value: "NAME",
+        help: EXPORT_CLASS_HELP,
+    },
+    ArgumentText {
+        dashes: "--",
+        name: "config",
+        value: "FILE",
+        help: GRID_HELP,
+    },
+    ArgumentText {
+        dashes: "--",
+        name: "format",
+        value: "FORMAT",
+        help: FORMAT_HELP,
+    },
+];
+
+const IMPORT_ARGUMENTS: [ArgumentText; 9] = [
+    ArgumentText {
+        dashes: "--",
+        name: "socket",
+        value: "PATH",
+        help: CONNECT_SOCKET_HELP,
+    },
+    ArgumentText {
+        dashes: "--",
+        name: "as",
+        value: "NAME",
+        help: AS_HELP,
+    },
+    ArgumentText {
+        dashes: "--",
+        name: "class",
+        value: "NAME",
+        help: IMPORT_CLASS_HELP,
+    },
+    ArgumentText {
+        dashes: "--",
+        name: "first-id",
+        value: "N",
+        help: FIRST_ID_HELP,
+    },
+    ArgumentText {
+        dashes: "--",
+        name: "whole",
+        value: "",
+        help: WHOLE_HELP,
+    },
+    ArgumentText {
+        dashes: "--",
+        name: "split",
+        value: "",
+        help: SPLIT_HELP,
+    },
+    ArgumentText {
+        dashes: "--",
+        name: "config",
+        value: "FILE",
+        help: GRID_HELP,
+    },
+    ArgumentText {
+        dashes: "--",
+        name: "script",
+        value: "",
+        help: IMPORT_SCRIPT_HELP,
+    },
+    ArgumentText {
+        dashes: "",
+        name: "FILE",
+        value: "",
+        help: IMPORT_FILE_HELP,
+    },
+];
+
+const STORE_ARGUMENTS: [ArgumentText; 3] = [
+    ArgumentText {
+        dashes: "",
+        name: "ACTION",
+        value: "",
+        help: STORE_ACTION_HELP,
+    },
+    ArgumentText {
+        dashes: "",
+        name: "DIR",
+        value: "",
+        help: STORE_FOLDER_HELP,
+    },
+    ArgumentText {
+        dashes: "--",
+        name: "features",
+        value: "",
+        help: STORE_FEATURES_HELP,
+    },
+];
 
 const COMPLETIONS_ARGUMENTS: [ArgumentText; 1] = [ArgumentText {
     dashes: "",
@@ -183,6 +319,30 @@ const DRAW: CommandText = CommandText {
     examples: DRAW_EXAMPLES,
 };
 
+const EXPORT: CommandText = CommandText {
+    name: "export",
+    about: EXPORT_ABOUT,
+    long_about: EXPORT_LONG_ABOUT,
+    arguments: &EXPORT_ARGUMENTS,
+    examples: EXPORT_EXAMPLES,
+};
+
+const IMPORT: CommandText = CommandText {
+    name: "import",
+    about: IMPORT_ABOUT,
+    long_about: IMPORT_LONG_ABOUT,
+    arguments: &IMPORT_ARGUMENTS,
+    examples: IMPORT_EXAMPLES,
+};
+
+const STORE: CommandText = CommandText {
+    name: "store",
+    about: STORE_ABOUT,
+    long_about: STORE_LONG_ABOUT,
+    arguments: &STORE_ARGUMENTS,
+    examples: STORE_EXAMPLES,
+};
+
 const MAN: CommandText = CommandText {
     name: "man",
     about: MAN_ABOUT,
@@ -208,6 +368,17 @@ pub fn help_table() -> HelpTable
         about: ABOUT,
         long_about: LONG_ABOUT,
         examples: EXAMPLES,
-        commands: [SCRIPT, SERVE, CONNECT, CHECK, DRAW, MAN, COMPLETIONS],
+        commands: [
+            SCRIPT,
+            SERVE,
+            CONNECT,
+            CHECK,
+            DRAW,
+            EXPORT,
+            IMPORT,
+            STORE,
+            MAN,
+            COMPLETIONS,
+        ],
     }
 }

@@ -3,11 +3,13 @@
 ghost use Rattle.std.specs.Prelude.{◌≡◌, ◌↔◌, List, Some, codes, map, string_bytes, IfOk, IsTrue};
 ghost use Rattle.clap.specs.Words.{IsAmong, Text, first_of, found_of, kind_of, rows_of};
 ghost use Rattle.command_line.specs.CommandLine.{refusals};
-ghost use Rattle.command_line.specs.Asking.{HasFiles, HasServer, IsAsked, IsAskedShell, IsGiven};
+ghost use Rattle.command_line.specs.Asking.{HasFiles, HasOptions, IsAsked, IsAskedServer, IsAskedShell, IsGiven};
 
 use crate::commands::{NoMemoryForWords, Reading, clap_reading};
 use crate::options::{DEFAULT_WORKERS, ServerOptions};
 use crate::shells::{Shell, shell_named};
+use crate::stores::{StoreWords, Waits, asked_store, waits_of};
+use crate::transfers::{ExportWords, ImportWords, asked_export, asked_import};
 use clap::error::ErrorKind;
 use clap::{ArgMatches, Error};
 use std::alloc::Global;
@@ -20,6 +22,14 @@ pub enum Shown<'a> {
     Told(Error),
     /// There are no completions for the shell of this name.
     NoShell(&'a str),
+    /// There is no form of this name.
+    NoFormat(&'a str),
+    /// An import is to go neither to a server nor into a script.
+    NoServer,
+    /// `--wait` says neither of its words.
+    NoWait(&'a str),
+    /// Nothing of this name is done with a store.
+    NoAction(&'a str),
 }
 
 impl fmt::Display for Shown<'_> {
@@ -29,6 +39,21 @@ impl fmt::Display for Shown<'_> {
             Shown::NoShell(name) => write!(
                 f,
                 "error: invalid value '{name}' for '<SHELL>'\n  [possible values: bash, zsh, fish]\n\nFor more information, try '--help'.\n"
+            ),
+            Shown::NoFormat(name) => write!(
+                f,
+                "error: invalid value '{name}' for '--format <FORMAT>'\n  [possible values: geojson, geojsonseq, csv]\n\nFor more information, try '--help'.\n"
+            ),
+            Shown::NoServer => f.write_str(
+                "error: the following required arguments were not provided:\n  --socket <PATH>, or --script\n\nFor more information, try '--help'.\n",
+            ),
+            Shown::NoWait(name) => write!(
+                f,
+                "error: invalid value '{name}' for '--wait <WHAT>'\n  [possible values: all, changes]\n\nFor more information, try '--help'.\n"
+            ),
+            Shown::NoAction(name) => write!(
+                f,
+                "error: invalid value '{name}' for '<ACTION>'\n  [possible values: check, list, export]\n\nFor more information, try '--help'.\n"
             ),
         }
     }
@@ -47,6 +72,12 @@ pub enum Asked<'a> {
     Check(&'a str),
     /// Draw the script in this file.
     Draw(&'a str),
+    /// Write the features of a server.
+    Export(ExportWords<'a>),
+    /// Add the features of a file to a server.
+    Import(ImportWords<'a>),
+    /// Look at a store.
+    Store(StoreWords<'a>),
     /// Print the manual page.
     Man,
     /// Print completions for a shell.
@@ -64,6 +95,8 @@ pub struct ScriptWords<'a> {
     pub script: &'a str,
     /// The configuration's file; `None` for the built-in configuration.
     pub config: Option<&'a str>,
+    /// The folder of the store; `None` where nothing is kept.
+    pub store: Option<&'a str>,
 }
 
 /// What `serve` is given.
@@ -71,6 +104,10 @@ pub struct ScriptWords<'a> {
 pub struct ServeWords<'a> {
     /// The configuration's file; `None` for the built-in configuration.
     pub config: Option<&'a str>,
+    /// The folder of the store; `None` where nothing is kept.
+    pub store: Option<&'a str>,
+    /// For which records replies wait, where there is a store.
+    pub waits: Waits,
     /// All other options.
     pub options: ServerOptions<'a>,
 }
@@ -86,13 +123,14 @@ fn script_words<'a>(given: &ArgMatches<'a>) -> ScriptWords<'a>
     ScriptWords {
         script,
         config: given.get_str("config"),
+        store: given.get_str("store"),
     }
 }
 
-/// The arguments of `serve`. `--socket` and `--connections` are required, so they are there.
-fn serve_words<'a>(given: &ArgMatches<'a>) -> ServeWords<'a>
+/// The options of a server. `--socket` and `--connections` are required, so they are there.
+fn server_options<'a>(given: &ArgMatches<'a>) -> ServerOptions<'a>
     requires { IsGiven (codes "serve") (rows_of (found_of given.now)) }
-    ensures { HasServer (λ id. first_of id (rows_of (found_of given.now))) result }
+    ensures { HasOptions (λ id. first_of id (rows_of (found_of given.now))) result }
 {
     let Some(socket) = given.get_str("socket") else {
         unreachable!()
@@ -100,18 +138,32 @@ fn serve_words<'a>(given: &ArgMatches<'a>) -> ServeWords<'a>
     let Some(connections) = given.get_one::<u16>("connections") else {
         unreachable!()
     };
-    let options = ServerOptions {
+    ServerOptions {
         socket,
         connections,
         workers: given.get_one::<u8>("workers").unwrap_or(DEFAULT_WORKERS),
         idle_seconds: given.get_one::<u32>("idle"),
         takeover: given.get_flag("takeover"),
         until_stdin_ends: given.get_flag("until-stdin-ends"),
-    };
-    ServeWords {
-        config: given.get_str("config"),
-        options,
     }
+}
+
+/// The arguments of `serve`, or a mistake, where `--wait` says neither of its words.
+fn asked_serve<'a>(given: &ArgMatches<'a>) -> Asked<'a>
+    requires { IsGiven (codes "serve") (rows_of (found_of given.now)) }
+    ensures { IsAskedServer (λ id. first_of id (rows_of (found_of given.now))) result }
+{
+    let options = server_options(given);
+    let wait = given.get_str("wait");
+    let Some(waits) = waits_of(wait) else {
+        return Asked::Mistake(Shown::NoWait(wait.unwrap_or("")));
+    };
+    Asked::Serve(ServeWords {
+        config: given.get_str("config"),
+        store: given.get_str("store"),
+        waits,
+        options,
+    })
 }
 
 /// The path given to `connect`. It is required, so it is there.
@@ -194,7 +246,7 @@ pub fn read_words<'a>(alloc: Global, words: &'a [String]) -> Result<Asked<'a>, N
         return Ok(Asked::Script(script_words(given)));
     }
     if let Some(given) = matches.subcommand_matches("serve") {
-        return Ok(Asked::Serve(serve_words(given)));
+        return Ok(asked_serve(given));
     }
     if let Some(given) = matches.subcommand_matches("connect") {
         return Ok(Asked::Connect(connect_path(given)));
@@ -204,6 +256,15 @@ pub fn read_words<'a>(alloc: Global, words: &'a [String]) -> Result<Asked<'a>, N
     }
     if let Some(given) = matches.subcommand_matches("draw") {
         return Ok(Asked::Draw(draw_script(given)));
+    }
+    if let Some(given) = matches.subcommand_matches("export") {
+        return Ok(asked_export(given));
+    }
+    if let Some(given) = matches.subcommand_matches("import") {
+        return Ok(asked_import(given));
+    }
+    if let Some(given) = matches.subcommand_matches("store") {
+        return Ok(asked_store(given));
     }
     if let Some(_given) = matches.subcommand_matches("man") {
         return Ok(Asked::Man);

@@ -2,3 +2,4 @@ pub mod ConfigLemmas
 pub mod FileLemmas
 pub mod PermitLemmas
 pub mod SpellingLaws
+pub mod GridLemmas

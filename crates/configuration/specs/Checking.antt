@@ -1,11 +1,16 @@
 -- What is told of a configuration.
-use Rattle.std.specs.Prelude.{◌≡◌, ◌≤◌, ℕ, List, [], ◌++◌, codes, length, Option, None, Some, IfSome, option_map, Result, Ok, Err}
+use Rattle.std.specs.Prelude.{◌≡◌, ◌≤◌, ◌-ℤ◌, pos, ℕ, List, [], ◌++◌, codes, length, Option, None, Some, IfSome, option_map, Result, Ok, Err}
 use Rattle.std.specs.Fmt.{decimal}
 use Rattle.serde_json.specs.Data.{Data}
 use Rattle.serde_json.specs.Read.{read}
+use Rattle.grid.specs.Printing.{coordinate_text, steps_text}
+use Rattle.grid.specs.declared.grids.Axis.{Axis}
+use Rattle.grid.specs.declared.grids.Axis.TheVariants.{X, Y}
+use Rattle.grid.specs.declared.grids.Grid.{Grid}
+use Rattle.plane.specs.declared.point.TheConstants.{LIMIT}
 use Rattle.configuration.specs.ConfigFaults.{Fails, config_code_of}
 use Rattle.configuration.specs.ConfigFiles.{IsUnread}
-use Rattle.configuration.specs.Configs.{ConfigData, config_of}
+use Rattle.configuration.specs.Configs.{ConfigData, config_of, grid_data}
 use Rattle.configuration.specs.Places.{LeadsTo, place_text}
 use Rattle.configuration.specs.Summaries.{summary_of, summary_text}
 use Rattle.configuration.specs.declared.checking.Checked.{Checked}
@@ -27,9 +32,9 @@ abbrev pub IsPlaceOf : ConfigFault → List ℕ → List PathPart → Type 0
 IsPlaceOf fault text place = (value : Data) × (read text ≡ Some value) × LeadsTo fault place value
 
 -- the text is read as a configuration, which has this
-abbrev pub IsRight : Summary → List ℕ → Type 0
-IsRight summary text = (config : ConfigData) × (config_of text ≡ Ok config)
-    × (summary ≡ summary_of config)
+abbrev pub IsRight : Summary → Option Grid → List ℕ → Type 0
+IsRight summary grid text = (config : ConfigData) × (config_of text ≡ Ok config)
+    × (summary ≡ summary_of config) × (option_map grid_data grid ≡ config.grid)
 
 -- this is the first fault of the text; the place, if one is told, is that of the fault
 abbrev pub IsWrong : ConfigFault → Option (List PathPart) → List ℕ → Type 0
@@ -39,7 +44,7 @@ abbrev pub parts_of : {A : Type 0} → Option (Place A) → Option (List PathPar
 parts_of place = option_map (λ place. place.parts.items) place
 
 abbrev pub IsCheckOf : {A : Type 0} → List ℕ → Checked A → Type 0
-IsCheckOf text (Right summary) = IsRight summary text
+IsCheckOf text (Right summary grid) = IsRight summary grid text
 IsCheckOf text (Wrong fault place) = IsWrong fault (parts_of place) text
 
 -- the byte, within the text of a zone's shape, at which that is at fault
@@ -82,8 +87,31 @@ abbrev pub wrong_text : ConfigFault → Option (List PathPart) → List ℕ
 wrong_text fault place = config_code_of fault ++ place_part place ++ byte_part (byte_of fault)
     ++ codes "\n"
 
+-- the texts of a step of a grid, and of its least and its greatest coordinate on an axis
+unfoldable pub step_words : Grid → List ℕ
+step_words grid = steps_text grid.decimals 1
+
+unfoldable pub least_words : Grid → Axis → List ℕ
+least_words grid axis = coordinate_text grid axis (pos 0 -ℤ LIMIT)
+
+unfoldable pub greatest_words : Grid → Axis → List ℕ
+greatest_words grid axis = coordinate_text grid axis LIMIT
+
+-- the step and the reach of a grid
+abbrev pub grid_text : Grid → List ℕ
+grid_text grid =
+    codes "grid step " ++ (step_words grid
+    ++ (codes "\ngrid x from " ++ (least_words grid X
+    ++ (codes " to " ++ (greatest_words grid X
+    ++ (codes "\ngrid y from " ++ (least_words grid Y
+    ++ (codes " to " ++ (greatest_words grid Y ++ codes "\n")))))))))
+
+abbrev pub grid_part : Option Grid → List ℕ
+grid_part None = []
+grid_part (Some grid) = grid_text grid
+
 abbrev pub checked_text : {A : Type 0} → Checked A → List ℕ
-checked_text (Right summary) = summary_text summary
+checked_text (Right summary grid) = summary_text summary ++ grid_part grid
 checked_text (Wrong fault place) = wrong_text fault (parts_of place)
 
 -- what a file gives, by the bytes that it has left, if they are known

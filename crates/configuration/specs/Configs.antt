@@ -1,15 +1,23 @@
 -- Configurations: the configuration, or the first fault, that the JSON value of a text is read as.
-use Rattle.std.specs.Prelude.{ℕ, ◌&&◌, Bool, true, false, List, [], ◌∷◌, codes, if◌then◌else◌, Option, Some, None, option_and_then, Result, Ok, Err}
+use Rattle.std.specs.Prelude.{ℕ, ℤ, ◌&&◌, Bool, true, false, List, [], ◌∷◌, codes, if◌then◌else◌, Option, Some, None, is_some, nat_le, option_and_then, option_map, Result, Ok, Err}
 use Rattle.std.specs.List.{list_any}
 use Rattle.std.specs.Option.{ok_or}
 use Rattle.std.specs.Str.{bytes_eq, is_utf8}
 use Rattle.serde_json.specs.Data.{Data, Items, no_items, item, Members, no_members, member}
-use Rattle.serde_json.specs.Find.{get, as_bool, as_str, as_array, as_object}
+use Rattle.serde_json.specs.Find.{get, as_bool, as_number, as_str, as_array, as_object, as_u64, at}
 use Rattle.serde_json.specs.Read.{read}
 use Rattle.features.specs.Names.{name_of}
 use Rattle.features.specs.Subjects.{subjects_of}
 use Rattle.features.specs.declared.actors.Subject.{Subject}
 use Rattle.features.specs.declared.actors.SubjectsFault.{SubjectsFault}
+use Rattle.grid.specs.Grids.{origin_of}
+use Rattle.grid.specs.declared.faults.GridFault.{GridFault}
+use Rattle.grid.specs.declared.grids.Axis.{Axis}
+use Rattle.grid.specs.declared.grids.Axis.TheVariants.{X, Y}
+use Rattle.grid.specs.declared.grids.Between.{Between}
+use Rattle.grid.specs.declared.grids.Between.TheVariants.{Nearest, Refuse}
+use Rattle.grid.specs.declared.grids.Grid.{Grid}
+use Rattle.grid.specs.declared.grids.TheConstants.{MOST_DECIMALS}
 use Rattle.policy_documents.specs.Documents.{DocumentData}
 use Rattle.policy_text.specs.Reading.{document_in}
 use Rattle.policy_text.specs.declared.faults.TextFault.{TextFault}
@@ -19,14 +27,27 @@ use Rattle.configuration.specs.declared.config_faults.ConfigFault.TheVariants as
 use Rattle.configuration.specs.declared.fields.MemberName.{MemberName}
 use Rattle.configuration.specs.declared.fields.MemberName.TheVariants as member_names
 
+-- a grid as plain data: its origin in steps, its decimals, and what becomes of a number between two
+-- steps
+pub record GridData : Type 0 where
+  pub x : ℤ
+  pub y : ℤ
+  pub decimals : ℕ
+  pub between : Between
+
+abbrev pub grid_data : Grid → GridData
+grid_data g = record { x = g.x; y = g.y; decimals = g.decimals; between = g.between }
+
 -- a configuration as plain data
 pub record ConfigData : Type 0 where
   pub subjects : List Subject
   pub document : DocumentData
+  pub grid : Option GridData
 
 -- the plain data of a `Config`, without its place in memory
 abbrev pub config_data : {A : Type 0} → Config A → ConfigData
-config_data c = record { subjects = c.subjects; document = c.document }
+config_data c =
+    record { subjects = c.subjects; document = c.document; grid = option_map grid_data c.grid }
 
 infixl 10 ◌>>=◌
 abbrev pub ◌>>=◌ : {A B : Type 0} → Result A ConfigFault → (A → Result B ConfigFault)
@@ -38,6 +59,10 @@ abbrev pub ◌>>=◌ : {A B : Type 0} → Result A ConfigFault → (A → Result
 abbrev pub key_text : MemberName → List ℕ
 key_text member_names.Subjects = codes "subjects"
 key_text member_names.Policies = codes "policies"
+key_text member_names.Grid = codes "grid"
+key_text member_names.Origin = codes "origin"
+key_text member_names.Decimals = codes "decimals"
+key_text member_names.Between = codes "between"
 key_text member_names.Name = codes "name"
 key_text member_names.Office = codes "office"
 key_text member_names.Role = codes "role"
@@ -110,15 +135,71 @@ abbrev pub policies_in : Data → Result DocumentData ConfigFault
 policies_in d = of_policies (document_in d)
 
 abbrev pub config_keys : List MemberName
-config_keys = member_names.Subjects ∷ member_names.Policies ∷ []
+config_keys = member_names.Subjects ∷ member_names.Policies ∷ member_names.Grid ∷ []
 
--- the configuration of an array of subjects and of policies. The faults in order: of a subject, of
--- the list of subjects, of the document
-unfoldable pub config_from : Items → Data → Result ConfigData ConfigFault
-config_from listed policies =
+abbrev pub grid_keys : List MemberName
+grid_keys = member_names.Origin ∷ member_names.Decimals ∷ member_names.Between ∷ []
+
+-- the text at an index of an array
+abbrev pub text_at : ℕ → Data → Option (List ℕ)
+text_at index d = option_and_then as_str (at index d)
+
+-- an origin: an array of two texts
+abbrev pub origin_in : Data → Result (List ℕ × List ℕ) ConfigFault
+origin_in d =
+    ok_or (text_at 0 d) faults.Form >>= λ x. ok_or (text_at 1 d) faults.Form >>= λ y.
+    if is_some (at 2 d) then Err faults.Form else Ok (x, y)
+
+-- what becomes of a number between two steps, by its name; it is refused where that is missing
+abbrev pub between_named : List ℕ → Option Between
+between_named name =
+    if bytes_eq name (codes "refuse") then Some Refuse
+    else if bytes_eq name (codes "nearest") then Some Nearest
+    else None
+
+abbrev pub between_in : Option Data → Result Between ConfigFault
+between_in None = Ok Refuse
+between_in (Some d) = ok_or (option_and_then between_named (as_str d)) faults.Form
+
+-- an origin on an axis in steps, as a result of a configuration
+abbrev pub of_steps : Result ℤ GridFault → Result ℤ ConfigFault
+of_steps (Ok steps) = Ok steps
+of_steps (Err fault) = Err faults.Form
+
+-- the grid of an origin in steps
+abbrev pub grid_at : ℕ → Between → Result ℤ ConfigFault → Result ℤ ConfigFault
+    → Result GridData ConfigFault
+grid_at decimals between x y =
+    x >>= λ x. y >>= λ y. Ok (record { x = x; y = y; decimals = decimals; between = between })
+
+-- the grid of an origin, decimals, and what becomes of a number between two steps
+unfoldable pub grid_from : List ℕ → List ℕ → ℕ → Between → Result GridData ConfigFault
+grid_from x y decimals between =
+    if nat_le decimals MOST_DECIMALS
+    then grid_at decimals between (of_steps (origin_of X decimals x))
+    (of_steps (origin_of Y decimals y)) else Err faults.Form
+
+-- the grid that a value spells
+unfoldable pub grid_in : Data → Result GridData ConfigFault
+grid_in d =
+    object_in grid_keys d >>= λ _. ok_or (value_of member_names.Origin d) faults.Form >>=
+    λ origin. origin_in origin >>= λ texts.
+    ok_or (option_and_then as_u64 (option_and_then as_number (value_of member_names.Decimals d)))
+    faults.Form >>= λ decimals. between_in (value_of member_names.Between d) >>= λ between.
+    grid_from texts.0 texts.1 decimals between
+
+-- the grid under the key, if there is one
+abbrev pub grid_member : Option Data → Result (Option GridData) ConfigFault
+grid_member None = Ok None
+grid_member (Some d) = grid_in d >>= λ grid. Ok (Some grid)
+
+-- the configuration of an array of subjects, of policies, and of a grid, if there is one. The faults
+-- in order: of a subject, of the list of subjects, of the document, of the grid
+unfoldable pub config_from : Items → Data → Option Data → Result ConfigData ConfigFault
+config_from listed policies grid =
     subjects_in listed >>= λ given. taken_over given >>= λ subjects. policies_in policies >>=
-    λ document.
-    Ok (record { subjects = subjects; document = document })
+    λ document. grid_member grid >>= λ grid.
+    Ok (record { subjects = subjects; document = document; grid = grid })
 
 -- the configuration that a JSON value spells, or its first fault
 unfoldable pub config_in : Data → Result ConfigData ConfigFault
@@ -126,6 +207,7 @@ config_in d =
     object_in config_keys d >>= λ _. ok_or
     (option_and_then as_array (value_of member_names.Subjects d)) faults.Form >>= λ listed.
     ok_or (value_of member_names.Policies d) faults.Form >>= λ policies. config_from listed policies
+    (value_of member_names.Grid d)
 
 -- the configuration that bytes spell, or their first fault; a JSON text is UTF-8
 unfoldable pub config_of : List ℕ → Result ConfigData ConfigFault

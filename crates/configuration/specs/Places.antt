@@ -14,7 +14,7 @@ use Rattle.policy_text.specs.Pointers.{path_text}
 use Rattle.policy_text.specs.declared.faults.TextFault.{TextFault}
 use Rattle.policy_text.specs.declared.faults.TextFault.TheVariants as texts
 use Rattle.wkt.specs.Reading.{shape_of}
-use Rattle.configuration.specs.Configs.{config_keys, object_in, subject_keys}
+use Rattle.configuration.specs.Configs.{config_keys, grid_in, object_in, subject_keys}
 use Rattle.configuration.specs.declared.config_faults.ConfigFault.{ConfigFault}
 use Rattle.configuration.specs.declared.config_faults.ConfigFault.TheVariants.{NotJson, Form, Subjects, Policies, Memory}
 use Rattle.configuration.specs.declared.places.TheConstants.{TOO_DEEP}
@@ -65,6 +65,7 @@ is_wrong_after None d = is_err (object_in config_keys d)
 is_wrong_after (Some (Item index)) d = is_err (object_in subject_keys d)
 is_wrong_after (Some (Member key)) d =
     if bytes_eq key.now (codes "subjects") then is_none (as_array d)
+    else if bytes_eq key.now (codes "grid") then is_err (grid_in d)
     else if bytes_eq key.now (codes "steward") then is_none (as_bool d)
     else not (is_name_text d)
 

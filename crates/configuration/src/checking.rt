@@ -1,7 +1,7 @@
 //! Looking at a configuration: what it has, or its first fault with its place.
 
 ghost use Rattle.std.specs.Prelude.{◌≡◌, IfOk, IfSome};
-ghost use Rattle.configuration.specs.Checking.{CheckGives, IsCheckOf, IsPlaceOf, byte_of};
+ghost use Rattle.configuration.specs.Checking.{CheckGives, IsCheckOf, IsPlaceOf, byte_of, greatest_words, least_words, step_words};
 
 use crate::config_faults::ConfigFault;
 use crate::configs::read_config;
@@ -9,6 +9,7 @@ use crate::files::{FileFault, whole_file};
 use crate::finding::place_of;
 use crate::places::Place;
 use crate::summaries::{Summary, summary_of};
+use grid::{Axis, Grid, NumberText, reach, step_text};
 use memory::{JsonFault, NoMemory, json_value};
 use policy_text::TextFault;
 use std::alloc::{Allocator, Global};
@@ -19,8 +20,8 @@ use wkt::WktFault;
 /// What there is to tell of a configuration.
 #[derive(Debug, Drop)]
 pub enum Checked<A: Allocator> {
-    /// It is right, and has this.
-    Right(Summary),
+    /// It is right, and has this, and perhaps a grid.
+    Right(Summary, Option<Grid>),
     /// It has this fault first, at this place, if that is known.
     Wrong(ConfigFault, Option<Place<A>>),
 }
@@ -42,6 +43,51 @@ fn byte_of(fault: &ConfigFault) -> Option<usize>
     }
 }
 
+/// The text of a step of a grid.
+#[tactic(auto, unfolding(crate::specs::Checking::step_words))]
+fn step_of(grid: &Grid) -> NumberText
+    ensures { result.bytes ≡ step_words grid.now }
+{
+    step_text(grid)
+}
+
+/// The texts of the least and the greatest coordinate of a grid on an axis.
+#[tactic(auto, unfolding(crate::specs::Checking::least_words, crate::specs::Checking::greatest_words))]
+fn reach_on(grid: &Grid, axis: Axis) -> (NumberText, NumberText)
+    ensures least { result.0.bytes ≡ least_words grid.now axis }
+    ensures greatest { result.1.bytes ≡ greatest_words grid.now axis }
+{
+    reach(grid, axis)
+}
+
+/// A grid as it is told: its step and its reach.
+#[derive(Clone, Copy)]
+struct GridLines {
+    grid: Grid,
+}
+
+impl fmt::Display for GridLines {
+    ghost use Rattle.std.specs.Prelude.{Some};
+    ghost use Rattle.configuration.specs.Checking.{grid_text};
+
+    ghost output = { λ lines. Some (grid_text lines.grid) };
+
+    fn fmt<W: fmt::Write>(&self, f: &mut fmt::Formatter<W>) -> fmt::Result {
+        let step = step_of(&self.grid);
+        let (left, right) = reach_on(&self.grid, Axis::X);
+        let (lower, upper) = reach_on(&self.grid, Axis::Y);
+        write!(
+            f,
+            "grid step {}\ngrid x from {} to {}\ngrid y from {} to {}\n",
+            step.as_str(),
+            left.as_str(),
+            right.as_str(),
+            lower.as_str(),
+            upper.as_str()
+        )
+    }
+}
+
 impl<A: Allocator> fmt::Display for Checked<A> {
     ghost use Rattle.std.specs.Prelude.{Some};
     ghost use Rattle.configuration.specs.Checking.{checked_text};
@@ -52,7 +98,13 @@ impl<A: Allocator> fmt::Display for Checked<A> {
     /// place, and of a zone's shape the byte within its text.
     fn fmt<W: fmt::Write>(&self, f: &mut fmt::Formatter<W>) -> fmt::Result {
         match self {
-            Checked::Right(summary) => fmt::Display::fmt(summary, f),
+            Checked::Right(summary, grid) => {
+                fmt::Display::fmt(summary, f)?;
+                match grid {
+                    Some(grid) => fmt::Display::fmt(&GridLines { grid: *grid }, f),
+                    None => Ok(()),
+                }
+            }
             Checked::Wrong(fault, place) => {
                 f.write_str(fault.code())?;
                 if let Some(place) = place {
@@ -94,7 +146,10 @@ pub fn check_config<A: Allocator + Copy>(
     ensures { IfOk result (IsCheckOf text.now) }
 {
     match read_config(alloc, heap, text) {
-        Ok(config) => Ok(Checked::Right(summary_of(alloc, &config)?)),
+        Ok(config) => {
+            let summary = summary_of(alloc, &config)?;
+            Ok(Checked::Right(summary, config.grid))
+        }
         Err(ConfigFault::Memory(no_memory)) => Err(no_memory),
         Err(fault) => {
             let place = place_in(alloc, heap, &fault, text)?;

@@ -1,6 +1,6 @@
 //! Configurations: who may work on a server, and under which policies.
 
-ghost use Rattle.std.specs.Prelude.{◌≡◌, Err, length};
+ghost use Rattle.std.specs.Prelude.{◌≡◌, Err, length, option_map};
 ghost use Rattle.std.specs.Option.{ok_or};
 ghost use Rattle.serde_json.specs.View.{view, items_view};
 ghost use Rattle.configuration.specs.ConfigFaults.{Gives};
@@ -9,13 +9,19 @@ ghost use Rattle.configuration.specs.declared.config_faults.ConfigFault.TheVaria
 
 use crate::config_faults::ConfigFault;
 use crate::fields::{MemberName, array_in, is_object_of, name_in, steward_in, value_in};
+use crate::grids::grid_member;
 use features::{Subject, Subjects};
+use grid::Grid;
 use memory::{GrowVec, json_value};
 use policy_text::{Document, document_of_value};
 use serde_json::Value;
 use std::alloc::{Allocator, Global};
 
-pub(crate) const CONFIG_KEYS: [MemberName; 2] = [MemberName::Subjects, MemberName::Policies];
+pub(crate) const CONFIG_KEYS: [MemberName; 3] = [
+    MemberName::Subjects,
+    MemberName::Policies,
+    MemberName::Grid,
+];
 
 pub(crate) const SUBJECT_KEYS: [MemberName; 4] = [
     MemberName::Name,
@@ -31,6 +37,8 @@ pub struct Config<A: Allocator> {
     pub subjects: Subjects,
     /// The first policies in force.
     pub document: Document<A>,
+    /// Which numbers whole coordinates mean in files, if it says so.
+    pub grid: Option<Grid>,
 }
 
 /// The subject that a JSON value spells, or `None`.
@@ -81,19 +89,26 @@ fn policies_in<A: Allocator + Copy>(alloc: A, value: &Value) -> Result<Document<
     Ok(document_of_value(alloc, value)?)
 }
 
-/// The configuration made of an array of subjects and a policy document.
+/// The configuration made of an array of subjects, a policy document and a grid.
 #[tactic(auto, unfolding(crate::specs::Configs::config_from))]
 fn config_from<A: Allocator + Copy>(
     alloc: A,
     items: &[Value],
     policies: &Value,
+    grid: Option<&Value>,
 ) -> Result<Config<A>, ConfigFault>
-    ensures { Gives config_data result (config_from (items_view items.now) (view policies.now)) }
+    ensures { Gives config_data result (config_from (items_view items.now) (view policies.now)
+        (option_map (λ v. view v.now) grid.entry)) }
 {
     let given = subjects_in(alloc, items)?;
     let subjects = taken_over(given.as_slice())?;
     let document = policies_in(alloc, policies)?;
-    Ok(Config { subjects, document })
+    let grid = grid_member(grid)?;
+    Ok(Config {
+        subjects,
+        document,
+        grid,
+    })
 }
 
 /// The configuration that a JSON value spells.
@@ -110,20 +125,21 @@ fn config_in<A: Allocator + Copy>(alloc: A, value: &Value) -> Result<Config<A>, 
     let Some(policies) = value_in(value, MemberName::Policies) else {
         return Err(ConfigFault::Form);
     };
-    config_from(alloc, items, policies)
+    config_from(alloc, items, policies, value_in(value, MemberName::Grid))
 }
 
-/// Reads the configuration that a JSON text (RFC 8259) spells: an object with two keys, `subjects`
-/// and `policies`.
+/// Reads the configuration that a JSON text (RFC 8259) spells: an object with the keys `subjects`
+/// and `policies`, and perhaps `grid`.
 ///
 /// `subjects` is an array of 1 to 64 objects with distinct names. Each has the keys `name`,
 /// `office` and `role`, which are names, and optionally `steward`, true or false (default false).
-/// `policies` is a policy document.
+/// `policies` is a policy document. `grid` is an object: `origin`, an array of two decimal texts;
+/// `decimals`, 0 to 9; and optionally `between`, `refuse` or `nearest` (default `refuse`).
 ///
 /// The error is the first in this order: `NotJson` if the text is not JSON or not UTF-8; `Form` if,
 /// outside the policies, a value is missing or of the wrong form, or a key is unknown; `Subjects`
 /// if the list is empty, too long, or has a name twice; `Policies` for the first fault of the
-/// document. If an allocation is refused, it is `Memory`. The parsed JSON lies in `heap` until this
+/// document; `Form` if the grid is at fault. If an allocation is refused, it is `Memory`. The parsed JSON lies in `heap` until this
 /// returns; the document, and a temporary list of the subjects, are allocated in `alloc`.
 pub fn read_config<A: Allocator + Copy>(
     alloc: A,

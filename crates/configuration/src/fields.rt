@@ -15,6 +15,10 @@ use serde_json::{Map, Value};
 pub(crate) enum MemberName {
     Subjects,
     Policies,
+    Grid,
+    Origin,
+    Decimals,
+    Between,
     Name,
     Office,
     Role,
@@ -29,6 +33,10 @@ impl MemberName {
         match self {
             MemberName::Subjects => "subjects",
             MemberName::Policies => "policies",
+            MemberName::Grid => "grid",
+            MemberName::Origin => "origin",
+            MemberName::Decimals => "decimals",
+            MemberName::Between => "between",
             MemberName::Name => "name",
             MemberName::Office => "office",
             MemberName::Role => "role",

@@ -8,6 +8,7 @@ ghost use Rattle.configuration.specs.Places.{IsWrongAt, LeadsTo, place_text};
 use crate::config_faults::ConfigFault;
 use crate::configs::{CONFIG_KEYS, SUBJECT_KEYS, subject_in};
 use crate::fields::{MemberName, array_in, is_object_of, name_in, value_in};
+use crate::grids::grid_in;
 use crate::places::{PathPart, Place, value_at};
 use crate::searches::find_in_policies;
 use crate::wrongs::is_wrong;
@@ -66,6 +67,11 @@ fn find_form<A: Allocator>(value: &Value, place: &mut Vec<PathPart, A>) -> Resul
                 place.try_push(PathPart::Member(key.text()))?;
             }
             return Ok(());
+        }
+    }
+    if let Some(grid) = value_in(value, MemberName::Grid) {
+        if grid_in(grid).is_none() {
+            return place.try_push(PathPart::Member("grid"));
         }
     }
     Ok(())

@@ -7,6 +7,7 @@ mod configs;
 mod fields;
 mod files;
 mod finding;
+mod grids;
 mod laws;
 mod places;
 mod searches;

@@ -7,6 +7,7 @@ ghost use Rattle.configuration.specs.Places.{is_name_place, is_name_text, is_nee
 use crate::config_faults::ConfigFault;
 use crate::configs::{CONFIG_KEYS, SUBJECT_KEYS};
 use crate::fields::is_object_of;
+use crate::grids::grid_in;
 use crate::places::{PathPart, TOO_DEEP, ends_in};
 use features::{Name, SubjectsFault};
 use policy_text::TextFault;
@@ -43,6 +44,8 @@ fn is_wrong_after(place: &[PathPart], value: &Value) -> bool
         Some(PathPart::Member(key)) => {
             if *key == "subjects" {
                 value.as_array().is_none()
+            } else if *key == "grid" {
+                grid_in(value).is_none()
             } else if *key == "steward" {
                 value.as_bool().is_none()
             } else {

@@ -245,16 +245,38 @@ fn id_of<A: Allocator>(feature: &Value<'_, A>) -> Result<Option<u64>, FeatureFau
     }
 }
 
+/// What of a feature is looked at, beside its geometry. What is not has no fault.
+#[derive(Clone, Copy, Debug, PartialEq, Eq)]
+pub struct Wished {
+    /// The id.
+    pub id: bool,
+    /// The property `class`.
+    pub class: bool,
+    /// The properties `version` and `office`.
+    pub others: bool,
+}
+
 /// A feature.
 fn feature<A: Allocator + Copy>(
     alloc: A,
     grid: &Grid,
+    wished: Wished,
     value: &Value<'_, A>,
 ) -> Result<Given<A>, FeatureFault> {
-    let id = id_of(value)?;
-    let version = number_member(property(value, "version"), Member::Version)?;
-    let office = name_member(property(value, "office"), Member::Office)?;
-    let class = name_member(property(value, "class"), Member::Class)?;
+    let id = if wished.id { id_of(value)? } else { None };
+    let (version, office) = if wished.others {
+        (
+            number_member(property(value, "version"), Member::Version)?,
+            name_member(property(value, "office"), Member::Office)?,
+        )
+    } else {
+        (None, None)
+    };
+    let class = if wished.class {
+        name_member(property(value, "class"), Member::Class)?
+    } else {
+        None
+    };
     let Some(given) = value.get("geometry") else {
         return Err(FeatureFault::at(Member::Geometry, Cause::Form));
     };
@@ -271,10 +293,11 @@ fn feature<A: Allocator + Copy>(
 fn whole<A: Allocator + Copy>(
     alloc: A,
     grid: &Grid,
+    wished: Wished,
     value: &Value<'_, A>,
 ) -> Result<Given<A>, FeatureFault> {
     if text_of(value.get("type")) == Some("Feature") {
-        return feature(alloc, grid, value);
+        return feature(alloc, grid, wished, value);
     }
     Ok(Given {
         id: None,
@@ -297,9 +320,25 @@ pub fn read_feature<A: Allocator + Copy>(
     grid: &Grid,
     text: &[u8],
 ) -> Result<Given<A>, FeatureFault> {
+    let all = Wished {
+        id: true,
+        class: true,
+        others: true,
+    };
+    read_wished(alloc, grid, all, text)
+}
+
+/// Reads what a text says of a feature, as `read_feature` does, but looks only at what is wished:
+/// what is not is `None`, and no fault.
+pub fn read_wished<A: Allocator + Copy>(
+    alloc: A,
+    grid: &Grid,
+    wished: Wished,
+    text: &[u8],
+) -> Result<Given<A>, FeatureFault> {
     let mut scratch = Scratch::new(alloc);
     match Value::from_slice(alloc, text, &mut scratch) {
-        Ok(value) => whole(alloc, grid, &value),
+        Ok(value) => whole(alloc, grid, wished, &value),
         Err(Error::OutOfMemory) => Err(FeatureFault::at(
             Member::Text,
             Cause::Json(JsonRefused::seen()),

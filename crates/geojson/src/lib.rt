@@ -10,6 +10,6 @@ mod texts;
 
 pub use faults::{Cause, FeatureFault, JsonRefused, Member, Spot};
 pub use geometries::{Geometry, Path, Role};
-pub use given::{Given, read_feature};
+pub use given::{Given, Wished, read_feature, read_wished};
 pub use laws::{coordinates_are_read, text_is_read};
 pub use texts::{TEXT_LIMIT, Text, feature_text, geometry_text};

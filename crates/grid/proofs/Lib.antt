@@ -4,3 +4,4 @@ pub mod CappedLemmas
 pub mod PrintingLemmas
 pub mod RoundTrip
 pub mod ExactLemmas
+pub mod BoundLemmas

@@ -8,3 +8,4 @@ pub mod Origins
 pub mod Digits
 pub mod Capped
 pub mod Exact
+pub mod Bounds

@@ -13,7 +13,7 @@ use crate::values::CAP;
 use plane::LIMIT;
 
 /// A capped number with its sign.
-fn signed(negative: bool, n: u64) -> i64
+pub(crate) fn signed(negative: bool, n: u64) -> i64
     requires { n ≤ CAP }
     ensures value { result ≡ signed negative n }
     ensures capped { IsCapped CAP result }

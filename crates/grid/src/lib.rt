@@ -1,6 +1,7 @@
 //! Grids: which decimal number a whole coordinate means, as exact decimal texts, both ways.
 #![tactic(auto)]
 
+mod bounds;
 mod coordinates;
 mod faults;
 mod grids;
@@ -11,6 +12,7 @@ mod printing;
 mod steps;
 mod values;
 
+pub use bounds::{Side, bound_of};
 pub use coordinates::coordinate_of;
 pub use faults::{GridFault, NumberFault};
 pub use grids::{Axis, Between, Grid, MOST_DECIMALS, ORIGIN_LIMIT};

@@ -14,18 +14,18 @@ use crate::values::{CAP, capped_value, value_after};
 
 /// What is left of a number of digits when it is divided by a power of ten.
 #[derive(Clone, Copy)]
-struct Quotient {
+pub(crate) struct Quotient {
     /// The quotient, capped.
-    value: u64,
+    pub value: u64,
     /// Whether nothing remains.
-    is_whole: bool,
+    pub is_whole: bool,
     /// Whether at least half of the divisor remains.
-    is_half: bool,
+    pub is_half: bool,
 }
 
 /// The value of digits, capped.
 #[tactic(auto, using(crate::proofs::DigitsLemmas::capped_append))]
-fn value_of(digits: &Digits<'_>) -> u64
+pub(crate) fn value_of(digits: &Digits<'_>) -> u64
     ensures value { result ≡ min (digits_value 10 (shown digits.now)) CAP }
     ensures capped { result ≤ CAP }
 {
@@ -111,7 +111,7 @@ fn split<'a>(digits: &Digits<'a>, count: usize) -> (Digits<'a>, Digits<'a>)
 }
 
 /// The value of digits divided by 10^count.
-fn divided(digits: &Digits<'_>, count: usize) -> Quotient
+pub(crate) fn divided(digits: &Digits<'_>, count: usize) -> Quotient
     requires { length digits.now.first.now + length digits.now.second.now ≤ 1024 }
     ensures { Divides CAP (digits_value 10 (shown digits.now)) count result }
 {
@@ -132,7 +132,7 @@ fn divided(digits: &Digits<'_>, count: usize) -> Quotient
 }
 
 /// A capped value times 10^count, capped.
-fn multiplied(value: u64, count: usize) -> u64
+pub(crate) fn multiplied(value: u64, count: usize) -> u64
     requires { value ≤ CAP }
     ensures { result ≡ min (value * 10 ^ count) CAP }
 {

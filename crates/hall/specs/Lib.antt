@@ -3,3 +3,4 @@ pub mod Names
 pub mod Seats
 pub mod Calls
 pub mod Closing
+pub mod Reading

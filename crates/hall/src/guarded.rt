@@ -1,12 +1,12 @@
 //! What the lock guards.
 
-ghost use Rattle.std.specs.Prelude.{◌≡◌, ◌<◌, ◌≤◌, ◌+◌, [], ◌∷◌, false, length, slice_get, None, Some, Ok, IfOk, IfErr, OnOk, OnErr, All};
+ghost use Rattle.std.specs.Prelude.{◌≡◌, ◌<◌, ◌≤◌, ◌+◌, ◌-◌, ℕ, [], ◌∷◌, ◌++◌, drop, false, length, map, min, slice_get, take, vec_capacity, vec_len, None, Some, Ok, IfOk, IfErr, OnOk, OnErr, All};
 ghost use Rattle.std.specs.Arc.{arc_value};
 ghost use Rattle.std.specs.List.{last_or};
 ghost use Rattle.audit_trail.specs.Records.{governed};
 ghost use Rattle.features.specs.Rows.{IsSortedById};
 ghost use Rattle.features.specs.Subjects.{subject_named};
-ghost use Rattle.chronicle.specs.Chronicles.{IsSoundChronicle, opened_with, subject_given};
+ghost use Rattle.chronicle.specs.Chronicles.{IsLastChange, IsSoundChronicle, opened_with, subject_given};
 ghost use Rattle.chronicle.specs.Coding.{opening_set};
 ghost use Rattle.chronicle.specs.Noting.{told_answer};
 ghost use Rattle.plain_world.specs.Answers.{IsAnswer};
@@ -17,7 +17,7 @@ ghost use Rattle.published_policies.specs.Lists.{last_edition};
 ghost use Rattle.hall.specs.Calls.{IsNext, IsOutcome, put_in_force};
 ghost use Rattle.hall.specs.Closing.{IsCause};
 ghost use Rattle.hall.specs.Seats.{IsKeptBy, receipts_of};
-ghost use Rattle.hall.specs.declared.guarded.TheConstants.{LEDGER_PARTS};
+ghost use Rattle.hall.specs.declared.guarded.TheConstants.{COPIED_AT_ONCE, LEDGER_PARTS};
 
 use crate::closing::{Closed, gather, mismatch};
 use crate::faults::{CloseFault, HallFault};
@@ -40,6 +40,9 @@ use world::{Advance, Answer, Base, Fault, Outcome, Rolled, SEAT_LIMIT, Visit};
 
 /// The parts of a hall's ledger: one for each seat that may be given, and one that stays.
 pub const LEDGER_PARTS: u64 = SEAT_LIMIT as u64 + 1;
+
+/// The most records that are copied in one critical section.
+pub const COPIED_AT_ONCE: u64 = 256;
 
 /// How many slots are tended in one critical section.
 pub(crate) const SLOTS_AT_ONCE: u32 = 16;
@@ -307,6 +310,38 @@ impl<L: HallName, R: Wait + Drop, A: Allocator> Guarded<L, R, A> {
         ensures opened { self.now.chronicle.opening ≡ L.opening }
     {
         self.chronicle.sound();
+    }
+
+    /// How many records there are, with those that were rolled out.
+    pub(crate) fn record_count(&self) -> u64
+        ensures { result ≡ length self.now.chronicle.records }
+    {
+        self.chronicle.len()
+    }
+
+    /// How many records there were when the last list was applied or policy put in force.
+    pub(crate) fn last_change(&self) -> u64
+        ensures { IsLastChange result self.now.chronicle.records }
+    {
+        self.chronicle.last_change()
+    }
+
+    /// Appends other owners of the records from a place on, as many as there are, but at most
+    /// `COPIED_AT_ONCE`, and no more than `into` has room for. A fault where one of them has as many
+    /// owners as there may be. Takes no memory.
+    pub(crate) fn copy_from(
+        &self,
+        place: u64,
+        into: &mut Vec<Arc<Record<A>, A>, A>,
+    ) -> Result<(), NoMemory>
+        ensures ok { OnOk result (map arc_value into.new.items ≡ map arc_value into.old.items
+            ++ take (min COPIED_AT_ONCE (vec_capacity into.old - vec_len into.old))
+            (drop place self.now.chronicle.records)) }
+        ensures err { OnErr result ((copied : ℕ) × (map arc_value into.new.items
+            ≡ map arc_value into.old.items
+            ++ take copied (drop place self.now.chronicle.records))) }
+    {
+        self.chronicle.copy_from(place, COPIED_AT_ONCE, into)
     }
 
     /// Closes the hall, and takes the seats' shares back. C1 where the receipts of a seat are not

@@ -9,13 +9,14 @@ mod governing;
 mod guarded;
 mod halls;
 mod names;
+mod reading;
 mod searching;
 mod seats;
 mod sections;
 
 pub use closing::Closed;
 pub use faults::{CloseFault, HallFault, OpenFault};
-pub use guarded::LEDGER_PARTS;
+pub use guarded::{COPIED_AT_ONCE, LEDGER_PARTS};
 pub use halls::{Hall, VIEW_LIMIT};
 pub use names::{HallName, Unnamed};
 pub use published_policies::{Edition, Explained, ListName, View};

@@ -16,6 +16,8 @@ mod memory_tests;
 #[cfg(test)]
 mod pauses;
 #[cfg(test)]
+mod reading_tests;
+#[cfg(test)]
 mod roll_tests;
 #[cfg(test)]
 mod seat_tests;

@@ -2,13 +2,27 @@
 //! `program`; its server, in `server`; how it talks to one, in `client`.
 #![tactic(auto)]
 
+mod stores;
+mod transfers;
+
+use crate::stores::{Alarm, StoreToOpen, look_at_store, run_stored};
+use crate::transfers::{run_export, run_import};
 use byte_streams::{WriteFailed, flush, let_go, write_shown};
 use client::{End, TalkFault, talk};
-use command_line::{WordsFault, host_words};
+use command_line::{Waits, WordsFault, host_words};
+use configuration::Config;
+use features::Subjects;
+use grid::Grid;
 use log::{Log, warn};
 use memory::{NoMemory, another, buffered, shared, text};
-use program::{HostFolder, Next, ProgramFault, WantedServer, run_program, tell};
-use server::{Closed, ServerFault, Serving, SocketOptions, Stop, serve_socket, watch};
+use policy_text::print_document;
+use program::{
+    HostFolder, Next, ProgramFault, TransferWords, WantedServer, WantedTransfer, run_program, tell,
+};
+use server::{
+    Begins, Closed, Keeping, Rests, ServerFault, Serving, SocketOptions, Stop, serve_kept,
+    serve_socket, watch,
+};
 use std::alloc::Global;
 use std::fs::{File, Files};
 use std::io::{IsTerminal, Print, Read, Stderr, Stdin, Write};
@@ -26,7 +40,7 @@ const TURNED_DOWN: u8 = 2;
 /// Reports a fault that occurred outside `run_program`, and returns the status of `Ended::Failed`.
 /// `Ended::Failed` is not built here because it owns its fault, and rattle proves no function here
 /// that takes a fault by value.
-fn fail(fault: &ProgramFault<'_>, errors: &mut Stderr) -> ExitCode {
+pub(crate) fn fail(fault: &ProgramFault<'_>, errors: &mut Stderr) -> ExitCode {
     let _ = tell(fault, errors);
     ExitCode::from(1)
 }
@@ -65,10 +79,19 @@ fn tell_closed<W: Write>(closed: Closed, output: &mut W) -> Result<(), WriteFail
     Ok(())
 }
 
+/// What a server ready to run serves.
+#[derive(Drop)]
+enum Work {
+    /// A world that is gone when the server ends.
+    Passing(Serving),
+    /// The world of a store.
+    Stored(Keeping, StoreToOpen),
+}
+
 /// A server ready to run. It does not borrow from the words of the command line.
 #[derive(Drop)]
 struct Plan {
-    serving: Serving,
+    work: Work,
     path: String,
     connections: u16,
     idle: Option<u64>,
@@ -76,35 +99,84 @@ struct Plan {
     /// How the server is told to accept no more connections.
     stop: Arc<Stop>,
     /// For the thread that waits for the end of standard input, if the command line asks for one.
-    stopping: Option<Stopping>,
+    stopping: Option<Alarm>,
 }
 
-/// What the thread that waits for the end of standard input takes along: how it tells the server,
-/// and the path to which it connects afterwards.
-#[derive(Drop)]
-struct Stopping {
-    stop: Arc<Stop>,
-    path: String,
+/// How a server at this path is told to accept nobody more.
+fn alarm(heap: Global, stop: &Arc<Stop>, path: &str) -> Result<Alarm, NoMemory> {
+    Ok(Alarm {
+        stop: another(stop)?,
+        path: text(heap, path)?,
+    })
+}
+
+/// The same subjects.
+fn same_subjects(subjects: &Subjects) -> Subjects {
+    let Ok(copy) = Subjects::new(subjects.as_slice()) else {
+        unreachable!()
+    };
+    copy
+}
+
+/// What a server without a store serves, or one with a store in this folder.
+fn planned_work(
+    rt: &HostRuntime,
+    config: Config<Global>,
+    workers: usize,
+    store: Option<&str>,
+    waits: Waits,
+    alarm: Alarm,
+) -> Result<Work, NoMemory> {
+    let Some(folder) = store else {
+        return Ok(Work::Passing(Serving {
+            subjects: config.subjects,
+            begins: Begins::Document(config.document),
+            workers,
+        }));
+    };
+    let Config {
+        subjects,
+        document,
+        ..
+    } = config;
+    let store = StoreToOpen {
+        rt: *rt,
+        folder: text(rt.alloc(), folder)?,
+        subjects: same_subjects(&subjects),
+        policy: print_document(rt.alloc(), &document)?,
+        alarm,
+    };
+    let keeping = Keeping {
+        subjects,
+        workers,
+        rests: if waits == Waits::Changes {
+            Rests::Changes
+        } else {
+            Rests::All
+        },
+    };
+    Ok(Work::Stored(keeping, store))
 }
 
 /// The server that the command line asks for.
-fn planned(heap: Global, server: WantedServer<'_>) -> Result<Plan, NoMemory> {
-    let WantedServer { options, config } = server;
+fn planned(rt: &HostRuntime, server: WantedServer<'_>) -> Result<Plan, NoMemory> {
+    let heap = rt.alloc();
+    let WantedServer {
+        options,
+        config,
+        store,
+        waits,
+    } = server;
     let stop = shared(heap, Stop::new())?;
     let stopping = if options.until_stdin_ends {
-        Some(Stopping {
-            stop: another(&stop)?,
-            path: text(heap, options.socket)?,
-        })
+        Some(alarm(heap, &stop, options.socket)?)
     } else {
         None
     };
+    let own_alarm = alarm(heap, &stop, options.socket)?;
+    let workers = usize::from(options.workers);
     Ok(Plan {
-        serving: Serving {
-            subjects: config.subjects,
-            document: config.document,
-            workers: usize::from(options.workers),
-        },
+        work: planned_work(rt, config, workers, store, waits, own_alarm)?,
         path: text(heap, options.socket)?,
         connections: options.connections,
         idle: options.idle_seconds.map(u64::from),
@@ -122,7 +194,7 @@ where
     R: Threads + Wait + Clock + Log + Files<File = File> + Net + Print + Sync,
 {
     let Plan {
-        serving,
+        work,
         path,
         connections,
         idle,
@@ -136,10 +208,31 @@ where
         takeover,
         stop: Some(&stop),
     };
-    match serve_socket(rt, own, heap, path.as_str(), serving, socket_options) {
+    let served = match work {
+        Work::Passing(serving) => serve_socket(
+            rt,
+            own,
+            heap,
+            path.as_str(),
+            serving,
+            socket_options,
+        ),
+        Work::Stored(keeping, store) => serve_kept(
+            rt,
+            own,
+            heap,
+            path.as_str(),
+            keeping,
+            socket_options,
+            store,
+        ),
+    };
+    match served {
         Ok(closed) => conclude(rt, heap, closed, errors),
         Err(ServerFault::Bind) => fail(&ProgramFault::CannotBind(path.as_str()), errors),
         Err(ServerFault::Write(failed)) => fail(&ProgramFault::CannotWrite(failed), errors),
+        // The store has told what is wrong with it.
+        Err(ServerFault::Store(_)) => ExitCode::from(1),
         Err(fault) => fail(&ProgramFault::Server(fault.code()), errors),
     }
 }
@@ -219,6 +312,15 @@ fn connect(rt: &HostRuntime, path: &str, errors: &mut Stderr) -> ExitCode {
     }
 }
 
+/// Exports or imports, and returns the exit status. Without a grid coordinates are whole numbers.
+fn transfer(rt: &HostRuntime, wanted: WantedTransfer<'_>, errors: &mut Stderr) -> ExitCode {
+    let grid = wanted.grid.unwrap_or(Grid::whole_numbers());
+    match wanted.words {
+        TransferWords::Export(given) => run_export(rt, given, grid, errors),
+        TransferWords::Import(given) => run_import(rt, given, grid, errors),
+    }
+}
+
 fn main(rt: HostRuntime) -> ExitCode {
     let mut errors = rt.stderr();
     let words = match given_words(&rt, &mut errors) {
@@ -241,7 +343,7 @@ fn main(rt: HostRuntime) -> ExitCode {
     let _ = let_go(output);
     match next {
         Next::Exit(ended) => ExitCode::from(ended.status()),
-        Next::Serve(server) => match planned(rt.alloc(), server) {
+        Next::Serve(server) => match planned(&rt, server) {
             Ok(plan) => {
                 let mut plan = plan;
                 if let Some(stopping) = plan.stopping.take() {
@@ -257,5 +359,8 @@ fn main(rt: HostRuntime) -> ExitCode {
             Err(no_memory) => fail(&ProgramFault::Memory(no_memory), &mut errors),
         },
         Next::Connect(path) => connect(&rt, path, &mut errors),
+        Next::Keep(wanted) => run_stored(&rt, wanted, &mut errors),
+        Next::Look(words) => look_at_store(&rt, words, &mut errors),
+        Next::Transfer(wanted) => transfer(&rt, wanted, &mut errors),
     }
 }

@@ -8,11 +8,12 @@ use Rattle.configuration.specs.declared.config_faults.ConfigFault.{ConfigFault}
 use Rattle.configuration.specs.declared.config_faults.ConfigFault.TheVariants.{NotJson, Form, Subjects, Policies, Memory}
 use Rattle.configuration.specs.declared.places.Place.{Place}
 use Rattle.configuration.specs.declared.summaries.Summary.{Summary}
+use Rattle.grid.specs.declared.grids.Grid.{Grid}
 use Rattle.program.specs.Checks.{IsFoundRight, IsFoundWrong}
 
 module _ {A : Type 0} (held before after : Option (List ℕ)) (checked : Checked A) where
-  pub found_right : (summary : Summary) → checked ≡ Right summary → IfSome held (λ text. IsCheckOf text checked) → Appends before after (checked_text checked) → IsFoundRight held before after
-  found_right summary is found written = (summary, subst (λ c. IfSome held (λ text. IsCheckOf text c)) is found, subst (λ c. Appends before after (checked_text c)) is written)
+  pub found_right : (summary : Summary) (grid : Option Grid) → checked ≡ Right summary grid → IfSome held (λ text. IsCheckOf text checked) → Appends before after (checked_text checked) → IsFoundRight held before after
+  found_right summary grid is found written = (summary, grid, subst (λ c. IfSome held (λ text. IsCheckOf text c)) is found, subst (λ c. Appends before after (checked_text c)) is written)
 
   pub found_wrong : (fault : ConfigFault) (place : Option (Place A)) → checked ≡ Wrong fault place → IfSome held (λ text. IsCheckOf text checked) → Appends before after (checked_text checked)
       → IsFoundWrong fault held before after

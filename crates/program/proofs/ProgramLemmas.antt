@@ -1,5 +1,5 @@
 -- What is done for the words of a command line, and what is returned.
-use Rattle.std.proofs.Common.{◌≡◌, ℕ, List, Option, Some, Result, Ok, Err, codes, option_map, refl, sym, subst}
+use Rattle.std.proofs.Common.{◌≡◌, ◌∙◌, ℕ, List, Option, Some, Result, Ok, Err, ap, codes, option_map, refl, sym, subst}
 use Rattle.command_line.specs.Asking.{HasOptions, IsAsked}
 use Rattle.command_line.specs.CommandLine.{AreTurnedDown, AskFor, given_by}
 use Rattle.command_line.specs.declared.shells.Shell.{Shell}
@@ -9,33 +9,38 @@ use Rattle.command_line.specs.declared.words.Asked.TheVariants.{Script, Serve}
 use Rattle.command_line.specs.declared.words.ScriptWords.{ScriptWords}
 use Rattle.command_line.specs.declared.words.ServeWords.{ServeWords}
 use Rattle.command_line.specs.declared.words.Shown.{Shown}
-use Rattle.program.specs.Programs.{DrawAnswered, IsAnswer, IsDone, IsFault, IsServerFault, IsServerOf, LookAnswered, PageAnswered, WantServer}
+use Rattle.program.specs.Programs.{DrawAnswered, IsAnswer, IsDone, IsFault, IsServerFault, IsGridIn, IsServerOf, LookAnswered, PageAnswered, ScriptAnswered, TransferAnswered, AskForTransfer, WantServer}
 use Rattle.configuration.specs.Configs.{config_data}
 use Rattle.program.specs.RunFaults.{BrokeOff, IsOfConfig}
 use Rattle.program.specs.Runs.{IsConfigOf, RanScript}
+use Rattle.program.specs.declared.ends.TransferWords.{TransferWords}
 use Rattle.program.specs.declared.ends.WantedServer.{WantedServer}
 use Rattle.program.specs.declared.faults.ProgramFault.{ProgramFault}
 use Rattle.program.specs.declared.runs.Answer.{Answer}
 use Rattle.program.specs.declared.runs.Answer.TheVariants as answers
 use Rattle.byte_streams.specs.declared.writing.Flushed.{Flushed}
 
--- the name of the configuration's file, where one is asked for
-abbrev config_name : ScriptWords → Option (List ℕ)
-config_name files = option_map (λ name. name.now) files.config
-
-module _ (words : List (List ℕ)) (held : List ℕ → Option (List ℕ)) (before after : Option (List ℕ)) where
-  -- the script that the words ask for was served
-  pub script_served : (asked : Asked) (files : ScriptWords) → IsAsked words asked → asked ≡ Script files → RanScript held (config_name files) files.script.now before after → IsDone words held before after
-  script_served asked files is_asked is ran =
-      let of_files = subst (IsAsked words) is is_asked in
-      IsDone.serves files.script.now of_files.0 of_files.1.0 (subst (λ c. RanScript held c files.script.now before after) (sym of_files.1.1) ran)
-
-  -- or its run broke off
-  pub script_broke : (closed : List ℕ → Type 0) (asked : Asked) (files : ScriptWords) (fault : ProgramFault) → IsAsked words asked → asked ≡ Script files → BrokeOff held closed (config_name files) files.script.now before after fault
-      → IsFault words held closed before after fault
-  script_broke closed asked files fault is_asked is broke =
-      let of_files = subst (IsAsked words) is is_asked in
-      IsFault.script files.script.now fault of_files.0 of_files.1.0 (subst (λ c. BrokeOff held closed c files.script.now before after fault) (sym of_files.1.1) broke)
+-- the script that the words ask for was served, or its run broke off; or it has a store
+pub script_answers : {O : Type 0} (words : List (List ℕ)) (held : List ℕ → Option (List ℕ)) (closed : List ℕ → Type 0) (written : O → Option (List ℕ)) (output after : O) (files : ScriptWords) (result : Result Answer ProgramFault)
+    → IsAsked words (Script files) → ScriptAnswered held closed files written output after result → IsAnswer words held closed written output after result
+script_answers words held closed written output after files (Ok (answers.Done flushed)) asked h =
+    IsDone.serves files.script.now asked.0 asked.1.0 (asked.1.2 ∙ ap (option_map (λ name. name.now)) h.0) (subst (λ c. RanScript held c files.script.now (written output) (written after)) (sym asked.1.1) h.1)
+script_answers words held closed written output after files (Ok (answers.Keep wanted)) asked h = (
+  record {
+    asked = asked.0;
+    script = asked.1.0 ∙ ap Some h.0;
+    folder = asked.1.2 ∙ h.1;
+    config = subst (λ c. IsConfigOf held c (config_data wanted.config)) (sym asked.1.1) h.2;
+  },
+  h.3,
+)
+script_answers words held closed written output after files (Err fault) asked h =
+    IsFault.script files.script.now fault asked.0 asked.1.0 (subst (λ c. BrokeOff held closed c files.script.now (written output) (written after) fault) (sym asked.1.1) h)
+script_answers words held closed written output after files (Ok (answers.Serve server)) asked h = absurd h
+script_answers words held closed written output after files (Ok (answers.Connect path)) asked h = absurd h
+script_answers words held closed written output after files (Ok (answers.Look given)) asked h = absurd h
+script_answers words held closed written output after files (Ok (answers.Transfer wanted)) asked h = absurd h
+script_answers words held closed written output after files (Ok (answers.Mistaken mistake)) asked h = absurd h
 
 -- the words ask for a server, and this is it
 pub server_wanted : (words : List (List ℕ)) (held : List ℕ → Option (List ℕ)) (asked : Asked) (given : ServeWords) (server : WantedServer) → IsAsked words asked → asked ≡ Serve given
@@ -44,8 +49,10 @@ server_wanted words held asked given server is_asked is made =
     let of_given = subst (IsAsked words) is is_asked in
     record {
       asked = of_given.0;
-      options = subst (HasOptions (given_by words)) (sym made.0) of_given.1.0;
-      config = subst (λ c. IsConfigOf held c (config_data server.config)) (sym of_given.1.1) made.1;
+      options = subst (HasOptions (given_by words)) (sym made.0) of_given.1.options;
+      config = subst (λ c. IsConfigOf held c (config_data server.config)) (sym of_given.1.config) made.1;
+      store = of_given.1.store ∙ ap (option_map (λ name. name.now)) (sym made.2);
+      waits = of_given.1.waits ∙ ap Some (sym made.3);
     }
 
 -- or its configuration is at fault
@@ -53,7 +60,7 @@ pub server_failed : (words : List (List ℕ)) (held : List ℕ → Option (List 
     → IsServerFault held closed given fault → IsFault words held closed standing standing fault
 server_failed words held closed standing asked given fault is_asked is failed =
     let of_given = subst (IsAsked words) is is_asked in
-    IsFault.no_server fault of_given.0 (subst (λ c. IsOfConfig held closed c fault) (sym of_given.1.1) failed) refl
+    IsFault.no_server fault of_given.0 (subst (λ c. IsOfConfig held closed c fault) (sym of_given.1.config) failed) refl
 
 -- a look at a configuration, and a page, answer the words that ask for them
 pub look_answers : {O : Type 0} (words : List (List ℕ)) (held : List ℕ → Option (List ℕ)) (closed : List ℕ → Type 0) (written : O → Option (List ℕ)) (output after : O) (name : List ℕ) (result : Result Answer ProgramFault)
@@ -62,6 +69,9 @@ look_answers words held closed written output after name (Ok (answers.Done flush
 look_answers words held closed written output after name (Err fault) asked given h = IsFault.check name fault asked given h
 look_answers words held closed written output after name (Ok (answers.Serve server)) asked given h = absurd h
 look_answers words held closed written output after name (Ok (answers.Connect path)) asked given h = absurd h
+look_answers words held closed written output after name (Ok (answers.Keep kept)) asked given h = absurd h
+look_answers words held closed written output after name (Ok (answers.Look look)) asked given h = absurd h
+look_answers words held closed written output after name (Ok (answers.Transfer wanted)) asked given h = absurd h
 look_answers words held closed written output after name (Ok (answers.Mistaken mistake)) asked given h = absurd h
 
 pub draw_answers : {O : Type 0} (words : List (List ℕ)) (held : List ℕ → Option (List ℕ)) (closed : List ℕ → Type 0) (written : O → Option (List ℕ)) (output after : O) (name : List ℕ) (result : Result Answer ProgramFault)
@@ -70,6 +80,9 @@ draw_answers words held closed written output after name (Ok (answers.Done flush
 draw_answers words held closed written output after name (Err fault) asked given h = IsFault.undrawn name fault asked given h
 draw_answers words held closed written output after name (Ok (answers.Serve server)) asked given h = absurd h
 draw_answers words held closed written output after name (Ok (answers.Connect path)) asked given h = absurd h
+draw_answers words held closed written output after name (Ok (answers.Keep kept)) asked given h = absurd h
+draw_answers words held closed written output after name (Ok (answers.Look look)) asked given h = absurd h
+draw_answers words held closed written output after name (Ok (answers.Transfer wanted)) asked given h = absurd h
 draw_answers words held closed written output after name (Ok (answers.Mistaken mistake)) asked given h = absurd h
 
 pub page_answers : {O : Type 0} (words : List (List ℕ)) (held : List ℕ → Option (List ℕ)) (closed : List ℕ → Type 0) (written : O → Option (List ℕ)) (output after : O) (shell : Option Shell) (result : Result Answer ProgramFault)
@@ -78,7 +91,23 @@ page_answers words held closed written output after shell (Ok (answers.Done flus
 page_answers words held closed written output after shell (Err fault) asked h = IsFault.unprinted shell fault asked h
 page_answers words held closed written output after shell (Ok (answers.Serve server)) asked h = absurd h
 page_answers words held closed written output after shell (Ok (answers.Connect path)) asked h = absurd h
+page_answers words held closed written output after shell (Ok (answers.Keep kept)) asked h = absurd h
+page_answers words held closed written output after shell (Ok (answers.Look look)) asked h = absurd h
+page_answers words held closed written output after shell (Ok (answers.Transfer wanted)) asked h = absurd h
 page_answers words held closed written output after shell (Ok (answers.Mistaken mistake)) asked h = absurd h
+
+-- the words ask for an export or an import, and this is it, or its configuration is at fault
+pub transfer_answers : {O : Type 0} (words : List (List ℕ)) (held : List ℕ → Option (List ℕ)) (closed : List ℕ → Type 0) (written : O → Option (List ℕ)) (output : O) (name : List ℕ) (given : TransferWords) (config : Option (List ℕ)) (result : Result Answer ProgramFault)
+    → AskFor name words → AskForTransfer words given → given_by words (codes "config") ≡ config → TransferAnswered held closed given config result → IsAnswer words held closed written output output result
+transfer_answers words held closed written output name given config (Ok (answers.Transfer wanted)) named asked is h =
+    ((subst (AskForTransfer words) (sym h.0) asked, subst (λ c. IsGridIn held c wanted.grid) (sym is) h.1), refl)
+transfer_answers words held closed written output name given config (Err fault) named asked is h = IsFault.no_grid name fault named (subst (λ c. IsOfConfig held closed c fault) (sym is) h) refl
+transfer_answers words held closed written output name given config (Ok (answers.Done flushed)) named asked is h = absurd h
+transfer_answers words held closed written output name given config (Ok (answers.Serve server)) named asked is h = absurd h
+transfer_answers words held closed written output name given config (Ok (answers.Connect path)) named asked is h = absurd h
+transfer_answers words held closed written output name given config (Ok (answers.Keep kept)) named asked is h = absurd h
+transfer_answers words held closed written output name given config (Ok (answers.Look look)) named asked is h = absurd h
+transfer_answers words held closed written output name given config (Ok (answers.Mistaken mistake)) named asked is h = absurd h
 
 -- the result for the words, by cases
 module _ {O : Type 0} (words : List (List ℕ)) (held : List ℕ → Option (List ℕ)) (closed : List ℕ → Type 0) (written : O → Option (List ℕ)) (output after : O) (result : Result Answer ProgramFault) (answer : Answer) where

@@ -1,5 +1,5 @@
 -- The built-in configuration.
-use Rattle.std.specs.Prelude.{[], ◌∷◌, codes}
+use Rattle.std.specs.Prelude.{[], ◌∷◌, codes, None}
 use Rattle.policy_documents.specs.Documents.{DocumentData, policy}
 use Rattle.policy_documents.specs.declared.algorithms.Algorithm.TheVariants.{FirstApplicable}
 use Rattle.policy_documents.specs.declared.algorithms.Effect.TheVariants.{Permit}
@@ -15,4 +15,4 @@ open_document = record {
 }
 
 abbrev pub built_in_config : ConfigData
-built_in_config = record { subjects = built_in; document = open_document }
+built_in_config = record { subjects = built_in; document = open_document; grid = None }

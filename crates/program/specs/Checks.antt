@@ -4,7 +4,7 @@ use Rattle.std.specs.Io.KnownBytes.{Appends}
 use Rattle.byte_streams.specs.declared.writing.Flushed.{Flushed}
 use Rattle.command_line.specs.CommandLine.{AskFor, given_by, shell_at}
 use Rattle.command_line.specs.declared.shells.Shell.{Shell}
-use Rattle.configuration.specs.Checking.{IsCheckOf, IsRight, IsWrong, checked_text, wrong_text}
+use Rattle.configuration.specs.Checking.{IsCheckOf, IsRight, IsWrong, checked_text, grid_part, wrong_text}
 use Rattle.configuration.specs.ConfigFiles.{IsReadFault}
 use Rattle.configuration.specs.Summaries.{summary_text}
 use Rattle.configuration.specs.declared.checking.Checked.{Checked}
@@ -13,6 +13,7 @@ use Rattle.configuration.specs.declared.config_faults.ConfigFault.TheVariants.{M
 use Rattle.configuration.specs.declared.files.ReadFault.TheVariants.{NotOpened}
 use Rattle.configuration.specs.declared.places.PathPart.{PathPart}
 use Rattle.configuration.specs.declared.summaries.Summary.{Summary}
+use Rattle.grid.specs.declared.grids.Grid.{Grid}
 use Rattle.drawing.specs.Drawings.{Draws, DrawsAll}
 use Rattle.manual.specs.Printing.{IsPageFor}
 use Rattle.program.specs.declared.faults.ProgramFault.{ProgramFault}
@@ -38,8 +39,8 @@ FindingWritten checked (Err failed) before after = Unit {0}
 -- the configuration in a file is right, and what it has was written
 abbrev pub IsFoundRight : Option (List ℕ) → Option (List ℕ) → Option (List ℕ) → Type 0
 IsFoundRight held before after =
-    (summary : Summary) × IfSome held (IsRight summary)
-    × Appends before after (summary_text summary)
+    (summary : Summary) × (grid : Option Grid) × IfSome held (IsRight summary grid)
+    × Appends before after (summary_text summary ++ grid_part grid)
 
 -- it is wrong, and its first fault was written, with its place if that is known
 abbrev pub IsFoundWrong : ConfigFault → Option (List ℕ) → Option (List ℕ) → Option (List ℕ) → Type 0

@@ -1,9 +1,9 @@
 -- What a run of the program writes and returns.
-use Rattle.std.specs.Prelude.{◌≡◌, ℕ, List, Option, Some, Result, Ok, Err, codes, option_map}
+use Rattle.std.specs.Prelude.{◌≡◌, ℕ, List, Option, None, Some, Result, Ok, Err, codes, option_map}
 use Rattle.byte_streams.specs.Written.{Took}
-use Rattle.command_line.specs.Asking.{HasOptions}
-use Rattle.command_line.specs.CommandLine.{AreTurnedDown, AskFor, AskForHelp, given_by}
-use Rattle.configuration.specs.Configs.{config_data}
+use Rattle.command_line.specs.Asking.{HasExport, HasImport, HasOptions, HasStore}
+use Rattle.command_line.specs.CommandLine.{AreTurnedDown, AskFor, AskForHelp, given_by, waits_at}
+use Rattle.configuration.specs.Configs.{ConfigData, config_data, grid_data}
 use Rattle.program.specs.Checks.{AskForPage, DrawBroke, IsDrawn, IsFoundRight, IsWritten, LookBroke, PageBroke}
 use Rattle.program.specs.Ends.{IsUnwritten, fault_line}
 use Rattle.program.specs.RunFaults.{BrokeOff, IsOfConfig}
@@ -14,19 +14,26 @@ use Rattle.program.specs.declared.ends.Ended.{Ended}
 use Rattle.program.specs.declared.ends.Ended.TheVariants.{Well, Failed, TurnedDown}
 use Rattle.program.specs.declared.ends.Next.{Next}
 use Rattle.program.specs.declared.ends.Next.TheVariants as next
+use Rattle.grid.specs.declared.grids.Grid.{Grid}
+use Rattle.program.specs.declared.ends.TransferWords.{TransferWords}
+use Rattle.program.specs.declared.ends.TransferWords.TheVariants as transfers
+use Rattle.program.specs.declared.ends.WantedScript.{WantedScript}
 use Rattle.program.specs.declared.ends.WantedServer.{WantedServer}
+use Rattle.program.specs.declared.ends.WantedTransfer.{WantedTransfer}
 use Rattle.program.specs.declared.faults.ProgramFault.{ProgramFault}
 use Rattle.program.specs.declared.faults.ProgramFault.TheVariants.{Words}
 use Rattle.command_line.specs.declared.commands.NoMemoryForWords.{NoMemoryForWords}
 use Rattle.command_line.specs.declared.shells.Shell.{Shell}
+use Rattle.command_line.specs.declared.words.ScriptWords.{ScriptWords}
 use Rattle.command_line.specs.declared.words.ServeWords.{ServeWords}
+use Rattle.command_line.specs.declared.stores.StoreWords.{StoreWords}
 
 -- What these words ask for is done. `held` gives what the file of a name reads, if known.
 pub data IsDone (words : List (List ℕ)) (held : List ℕ
     → Option (List ℕ)) (before after : Option (List ℕ)) : Type 0 where
-  -- they ask for a script, and it was served
+  -- they ask for a script without a store, and it was served
   serves : (script : List ℕ) → AskFor (codes "script") words
-      → given_by words (codes "FILE") ≡ Some script
+      → given_by words (codes "FILE") ≡ Some script → given_by words (codes "store") ≡ None
       → RanScript held (given_by words (codes "config")) script before after
       → IsDone words held before after
   -- they ask for a look at a configuration, and it is right
@@ -64,6 +71,10 @@ pub data IsFault (words : List (List ℕ)) (held : List ℕ → Option (List ℕ
   undrawn : (name : List ℕ) (fault : ProgramFault) → AskFor (codes "draw") words
       → given_by words (codes "SCRIPT") ≡ Some name
       → DrawBroke held closed name before after fault → IsFault words held closed before after fault
+  -- they ask for an export or an import, but there is no such configuration
+  no_grid : (name : List ℕ) (fault : ProgramFault) → AskFor name words
+      → IsOfConfig held closed (given_by words (codes "config")) fault → after ≡ before
+      → IsFault words held closed before after fault
   -- they ask for a page, but it could not be printed
   unprinted : (shell : Option Shell) (fault : ProgramFault) → AskForPage words shell
       → PageBroke shell before after fault → IsFault words held closed before after fault
@@ -80,16 +91,50 @@ pub record WantServer (words : List (List ℕ)) (held : List ℕ
   pub asked : AskFor (codes "serve") words
   pub options : HasOptions (given_by words) server.options
   pub config : IsConfigOf held (given_by words (codes "config")) (config_data server.config)
+  pub store : given_by words (codes "store") ≡ option_map (λ name. name.now) server.store
+  pub waits : waits_at (given_by words) (codes "wait") ≡ Some server.waits
+
+-- These words ask for this script over a store: file and folder are theirs, and its configuration is
+-- the built-in one or that of the file that they name.
+pub record WantKept (words : List (List ℕ)) (held : List ℕ
+    → Option (List ℕ)) (wanted : WantedScript) : Type 0 where
+  pub asked : AskFor (codes "script") words
+  pub script : given_by words (codes "FILE") ≡ Some wanted.script.now
+  pub folder : given_by words (codes "store") ≡ Some wanted.folder.now
+  pub config : IsConfigOf held (given_by words (codes "config")) (config_data wanted.config)
+
+-- these words ask for this look at a store
+abbrev pub WantLook : List (List ℕ) → StoreWords → Type 0
+WantLook words given = AskFor (codes "store") words × HasStore (given_by words) given
 
 -- these words ask for a talk with the server at this path
 abbrev pub WantTalk : List (List ℕ) → List ℕ → Type 0
 WantTalk words path = AskFor (codes "connect") words × (given_by words (codes "socket") ≡ Some path)
+
+-- the grid of the configuration in the named file, if one is named and has a grid
+abbrev pub IsGridIn : (List ℕ → Option (List ℕ)) → Option (List ℕ) → Option Grid → Type 0
+IsGridIn held None grid = grid ≡ None
+IsGridIn held (Some name) grid = (config : ConfigData) × IsConfigOf held (Some name) config
+    × (option_map grid_data grid ≡ config.grid)
+
+-- these words ask for this export, or for this import
+abbrev pub AskForTransfer : List (List ℕ) → TransferWords → Type 0
+AskForTransfer words (transfers.Export given) =
+    AskFor (codes "export") words × HasExport (given_by words) given
+AskForTransfer words (transfers.Import given) =
+    AskFor (codes "import") words × HasImport (given_by words) given
+
+-- these words ask for this export or import, with the grid of the configuration that they name
+abbrev pub WantTransfer : List (List ℕ) → (List ℕ → Option (List ℕ)) → WantedTransfer → Type 0
+WantTransfer words held wanted = AskForTransfer words wanted.words
+    × IsGridIn held (given_by words (codes "config")) wanted.grid
 
 -- this server has the given options and their configuration
 abbrev pub IsServerOf : (List ℕ → Option (List ℕ)) → ServeWords → WantedServer → Type 0
 IsServerOf held given server =
     (server.options ≡ given.options)
     × IsConfigOf held (option_map (λ name. name.now) given.config) (config_data server.config)
+    × (server.store ≡ given.store) × (server.waits ≡ given.waits)
 
 abbrev pub IsServerFault : (List ℕ → Option (List ℕ)) → (List ℕ → Type 0) → ServeWords
     → ProgramFault → Type 0
@@ -105,6 +150,9 @@ LookAnswered held closed name before after (Err fault) =
     LookBroke held closed name before after fault
 LookAnswered held closed name before after (Ok (answers.Serve server)) = ⊥
 LookAnswered held closed name before after (Ok (answers.Connect path)) = ⊥
+LookAnswered held closed name before after (Ok (answers.Keep wanted)) = ⊥
+LookAnswered held closed name before after (Ok (answers.Look given)) = ⊥
+LookAnswered held closed name before after (Ok (answers.Transfer wanted)) = ⊥
 LookAnswered held closed name before after (Ok (answers.Mistaken mistake)) = ⊥
 
 abbrev pub DrawAnswered : (List ℕ → Option (List ℕ)) → (List ℕ → Type 0) → List ℕ → Option (List ℕ)
@@ -115,6 +163,9 @@ DrawAnswered held closed name before after (Err fault) =
     DrawBroke held closed name before after fault
 DrawAnswered held closed name before after (Ok (answers.Serve server)) = ⊥
 DrawAnswered held closed name before after (Ok (answers.Connect path)) = ⊥
+DrawAnswered held closed name before after (Ok (answers.Keep wanted)) = ⊥
+DrawAnswered held closed name before after (Ok (answers.Look given)) = ⊥
+DrawAnswered held closed name before after (Ok (answers.Transfer wanted)) = ⊥
 DrawAnswered held closed name before after (Ok (answers.Mistaken mistake)) = ⊥
 
 abbrev pub PageAnswered : Option Shell → Option (List ℕ) → Option (List ℕ)
@@ -123,11 +174,48 @@ PageAnswered shell before after (Ok (answers.Done flushed)) = IsWritten shell be
 PageAnswered shell before after (Err fault) = PageBroke shell before after fault
 PageAnswered shell before after (Ok (answers.Serve server)) = ⊥
 PageAnswered shell before after (Ok (answers.Connect path)) = ⊥
+PageAnswered shell before after (Ok (answers.Keep wanted)) = ⊥
+PageAnswered shell before after (Ok (answers.Look given)) = ⊥
+PageAnswered shell before after (Ok (answers.Transfer wanted)) = ⊥
 PageAnswered shell before after (Ok (answers.Mistaken mistake)) = ⊥
 
+-- What is answered where the words ask for a script: it was served, or its run broke off; or, where
+-- it has a store, nothing is done yet, or its configuration is at fault.
+abbrev pub ScriptAnswered : {O : Type 0} → (List ℕ → Option (List ℕ)) → (List ℕ → Type 0)
+    → ScriptWords → (O → Option (List ℕ)) → O → O → Result Answer ProgramFault → Type 0
+ScriptAnswered held closed files written output output_after (Ok (answers.Done flushed)) =
+    (files.store ≡ None) × RanScript held (option_map (λ name. name.now) files.config)
+    files.script.now (written output) (written output_after)
+ScriptAnswered held closed files written output output_after (Ok (answers.Keep wanted)) =
+    (files.script.now ≡ wanted.script.now)
+    × (option_map (λ name. name.now) files.store ≡ Some wanted.folder.now)
+    × IsConfigOf held (option_map (λ name. name.now) files.config) (config_data wanted.config)
+    × (output_after ≡ output)
+ScriptAnswered held closed files written output output_after (Err fault) =
+    BrokeOff held closed (option_map (λ name. name.now) files.config) files.script.now
+    (written output) (written output_after) fault
+ScriptAnswered held closed files written output output_after (Ok (answers.Serve server)) = ⊥
+ScriptAnswered held closed files written output output_after (Ok (answers.Connect path)) = ⊥
+ScriptAnswered held closed files written output output_after (Ok (answers.Look given)) = ⊥
+ScriptAnswered held closed files written output output_after (Ok (answers.Transfer wanted)) = ⊥
+ScriptAnswered held closed files written output output_after (Ok (answers.Mistaken mistake)) = ⊥
+
+-- what is answered where the words ask for an export or an import
+abbrev pub TransferAnswered : (List ℕ → Option (List ℕ)) → (List ℕ → Type 0) → TransferWords
+    → Option (List ℕ) → Result Answer ProgramFault → Type 0
+TransferAnswered held closed given config (Ok (answers.Transfer wanted)) =
+    (wanted.words ≡ given) × IsGridIn held config wanted.grid
+TransferAnswered held closed given config (Err fault) = IsOfConfig held closed config fault
+TransferAnswered held closed given config (Ok (answers.Done flushed)) = ⊥
+TransferAnswered held closed given config (Ok (answers.Serve server)) = ⊥
+TransferAnswered held closed given config (Ok (answers.Connect path)) = ⊥
+TransferAnswered held closed given config (Ok (answers.Keep kept)) = ⊥
+TransferAnswered held closed given config (Ok (answers.Look look)) = ⊥
+TransferAnswered held closed given config (Ok (answers.Mistaken mistake)) = ⊥
+
 -- The result of these words, before anything is written to standard error: what they ask for is
--- done; or nothing is done, because they ask for a server or a talk, or clap rejects them; or there
--- was a fault.
+-- done; or nothing is done, because they ask for a server, a talk, a store, an export or an import, or clap
+-- rejects them; or there was a fault.
 abbrev pub IsAnswer : {O : Type 0} → List (List ℕ) → (List ℕ → Option (List ℕ)) → (List ℕ → Type 0)
     → (O → Option (List ℕ)) → O → O → Result Answer ProgramFault → Type 0
 IsAnswer words held closed written output output_after (Ok (answers.Done flushed)) =
@@ -136,6 +224,12 @@ IsAnswer words held closed written output output_after (Ok (answers.Serve server
     WantServer words held server × (output_after ≡ output)
 IsAnswer words held closed written output output_after (Ok (answers.Connect path)) =
     WantTalk words path.now × (output_after ≡ output)
+IsAnswer words held closed written output output_after (Ok (answers.Keep wanted)) =
+    WantKept words held wanted × (output_after ≡ output)
+IsAnswer words held closed written output output_after (Ok (answers.Look given)) =
+    WantLook words given × (output_after ≡ output)
+IsAnswer words held closed written output output_after (Ok (answers.Transfer wanted)) =
+    WantTransfer words held wanted × (output_after ≡ output)
 IsAnswer words held closed written output output_after (Ok (answers.Mistaken mistake)) =
     AreTurnedDown words × (output_after ≡ output)
 IsAnswer words held closed written output output_after (Err fault) =
@@ -154,8 +248,9 @@ IsRun words held closed written output output_after told errors errors_after Tur
     AreTurnedDown words × (output_after ≡ output)
 
 -- What is left to do after a run of the program with these words: exit, since the run has ended; or
--- run the server, or talk with the one, that the words ask for. In the last two cases nothing was
--- written.
+-- run the server, talk with the one, run a script over a store or look at one, or export or import,
+-- as the words ask. In all cases but the
+-- first nothing was written.
 abbrev pub IsNext : {O E : Type 0} → List (List ℕ) → (List ℕ → Option (List ℕ)) → (List ℕ → Type 0)
     → (O → Option (List ℕ)) → O → O → (E → Option (List ℕ)) → E → E → Next → Type 0
 IsNext words held closed written output output_after told errors errors_after (next.Exit ended) =
@@ -164,3 +259,9 @@ IsNext words held closed written output output_after told errors errors_after (n
     WantServer words held server × (output_after ≡ output) × (errors_after ≡ errors)
 IsNext words held closed written output output_after told errors errors_after (next.Connect path) =
     WantTalk words path.now × (output_after ≡ output) × (errors_after ≡ errors)
+IsNext words held closed written output output_after told errors errors_after (next.Keep wanted) =
+    WantKept words held wanted × (output_after ≡ output) × (errors_after ≡ errors)
+IsNext words held closed written output output_after told errors errors_after (next.Look given) =
+    WantLook words given × (output_after ≡ output) × (errors_after ≡ errors)
+IsNext words held closed written output output_after told errors errors_after (next.Transfer wanted) =
+    WantTransfer words held wanted × (output_after ≡ output) × (errors_after ≡ errors)

@@ -5,8 +5,9 @@ ghost use Rattle.program.specs.Ends.{exit_status};
 
 use crate::faults::ProgramFault;
 use byte_streams::{Flushed, WriteFailed};
-use command_line::ServerOptions;
+use command_line::{ExportWords, ImportWords, ServerOptions, StoreWords, Waits};
 use configuration::Config;
+use grid::Grid;
 use std::alloc::Global;
 
 /// How a run of the program ended.
@@ -40,10 +41,43 @@ pub struct WantedServer<'a> {
     pub options: ServerOptions<'a>,
     /// Its configuration.
     pub config: Config<Global>,
+    /// The folder of its store; `None` for none.
+    pub store: Option<&'a str>,
+    /// For which records replies wait, where there is a store.
+    pub waits: Waits,
+}
+
+/// A script over a store that the command line asks for, with its configuration.
+#[derive(Debug, Drop)]
+pub struct WantedScript<'a> {
+    /// Its configuration.
+    pub config: Config<Global>,
+    /// The script's file.
+    pub script: &'a str,
+    /// The folder of the store.
+    pub folder: &'a str,
+}
+
+/// An export or an import that the command line asks for.
+#[derive(Clone, Copy)]
+pub enum TransferWords<'a> {
+    /// Write the features of a server.
+    Export(ExportWords<'a>),
+    /// Add the features of a file to a server.
+    Import(ImportWords<'a>),
+}
+
+/// An export or an import, with the grid of its configuration.
+#[derive(Clone, Copy)]
+pub struct WantedTransfer<'a> {
+    /// What is asked for.
+    pub words: TransferWords<'a>,
+    /// The grid of the configuration, if one is named and has a grid.
+    pub grid: Option<Grid>,
 }
 
 /// What is left to do after `run_program`.
-#[derive(Debug, Drop)]
+#[derive(Drop)]
 pub enum Next<'a> {
     /// Exit: the run has ended.
     Exit(Ended<'a>),
@@ -51,4 +85,10 @@ pub enum Next<'a> {
     Serve(WantedServer<'a>),
     /// Talk with the server at this path: it is not connected yet.
     Connect(&'a str),
+    /// Run a script over a store: neither is opened yet.
+    Keep(WantedScript<'a>),
+    /// Look at a store: it is not opened yet.
+    Look(StoreWords<'a>),
+    /// Export or import: no server is connected yet.
+    Transfer(WantedTransfer<'a>),
 }

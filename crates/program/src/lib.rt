@@ -12,7 +12,7 @@ mod telling;
 
 pub use built_in::built_in_config;
 pub use checks::{check_named, draw_named};
-pub use ends::{Ended, Next, WantedServer};
+pub use ends::{Ended, Next, TransferWords, WantedScript, WantedServer, WantedTransfer};
 pub use faults::ProgramFault;
 pub use hosts::{HostFile, HostFolder};
 pub use laws::limits_in_numbers;

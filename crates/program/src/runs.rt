@@ -3,18 +3,19 @@
 ghost use Rattle.std.specs.Prelude.{◌≡◌, ℕ, List, Option, Some, OnOk, IfOk, IfErr, IfSome, map, option_map, string_bytes};
 ghost use Rattle.configuration.specs.Configs.{config_data};
 ghost use Rattle.program.specs.Ends.{IsUnwritten};
-ghost use Rattle.program.specs.Programs.{DrawAnswered, IsAnswer, IsNext, IsServerFault, IsServerOf, LookAnswered, PageAnswered};
+ghost use Rattle.program.specs.Programs.{DrawAnswered, IsAnswer, IsNext, IsServerFault, IsGridIn, IsServerOf, LookAnswered, PageAnswered, ScriptAnswered, TransferAnswered};
 ghost use Rattle.program.specs.RunFaults.{BrokeOff, IsOfConfig, IsOfRun};
 ghost use Rattle.program.specs.Runs.{IsConfigOf, RanScript, Served};
 
 use crate::built_in::built_in_config;
 use crate::checks::{check_named, draw_named, print_asked};
-use crate::ends::{Ended, Next, WantedServer};
+use crate::ends::{Ended, Next, TransferWords, WantedScript, WantedServer, WantedTransfer};
 use crate::faults::ProgramFault;
 use crate::telling::tell;
 use byte_streams::{Flushed, NotOpened, flush, write_shown};
-use command_line::{Asked, ScriptWords, ServeWords, Shell, Shown, read_words};
+use command_line::{Asked, ScriptWords, ServeWords, Shell, Shown, StoreWords, read_words};
 use configuration::{Config, FileFault, ReadFault, read_config_file};
+use grid::Grid;
 use scripts::run_script;
 use std::alloc::{Allocator, Global};
 use std::io::{Read, Write};
@@ -160,6 +161,12 @@ enum Answer<'a> {
     Serve(WantedServer<'a>),
     /// They ask for a talk with the server at this path.
     Connect(&'a str),
+    /// They ask for this script over a store.
+    Keep(WantedScript<'a>),
+    /// They ask for this look at a store.
+    Look(StoreWords<'a>),
+    /// They ask for this export or import.
+    Transfer(WantedTransfer<'a>),
     /// clap rejected them, with this text.
     Mistaken(Shown<'a>),
 }
@@ -178,7 +185,72 @@ fn wanted_server<'a, F: Folder>(
         Ok(config) => Ok(WantedServer {
             options: words.options,
             config,
+            store: words.store,
+            waits: words.waits,
         }),
+        Err(fault) => Err(fault),
+    }
+}
+
+/// The grid of the configuration in the named file, if one is named and has a grid.
+fn named_grid<'a, F: Folder>(
+    heap: Global,
+    name: Option<&'a str>,
+    folder: &F,
+) -> Result<Option<Grid>, ProgramFault<'a>>
+    ensures ok { IfOk result
+        (IsGridIn (F.holds folder.now) (option_map (λ name. name.now) name.entry)) }
+    ensures err { IfErr result
+        (IsOfConfig (F.holds folder.now) (F.closed folder.now)
+        (option_map (λ name. name.now) name.entry)) }
+{
+    let Some(name) = name else {
+        return Ok(None);
+    };
+    match named_config(heap, name, folder) {
+        Ok(config) => Ok(config.grid),
+        Err(fault) => Err(fault),
+    }
+}
+
+/// The export or import that the command line asks for, with the grid of the named configuration.
+fn answer_transfer<'a, F: Folder>(
+    heap: Global,
+    words: TransferWords<'a>,
+    config: Option<&'a str>,
+    folder: &F,
+) -> Result<Answer<'a>, ProgramFault<'a>>
+    ensures { TransferAnswered (F.holds folder.now) (F.closed folder.now) words.entry
+        (option_map (λ name. name.now) config.entry) result }
+{
+    match named_grid(heap, config, folder) {
+        Ok(grid) => Ok(Answer::Transfer(WantedTransfer { words, grid })),
+        Err(fault) => Err(fault),
+    }
+}
+
+/// Runs a script, or, where it has a store, only reads its configuration.
+fn answer_script<'a, F: Folder, O: Write>(
+    heap: Global,
+    words: ScriptWords<'a>,
+    folder: &F,
+    output: &mut O,
+) -> Result<Answer<'a>, ProgramFault<'a>>
+    ensures { ScriptAnswered (F.holds folder.now) (F.closed folder.now) words.entry O.contents
+        output.old output.new result }
+{
+    let Some(store) = words.store else {
+        return match run_named(heap, words, folder, output) {
+            Ok(flushed) => Ok(Answer::Done(flushed)),
+            Err(fault) => Err(fault),
+        };
+    };
+    match asked_config(heap, words.config, folder) {
+        Ok(config) => Ok(Answer::Keep(WantedScript {
+            config,
+            script: words.script,
+            folder: store,
+        })),
         Err(fault) => Err(fault),
     }
 }
@@ -229,12 +301,12 @@ fn answer_page<'a, O: Write>(
     }
 }
 
-/// Does what the words of the command line ask for. For a server it reads only the configuration;
-/// for a talk it returns only the path. If clap rejects the words, nothing is done and clap's text
+/// Does what the words of the command line ask for. For a server, an export or an import it reads
+/// only the configuration; for a talk it returns only the path. If clap rejects the words, nothing is done and clap's text
 /// is returned.
 /// Faults: `Words` if there is no memory for the command line; `CannotWrite` if help cannot be
 /// written; those of `run_named`, of `check_named`, of `draw_named`, and of a page that is printed;
-/// those of a server's configuration.
+/// those of the configuration of a server, an export or an import.
 fn run_asked<'a, F: Folder, O: Write>(
     alloc: Global,
     words: &'a [String],
@@ -245,10 +317,7 @@ fn run_asked<'a, F: Folder, O: Write>(
         (F.closed folder.now) O.contents output.old output.new result }
 {
     match read_words(alloc, words) {
-        Ok(Asked::Script(files)) => match run_named(alloc, files, folder, output) {
-            Ok(flushed) => Ok(Answer::Done(flushed)),
-            Err(fault) => Err(fault),
-        },
+        Ok(Asked::Script(files)) => answer_script(alloc, files, folder, output),
         Ok(Asked::Serve(given)) => match wanted_server(alloc, given, folder) {
             Ok(server) => Ok(Answer::Serve(server)),
             Err(fault) => Err(fault),
@@ -256,6 +325,19 @@ fn run_asked<'a, F: Folder, O: Write>(
         Ok(Asked::Connect(path)) => Ok(Answer::Connect(path)),
         Ok(Asked::Check(name)) => answer_check(alloc, name, folder, output),
         Ok(Asked::Draw(name)) => answer_draw(alloc, name, folder, output),
+        Ok(Asked::Export(given)) => answer_transfer(
+            alloc,
+            TransferWords::Export(given),
+            given.config,
+            folder,
+        ),
+        Ok(Asked::Import(given)) => answer_transfer(
+            alloc,
+            TransferWords::Import(given),
+            given.config,
+            folder,
+        ),
+        Ok(Asked::Store(given)) => Ok(Answer::Look(given)),
         Ok(Asked::Man) => answer_page(alloc, None, output),
         Ok(Asked::Completions(shell)) => answer_page(alloc, Some(shell), output),
         Ok(Asked::Help(help)) => match show_help(&help, output) {
@@ -268,7 +350,7 @@ fn run_asked<'a, F: Folder, O: Write>(
 }
 
 /// Runs the program with these words, the first of which is its name. Returns what is left to do:
-/// exit, run a server, or talk with one. For a server, only its configuration is read.
+/// exit, run a server, talk with one, or export or import. For these, only the configuration is read.
 /// If the run ends by a fault, one line about it is written to `errors`; if clap rejects the words,
 /// its text is written there. A failing write to `errors` cuts the text short and does not change
 /// the result's kind or exit status.
@@ -287,6 +369,9 @@ pub fn run_program<'a, F: Folder, O: Write, E: Write>(
         Ok(Answer::Done(flushed)) => Next::Exit(Ended::Well(flushed)),
         Ok(Answer::Serve(server)) => Next::Serve(server),
         Ok(Answer::Connect(path)) => Next::Connect(path),
+        Ok(Answer::Keep(script)) => Next::Keep(script),
+        Ok(Answer::Look(given)) => Next::Look(given),
+        Ok(Answer::Transfer(wanted)) => Next::Transfer(wanted),
         Ok(Answer::Mistaken(mistake)) => {
             let _ = write_shown(&mistake, errors);
             Next::Exit(Ended::TurnedDown)

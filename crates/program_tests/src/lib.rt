@@ -1,5 +1,5 @@
-//! Tests of configurations, of the program's runs, and of command lines for a server or for a talk
-//! with one.
+//! Tests of configurations, of the program's runs, and of command lines for a server, for a talk
+//! with one, for an export and for an import.
 #![tactic(auto)]
 
 #[cfg(test)]
@@ -14,3 +14,5 @@ mod run_tests;
 mod running;
 #[cfg(test)]
 mod serve_tests;
+#[cfg(test)]
+mod transfer_tests;

@@ -99,6 +99,9 @@ pub(crate) fn status_of(rt: &impl Abort, next: &Next<'_>) -> u8 {
         Next::Exit(ended) => ended.status(),
         Next::Serve(_) => panic!(rt; "a server is asked for"),
         Next::Connect(_) => panic!(rt; "a talk is asked for"),
+        Next::Keep(_) => panic!(rt; "a script over a store is asked for"),
+        Next::Look(_) => panic!(rt; "a look at a store is asked for"),
+        Next::Transfer(_) => panic!(rt; "an export or an import is asked for"),
     }
 }
 

@@ -266,7 +266,7 @@ fn help_of_servers(rt: HostRuntime) -> Result<(), Fail> {
         0,
         "Serves sessions over a Unix socket.\n\nThe socket is bound at PATH, and `listening PATH` is printed.",
         &[
-            "\nnumber of records in the audit trail. Nothing is stored: ",
+            "\nnumber of records in the audit trail. Without --store nothing is stored: ",
             "\nUsage: landmap serve [OPTIONS] --socket <PATH> --connections <N>\n",
             "How many connections are served, 1 to 1024\n",
             "How many of them at a time, 1 to 64 [default: 4]\n",

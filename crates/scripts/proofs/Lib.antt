@@ -10,3 +10,4 @@ pub mod LineLemmas
 pub mod IndexLemmas
 pub mod ScriptLemmas
 pub mod LentLemmas
+pub mod HeardLemmas

@@ -19,18 +19,14 @@ use Rattle.line_streams.specs.declared.streams.ServeFault.TheVariants.{Memory}
 use Rattle.line_streams.proofs.StreamLemmas.{lines_told, ran_as}
 use Rattle.scripts.proofs.IndexLemmas.{runs_plainly}
 
--- what a session answered and wrote is the reply to its label's line
-pub label_told : {E W : Type 0} (how : Manner W) (r : Result (Unit {0}) E) (label text : List ℕ) (old : Script W) (world : W) (sessions : List SessionState) (reply : SaidData) (a b : Option (List ℕ))
+-- what a session answered is the reply to its label's line
+pub label_told : {W : Type 0} (how : Manner W) (label text : List ℕ) (old : Script W) (world : W) (sessions : List SessionState) (reply : SaidData)
     → place label old.sessions < LABEL_LIMIT
     → ((session : SessionState) × (sessions ≡ slice_set (with_label label old.sessions) (place label old.sessions) session)
     × ((d : SessionState) → SessionAnswers how text (session_in (slice_index_or (with_label label old.sessions) (place label old.sessions) d) old.world) (session_in session world) reply))
-    → Took r a b (said_text label reply)
-    → ((said : List ℕ) × Took r a b said × LabelTells how label text old (script world sessions) said)
-label_told how r label text old world sessions reply a b room answered written = (
-  said_text label reply,
-  written,
-  rw (lt-ltb _ _ room) (record { session = answered.0; reply = reply; answers = answered.2 (fresh label); stays = answered.1; shows = refl }),
-)
+    → LabelTells how label text old (script world sessions) (said_text label reply)
+label_told how label text old world sessions reply room answered =
+    rw (lt-ltb _ _ room) (record { session = answered.0; reply = reply; answers = answered.2 (fresh label); stays = answered.1; shows = refl })
 
 -- a run over a world with its index is a run over its plain part
 pub ran_plainly : {T : Type 0} (r : Result T ServeFault) (old new : IndexedScript) (input left a b : Option (List ℕ)) → Ran (NeverEnds LineRuns) r old new input left a b

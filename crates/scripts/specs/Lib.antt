@@ -5,4 +5,6 @@ pub mod Stepping
 pub mod Causes
 pub mod Scripts
 pub mod Indexed
+pub mod Heard
+pub mod Keeping
 pub mod BuiltIn

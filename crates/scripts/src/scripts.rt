@@ -1,9 +1,9 @@
 //! Scripts: lines of many sessions, each with its session's label, and the table of these sessions.
-ghost use Rattle.std.specs.Prelude.{◌≡◌, ◌≤◌, ◌<◌, ◌+◌, [], List, None, OnOk, IfOk, IfErr, IfSome, codes, length, slice_set, slice_index_or, vec_len, vec_capacity, ℕ, Result};
+ghost use Rattle.std.specs.Prelude.{◌≡◌, ◌≤◌, ◌<◌, ◌+◌, [], List, None, OnOk, IfOk, IfErr, IfSome, length, slice_set, slice_index_or, vec_len, vec_capacity, ℕ, Result};
 ghost use Rattle.std.specs.Io.KnownBytes.{Appends};
+ghost use Rattle.scripts.specs.Heard.{heard_text};
 ghost use Rattle.scripts.specs.Indexed.{AllShut, LineRuns, indexed, with_index};
 ghost use Rattle.scripts.specs.Scripts.{IsScriptText, LabelTells, LineTells, LineTellsIn, SessionAnswers, is_skipped, place, script, with_label};
-ghost use Rattle.session_lines.specs.Printed.{led, reply_text};
 ghost use Rattle.session_lines.specs.Replies.{said_view};
 ghost use Rattle.plain_world.specs.Events.{Happens, Tend, Tended, reply_of};
 ghost use Rattle.plain_world.specs.declared.faults.Fault.{Fault as WorldFault};
@@ -36,10 +36,10 @@ pub const LABEL_LIMIT: usize = 64;
 /// The sessions of a script, with room for `LABEL_LIMIT` of them, and the slot of the index to tend
 /// next.
 #[derive(Drop)]
-struct Table<A: Allocator> {
+pub(crate) struct Table<A: Allocator> {
     heap: Global,
     next_slot: u32,
-    sessions: Vec<Session, A>,
+    pub(crate) sessions: Vec<Session, A>,
     ghost room: { LABEL_LIMIT ≤ vec_capacity sessions },
     ghost within: { vec_len sessions ≤ LABEL_LIMIT },
 }
@@ -71,7 +71,7 @@ fn place_of(sessions: &[Session], label: &Name) -> usize
 
 impl<A: Allocator + Copy> Table<A> {
     /// No sessions, and room for `LABEL_LIMIT` of them.
-    fn new(alloc: A, heap: Global) -> Result<Self, NoMemory>
+    pub(crate) fn new(alloc: A, heap: Global) -> Result<Self, NoMemory>
         ensures sessions { IfOk result (λ table. table.sessions.items ≡ []) }
         ensures turn { IfOk result (λ table. table.next_slot ≡ 0) }
     {
@@ -112,7 +112,7 @@ impl<A: Allocator + Copy> Table<A> {
     }
 
     /// Tends the slot of the index whose turn it is. The turn passes on even if the index refuses.
-    fn tend(&mut self, world: &mut World<A>)
+    pub(crate) fn tend(&mut self, world: &mut World<A>)
         ensures sessions { self.new.sessions.items ≡ self.old.sessions.items }
         ensures world { world.new.plain ≡ world.old.plain }
         ensures walks { world.new.walks ≡ world.old.walks }
@@ -126,64 +126,67 @@ impl<A: Allocator + Copy> Table<A> {
     }
 
     /// Answers a line, in this order: E1 if it is too long; nothing for an empty line or a comment;
-    /// E9 if it has no label, or one that would be the 65th.
-    fn take<W: Write>(
-        &mut self,
-        world: &mut World<A>,
-        line: &[u8],
-        writer: &mut W,
-    ) -> Result<(), WriteFailed>
+    /// E9 if it has no label, or one that would be the 65th. Nothing is written.
+    pub(crate) fn answer(&mut self, world: &mut World<A>, line: &[u8]) -> Heard<A>
         ensures turn { self.new.next_slot ≡ self.old.next_slot }
-        ensures takes { (said : List ℕ)
-            × Took result (W.contents writer.old) (W.contents writer.new) said
-            × LineTellsIn with_index line.now (script world.old self.old.sessions.items)
-            (script world.new self.new.sessions.items) said }
+        ensures answers { LineTellsIn with_index line.now (script world.old self.old.sessions.items)
+            (script world.new self.new.sessions.items) (heard_text result) }
     {
         if line.len() > LINE_LIMIT {
-            return refuse(LineFault::LineTooLong, writer);
+            return Heard::Refused(LineFault::LineTooLong);
         }
         if is_to_skip(line) {
-            return Ok(());
+            return Heard::Nothing;
         }
         let Some((label, text)) = split_label(line) else {
-            return refuse(LineFault::NoLabel, writer);
+            return Heard::Refused(LineFault::NoLabel);
         };
         match Name::new(label) {
-            Some(label) => self.take_labelled(world, label, text, writer),
-            None => refuse(LineFault::NoLabel, writer),
+            Some(label) => self.answer_labelled(world, label, text),
+            None => Heard::Refused(LineFault::NoLabel),
         }
     }
 
     /// Answers a line with this label. E9 if it would be the 65th label.
-    fn take_labelled<W: Write>(
-        &mut self,
-        world: &mut World<A>,
-        label: Name,
-        text: &[u8],
-        writer: &mut W,
-    ) -> Result<(), WriteFailed>
+    fn answer_labelled(&mut self, world: &mut World<A>, label: Name, text: &[u8]) -> Heard<A>
         ensures turn { self.new.next_slot ≡ self.old.next_slot }
-        ensures takes { (said : List ℕ)
-            × Took result (W.contents writer.old) (W.contents writer.new) said
-            × LabelTells with_index label text.now (script world.old self.old.sessions.items)
-            (script world.new self.new.sessions.items) said }
+        ensures answers { LabelTells with_index label text.now
+            (script world.old self.old.sessions.items) (script world.new self.new.sessions.items)
+            (heard_text result) }
     {
         let at = place_of(&self.sessions, &label);
         if at >= LABEL_LIMIT {
-            return refuse(LineFault::NoLabel, writer);
+            return Heard::Refused(LineFault::NoLabel);
         }
         self.begin_session(label, at);
         let said = self.answer_at(world, at, text);
-        write_said(label.as_bytes(), &said, writer)
+        Heard::Said(label, said)
     }
 }
 
-/// Writes a fault of a line that belongs to no session, with `?` for a label.
-fn refuse<W: Write>(fault: LineFault, writer: &mut W) -> Result<(), WriteFailed>
-    ensures { Took result (W.contents writer.old) (W.contents writer.new)
-        (led (codes "?") (reply_text (Reply.Error fault))) }
+/// What a line of a script is answered, before it is written.
+#[derive(Drop)]
+pub(crate) enum Heard<A: Allocator> {
+    /// Nothing: the line is empty or a comment.
+    Nothing,
+    /// A fault of a line that belongs to no session.
+    Refused(LineFault),
+    /// What the session of a label says.
+    Said(Name, Said<A>),
+}
+
+/// Writes what a line is answered; a fault that belongs to no session with `?` for a label.
+pub(crate) fn write_heard<A: Allocator, W: Write>(
+    heard: &Heard<A>,
+    writer: &mut W,
+) -> Result<(), WriteFailed>
+    ensures { Took result (W.contents writer.old) (W.contents writer.new) (heard_text heard.now) }
 {
-    write_line(b"?", &Reply::Error(fault), writer)
+    match heard {
+        Heard::Nothing => Ok(()),
+        Heard::Refused(fault) => write_line(b"?", &Reply::Error(*fault), writer),
+        Heard::Said(label, said) => write_said(label.as_bytes(), said, writer),
+    }
 }
 
 impl<A: Allocator + Copy> LineDesk for Table<A> {
@@ -203,7 +206,8 @@ impl<A: Allocator + Copy> LineDesk for Table<A> {
         line: &[u8],
         writer: &mut W,
     ) -> Result<Next, WriteFailed> {
-        let end = self.take(world, line, writer);
+        let heard = self.answer(world, line);
+        let end = write_heard(&heard, writer);
         self.tend(world);
         Next::Line.behind(end)
     }
@@ -249,7 +253,7 @@ pub fn run_script<A: Allocator + Copy, R: Read, W: Write>(
 }
 
 /// Drops the open search of each session.
-fn drop_all<A: Allocator + Copy>(sessions: &[Session], world: &mut World<A>)
+pub(crate) fn drop_all<A: Allocator + Copy>(sessions: &[Session], world: &mut World<A>)
     ensures shuts { AllShut sessions.now world.old world.new }
     ensures none { sessions.now ≡ [] → world.new ≡ world.old }
 {

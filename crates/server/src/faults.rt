@@ -2,6 +2,7 @@
 
 ghost use Rattle.std.specs.Prelude.{◌≡◌};
 
+use crate::keeping::StoreFault;
 use byte_streams::WriteFailed;
 use hall::{CloseFault, HallFault, OpenFault};
 use memory::NoMemory;
@@ -39,6 +40,8 @@ pub enum ServerFault {
     Hall(HallFault),
     /// The hall did not close.
     Close(CloseFault),
+    /// The store was not opened, or took nothing more.
+    Store(StoreFault),
 }
 
 impl ServerFault {
@@ -56,6 +59,7 @@ impl ServerFault {
             ServerFault::Open(fault) => fault.code(),
             ServerFault::Hall(fault) => fault.code(),
             ServerFault::Close(fault) => fault.code(),
+            ServerFault::Store(fault) => fault.code(),
         }
     }
 }

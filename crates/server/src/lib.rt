@@ -2,6 +2,8 @@
 #![tactic(auto)]
 
 mod faults;
+mod keeping;
+mod kept;
 mod listening;
 mod socket_files;
 mod sockets;
@@ -10,7 +12,10 @@ mod streams;
 mod workers;
 
 pub use faults::{NoMemoryForChannel, ServerFault};
+pub use group_commit::Rests;
 pub use hall::Closed;
+pub use keeping::{AppendFault, Begins, Keeps, Restored, StoreFault, Writes};
+pub use kept::{Handover, Keeping, serve_kept};
 pub use sockets::{SocketOptions, serve_socket};
 pub use stopping::{Stop, watch};
 pub use streams::{Serving, WORKER_COUNT, WORKER_LIMIT, serve_streams};

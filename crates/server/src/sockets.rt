@@ -1,14 +1,14 @@
 //! Serving a Unix socket.
 
 ghost use Rattle.std.specs.Prelude.{IfOk};
-ghost use Rattle.chronicle.specs.Chronicles.{opening_by};
-ghost use Rattle.server.specs.Served.{IsServed};
+ghost use Rattle.server.specs.Served.{IsServed, opening_of};
 
 use crate::faults::ServerFault;
+use crate::keeping::Lasting;
 use crate::listening::{Bound, listen, tell_ready};
 use crate::socket_files::remove_own;
 use crate::stopping::Stop;
-use crate::streams::{Serving, serve_streams};
+use crate::streams::{Serving, serve_lasting};
 use hall::{Closed, NoPause};
 use log::{Log, warn};
 use std::alloc::Global;
@@ -111,12 +111,13 @@ fn serve_listener<H, R>(
     path: &str,
     serving: Serving,
     options: SocketOptions<'_>,
+    lasting: Option<Lasting<'_>>,
     bound: Bound,
 ) -> Result<Closed, ServerFault>
 where
     H: Wait + Drop + Send,
     R: Threads + Wait + Clock + Log + Print + Sync,
-    ensures { IfOk result (IsServed (opening_by serving.subjects serving.document)) }
+    ensures { IfOk result (IsServed (opening_of serving.subjects serving.begins)) }
 {
     tell_ready(rt, heap, path)?;
     if let Some(stop) = options.stop {
@@ -138,7 +139,30 @@ where
             }
         }
     });
-    serve_streams(rt, own, heap, serving, incoming)
+    serve_lasting(rt, own, heap, serving, lasting, incoming)
+}
+
+/// Serves a socket as `serve_socket` does; where there is a desk, replies leave once the records on
+/// which they rest last.
+pub(crate) fn serve_bound<H, R>(
+    rt: &R,
+    own: H,
+    heap: Global,
+    path: &str,
+    serving: Serving,
+    options: SocketOptions<'_>,
+    lasting: Option<Lasting<'_>>,
+) -> Result<Closed, ServerFault>
+where
+    H: Wait + Drop + Send,
+    R: Threads + Wait + Clock + Log + Files<File = File> + Net + Print + Sync,
+    ensures { IfOk result (IsServed (opening_of serving.subjects serving.begins)) }
+{
+    let bound = listen(rt, path, options.takeover)?;
+    let file = bound.file;
+    let served = serve_listener(rt, own, heap, path, serving, options, lasting, bound);
+    remove_own(rt, path, file);
+    served
 }
 
 /// Binds a Unix socket, writes the line `listening PATH` to standard output, serves the connections
@@ -157,11 +181,7 @@ pub fn serve_socket<H, R>(
 where
     H: Wait + Drop + Send,
     R: Threads + Wait + Clock + Log + Files<File = File> + Net + Print + Sync,
-    ensures { IfOk result (IsServed (opening_by serving.subjects serving.document)) }
+    ensures { IfOk result (IsServed (opening_of serving.subjects serving.begins)) }
 {
-    let bound = listen(rt, path, options.takeover)?;
-    let file = bound.file;
-    let served = serve_listener(rt, own, heap, path, serving, options, bound);
-    remove_own(rt, path, file);
-    served
+    serve_bound(rt, own, heap, path, serving, options, None)
 }

@@ -3,10 +3,10 @@
 ghost use Rattle.std.specs.Prelude.{◌≡◌, IfOk};
 ghost use Rattle.std.specs.Iterator.{IsFinite};
 ghost use Rattle.std.specs.Thread.{IsSend, IsSync};
-ghost use Rattle.chronicle.specs.Chronicles.{opening_by};
-ghost use Rattle.server.specs.Served.{IsServed};
+ghost use Rattle.server.specs.Served.{IsServed, opening_of};
 
 use crate::faults::{NoMemoryForChannel, ServerFault};
+use crate::keeping::{Begins, Lasting};
 use crate::workers::{tend, work};
 use crossbeam_channel::{Receiver, Sender, bounded};
 use features::Subjects;
@@ -14,7 +14,6 @@ use hall::{Closed, Hall, HallName, LEDGER_PARTS, Pause, Seat, Unnamed, VIEW_LIMI
 use log::{Log, warn};
 use memory::{GrowVec, vec_with_slots};
 use plain_world::SEAT_LIMIT;
-use policy_documents::Document;
 use std::alloc::Global;
 use std::io::{Read, Write};
 use std::marker::Brand;
@@ -22,6 +21,7 @@ use std::sync::{Mutex, Wait};
 use std::thread;
 use std::thread::Threads;
 use std::time::Clock;
+use world::Limits;
 
 /// The number of workers, if no other is asked for.
 pub const WORKER_COUNT: usize = 4;
@@ -37,15 +37,18 @@ const QUEUE: usize = 4;
 pub struct Serving {
     /// Who may have a seat.
     pub subjects: Subjects,
-    /// The policy document, as the first edition.
-    pub document: Document<Global>,
+    /// At which state the world begins.
+    pub begins: Begins,
     /// How many sessions are served side by side, from 1 to `WORKER_LIMIT`; any other number is
     /// taken as the nearest of these.
     pub workers: usize,
 }
 
 /// A channel with room for this many messages.
-fn channel<T: Drop>(heap: Global, room: usize) -> Result<(Sender<T>, Receiver<T>), ServerFault> {
+pub(crate) fn channel<T: Drop>(
+    heap: Global,
+    room: usize,
+) -> Result<(Sender<T>, Receiver<T>), ServerFault> {
     match bounded(heap, room) {
         Ok(ends) => Ok(ends),
         Err(_) => Err(ServerFault::Channel(NoMemoryForChannel::seen())),
@@ -92,6 +95,7 @@ fn serve_all<'h, L: HallName + Send + Sync, H, R, I, O, G, S>(
     hall: &'h Hall<L, H, Global>,
     gathered: &Mutex<Vec<Seat<'h, L, H, Global>>>,
     views: Vec<View<L>>,
+    lasting: Option<Lasting<'_>>,
     ends: (Sender<(I, O, G)>, Receiver<(I, O, G)>),
     incoming: S,
 ) -> Result<(), ServerFault>
@@ -122,7 +126,7 @@ where
                     break;
                 };
                 if scope
-                    .spawn(move || work(rt, heap, hall, gathered, streams, view))
+                    .spawn(move || work(rt, heap, hall, gathered, streams, view, lasting))
                     .is_err()
                 {
                     warn!(rt; target: "landmap", "a worker could not be started");
@@ -148,6 +152,7 @@ fn serve_tended<'h, L: HallName + Send + Sync, H, R, I, O, G, S>(
     heap: Global,
     hall: &'h Hall<L, H, Global>,
     views: Vec<View<L>>,
+    lasting: Option<Lasting<'_>>,
     incoming: S,
 ) -> Result<Vec<Seat<'h, L, H, Global>>, ServerFault>
 where
@@ -176,10 +181,13 @@ where
             requires crosses { IsSend I.row × IsSend O.row × IsSend G.row }
             requires hall { IsSend L.row × IsSend H.row }
         {
-            if scope.spawn(move || tend(rt, hall, stopped)).is_err() {
+            if scope
+                .spawn(move || tend(rt, hall, stopped, lasting))
+                .is_err()
+            {
                 warn!(rt; target: "landmap", "the index is not tended");
             }
-            let served = serve_all(rt, heap, hall, seats, views, streams, incoming);
+            let served = serve_all(rt, heap, hall, seats, views, lasting, streams, incoming);
             // This ends the tending.
             drop(stop);
             served
@@ -189,6 +197,73 @@ where
     Ok(gathered.into_inner())
 }
 
+/// Serves what comes in over an open hall, and closes it. With a desk, all records last before it
+/// is closed, or the desk has failed.
+fn serve_open<L: HallName + Send + Sync, H, R, I, O, G, S>(
+    rt: &R,
+    heap: Global,
+    hall: &Hall<L, H, Global>,
+    workers: usize,
+    lasting: Option<Lasting<'_>>,
+    incoming: S,
+) -> Result<Closed, ServerFault>
+where
+    H: Wait + Drop + Send,
+    R: Threads + Wait + Clock + Log + Sync,
+    I: Read + Drop + Send,
+    O: Write + Drop + Send,
+    G: Pause + Drop + Send,
+    S: Iterator<Item = (I, O, G)> + Drop,
+    requires parts { L.parts ≡ LEDGER_PARTS }
+    requires can { S.can_next incoming }
+    requires ends { IsFinite (S.remaining incoming) }
+    ensures { IfOk result (IsServed L.opening) }
+{
+    let views = views_of(rt, heap, hall, workers)?;
+    let seats = serve_tended(rt, heap, hall, views, lasting, incoming)?;
+    if let Some(lasting) = lasting {
+        lasting.finish(rt, hall);
+    }
+    match hall.close(rt, seats) {
+        Ok(closed) => Ok(closed),
+        Err((fault, _seats)) => Err(ServerFault::Close(fault)),
+    }
+}
+
+/// A hall of the name `L`, with a view for each worker.
+fn opened<L: HallName, H: Wait + Drop>(
+    own: H,
+    heap: Global,
+    unnamed: Unnamed,
+    subjects: Subjects,
+    begins: Begins,
+    workers: usize,
+) -> Result<Hall<L, H, Global>, ServerFault>
+    requires name { unnamed.ledger.name ≡ L.name }
+    requires parts { (unnamed.ledger.parts ≡ L.parts) × (L.parts ≡ LEDGER_PARTS) }
+    requires list { unnamed.list ≡ L.book }
+    requires opening { L.opening ≡ opening_of subjects begins }
+{
+    match begins {
+        Begins::Document(document) => {
+            match Hall::open(own, heap, heap, unnamed, subjects, document, workers) {
+                Ok(hall) => Ok(hall),
+                Err((_document, fault)) => Err(ServerFault::Open(fault)),
+            }
+        }
+        Begins::State(restored) => {
+            let (base, rolled) = restored.into_parts();
+            let limits = Limits::GREATEST;
+            match Hall::open_from(
+                own, heap, heap, unnamed, subjects, base, rolled, workers, limits,
+            ) {
+                Ok(hall) => Ok(hall),
+                Err(fault) => Err(ServerFault::Open(fault)),
+            }
+        }
+    }
+}
+
 /// Serves what comes in over a hall of the name `L`, and closes the hall.
 fn serve_hall<L: HallName + Send + Sync, H, R, I, O, G, S>(
     rt: &R,
@@ -196,6 +271,7 @@ fn serve_hall<L: HallName + Send + Sync, H, R, I, O, G, S>(
     heap: Global,
     unnamed: Unnamed,
     serving: Serving,
+    lasting: Option<Lasting<'_>>,
     incoming: S,
 ) -> Result<Closed, ServerFault>
 where
@@ -208,29 +284,44 @@ where
     requires name { unnamed.ledger.name ≡ L.name }
     requires parts { (unnamed.ledger.parts ≡ L.parts) × (L.parts ≡ LEDGER_PARTS) }
     requires list { unnamed.list ≡ L.book }
-    requires opening { L.opening ≡ opening_by serving.subjects serving.document }
+    requires opening { L.opening ≡ opening_of serving.subjects serving.begins }
     requires can { S.can_next incoming }
     requires ends { IsFinite (S.remaining incoming) }
     ensures { IfOk result (IsServed L.opening) }
 {
     let Serving {
         subjects,
-        document,
+        begins,
         workers,
     } = serving;
     let workers = workers.clamp(1, WORKER_LIMIT);
-    let opened = Hall::open(own, heap, heap, unnamed, subjects, document, workers);
-    let hall: Hall<L, H, Global> = match opened {
-        Ok(hall) => hall,
-        Err((_document, fault)) => return Err(ServerFault::Open(fault)),
-    };
-    let shared = &hall;
-    let views = views_of(rt, heap, shared, workers)?;
-    let seats = serve_tended(rt, heap, shared, views, incoming)?;
-    match shared.close(rt, seats) {
-        Ok(closed) => Ok(closed),
-        Err((fault, _seats)) => Err(ServerFault::Close(fault)),
-    }
+    let hall = opened::<L, H>(own, heap, unnamed, subjects, begins, workers)?;
+    serve_open(rt, heap, &hall, workers, lasting, incoming)
+}
+
+/// Serves streams as `serve_streams` does; where there is a desk, replies leave once the records on
+/// which they rest last.
+pub(crate) fn serve_lasting<H, R, I, O, G, S>(
+    rt: &R,
+    own: H,
+    heap: Global,
+    serving: Serving,
+    lasting: Option<Lasting<'_>>,
+    incoming: S,
+) -> Result<Closed, ServerFault>
+where
+    H: Wait + Drop + Send,
+    R: Threads + Wait + Clock + Log + Sync,
+    I: Read + Drop + Send,
+    O: Write + Drop + Send,
+    G: Pause + Drop + Send,
+    S: Iterator<Item = (I, O, G)> + Drop,
+    requires can { S.can_next incoming }
+    requires ends { IsFinite (S.remaining incoming) }
+    ensures { IfOk result (IsServed (opening_of serving.subjects serving.begins)) }
+{
+    let unnamed = Unnamed::new();
+    serve_hall::<Brand, H, R, I, O, G, S>(rt, own, heap, unnamed, serving, lasting, incoming)
 }
 
 /// Serves streams by workers, beside one thread that tends the index. A worker serves one stream
@@ -255,8 +346,7 @@ where
     S: Iterator<Item = (I, O, G)> + Drop,
     requires can { S.can_next incoming }
     requires ends { IsFinite (S.remaining incoming) }
-    ensures { IfOk result (IsServed (opening_by serving.subjects serving.document)) }
+    ensures { IfOk result (IsServed (opening_of serving.subjects serving.begins)) }
 {
-    let unnamed = Unnamed::new();
-    serve_hall::<Brand, H, R, I, O, G, S>(rt, own, heap, unnamed, serving, incoming)
+    serve_lasting(rt, own, heap, serving, None, incoming)
 }

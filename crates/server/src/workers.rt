@@ -1,5 +1,6 @@
 //! What each thread of a server does.
 
+use crate::keeping::{HallRecords, Lasting, barrier};
 use byte_streams::let_go;
 use crossbeam_channel::{Receiver, RecvTimeoutError};
 use hall::{Hall, HallName, Pause, Seat, View};
@@ -30,8 +31,10 @@ fn serve_buffered<'h, L: HallName, H: Wait + Drop, R: Wait, I: Read, O: Write + 
     reader: &mut I,
     writer: O,
     pause: &mut G,
+    lasting: Option<Lasting<'_>>,
 ) -> Result<(), ServeFault> {
-    let mut writer = buffered(heap, writer)?;
+    let records = HallRecords { rt, hall };
+    let mut writer = buffered(heap, barrier(rt, &records, lasting, writer))?;
     let mut attended = Attended::new(rt, hall, seats, view, pause);
     match serve(heap, heap, &mut attended, reader, &mut writer) {
         Ok(_) => Ok(()),
@@ -58,9 +61,20 @@ fn serve_stream<
     seats: &mut Vec<Seat<'h, L, H, Global>>,
     view: &mut View<L>,
     stream: (I, O, G),
+    lasting: Option<Lasting<'_>>,
 ) {
     let (mut reader, writer, mut pause) = stream;
-    let ended = serve_buffered(rt, heap, hall, seats, view, &mut reader, writer, &mut pause);
+    let ended = serve_buffered(
+        rt,
+        heap,
+        hall,
+        seats,
+        view,
+        &mut reader,
+        writer,
+        &mut pause,
+        lasting,
+    );
     if let Err(fault) = ended {
         warn!(rt; target: "landmap", "a session ended by {fault}");
     }
@@ -83,6 +97,7 @@ pub(crate) fn work<
     gathered: &Mutex<Vec<Seat<'h, L, H, Global>>>,
     streams: Receiver<(I, O, G)>,
     view: View<L>,
+    lasting: Option<Lasting<'_>>,
 ) {
     let mut view = view;
     let mut seats = Vec::new(heap);
@@ -90,7 +105,7 @@ pub(crate) fn work<
         let Ok(stream) = streams.recv(rt) else {
             break;
         };
-        serve_stream(rt, heap, hall, &mut seats, &mut view, stream);
+        serve_stream(rt, heap, hall, &mut seats, &mut view, stream, lasting);
     }
     if gathered.lock(rt).append(&mut seats).is_err() {
         warn!(rt; target: "landmap", "seats are lost");
@@ -98,11 +113,13 @@ pub(crate) fn work<
 }
 
 /// Tends in rounds, until the sender of `ends` is dropped: what is due, and at long intervals all
-/// slots. A round that is refused is the last, with a warning.
+/// slots. A round that is refused is the last, with a warning. Each time the desk, if there is one,
+/// takes over the records that nobody waits for.
 pub(crate) fn tend<L: HallName, H: Wait + Drop, R: Wait + Clock + Log>(
     rt: &R,
     hall: &Hall<L, H, Global>,
     ends: Receiver<()>,
+    lasting: Option<Lasting<'_>>,
 ) {
     let mut pauses = 0;
     for _ in rt.forever() {
@@ -115,6 +132,9 @@ pub(crate) fn tend<L: HallName, H: Wait + Drop, R: Wait + Clock + Log>(
                 } else {
                     pauses = 0;
                     hall.want_round(rt);
+                }
+                if let Some(lasting) = lasting {
+                    lasting.take_over(rt, hall);
                 }
                 if let Err(fault) = hall.tend_round(rt) {
                     warn!(rt; target: "landmap", "the index is no longer tended: {fault}");

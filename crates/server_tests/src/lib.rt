@@ -8,6 +8,8 @@ mod fault_tests;
 #[cfg(test)]
 mod held_tests;
 #[cfg(test)]
+mod kept_tests;
+#[cfg(test)]
 mod memory_streams;
 #[cfg(test)]
 mod servers;

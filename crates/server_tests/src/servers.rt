@@ -1,15 +1,17 @@
 //! What the tests serve.
+use decision::Decider;
 use features::{Name, Subject, Subjects};
 use hall::{Closed, Pause};
 use log::Log;
 use policy_text::{Document, read_document};
-use server::{Serving, WORKER_COUNT, serve_streams};
+use server::{Begins, Restored, Serving, WORKER_COUNT, serve_streams};
 use std::alloc::Global;
 use std::io::{Read, Write};
 use std::process::Abort;
-use std::sync::Wait;
+use std::sync::{Arc, Wait};
 use std::thread::Threads;
 use std::time::Clock;
+use world::Base;
 
 /// A document that permits everything.
 pub const OPEN: &str =
@@ -35,7 +37,7 @@ fn subject(rt: &impl Abort, name: &[u8], steward: bool) -> Subject {
 }
 
 /// Two editors, `north` and `south`, and the steward `chief`.
-fn three_subjects(rt: &impl Abort) -> Subjects {
+pub fn three_subjects(rt: &impl Abort) -> Subjects {
     let subjects = [
         subject(rt, b"north", false),
         subject(rt, b"south", false),
@@ -47,11 +49,24 @@ fn three_subjects(rt: &impl Abort) -> Subjects {
     }
 }
 
+/// No features, and the document that permits everything as the first edition.
+pub fn first_state(rt: &impl Abort, heap: Global) -> Restored {
+    let Ok(decider) = Decider::new(open_document(rt, heap), 1) else {
+        panic!(rt; "no decider");
+    };
+    let base = Base {
+        features: Vec::new(heap),
+        version: 0,
+        decider: Arc::new(heap, decider).expect(rt, "memory"),
+    };
+    Restored::new(base, 0).expect(rt, "a state")
+}
+
 /// Three subjects, for whom everything is permitted, and this many workers.
 pub fn serving_by(rt: &impl Abort, heap: Global, workers: usize) -> Serving {
     Serving {
         subjects: three_subjects(rt),
-        document: open_document(rt, heap),
+        begins: Begins::Document(open_document(rt, heap)),
         workers,
     }
 }

@@ -115,7 +115,7 @@ pub fn new_volume(rt: &impl Abort, heap: Global) -> Volume<MemStore> {
         Err((fault, _)) => panic!(rt; "no volume: {fault}"),
     };
     let decider = decider(rt, heap, OPEN, 1);
-    match volume.begin(heap, &[], 0, &decider) {
+    match volume.begin(heap, &[], 0, &decider, 1, "[]") {
         Ok(()) => volume,
         Err(fault) => panic!(rt; "not begun: {fault}"),
     }

@@ -1,12 +1,13 @@
 -- A store between two calls of a volume.
-use Rattle.std.proofs.Common.{◌≡◌, ℕ, ◌+◌, Bool, true, false, true≢false, IsTrue, List, [], ◌∷◌, ◌++◌, length, map, refl, sym, ap, subst, ◌∙◌, arith, length-append}
+use Rattle.std.proofs.Common.{◌≡◌, ◌≢◌, ℕ, ◌+◌, Bool, true, false, true≢false, IsTrue, List, [], ◌∷◌, ◌++◌, length, map, refl, sym, ap, subst, ◌∙◌, arith, length-append}
 use Rattle.audit_trail.specs.Records.{RecordData}
 use Rattle.audit_trail.specs.JsonLines.{lines_from}
 use Rattle.sqlite_trees.specs.Tree.{Trees}
+use Rattle.sqlite_value.specs.Order.{Row}
 use Rattle.sqlite_trees.specs.View.{View, IsClean, OnlyWrites, Commits, IsRolledBack}
 use Rattle.sqlite_trees.specs.declared.store.Shape.TheVariants as kind
 use Rattle.volumes.specs.declared.tables.Tables.{Tables}
-use Rattle.volumes.specs.Edits.{KeepsLast}
+use Rattle.volumes.specs.Edits.{KeepsLast, Writes}
 use Rattle.volumes.specs.Volumes.{VolumeData, AreTables, IsAtRest, Holds, HoldsAt, volume_after}
 use Rattle.volumes.specs.Records.{Appends}
 
@@ -89,3 +90,22 @@ held_committed old mid new t number next rs v rest clean more commits count held
     let here : Holds t new.committed (volume_after rs v) = subst (λ (db : Trees). Holds t db (volume_after rs v)) (sym (ap (λ (w : View). w.committed) commits.is)) there in
     let at = held.1 in
     (here, omega (arith, count, at, length-append v.lines (lines_from (v.first + length v.lines) rs), length-lines_from (v.first + length v.lines) rs))
+
+-- what is on the disk after a commit that wrote lives alone
+pub held_beside : (old mid new : View) (t : Tables) (number : ℕ) (rows : List Row) (v : VolumeData) → IsAtRest old t → IsClean old → Writes old mid t.lives rows
+    → Commits mid new → HoldsAt t old.committed number v → HoldsAt t new.committed number v
+held_beside old mid new t number rows v rest clean wrote commits held =
+    let before : old.is_broken ≡ false = sym (ap (λ (w : View). w.is_broken) wrote.frame) ∙ commits.sound in
+    let same : (other : ℕ) → other ≢ t.lives → new.committed other ≡ old.committed other = λ other apart.
+    ap (λ (db : Trees). db other) (ap (λ (w : View). w.committed) commits.is) ∙ wrote.others other apart ∙ ap (λ (db : Trees). db other) (rest.settled clean before) in
+    let at = held.0 in (
+      record {
+        state = record {
+          features = same t.features rest.apart.feature_life ∙ at.state.features;
+          policy = same t.policy rest.apart.policy_life ∙ at.state.policy;
+        };
+        records = same t.records rest.apart.record_life ∙ at.records;
+        kept = at.kept;
+      },
+      held.1,
+    )

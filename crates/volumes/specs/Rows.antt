@@ -39,6 +39,11 @@ row_of_policy version decider =
 abbrev pub row_of_line : ℕ → List ℕ → Row
 row_of_line number line = Int (pos number) ∷ Null ∷ Text line ∷ []
 
+-- the row of a life, which is one run of a server or a script
+abbrev pub row_of_life : ℕ → ℕ → List ℕ → Row
+row_of_life life first subjects =
+    Int (signed life) ∷ Null ∷ Int (pos first) ∷ Text subjects ∷ []
+
 -- the rows of lines that are numbered from `number` on
 abbrev pub rows_from : ℕ → List (List ℕ) → List Row
 rows_from number [] = []

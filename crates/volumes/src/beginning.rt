@@ -2,14 +2,17 @@
 
 ghost use Rattle.std.specs.Prelude.{◌≡◌, OnOk};
 ghost use Rattle.sqlite_trees.specs.View.{IsClean, IsQuiet, OnlyWrites};
+ghost use Rattle.sqlite_trees.specs.Tree.{put_row};
 ghost use Rattle.sqlite_trees.specs.declared.store.Shape.TheVariants as kind;
-ghost use Rattle.volumes.specs.Edits.{KeepsLast};
+ghost use Rattle.volumes.specs.Edits.{KeepsLast, Writes};
+ghost use Rattle.volumes.specs.Rows.{row_of_life};
 ghost use Rattle.volumes.specs.Volumes.{AreTables};
 
 use crate::changes::{Buffers, add};
 use crate::edits::put;
 use crate::faults::VolumeFault;
 use crate::policies::set_policy;
+use crate::rows::set_life;
 use crate::tables::Tables;
 use decision::Decider;
 use features::Feature;
@@ -38,7 +41,30 @@ fn put_features<S: Store>(
     Ok(())
 }
 
-/// Puts the rows of a state, without a commit.
+/// Puts the row of a life, without a commit.
+pub(crate) fn put_life<S: Store>(
+    store: &mut S,
+    buffers: &mut Buffers,
+    table: u32,
+    life: u64,
+    first: u32,
+    subjects: &str,
+) -> Result<(), VolumeFault>
+    requires shaped { IsClean (S.Store.view store.old)
+        → (S.Store.view store.old).shape table ≡ kind.Table }
+    ensures ok { OnOk result (IsClean (S.Store.view store.new)
+        → Writes (S.Store.view store.old) (S.Store.view store.new) table
+        (put_row (row_of_life life first subjects.now) ((S.Store.view store.old).trees table))) }
+    ensures kept { IsClean (S.Store.view store.new)
+        → KeepsLast (S.Store.view store.old) (S.Store.view store.new) }
+    ensures quiet { IsQuiet S.Store.view S.Store.faults S.Store.recovers S.Store.is_shielded
+        store.old store.new }
+{
+    set_life(&mut buffers.row, life, first, subjects)?;
+    put(store, table, &buffers.row)
+}
+
+/// Puts the rows of a state and of a life, without a commit.
 pub(crate) fn put_state<S: Store>(
     store: &mut S,
     buffers: &mut Buffers,
@@ -47,6 +73,9 @@ pub(crate) fn put_state<S: Store>(
     features: &[Feature],
     version: u64,
     decider: &Decider,
+    life: u64,
+    first: u32,
+    subjects: &str,
 ) -> Result<(), VolumeFault>
     requires shaped { IsClean (S.Store.view store.old)
         → AreTables (S.Store.view store.old) tables.now }
@@ -59,5 +88,6 @@ pub(crate) fn put_state<S: Store>(
 {
     put_features(store, buffers, tables.features, features)?;
     set_policy(&mut buffers.row, heap, version, decider)?;
-    put(store, tables.policy, &buffers.row)
+    put(store, tables.policy, &buffers.row)?;
+    put_life(store, buffers, tables.lives, life, first, subjects)
 }

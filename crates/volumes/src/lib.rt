@@ -14,5 +14,6 @@ mod tables;
 mod volumes;
 
 pub use faults::VolumeFault;
+pub use reading::State;
 pub use tables::Tables;
 pub use volumes::Volume;

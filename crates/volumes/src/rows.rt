@@ -4,7 +4,7 @@ ghost use Rattle.std.specs.Prelude.{◌≡◌, [], ◌∷◌, ◌++◌, ◌<◌,
 ghost use Rattle.sqlite_value.specs.declared.value.Value.TheVariants.{Null, Int, Text};
 ghost use Rattle.sqlite_value.specs.Order.{column};
 ghost use Rattle.wkt.specs.Printing.{printed};
-ghost use Rattle.volumes.specs.Rows.{signed, row_of_feature, row_of_line};
+ghost use Rattle.volumes.specs.Rows.{signed, row_of_feature, row_of_line, row_of_life};
 
 use features::{Feature, Name};
 use plane::Shape;
@@ -33,6 +33,23 @@ pub(crate) fn set_line(row: &mut Row, number: u32, line: &[u8]) -> Result<(), Al
     row.push(ValueRef::Int(i64::from(number)))?;
     row.push(ValueRef::Null)?;
     row.push(ValueRef::Text(line))
+}
+
+/// Makes the row of a life: its number, the key's own empty place, the number of its first record,
+/// and its subjects as a text.
+pub(crate) fn set_life(
+    row: &mut Row,
+    life: u64,
+    first: u32,
+    subjects: &str,
+) -> Result<(), AllocError>
+    ensures { OnOk result (row.new ≡ row_of_life life first subjects.now) }
+{
+    row.clear();
+    row.push(ValueRef::Int(signed(life)))?;
+    row.push(ValueRef::Null)?;
+    row.push(ValueRef::Int(i64::from(first)))?;
+    row.push(ValueRef::Text(subjects.as_bytes()))
 }
 
 /// Appends a shape as its text.

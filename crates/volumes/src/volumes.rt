@@ -10,7 +10,7 @@ ghost use Rattle.volumes.specs.States.{state_of};
 ghost use Rattle.volumes.specs.Volumes.{VolumeData, AreApart, HaveRows, HoldsState, Holds, volume_after};
 ghost use Rattle.volumes.specs.Promises.{IsHonest, IsOpen, told, MayBeLeft, Keeps};
 
-use crate::beginning::put_state;
+use crate::beginning::{put_life, put_state};
 use crate::changes::Buffers;
 use crate::faults::VolumeFault;
 use crate::reading::{State, read_all, read_state};
@@ -197,14 +197,17 @@ impl<S: Store> Volume<S> {
         }
     }
 
-    /// Puts a state into the tables of a new volume, and commits it, all of it or nothing. What is
-    /// there then, `state` and `restore` say. `Misfit` where a feature's id is there already.
+    /// Puts a state and a life into the tables of a new volume, and commits it, all of it or
+    /// nothing: so a volume that has a life has a state. What is there then, `state` and `restore`
+    /// say. `subjects` is a text for readers. `Misfit` where a feature's id is there already.
     pub fn begin(
         &mut self,
         heap: Global,
         features: &[Feature],
         version: u64,
         decider: &Decider,
+        life: u64,
+        subjects: &str,
     ) -> Result<(), VolumeFault>
         ensures tables { self.new.tables ≡ self.old.tables }
         ensures next { self.new.next ≡ self.old.next }
@@ -221,6 +224,36 @@ impl<S: Store> Volume<S> {
             features,
             version,
             decider,
+            life,
+            self.next,
+            subjects,
+        );
+        if let Err(fault) = put {
+            self.store.rollback();
+            return Err(fault);
+        }
+        Ok(self.store.commit()?)
+    }
+
+    /// Notes a life, whose first record is the next one, and commits that. All else stays. `subjects`
+    /// is a text for readers.
+    pub fn note_life(&mut self, life: u64, subjects: &str) -> Result<(), VolumeFault>
+        ensures tables { self.new.tables ≡ self.old.tables }
+        ensures next { self.new.next ≡ self.old.next }
+        ensures kept { OnOk result (IsHonest S.Store.view self.new → (v : VolumeData)
+            → Keeps S.Store.view self.old v → Keeps S.Store.view self.new v) }
+        ensures lasts { OnOk result (IsHonest S.Store.view self.new → (db : Trees)
+            → MayBeLeft S.Store.recovers self.new db → db ≡ told S.Store.view self.new) }
+        ensures err { OnErr result (IsHonest S.Store.view self.new → IsOpen S.Store.view self.new
+            → told S.Store.view self.new ≡ told S.Store.view self.old) }
+    {
+        let put = put_life(
+            &mut self.store,
+            &mut self.buffers,
+            self.tables.lives,
+            life,
+            self.next,
+            subjects,
         );
         if let Err(fault) = put {
             self.store.rollback();

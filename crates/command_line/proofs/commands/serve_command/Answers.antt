@@ -36,4 +36,6 @@ returns c =
     let four = adds _ _ _ _ c.value_parser-workers.result three workers c.in_ok-arg-4.ensures in
     let five = adds _ _ _ _ c.value_parser-idle.result four idle c.in_ok-arg-5.ensures in
     let six = adds _ _ _ _ c.flag_argument.result five c.flag_argument.ensures c.in_ok-arg-6.ensures in
-    IfOk-weaker c.arg-7.result _ _ (λ command h. adds _ _ _ command c.flag_argument-2.result six c.flag_argument-2.ensures h) c.arg-7.ensures
+    let seven = adds _ _ _ _ c.flag_argument-2.result six c.flag_argument-2.ensures c.in_ok-arg-7.ensures in
+    let eight = adds _ _ _ _ c.option_argument-6.result seven c.option_argument-6.ensures c.in_ok-arg-8.ensures in
+    IfOk-weaker c.arg-9.result _ _ (λ command h. adds _ _ _ command c.option_argument-7.result eight c.option_argument-7.ensures h) c.arg-9.ensures

@@ -14,4 +14,4 @@ pub returns : goal.returns
 returns c =
     let found = found_of c.args.given.now in
     let read : (id : Text) → first_of id (rows_of found) ≡ first_value found id = λ id. sym (first_value-rows found id) in
-    (read (codes "FILE") ∙ sym c.in-Some.ensures, read (codes "config") ∙ sym c.get_str-2.ensures)
+    (read (codes "FILE") ∙ sym c.in-Some.ensures, read (codes "config") ∙ sym c.get_str-2.ensures, read (codes "store") ∙ sym c.get_str-3.ensures)

@@ -1,26 +1,22 @@
-use Rattle.std.proofs.Common.{ℕ, List, IfOk, None, Some, map, string_bytes, refl, subst}
+use Rattle.std.proofs.Common.{codes, ℕ, List, IfOk, None, Some, map, string_bytes, refl, subst}
 use Rattle.command_line.specs.Asking.{IsAsked}
 use Rattle.program.specs.Programs.{IsFault}
-use Rattle.program.proofs.ProgramLemmas.{draw_answers, look_answers, page_answers, script_broke, script_served, server_failed, server_wanted}
+use Rattle.program.specs.declared.ends.TransferWords.TheVariants as transfers
+use Rattle.program.proofs.ProgramLemmas.{draw_answers, look_answers, page_answers, script_answers, server_failed, server_wanted, transfer_answers}
 use Rattle.program.proofs.runs.run_asked.Goals as goal
-
-pub returns-in-Ok : goal.returns-in-Ok
-returns-in-Ok g c =
-    let words : List (List ℕ) = map (λ word. string_bytes word) c.args.words.now in
-    let asked = subst (λ r. IfOk r (IsAsked words)) c.in-Ok-Script.is c.read_words.ensures in
-    script_served words _ _ _ c.in-Ok-Script.field-0 c.in-Ok-Script.files asked c.in-Ok-Script.field-0-is c.in-Ok.ensures.ran
 
 pub returns-in-Ok-Script : goal.returns-in-Ok-Script
 returns-in-Ok-Script g c =
     let words : List (List ℕ) = map (λ word. string_bytes word) c.args.words.now in
     let asked = subst (λ r. IfOk r (IsAsked words)) c.in-Ok-Script.is c.read_words.ensures in
-    script_broke words _ _ _ _ c.in-Ok-Script.field-0 c.in-Ok-Script.files c.in-Err-run_named.fault asked c.in-Ok-Script.field-0-is c.in-Err-run_named.ensures.err
+    let given = subst (IsAsked words) c.in-Ok-Script.field-0-is asked in
+    script_answers words _ _ g.O.Write.contents c.args.output.now c.answer_script.new.output c.in-Ok-Script.files c.answer_script.result given c.answer_script.ensures
 
-pub returns-in-Ok-wanted_server : goal.returns-in-Ok-wanted_server
-returns-in-Ok-wanted_server g c =
+pub returns-in-Ok-Store : goal.returns-in-Ok-Store
+returns-in-Ok-Store g c =
     let words : List (List ℕ) = map (λ word. string_bytes word) c.args.words.now in
-    let asked = subst (λ r. IfOk r (IsAsked words)) c.in-Ok-Serve.is c.read_words.ensures in
-    (server_wanted words _ c.in-Ok-Serve.field-0 c.in-Ok-Serve.given c.in-Ok-wanted_server.server asked c.in-Ok-Serve.field-0-is c.in-Ok-wanted_server.ensures.ok, refl)
+    let asked = subst (λ r. IfOk r (IsAsked words)) c.in-Ok-Store.is c.read_words.ensures in
+    (subst (IsAsked words) c.in-Ok-Store.field-0-is asked, refl)
 
 pub returns-in-Ok-Serve : goal.returns-in-Ok-Serve
 returns-in-Ok-Serve g c =
@@ -47,6 +43,20 @@ returns-in-Ok-Draw g c =
     let asked = subst (λ r. IfOk r (IsAsked words)) c.in-Ok-Draw.is c.read_words.ensures in
     let given = subst (IsAsked words) c.in-Ok-Draw.field-0-is asked in
     draw_answers words _ _ g.O.Write.contents c.args.output.now c.answer_draw.new.output c.in-Ok-Draw.name.now c.answer_draw.result given.0 given.1 c.answer_draw.ensures
+
+pub returns-in-Ok-Export : goal.returns-in-Ok-Export
+returns-in-Ok-Export g c =
+    let words : List (List ℕ) = map (λ word. string_bytes word) c.args.words.now in
+    let asked = subst (λ r. IfOk r (IsAsked words)) c.in-Ok-Export.is c.read_words.ensures in
+    let given = subst (IsAsked words) c.in-Ok-Export.field-0-is asked in
+    transfer_answers words _ _ g.O.Write.contents c.args.output.now (codes "export") (transfers.Export c.in-Ok-Export.given) _ c.answer_transfer.result given.0 given given.1.config c.answer_transfer.ensures
+
+pub returns-in-Ok-Import : goal.returns-in-Ok-Import
+returns-in-Ok-Import g c =
+    let words : List (List ℕ) = map (λ word. string_bytes word) c.args.words.now in
+    let asked = subst (λ r. IfOk r (IsAsked words)) c.in-Ok-Import.is c.read_words.ensures in
+    let given = subst (IsAsked words) c.in-Ok-Import.field-0-is asked in
+    transfer_answers words _ _ g.O.Write.contents c.args.output.now (codes "import") (transfers.Import c.in-Ok-Import.given) _ c.answer_transfer-in-Ok-Import.result given.0 given given.1.config c.answer_transfer-in-Ok-Import.ensures
 
 pub returns-in-Ok-Man : goal.returns-in-Ok-Man
 returns-in-Ok-Man g c =

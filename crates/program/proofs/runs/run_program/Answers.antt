@@ -15,6 +15,16 @@ returns-in-Ok-Connect g c =
     let wanted = rw (c.in-Ok-Connect.is, c.in-Ok-Connect.field-0-is) at c.run_asked.ensures in
     (wanted.0, wanted.1, refl)
 
+pub returns-in-Ok-Keep : goal.returns-in-Ok-Keep
+returns-in-Ok-Keep g c =
+    let wanted = rw (c.in-Ok-Keep.is, c.in-Ok-Keep.field-0-is) at c.run_asked.ensures in
+    (wanted.0, wanted.1, refl)
+
+pub returns-in-Ok-Look : goal.returns-in-Ok-Look
+returns-in-Ok-Look g c =
+    let wanted = rw (c.in-Ok-Look.is, c.in-Ok-Look.field-0-is) at c.run_asked.ensures in
+    (wanted.0, wanted.1, refl)
+
 pub returns-in-Ok-Mistaken : goal.returns-in-Ok-Mistaken
 returns-in-Ok-Mistaken g c =
     was_turned_down _ _ _ g.O.Write.contents c.args.output.now c.run_asked.new.output c.run_asked.result c.in-Ok-Mistaken.field-0 c.in-Ok-Mistaken.mistake c.run_asked.ensures c.in-Ok-Mistaken.is c.in-Ok-Mistaken.field-0-is

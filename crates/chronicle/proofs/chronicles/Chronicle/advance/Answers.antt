@@ -12,7 +12,7 @@ invariant_of-self g c =
     let new = c.advance-advanced.new.self.plain in
     let reply = reply_of Advanced c.advance-advanced.result in
     let happens = c.advance-advanced.ensures.happens in
-    (stands event old new reply c.self.inside.opened.value.plain.base (map arc_value c.self.inside.rolled.items) tt happens
+    (stands event old new reply c.self.inside.opened.value.plain.base (map arc_value c.self.inside.rolled.items) c.self.inside.changed tt happens
     (adds_alone event old new reply happens) c.self.invariant).1
 
 pub returns : goal.returns
@@ -22,6 +22,6 @@ returns g c =
     let new = c.advance-advanced.new.self.plain in
     let reply = reply_of Advanced c.advance-advanced.result in
     let happens = c.advance-advanced.ensures.happens in
-    (stands event old new reply c.self.inside.opened.value.plain.base (map arc_value c.self.inside.rolled.items) tt happens
+    (stands event old new reply c.self.inside.opened.value.plain.base (map arc_value c.self.inside.rolled.items) c.self.inside.changed tt happens
     (adds_alone event old new reply happens) c.self.invariant).0
     ∙ c.self.view_is

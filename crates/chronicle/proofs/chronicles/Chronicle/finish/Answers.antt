@@ -1,24 +1,16 @@
-use Rattle.std.proofs.Common.{◌≡◌, List, map, sym, ap, subst, ◌∙◌}
+use Rattle.std.proofs.Common.{◌≡◌, List, map, sym, subst}
 use Rattle.std.specs.Arc.{arc_value}
 use Rattle.std.specs.Prelude.{IfOk}
 use Rattle.plane.specs.declared.point.Point.{Point}
-use Rattle.plain_world.specs.Events.{Finish, Rows, reply_of}
-use Rattle.plain_world.proofs.RecordLemmas.{adds_alone}
 use Rattle.chronicle.specs.Chronicles.{ChronicleData, seen}
 use Rattle.chronicle.specs.Noting.{IsAnswered}
-use Rattle.chronicle.proofs.EventLemmas.{leads_on}
-use Rattle.chronicle.proofs.NotingLemmas.{base_answered, search_answered}
+use Rattle.chronicle.proofs.NotingLemmas.{held_answered, search_answered}
 use Rattle.chronicle.proofs.chronicles.Chronicle.finish.Goals as goal
 
 pub invariant_of-self : goal.invariant_of-self
 invariant_of-self g c =
-    let event = Finish c.args.seat c.args.number in
-    let old = c.self.inside.world.plain in
-    let new = c.finish-finished.new.self.plain in
-    let reply = reply_of Rows c.finish-finished.result in
-    let happens = c.finish-finished.ensures.happens in
-    let base = base_answered c.args.seat c.args.number old new c.finish-finished.result (adds_alone event old new reply happens) in
-    leads_on event old new reply c.self.inside.opened.value.plain.base (map arc_value c.self.inside.rolled.items) happens base.0 base.1 c.self.invariant
+    held_answered c.args.seat c.args.number c.self.inside.world.plain c.finish-finished.new.self.plain c.finish-finished.result
+    c.self.inside.opened.value.plain.base (map arc_value c.self.inside.rolled.items) c.self.inside.changed c.finish-finished.ensures.happens c.self.invariant
 
 pub returns-then-eq-clause-ok : goal.returns-then-eq-clause-ok
 returns-then-eq-clause-ok g c =

@@ -5,7 +5,7 @@ use Rattle.plain_world.specs.Events.{TakeSeat, Number, reply_of}
 use Rattle.plain_world.proofs.RecordLemmas.{adds_alone}
 use Rattle.chronicle.specs.Chronicles.{ChronicleData, seen}
 use Rattle.chronicle.specs.Noting.{IsSeatGiven}
-use Rattle.chronicle.proofs.EventLemmas.{leads_on}
+use Rattle.chronicle.proofs.EventLemmas.{held_on}
 use Rattle.chronicle.proofs.NotingLemmas.{seat_given, seat_refused}
 use Rattle.chronicle.proofs.chronicles.Chronicle.seat.Goals as goal
 
@@ -16,8 +16,8 @@ invariant_of-self g c =
     let new = c.seat.new.self.plain in
     let reply = reply_of Number c.seat.result in
     let happens = c.seat.ensures.happens in
-    let alone = adds_alone event old new reply happens in
-    leads_on event old new reply c.self.inside.opened.value.plain.base (map arc_value c.self.inside.rolled.items) happens alone.2 alone.3 c.self.invariant
+    held_on event old new reply c.self.inside.opened.value.plain.base (map arc_value c.self.inside.rolled.items) c.self.inside.changed happens
+    (adds_alone event old new reply happens) c.self.invariant
 
 pub returns-clause-ok : goal.returns-clause-ok
 returns-clause-ok g c =

@@ -7,12 +7,13 @@ use Rattle.std.specs.contracts.impls.GlobalAllocator.TheImpl.{ghosts}
 use Rattle.std.proofs.Crossing as std
 use Rattle.crossbeam_channel.proofs.channel.Receiver.TheSendSync as receiver
 use Rattle.hall.proofs.CrossingLemmas.{hall_sync}
-use Rattle.server.proofs.ClosureLemmas.{over_three_send}
+use Rattle.server.proofs.ClosureLemmas.{lasting_send, over_four_send}
 use Rattle.server.proofs.streams.fn.serve_tended.scope.Goals as goal
 
 pub spawn-requires-send-F : goal.spawn-requires-send-F
 spawn-requires-send-F g c κs within =
     let sends = c.requires.hall in
     let hall = shr_send _ _ _ (hall_sync (param 0 g.row.L) (param 1 g.row.H) g.L.Ledger g.L.ListName g.L.HallName sends.0 sends.1) in
-    param_send _ _ (arg_send _ no _ (over_three_send _ _ _ _ (shr_send _ _ _ c.requires.shares) hall
-    (receiver.the_send unit-field.row heap ghosts (search sendable depth 6) std.send std.sync std.frees)))
+    param_send _ _ (arg_send _ no _ (over_four_send _ _ _ _ _ (shr_send _ _ _ c.requires.shares) hall
+    (receiver.the_send unit-field.row heap ghosts (search sendable depth 6) std.send std.sync std.frees)
+    (lasting_send _)))

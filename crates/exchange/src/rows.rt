@@ -1,0 +1,123 @@
+//! What a row of a file says of a feature.
+
+use crate::faults::{RowFault, SourceFault};
+use crate::geometry_texts::read_geometry;
+use csv::{ByteRecord, ReaderBuilder};
+use features::Name;
+use geojson::{Cause, Geometry, Wished, read_wished};
+use grid::Grid;
+use line_words::read_number;
+use std::alloc::Global;
+
+/// What a row says of a feature.
+#[derive(Debug, Drop)]
+pub struct Found {
+    /// Its id, unless that is not looked at.
+    pub id: Option<u64>,
+    /// Its class, unless that is not looked at.
+    pub class: Option<Name>,
+    /// Its geometry.
+    pub geometry: Geometry<Global>,
+}
+
+/// Which columns a file of comma-separated values has, counted from 0.
+#[derive(Clone, Copy, Debug)]
+pub struct Table {
+    /// The column `WKT`.
+    shape: usize,
+    /// The column `id`.
+    id: Option<usize>,
+    /// The column `class`.
+    class: Option<usize>,
+}
+
+/// The fields of a row; `None` where they cannot be read.
+fn fields_of(heap: Global, text: &[u8]) -> Option<ByteRecord> {
+    let mut reader = ReaderBuilder::new()
+        .has_headers(false)
+        .from_reader(heap, text);
+    let mut record = ByteRecord::new(heap);
+    match reader.read_byte_record(&mut record) {
+        Ok(true) => Some(record),
+        Ok(false) | Err(_) => None,
+    }
+}
+
+/// The column of this name, in letters of either case.
+fn column_of(record: &ByteRecord, name: &[u8]) -> Option<usize> {
+    for index in 0..record.len() {
+        if let Some(field) = record.get(index) {
+            if field.eq_ignore_ascii_case(name) {
+                return Some(index);
+            }
+        }
+    }
+    None
+}
+
+/// The columns that the first row of a file names. `NoForm` if there is no column `WKT`.
+pub fn table_of(heap: Global, text: &[u8]) -> Result<Table, SourceFault> {
+    let Some(record) = fields_of(heap, text) else {
+        return Err(SourceFault::NoForm);
+    };
+    let Some(shape) = column_of(&record, b"WKT") else {
+        return Err(SourceFault::NoForm);
+    };
+    Ok(Table {
+        shape,
+        id: column_of(&record, b"id"),
+        class: column_of(&record, b"class"),
+    })
+}
+
+/// The field of a column.
+fn field(record: &ByteRecord, column: Option<usize>) -> Option<&[u8]> {
+    record.get(column?)
+}
+
+/// What a row of comma-separated values says. An id or a class that is none is not there.
+pub fn row_of_csv(heap: Global, grid: &Grid, table: Table, text: &[u8]) -> Result<Found, RowFault> {
+    let Some(record) = fields_of(heap, text) else {
+        return Err(RowFault::Columns);
+    };
+    let id = match field(&record, table.id) {
+        Some(text) => read_number(text),
+        None => None,
+    };
+    let class = match field(&record, table.class) {
+        Some(text) => Name::new(text),
+        None => None,
+    };
+    let Some(shape) = record.get(table.shape) else {
+        return Err(RowFault::Columns);
+    };
+    match read_geometry(heap, grid, shape) {
+        Ok(geometry) => Ok(Found {
+            id,
+            class,
+            geometry,
+        }),
+        Err(crate::faults::GeometryFault::Memory) => Err(RowFault::Memory),
+        Err(fault) => Err(RowFault::Geometry(fault)),
+    }
+}
+
+/// What a text of GeoJSON says. Of id and class only what is wished is looked at.
+pub fn row_of_json(
+    heap: Global,
+    grid: &Grid,
+    wished: Wished,
+    text: &[u8],
+) -> Result<Found, RowFault> {
+    match read_wished(heap, grid, wished, text) {
+        Ok(given) => Ok(Found {
+            id: given.id,
+            class: given.class,
+            geometry: given.geometry,
+        }),
+        Err(fault) => match fault.cause {
+            Cause::Memory(_) | Cause::Json(_) => Err(RowFault::Memory),
+            _ => Err(RowFault::Json(fault)),
+        },
+    }
+}

@@ -1,0 +1,491 @@
+//! Exports and imports: the files and the sockets that they open. What they do is in the crate
+//! `exchange`.
+
+use crate::{connected, fail};
+use byte_streams::{flush, let_go, open_file, write_shown, write_whole};
+use command_line::{ExportWords, Format, ImportWords};
+use configuration::ReadFault;
+use exchange::{
+    Books, BooksFault, ExportFault, Form, ImportFault, Importing, Plan, REFUSED_HEADER, RowFault,
+    Script, Sink, SinkFault, Totals, Wanted, export, greet, kept_len, put_refusal, put_reply,
+    read_geometry, shapes_of, whole_window,
+};
+use features::Name;
+use grid::Grid;
+use importing::{Pause, Peer, Refused, Server, progress_text, read_progress};
+use memory::{GrowText, NoMemory, buffered, text};
+use program::ProgramFault;
+use std::alloc::Global;
+use std::fs::File;
+use std::io::{IsTerminal, Read, Stderr, Write};
+use std::process::ExitCode;
+use std::time::Duration;
+use std::{fmt, io, thread};
+use wkt::shape_text;
+
+/// How long a busy server is left alone, in milliseconds.
+const PAUSE: u64 = 20;
+
+/// After how many rows the progress is shown at a terminal.
+const SHOWN_EVERY: u64 = 1_000;
+
+/// Writes the one line about what went wrong, and returns the exit status.
+fn tell_line<D: fmt::Display + Drop>(line: D, errors: &mut Stderr) -> ExitCode {
+    let _ = errors.write_fmt(line);
+    ExitCode::from(1)
+}
+
+/// The name that a word is, or the exit status.
+fn name_of(word: &str, errors: &mut Stderr) -> Result<Name, ExitCode> {
+    match Name::new(word.as_bytes()) {
+        Some(name) => Ok(name),
+        None => Err(tell_line(format_args!("landmap: no name {word}\n"), errors)),
+    }
+}
+
+/// The class that a word is, if there is a word, or the exit status.
+fn class_of(word: Option<&str>, errors: &mut Stderr) -> Result<Option<Name>, ExitCode> {
+    match word {
+        Some(word) => Ok(Some(name_of(word, errors)?)),
+        None => Ok(None),
+    }
+}
+
+/// The text of the window that a word spells, by the coordinates of a grid.
+fn window_of(heap: Global, grid: &Grid, word: Option<&str>) -> Result<String, RowFault> {
+    let Some(word) = word else {
+        return Ok(text(heap, whole_window())?);
+    };
+    let geometry = match read_geometry(heap, grid, word.as_bytes()) {
+        Ok(geometry) => geometry,
+        Err(fault) => return Err(RowFault::Geometry(fault)),
+    };
+    let shapes = shapes_of(heap, false, &geometry)?;
+    match shapes.first() {
+        Some(shape) => Ok(text(heap, shape_text(shape).as_str())?),
+        None => Err(RowFault::Several),
+    }
+}
+
+/// The form of a document.
+fn form_of(format: Format) -> Form {
+    match format {
+        Format::GeoJson => Form::Collection,
+        Format::GeoJsonSeq => Form::Sequence,
+        Format::Csv => Form::Table,
+    }
+}
+
+/// Tells why an export has no end.
+fn tell_export(fault: &ExportFault<Global>, errors: &mut Stderr) -> ExitCode {
+    match fault {
+        ExportFault::Server(fault) => tell_line(format_args!("landmap: {fault}\n"), errors),
+        ExportFault::Answered(line) => {
+            let _ = errors.write_all(b"landmap: the server answers ");
+            let _ = errors.write_all(line.as_slice());
+            let _ = errors.write_all(b"\n");
+            ExitCode::from(1)
+        }
+        ExportFault::Output(_) => tell_line(format_args!("landmap: cannot write\n"), errors),
+    }
+}
+
+/// Writes the features of a server to standard output, and returns the exit status.
+pub(crate) fn run_export(
+    rt: &HostRuntime,
+    given: ExportWords<'_>,
+    grid: Grid,
+    errors: &mut Stderr,
+) -> ExitCode {
+    match exported(rt, given, grid, errors) {
+        Ok(()) => ExitCode::SUCCESS,
+        Err(status) => status,
+    }
+}
+
+/// Writes the features of a server, or the exit status.
+fn exported(
+    rt: &HostRuntime,
+    given: ExportWords<'_>,
+    grid: Grid,
+    errors: &mut Stderr,
+) -> Result<(), ExitCode> {
+    let subject = name_of(given.subject, errors)?;
+    let class = class_of(given.class, errors)?;
+    let window = match window_of(rt.alloc(), &grid, given.window) {
+        Ok(window) => window,
+        Err(fault) => return Err(tell_line(format_args!("landmap: {fault}\n"), errors)),
+    };
+    let Ok((mut reader, mut writer)) = connected(rt, given.socket) else {
+        return Err(fail(&ProgramFault::CannotConnect(given.socket), errors));
+    };
+    let mut output = match buffered(rt.alloc(), io::writer(rt)) {
+        Ok(output) => output,
+        Err(no_memory) => return Err(fail(&ProgramFault::Memory(no_memory), errors)),
+    };
+    let wanted = Wanted {
+        subject: subject.as_bytes(),
+        window: window.as_bytes(),
+        class,
+        grid,
+        form: form_of(given.format),
+    };
+    let end = export(rt.alloc(), &wanted, &mut reader, &mut writer, &mut output);
+    if end.is_err() {
+        let _ = flush(&mut output);
+    }
+    let _ = let_go(output);
+    match end {
+        Ok(_) => Ok(()),
+        Err(fault) => Err(tell_export(&fault, errors)),
+    }
+}
+
+/// A moment's rest before a busy server is asked again.
+#[derive(Drop)]
+struct Rest<'a> {
+    rt: &'a HostRuntime,
+}
+
+impl Pause for Rest<'_> {
+    fn pause(&mut self) {
+        thread::sleep(self.rt, Duration::from_millis(PAUSE));
+    }
+}
+
+/// The books of an import: `FILE.done` and `FILE.refused.csv`.
+#[derive(Drop)]
+struct FileBooks<'a> {
+    rt: &'a HostRuntime,
+    /// The path of the number of settled rows; `None` where it is not kept.
+    done: Option<&'a str>,
+    refused: File,
+    errors: Stderr,
+    /// Whether the progress is shown.
+    shows: bool,
+    /// Up to which row it was shown.
+    shown: u64,
+}
+
+impl FileBooks<'_> {
+    /// Shows the progress at a terminal.
+    fn show(&mut self, totals: &Totals) {
+        if self.shows && totals.rows >= self.shown.saturating_add(SHOWN_EVERY) {
+            self.shown = totals.rows;
+            let _ = self.errors.write_fmt(format_args!(
+                "\r{} rows, {} refused",
+                totals.rows, totals.refused
+            ));
+        }
+    }
+}
+
+impl Books for FileBooks<'_> {
+    fn refuse_row(&mut self, row: u64, fault: &RowFault) -> Result<(), BooksFault> {
+        match put_refusal(self.rt.alloc(), row, fault, &mut self.refused) {
+            Ok(()) => Ok(()),
+            Err(_) => Err(BooksFault),
+        }
+    }
+
+    fn refuse_reply(&mut self, refused: &Refused<Global>) -> Result<(), BooksFault> {
+        match put_reply(refused, &mut self.refused) {
+            Ok(()) => Ok(()),
+            Err(_) => Err(BooksFault),
+        }
+    }
+
+    fn settle(&mut self, rows: u64, totals: &Totals) -> Result<(), BooksFault> {
+        self.show(totals);
+        let Some(path) = self.done else {
+            return Ok(());
+        };
+        let Ok(mut file) = File::create(self.rt, path) else {
+            return Err(BooksFault);
+        };
+        match write_whole(progress_text(rows).as_slice(), &mut file) {
+            Ok(()) => Ok(()),
+            Err(_) => Err(BooksFault),
+        }
+    }
+}
+
+/// How many rows of a file are settled, by its `.done` file; 0 if there is none.
+fn settled_rows(rt: &HostRuntime, path: &str) -> u64 {
+    let Ok(mut file) = open_file(rt, path) else {
+        return 0;
+    };
+    let mut bytes = [0; 32];
+    match file.read(&mut bytes) {
+        Ok(count) => read_progress(&bytes[..count.min(32)]).unwrap_or(0),
+        Err(_) => 0,
+    }
+}
+
+/// How many bytes of a file of refused rows are about rows that are settled.
+fn kept_of(rt: &HostRuntime, done: u64, mut file: File) -> u64 {
+    if done == 0 {
+        return 0;
+    }
+    kept_len(rt.alloc(), done, &mut file).unwrap_or(0)
+}
+
+/// The file of refused rows, with what it has of the rows that are settled.
+fn refused_file(rt: &HostRuntime, path: &str, done: u64) -> Result<File, BooksFault> {
+    let kept = match open_file(rt, path) {
+        Ok(file) => kept_of(rt, done, file),
+        Err(_) => 0,
+    };
+    let Ok(mut file) = File::options().append(true).create(true).open(rt, path) else {
+        return Err(BooksFault);
+    };
+    if file.set_len(kept).is_err() {
+        return Err(BooksFault);
+    }
+    if kept == 0 && write_whole(REFUSED_HEADER, &mut file).is_err() {
+        return Err(BooksFault);
+    }
+    Ok(file)
+}
+
+/// A path with an ending.
+fn with_ending(heap: Global, path: &str, ending: &str) -> Result<String, NoMemory> {
+    let mut made = text(heap, path)?;
+    made.try_push_str(ending)?;
+    Ok(made)
+}
+
+/// The paths that belong to the file of an import.
+#[derive(Drop)]
+struct Paths {
+    done: String,
+    refused: String,
+}
+
+/// The paths that belong to a file.
+fn paths_of(heap: Global, file: &str) -> Result<Paths, NoMemory> {
+    Ok(Paths {
+        done: with_ending(heap, file, ".done")?,
+        refused: with_ending(heap, file, ".refused.csv")?,
+    })
+}
+
+/// The totals of an import, as they are printed.
+#[derive(Drop)]
+struct Account {
+    totals: Totals,
+}
+
+impl fmt::Display for Account {
+    fn fmt<W: fmt::Write>(&self, f: &mut fmt::Formatter<W>) -> fmt::Result {
+        let Totals {
+            rows,
+            applied,
+            present,
+            refused,
+        } = self.totals;
+        write!(
+            f,
+            "rows {rows}\napplied {applied}\npresent {present}\nrefused {refused}\n"
+        )
+    }
+}
+
+/// Tells why an import has ended at a row.
+fn tell_import(fault: &ImportFault, row: u64, paths: &Paths, errors: &mut Stderr) -> ExitCode {
+    match fault {
+        ImportFault::Source(fault) => tell_line(
+            format_args!("landmap: {fault} behind row {row}\n"),
+            errors,
+        ),
+        ImportFault::Sink(SinkFault::Server(fault)) => tell_line(
+            format_args!("landmap: {fault}\n"),
+            errors,
+        ),
+        ImportFault::Sink(SinkFault::Output(_)) => tell_line(
+            format_args!("landmap: cannot write\n"),
+            errors,
+        ),
+        ImportFault::Books => {
+            let done = paths.done.as_str();
+            tell_line(format_args!("landmap: cannot keep {done}\n"), errors)
+        }
+        ImportFault::Refused => {
+            let refused = paths.refused.as_str();
+            tell_line(
+                format_args!("landmap: a row is refused, see {refused}\n"),
+                errors,
+            )
+        }
+    }
+}
+
+/// Imports the rows of a file into a sink.
+fn imported<S: Sink>(
+    rt: &HostRuntime,
+    plan: Plan,
+    paths: &Paths,
+    keeps: bool,
+    input: &mut File,
+    sink: &mut S,
+    errors: &mut Stderr,
+) -> Result<Totals, ExitCode> {
+    let Ok(refused) = refused_file(rt, paths.refused.as_str(), plan.done) else {
+        let path = paths.refused.as_str();
+        return Err(tell_line(format_args!("landmap: cannot keep {path}\n"), errors));
+    };
+    let mut books = FileBooks {
+        rt,
+        done: if keeps {
+            Some(paths.done.as_str())
+        } else {
+            None
+        },
+        refused,
+        errors: rt.stderr(),
+        shows: keeps && rt.stderr().is_terminal(),
+        shown: 0,
+    };
+    let (end, totals) = {
+        let mut import = Importing::new(rt.alloc(), plan, sink, &mut books);
+        let end = import.run(rt.alloc(), input);
+        (end, import.totals())
+    };
+    if books.shown > 0 {
+        let _ = errors.write_all(b"\n");
+    }
+    match end {
+        Ok(()) => Ok(totals),
+        Err(fault) => Err(tell_import(&fault, totals.rows, paths, errors)),
+    }
+}
+
+/// Adds the features of a file to a server, or writes their session lines, and returns the exit
+/// status.
+pub(crate) fn run_import(
+    rt: &HostRuntime,
+    given: ImportWords<'_>,
+    grid: Grid,
+    errors: &mut Stderr,
+) -> ExitCode {
+    match started_import(rt, given, grid, errors) {
+        Ok(()) => ExitCode::SUCCESS,
+        Err(status) => status,
+    }
+}
+
+/// Opens the file of an import, and imports it.
+fn started_import(
+    rt: &HostRuntime,
+    given: ImportWords<'_>,
+    grid: Grid,
+    errors: &mut Stderr,
+) -> Result<(), ExitCode> {
+    let subject = name_of(given.subject, errors)?;
+    let class = class_of(given.class, errors)?;
+    let mut input = match open_file(rt, given.file) {
+        Ok(input) => input,
+        Err(closed) => {
+            let fault = ReadFault::NotOpened(closed);
+            return Err(fail(&ProgramFault::CannotRead(given.file, fault), errors));
+        }
+    };
+    let paths = match paths_of(rt.alloc(), given.file) {
+        Ok(paths) => paths,
+        Err(no_memory) => return Err(fail(&ProgramFault::Memory(no_memory), errors)),
+    };
+    let plan = Plan {
+        grid,
+        class,
+        first_id: given.first_id.map(u64::from),
+        whole: given.whole,
+        split: given.split,
+        done: 0,
+    };
+    match (given.script, given.socket) {
+        (false, Some(socket)) => sent_import(rt, plan, subject, socket, &paths, &mut input, errors),
+        _ => written_import(rt, plan, subject, &paths, &mut input, errors),
+    }
+}
+
+/// Writes the session lines of an import to standard output.
+fn written_import(
+    rt: &HostRuntime,
+    plan: Plan,
+    label: Name,
+    paths: &Paths,
+    input: &mut File,
+    errors: &mut Stderr,
+) -> Result<(), ExitCode> {
+    let mut output = match buffered(rt.alloc(), io::writer(rt)) {
+        Ok(output) => output,
+        Err(no_memory) => return Err(fail(&ProgramFault::Memory(no_memory), errors)),
+    };
+    let (begun, end) = {
+        let mut script = Script {
+            label,
+            output: &mut output,
+        };
+        let begun = script.put_hello();
+        let end = imported(rt, plan, paths, false, input, &mut script, errors);
+        (begun, end)
+    };
+    let flushed = flush(&mut output);
+    let _ = let_go(output);
+    end?;
+    if let Err(failed) = begun {
+        return Err(fail(&ProgramFault::CannotWrite(failed), errors));
+    }
+    match flushed {
+        Ok(_) => Ok(()),
+        Err(failed) => Err(fail(&ProgramFault::CannotWrite(failed), errors)),
+    }
+}
+
+/// Sends the features of an import to a server, and writes what has become of them.
+fn sent_import(
+    rt: &HostRuntime,
+    plan: Plan,
+    subject: Name,
+    socket: &str,
+    paths: &Paths,
+    input: &mut File,
+    errors: &mut Stderr,
+) -> Result<(), ExitCode> {
+    let Ok((mut reader, mut writer)) = connected(rt, socket) else {
+        return Err(fail(&ProgramFault::CannotConnect(socket), errors));
+    };
+    let mut peer = Peer::new(rt.alloc());
+    if let Err(fault) = greet(
+        rt.alloc(),
+        subject.as_bytes(),
+        &mut peer,
+        &mut reader,
+        &mut writer,
+    ) {
+        return Err(tell_export(&fault, errors));
+    }
+    let mut server = Server {
+        peer,
+        reader,
+        writer,
+        pause: Rest { rt },
+    };
+    let plan = Plan {
+        done: settled_rows(rt, paths.done.as_str()),
+        ..plan
+    };
+    let end = imported(rt, plan, paths, true, input, &mut server, errors);
+    let Server {
+        peer: _peer,
+        reader: _reader,
+        writer: _writer,
+        pause: Rest { rt: _ },
+    } = server;
+    let totals = end?;
+    let mut output = io::writer(rt);
+    match write_shown(&Account { totals }, &mut output) {
+        Ok(()) => Ok(()),
+        Err(failed) => Err(fail(&ProgramFault::CannotWrite(failed), errors)),
+    }
+}

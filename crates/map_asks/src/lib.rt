@@ -1,0 +1,19 @@
+//! What a request for a map page asks for: its path and its query, read whole before anything is
+//! done.
+#![tactic(auto)]
+
+mod asks;
+mod boxes;
+mod cuts;
+mod dates;
+mod faults;
+mod pages;
+mod queries;
+mod reading;
+mod windows;
+
+pub use asks::{Ask, FixedPage, Items, Layer, Source};
+pub use faults::{AskFault, Parameter};
+pub use queries::{DEFAULT_LIMIT, MOST_LIMIT, VALUE_LIMIT};
+pub use reading::read_ask;
+pub use windows::{Window, everywhere};

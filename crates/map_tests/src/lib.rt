@@ -1,0 +1,5 @@
+//! Tests of what requests for pages of a map ask for.
+#![tactic(auto)]
+
+#[cfg(test)]
+mod asks_tests;

@@ -1,0 +1,5 @@
+//! Tests of `shelf`, on the disk.
+#![tactic(auto)]
+
+#[cfg(test)]
+mod shelf_tests;
