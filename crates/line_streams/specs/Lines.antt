@@ -35,3 +35,12 @@ whole_ended (piece ∷ next ∷ pieces) = strip_last 13 piece ∷ whole_ended (n
 -- one of them.
 unfoldable pub whole_lines_of : List ℕ → List (List ℕ)
 whole_lines_of text = whole_ended (slice_split is_feed text)
+
+abbrev pub last_of : List (List ℕ) → List ℕ
+last_of [] = []
+last_of (last ∷ []) = last
+last_of (piece ∷ next ∷ pieces) = last_of (next ∷ pieces)
+
+-- The line that has begun in a text: what follows the last line feed.
+unfoldable pub begun_of : List ℕ → List ℕ
+begun_of text = last_of (slice_split is_feed text)

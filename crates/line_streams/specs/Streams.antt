@@ -1,7 +1,7 @@
 -- Runs of lines from a reader to a writer, whatever answers the lines: `tell line old new said
 -- next` says that the line is answered by the bytes `said` and leads from the state `old` to `new`,
 -- and that the stream goes on or ends after it.
-use Rattle.std.specs.Prelude.{◌≡◌, ◌≢◌, ◌⊎◌, ℕ, ◌≤◌, ◌<◌, nat_lt, List, [], ◌∷◌, ◌++◌, length, map, take, Option, Result, Ok, Err, All, IfOk, IfSome, if◌then◌else◌}
+use Rattle.std.specs.Prelude.{◌≡◌, ◌≢◌, ◌⊎◌, ℕ, ◌≤◌, ◌<◌, nat_lt, List, [], ◌∷◌, ◌++◌, length, map, take, Option, None, Some, Result, Ok, Err, All, IfOk, IfSome, if◌then◌else◌}
 use Rattle.std.specs.Io.BufRead.{strip_last}
 use Rattle.std.specs.Io.KnownBytes.{Appends, Consumes, IsAtEnd, Keeps}
 use Rattle.std.specs.List.{flat_map}
@@ -13,7 +13,15 @@ use Rattle.line_streams.specs.declared.streams.Stop.TheVariants.{Ended, Failed}
 use Rattle.line_streams.specs.declared.streams.ServeFault.{ServeFault}
 use Rattle.line_streams.specs.declared.streams.ServeFault.TheVariants.{Read, Write, TooManyTurns, Memory}
 use Rattle.line_streams.specs.declared.streams.TheConstants.{HELD, READ_LIMIT}
-use Rattle.line_streams.specs.Lines.{lines_of, whole_lines_of}
+use Rattle.line_streams.specs.Lines.{begun_of, lines_of, whole_lines_of}
+
+-- no byte of a line is a line feed
+abbrev pub IsLine : List ℕ → Type 0
+IsLine line = All (λ b. b ≢ 10) line
+
+-- what is held of the line that is being read; a line of `HELD` bytes is too long, whatever follows
+abbrev pub held_of : List ℕ → List ℕ
+held_of begun = take HELD begun
 
 -- lines are answered one after another; `text` is all their answers
 abbrev pub LinesTell : {S : Type 0} → (List ℕ → S → S → List ℕ → Type 0) → S → List (List ℕ) → S
@@ -157,18 +165,41 @@ abbrev pub Ran : {S T : Type 0} → (List ℕ → S → S → List ℕ → Next 
 Ran tell result old new input left before after =
     RanWithin READ_LIMIT tell result old new input left before after
 
+-- what a reader has left, with the text before it that was read of a line that has begun
+abbrev pub with_begun : List ℕ → Option (List ℕ) → Option (List ℕ)
+with_begun begun None = None
+with_begun begun (Some input) = Some (begun ++ input)
+
+-- the whole lines of what was read are answered, and of the line that has begun its bytes are held
+pub record Rests {S : Type 0} (tell : List ℕ → S → S → List ℕ → Next
+    → Type 0) (old new : S) (held : List ℕ) (input left before after : Option (List ℕ)) : Type 0
+  where
+    pub run : RanSoFar tell old new input left before after
+    pub holds : held ≡ held_of (begun_of run.text)
+
+-- What holds when a run has ended that may be gone on with, by how it ended: what `RanWithin` says,
+-- and, where a read failed or all reads were made, what is held of the line that has begun. Out of
+-- memory it never is.
+abbrev pub RanOn : {S T : Type 0} → ℕ → (List ℕ → S → S → List ℕ → Next → Type 0)
+    → Result T ServeFault → S → S → List ℕ → Option (List ℕ) → Option (List ℕ) → Option (List ℕ)
+    → Option (List ℕ) → Type 0
+RanOn reads tell (Ok done) old new held input left before after =
+    RanWell tell old new input left before after
+RanOn reads tell (Err (Read failed)) old new held input left before after =
+    Rests tell old new held input left before after
+RanOn reads tell (Err (Write failed)) old new held input left before after =
+    RanToStop tell (Failed failed) old new input left before after
+    ⊎ (RanSoFar tell old new input left before after
+    ⊎ RanWell tell old new input left before after)
+RanOn reads tell (Err (TooManyTurns turns)) old new held input left before after =
+    (rests : Rests tell old new held input left before after) × (reads ≤ length rests.run.text)
+    × (turns.made ≡ reads)
+RanOn reads tell (Err (Memory refused)) old new held input left before after = ⊥
+
 -- what holds if the run was out of memory
 abbrev pub OnMemory : ServeFault → Type 0 → Type 0
 OnMemory (Memory refused) stands = stands
 OnMemory _ stands = Unit {0}
-
--- no byte of a line is a line feed
-abbrev pub IsLine : List ℕ → Type 0
-IsLine line = All (λ b. b ≢ 10) line
-
--- what is held of the line that is being read; a line of `HELD` bytes is too long, whatever follows
-abbrev pub held_of : List ℕ → List ℕ
-held_of begun = take HELD begun
 
 abbrev pub held_with : ℕ → List ℕ → List ℕ
 held_with byte held = if nat_lt (length held) HELD then held ++ byte ∷ [] else held

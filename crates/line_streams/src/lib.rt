@@ -4,5 +4,6 @@
 mod streams;
 
 pub use streams::{
-    LINE_LIMIT, LineDesk, Next, READ_LIMIT, ServeFault, run_lines, run_lines_within,
+    BegunLine, LINE_LIMIT, LineDesk, Next, READ_LIMIT, ServeFault, go_on_within, run_lines,
+    run_lines_within,
 };

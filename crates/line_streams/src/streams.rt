@@ -1,16 +1,16 @@
 //! Runs of lines from any reader to any writer. How a line is answered is up to a `LineDesk`.
-ghost use Rattle.std.specs.Prelude.{◌≡◌, ℕ, ◌≤◌, ◌++◌, ◌∷◌, [], List, Option, true, IfOk, IfErr, vec_len, vec_capacity};
+ghost use Rattle.std.specs.Prelude.{◌≡◌, ◌≢◌, ℕ, ◌++◌, ◌∷◌, [], List, Option, true, IfOk, IfErr};
 ghost use Rattle.std.specs.Io.BufRead.{strip_last};
 ghost use Rattle.byte_streams.specs.Written.{Took};
 ghost use Rattle.line_streams.specs.Lines.{is_too_long, lines_of};
-ghost use Rattle.line_streams.specs.Streams.{Concludes, IsLine, OnMemory, Passes, Ran, RanWithin, TookLast, TookLine, TookOne, held_of, held_with};
-ghost use Rattle.line_streams.specs.declared.streams.TheConstants.{HELD};
+ghost use Rattle.line_streams.specs.Streams.{Concludes, IsLine, OnMemory, Passes, Ran, RanOn, RanWithin, TookLast, TookLine, TookOne, held_of, held_with, with_begun};
 
 use byte_streams::{Flushed, ReadFailed, Turns, WriteFailed, flush};
 use memory::{NoMemory, vec_with_room};
 use std::alloc::Allocator;
 use std::fmt;
 use std::io::{Read, Write};
+use std::marker::Model;
 
 /// The most bytes of a line, without its end.
 pub const LINE_LIMIT: usize = 65_536;
@@ -167,35 +167,63 @@ impl From<WriteFailed> for Stop {
     }
 }
 
-/// The first `HELD` bytes of the line that is being read.
+/// What a run keeps between two reads: the first 65,538 bytes of the line that has begun. With it a
+/// run whose read failed is gone on with (`go_on_within`). Contracts see these bytes.
 #[derive(Drop)]
-struct Held<A: Allocator> {
+pub struct BegunLine<A: Allocator> {
     bytes: Vec<u8, A>,
-    ghost room: { HELD ≤ vec_capacity bytes },
-    ghost within: { vec_len bytes ≤ HELD },
 }
 
-impl<A: Allocator> Held<A> {
-    /// No byte of a line yet. Makes room for all bytes of a line.
-    fn new(alloc: A) -> Result<Self, NoMemory>
-        ensures { IfOk result (λ held. held.bytes.items ≡ []) }
+impl<A: Allocator> Model for BegunLine<A> {
+    ghost use Rattle.std.specs.Prelude.{ℕ, ◌≤◌, List, vec_len, vec_capacity};
+    ghost use Rattle.line_streams.specs.Streams.{IsLine};
+    ghost use Rattle.line_streams.specs.declared.streams.TheConstants.{HELD};
+
+    ghost Value = { List ℕ };
+
+    ghost view = { λ begun. begun.bytes.items };
+
+    ghost invariant = { λ begun. (HELD ≤ vec_capacity begun.bytes)
+        × (vec_len begun.bytes ≤ HELD) × IsLine begun.bytes.items };
+}
+
+impl<A: Allocator> BegunLine<A> {
+    /// No line has begun. Makes room for all bytes of a line that are ever kept; `NoMemory` if that
+    /// is refused.
+    pub fn new(alloc: A) -> Result<Self, NoMemory>
+        ensures { IfOk result (λ begun. begun ≡ []) }
     {
         let bytes = vec_with_room(alloc, HELD)?;
-        Ok(Held { bytes })
+        Ok(BegunLine { bytes })
     }
 
     /// Adds a byte of the line, or drops it if `HELD` bytes are there.
     fn hold(&mut self, byte: u8)
-        ensures { self.new.bytes.items ≡ held_with byte self.old.bytes.items }
+        requires { byte ≢ 10 }
+        ensures { self.new ≡ held_with byte self.old }
     {
         if self.bytes.len() < HELD {
             self.bytes.push_reserved(byte);
         }
     }
 
+    /// The line has ended: no other one has begun yet.
+    fn clear(&mut self)
+        ensures { self.new ≡ [] }
+    {
+        self.bytes.clear();
+    }
+
+    /// The line, as far as its bytes are held.
+    fn as_slice(&self) -> &[u8]
+        ensures value { result.now ≡ self.now }
+    {
+        self.bytes.as_slice()
+    }
+
     /// The line without the carriage return at its end.
     fn without_return(&self) -> &[u8]
-        ensures { result.now ≡ strip_last 13 self.now.bytes.items }
+        ensures { result.now ≡ strip_last 13 self.now }
     {
         match self.bytes.as_slice() {
             [line @ .., b'\r'] => line,
@@ -225,20 +253,20 @@ fn answer_line<D: LineDesk, W: Write>(
 fn take_byte<D: LineDesk, A: Allocator, W: Write>(
     desk: &mut D,
     world: &mut D::World,
-    held: &mut Held<A>,
+    held: &mut BegunLine<A>,
     byte: u8,
     writer: &mut W,
 ) -> Result<(), Stop>
-    ensures { (begun : List ℕ) → IsLine begun → held.old.bytes.items ≡ held_of begun
+    ensures { (begun : List ℕ) → IsLine begun → held.old ≡ held_of begun
         → Passes D.tells result (begun ++ byte ∷ []) (world.old, desk.old) (world.new, desk.new)
-        held.new.bytes.items (W.contents writer.old) (W.contents writer.new) }
+        held.new (W.contents writer.old) (W.contents writer.new) }
 {
     if byte != b'\n' {
         held.hold(byte);
         return Ok(());
     }
     answer_line(desk, world, held.without_return(), writer)?;
-    held.bytes.clear();
+    held.clear();
     Ok(())
 }
 
@@ -246,13 +274,13 @@ fn take_byte<D: LineDesk, A: Allocator, W: Write>(
 fn take_bytes<D: LineDesk, A: Allocator, W: Write>(
     desk: &mut D,
     world: &mut D::World,
-    held: &mut Held<A>,
+    held: &mut BegunLine<A>,
     bytes: &[u8],
     writer: &mut W,
 ) -> Result<(), Stop>
-    ensures { (begun : List ℕ) → IsLine begun → held.old.bytes.items ≡ held_of begun
+    ensures { (begun : List ℕ) → IsLine begun → held.old ≡ held_of begun
         → Passes D.tells result (begun ++ bytes.now) (world.old, desk.old) (world.new, desk.new)
-        held.new.bytes.items (W.contents writer.old) (W.contents writer.new) }
+        held.new (W.contents writer.old) (W.contents writer.new) }
 {
     for byte in bytes {
         take_byte(desk, world, held, *byte, writer)?;
@@ -264,17 +292,18 @@ fn take_bytes<D: LineDesk, A: Allocator, W: Write>(
 fn end<D: LineDesk, A: Allocator, W: Write>(
     desk: &mut D,
     world: &mut D::World,
-    held: &Held<A>,
+    held: &BegunLine<A>,
     writer: &mut W,
 ) -> Result<(), Stop>
-    ensures { (begun : List ℕ) → IsLine begun → held.now.bytes.items ≡ held_of begun
+    ensures { (begun : List ℕ) → IsLine begun → held.now ≡ held_of begun
         → TookLast D.tells result (lines_of begun) (world.old, desk.old) (world.new, desk.new)
         (W.contents writer.old) (W.contents writer.new) }
 {
-    if held.bytes.is_empty() {
+    let line = held.as_slice();
+    if line.is_empty() {
         return Ok(());
     }
-    answer_line(desk, world, held.bytes.as_slice(), writer)
+    answer_line(desk, world, line, writer)
 }
 
 /// Ends a run after its last line: flushes, unless the line's answer could not be written.
@@ -327,17 +356,41 @@ pub fn run_lines_within<D: LineDesk, A: Allocator, R: Read, W: Write>(
     ensures untouched { IfErr result
         (λ fault. OnMemory fault ((reader.new ≡ reader.old) × (writer.new ≡ writer.old))) }
 {
-    let mut held = Held::new(alloc)?;
+    let mut begun = BegunLine::new(alloc)?;
+    go_on_within(reads, &mut begun, desk, world, reader, writer)
+}
+
+/// Goes on with a run of lines: as `run_lines_within`, with the line that has begun.
+///
+/// After `Read` or `TooManyTurns` the same call can be made again with this line, and goes on where
+/// the run was broken off, with this desk or another, and with this world or another of its type:
+/// what was read is answered, up to the line that has begun, and the answers are flushed. So a
+/// reader may break off a read on purpose, by an error. After any other end there is nothing to go
+/// on with. `Memory` never comes.
+pub fn go_on_within<D: LineDesk, A: Allocator, R: Read, W: Write>(
+    reads: u32,
+    begun: &mut BegunLine<A>,
+    desk: &mut D,
+    world: &mut D::World,
+    reader: &mut R,
+    writer: &mut W,
+) -> Result<Flushed, ServeFault>
+    ensures begun { (start : List ℕ) × IsLine start × (begun.old ≡ held_of start) }
+    ensures ran { (start : List ℕ) → IsLine start → begun.old ≡ held_of start
+        → RanOn reads D.tells result (world.old, desk.old) (world.new, desk.new) begun.new
+        (with_begun start (R.remaining reader.old)) (R.remaining reader.new)
+        (W.contents writer.old) (W.contents writer.new) }
+{
     let mut chunk = [0; CHUNK];
     let mut turns = Turns::none();
     for _ in 0..reads {
         flush(writer)?;
         let count = turns.read_some(reader, &mut chunk)?;
         if count == 0 {
-            let end = end(desk, world, &held, writer);
+            let end = end(desk, world, begun, writer);
             return conclude(end, writer);
         }
-        if let Err(stop) = take_bytes(desk, world, &mut held, &chunk[..count], writer) {
+        if let Err(stop) = take_bytes(desk, world, begun, &chunk[..count], writer) {
             return conclude(Err(stop), writer);
         }
     }

@@ -16,5 +16,5 @@ pub use desks::{Staged, answer};
 pub use faults::LineFault;
 pub use replies::{Reply, Said, fault_reply, outcome_reply, visit_reply};
 pub use services::Service;
-pub use serving::serve;
+pub use serving::{Sitting, serve, serve_on};
 pub use writing::{LEAD_LIMIT, write_line, write_said};

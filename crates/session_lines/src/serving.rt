@@ -1,13 +1,13 @@
 //! One session by itself, whose lines have no label.
 
-ghost use Rattle.std.specs.Prelude.{◌≡◌, [], List, ℕ, OnOk, IfErr, IfSome};
+ghost use Rattle.std.specs.Prelude.{◌≡◌, [], List, ℕ, OnOk, IfErr, IfOk, IfSome};
 ghost use Rattle.std.specs.Io.KnownBytes.{Appends};
 ghost use Rattle.features.specs.declared.rows.Change.{Change};
 ghost use Rattle.session_lines.specs.Replies.{SaidData, said_view};
 ghost use Rattle.session_lines.specs.Services.{Call};
 ghost use Rattle.session_lines.specs.Serving.{Calls, IsServedText, DeskTells, next_behind};
 ghost use Rattle.session_lines.specs.Desks.{desk};
-ghost use Rattle.line_streams.specs.Streams.{OnMemory, Ran};
+ghost use Rattle.line_streams.specs.Streams.{IsLine, OnMemory, Ran, RanOn, held_of, with_begun};
 
 use crate::desks::{Staged, answer};
 use crate::faults::LineFault;
@@ -15,10 +15,12 @@ use crate::replies::{Reply, Said};
 use crate::services::Service;
 use crate::writing::{write_line, write_said};
 use byte_streams::{Flushed, WriteFailed};
-use line_streams::{LINE_LIMIT, LineDesk, Next, ServeFault, run_lines};
+use line_streams::{BegunLine, LINE_LIMIT, LineDesk, Next, READ_LIMIT, ServeFault, go_on_within};
+use memory::NoMemory;
 use std::alloc::{Allocator, Global};
 use std::io::{Read, Write};
 use std::marker::PhantomData;
+use std::mem;
 
 /// `End` after `bye`, `Line` after any other reply.
 fn next_behind<A: Allocator>(said: &Said<A>) -> Next
@@ -93,10 +95,63 @@ pub fn serve<S: Service, A: Allocator, R: Read, W: Write>(
         (λ fault. OnMemory fault
         ((service.new ≡ service.old) × (reader.new ≡ reader.old) × (writer.new ≡ writer.old))) }
 {
+    let mut sitting = Sitting::new(alloc)?;
+    serve_on(heap, &mut sitting, service, reader, writer)
+}
+
+/// What a session by itself keeps between two reads, whoever serves it: its staged list, and the
+/// line that has begun.
+#[derive(Drop)]
+pub struct Sitting<A: Allocator> {
+    staged: Staged,
+    begun: BegunLine<A>,
+}
+
+impl<A: Allocator> Sitting<A> {
+    /// Nothing is staged, and no line has begun. `NoMemory` where there is none for the line.
+    pub fn new(alloc: A) -> Result<Self, NoMemory>
+        ensures { IfOk result (λ sitting. (sitting.staged ≡ []) × (sitting.begun ≡ [])) }
+    {
+        let begun = BegunLine::new(alloc)?;
+        Ok(Sitting {
+            staged: Staged::new(),
+            begun,
+        })
+    }
+}
+
+/// Serves on a session that was broken off by a read that failed, or that has not begun: as `serve`
+/// does, with what is staged and the line that has begun. The service need not be the one that
+/// served it before. After `Read` or `TooManyTurns` the session can be served on again, and nothing
+/// of it is lost. `Memory` never comes.
+pub fn serve_on<S: Service, A: Allocator, R: Read, W: Write>(
+    heap: Global,
+    sitting: &mut Sitting<A>,
+    service: &mut S,
+    reader: &mut R,
+    writer: &mut W,
+) -> Result<Flushed, ServeFault>
+    ensures ran { (start : List ℕ) → IsLine start → sitting.old.begun ≡ held_of start
+        → RanOn READ_LIMIT (DeskTells S.subject_of S.serves) result
+        (desk sitting.old.staged service.old) (desk sitting.new.staged service.new)
+        sitting.new.begun (with_begun start (R.remaining reader.old)) (R.remaining reader.new)
+        (W.contents writer.old) (W.contents writer.new) }
+    ensures calls { (calls : List (Call × SaidData))
+        × Calls S.serves calls service.old service.new }
+{
     let mut alone = Alone {
         heap,
-        staged: Staged::new(),
+        staged: mem::replace(&mut sitting.staged, Staged::new()),
         service: PhantomData,
     };
-    run_lines(alloc, &mut alone, service, reader, writer)
+    let ended = go_on_within(
+        READ_LIMIT,
+        &mut sitting.begun,
+        &mut alone,
+        service,
+        reader,
+        writer,
+    );
+    sitting.staged = alone.staged;
+    ended
 }
