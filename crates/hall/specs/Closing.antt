@@ -18,6 +18,17 @@ pub record IsClosed (opening : Opening) (records count : ℕ) (seats : List Seat
   pub given : length chronicle.seats ≡ count
   pub kept : All (IsKeptBy chronicle.records) seats
 
+-- The same, and that trail leads to this state, with which another hall can begin.
+pub record IsClosedAt (opening : Opening) (records count : ℕ) (seats : List SeatData)
+    (state : PlainState) : Type 0 where
+  pub chronicle : ChronicleData
+  pub opened : chronicle.opening ≡ opening
+  pub sound : IsSoundChronicle chronicle
+  pub counted : length chronicle.records ≡ records
+  pub given : length chronicle.seats ≡ count
+  pub kept : All (IsKeptBy chronicle.records) seats
+  pub last : chronicle.state ≡ state
+
 -- the state to which a legal trail leads from this opening on; another hall can begin with it
 pub record IsLeft (opening : Opening) (state : PlainState) : Type 0 where
   pub chronicle : ChronicleData

@@ -4,13 +4,14 @@ ghost use Rattle.std.specs.Prelude.{◌≡◌, ◌+◌, false, IfNone, IfSome, l
 ghost use Rattle.hall.specs.Closing.{IsCause};
 ghost use Rattle.hall.specs.Seats.{IsKeptBy, receipts_of};
 
-use crate::faults::CloseFault;
+use crate::faults::{CloseFault, HallFault};
 use crate::names::HallName;
 use crate::seats::Seat;
 use chronicle::Chronicle;
 use std::alloc::Allocator;
 use std::sync::Wait;
 use std::sync::ledger::Share;
+use world::Base;
 
 /// The account of a closed hall.
 #[derive(Clone, Copy, Debug, PartialEq, Eq)]
@@ -19,6 +20,24 @@ pub struct Closed {
     pub records: u64,
     /// How many seats were given.
     pub seats: usize,
+}
+
+/// What a hall leaves to the one that follows it.
+#[derive(Debug, Drop)]
+pub struct Left<A: Allocator> {
+    /// The account of the hall that is closed.
+    pub closed: Closed,
+    /// The state that it has come to.
+    pub base: Base<A>,
+}
+
+/// Why a hall that was to be followed by another one is not closed.
+#[derive(Debug, Drop, PartialEq, Eq)]
+pub enum LeaveFault {
+    /// There is no memory for a copy of its state: the call may be made again.
+    State(HallFault),
+    /// It does not close.
+    Close(CloseFault),
 }
 
 /// The first seat whose receipts are not its records, as C1; `None` if there is no such seat.

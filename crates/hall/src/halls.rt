@@ -6,10 +6,10 @@ ghost use Rattle.features.specs.Subjects.{subject_named};
 ghost use Rattle.chronicle.specs.Chronicles.{opened_with, opening_by};
 ghost use Rattle.plain_world.specs.declared.settings.TheConstants.{SEAT_LIMIT};
 ghost use Rattle.hall.specs.declared.halls.TheConstants.{VIEW_LIMIT};
-ghost use Rattle.hall.specs.Closing.{IsClosed, IsLeft};
+ghost use Rattle.hall.specs.Closing.{IsClosed, IsClosedAt, IsLeft};
 ghost use Rattle.hall.specs.Seats.{receipts_of};
 
-use crate::closing::Closed;
+use crate::closing::{Closed, LeaveFault, Left};
 use crate::faults::{CloseFault, HallFault, OpenFault};
 use crate::guarded::{Guarded, LEDGER_PARTS, SLOTS_AT_ONCE};
 use crate::names::{HallName, Unnamed};
@@ -279,6 +279,36 @@ impl<L: HallName, R: Wait + Drop, A: Allocator + Copy> Hall<L, R, A> {
         let mut guarded = self.lock.lock(rt);
         guarded.sound();
         guarded.settle(seats)
+    }
+
+    /// Closes the hall as `close` does, and returns with its account the state that it has come to:
+    /// what the hall that follows it begins with. `State` where there is no memory for that; the
+    /// hall is then as it was. A fault returns the seats.
+    pub fn leave<'h, W: Wait>(
+        &'h self,
+        rt: &W,
+        seats: Vec<Seat<'h, L, R, A>, A>,
+    ) -> Result<Left<A>, (LeaveFault, Vec<Seat<'h, L, R, A>, A>)>
+        requires { L.parts ≡ LEDGER_PARTS }
+        ensures records { IfOk result (λ left. left.closed.records ≡ receipts_of seats.entry.items) }
+        ensures seats { IfOk result (λ left. left.closed.seats ≡ length seats.entry.items) }
+        ensures trail { IfOk result (λ left. IsClosedAt L.opening left.closed.records
+            left.closed.seats seats.entry.items left.base) }
+        ensures sorted { IfOk result (λ left. IsSortedById left.base.features) }
+        ensures few { IfOk result (λ left. length left.base.features ≤ FEATURE_LIMIT) }
+        ensures edition { IfOk result (λ left. 0 < left.base.decider.edition) }
+        ensures back { IfErr result (λ e. e.1.items ≡ seats.entry.items) }
+    {
+        let mut guarded = self.lock.lock(rt);
+        guarded.sound();
+        let base = match guarded.state() {
+            Ok(base) => base,
+            Err(fault) => return Err((LeaveFault::State(fault), seats)),
+        };
+        match guarded.settle(seats) {
+            Ok(closed) => Ok(Left { closed, base }),
+            Err((fault, seats)) => Err((LeaveFault::Close(fault), seats)),
+        }
     }
 
     /// Ends the hall, and returns the state that it has come to: what another hall can begin with.

@@ -14,7 +14,7 @@ mod searching;
 mod seats;
 mod sections;
 
-pub use closing::Closed;
+pub use closing::{Closed, LeaveFault, Left};
 pub use faults::{CloseFault, HallFault, OpenFault};
 pub use guarded::{COPIED_AT_ONCE, LEDGER_PARTS};
 pub use halls::{Hall, VIEW_LIMIT};

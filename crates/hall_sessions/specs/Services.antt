@@ -1,5 +1,5 @@
 -- What the calls of a session make of its seat and its view, and what is said.
-use Rattle.std.specs.Prelude.{◌≡◌, ◌⊎◌, ℕ, List, [], ◌∷◌, ◌++◌, length, MatchOption, MatchResult, Result, Some, None}
+use Rattle.std.specs.Prelude.{◌≡◌, ◌⊎◌, ℕ, List, [], ◌∷◌, ◌++◌, length, slice_get, Bool, true, MatchOption, MatchResult, Result, Some, None}
 use Rattle.std.specs.List.{last_or}
 use mathlib.Core.List.{IsPrefix}
 use Rattle.features.specs.declared.actors.Subject.{Subject}
@@ -83,21 +83,38 @@ BeginsInHall subjects name old new said =
     × (new ≡ session (length old.seats) (old.seats ++ seat ∷ []) old.view))
     (λ fault. new ≡ old)
 
+-- at this place is a seat whose subject has this name
+pub record IsSeatNamed (name : List ℕ) (place : ℕ) (seats : List SeatData) : Type 0 where
+  pub seat : SeatData
+  pub found : slice_get seats place ≡ Some seat
+  pub named : seat.subject.name ≡ name
+
+-- a session begins with a seat that an earlier session of the worker had, for a subject of its
+-- name; the seat keeps its receipts
+pub record BeginsAgain (name : List ℕ) (old new : SessionData) (said : SaidData) : Type 0 where
+  pub place : ℕ
+  pub seat : IsSeatNamed name place old.seats
+  pub begun : new ≡ session place old.seats old.view
+  pub reply : said ≡ line (Greets name)
+
 -- What a call makes of a session of a hall in which these subjects may have seats, and what is said.
 -- A search, a commit or a document that succeeds
 -- adds one receipt, and the reply says what the receipt records; a roll adds none. A question is
--- ruled by the last policy that the view reads, or there is none to read; it changes no seat.
-abbrev pub ServesInHall : List Subject → Call → SessionData → SessionData → SaidData → Type 0
-ServesInHall subjects (Hello name) old new said = BeginsInHall subjects name old new said
-ServesInHall subjects (Search window) old new said =
+-- ruled by the last policy that the view reads, or there is none to read; it changes no seat. `again`
+-- says whether seats are given again.
+abbrev pub ServesInHall : Bool → List Subject → Call → SessionData → SessionData → SaidData → Type 0
+ServesInHall again subjects (Hello name) old new said =
+    BeginsInHall subjects name old new said ⊎ ((again ≡ true) × BeginsAgain name old new said)
+ServesInHall again subjects (Search window) old new said =
     CallsSeat rows (λ answer. IsSearched window answer) old new said
-ServesInHall subjects (Commit changes) old new said =
+ServesInHall again subjects (Commit changes) old new said =
     CallsSeat (λ outcome. line (outcome_reply outcome)) (λ outcome. IsCommitted changes outcome) old
     new said
-ServesInHall subjects (Govern document) old new said =
+ServesInHall again subjects (Govern document) old new said =
     Calls (λ list. line (Edition (last_edition list))) (λ list. PutsInForce document list) old new said
-ServesInHall subjects (Explain question) old new said =
+ServesInHall again subjects (Explain question) old new said =
     OnlySays (Error NotRead) old new said ⊎ ExplainsInHall question old new said
-ServesInHall subjects Roll old new said =
+ServesInHall again subjects Roll old new said =
     CallsSeat {T = RolledData} rolled (λ piece seat next. next ≡ seat) old new said
-ServesInHall subjects Leave old new said = (new ≡ unbegun old.seats old.view) × (said ≡ line Bye)
+ServesInHall again subjects Leave old new said =
+    (new ≡ unbegun old.seats old.view) × (said ≡ line Bye)

@@ -1,6 +1,7 @@
 //! A session over a hall.
 
-ghost use Rattle.std.specs.Prelude.{◌≡◌, length};
+ghost use Rattle.std.specs.Prelude.{◌≡◌, IfSome, length};
+ghost use Rattle.hall_sessions.specs.Services.{IsSeatNamed};
 
 use crate::replies::{explained_reply, hall_reply};
 use combining::Question;
@@ -13,8 +14,27 @@ use session_lines::{LineFault, Reply, Said, Service, outcome_reply};
 use std::alloc::{Allocator, Global};
 use std::sync::Wait;
 
+/// The place of the first seat whose subject has this name.
+fn seat_named<'h, L: HallName, R: Wait + Drop, A: Allocator>(
+    seats: &[Seat<'h, L, R, A>],
+    name: Name,
+) -> Option<usize>
+    ensures { IfSome result (λ place. IsSeatNamed name place seats.now) }
+{
+    for place in 0..seats.len() {
+        let Some(seat) = seats.get(place) else {
+            unreachable!()
+        };
+        if seat.subject().name == name {
+            return Some(place);
+        }
+    }
+    None
+}
+
 /// A session over a hall. HELLO takes a seat, and appends it to those of the worker's earlier
-/// sessions. It stays there when the session ends, since a hall is closed with all its seats. The
+/// sessions. It stays there when the session ends, since a hall is closed with all its seats; where
+/// seats are given again, a later session of its subject has it. The
 /// pause is that of its calls. EXPLAIN asks the worker's view, which needs no seat
 /// and no lock; the view is told of each document that the session puts in force.
 #[derive(Drop)]
@@ -26,6 +46,8 @@ pub struct Attended<'a, 'h, L: HallName, R: Wait + Drop, A: Allocator, W: Wait, 
     pause: &'a mut P,
     /// How many seats are before the session's own.
     earlier: usize,
+    /// Whether HELLO takes a seat of an earlier session, if one is the subject's.
+    reuses: bool,
 }
 
 impl<'a, 'h, L: HallName, R: Wait + Drop, A: Allocator + Copy, W: Wait, P: Pause> Attended<
@@ -38,19 +60,21 @@ impl<'a, 'h, L: HallName, R: Wait + Drop, A: Allocator + Copy, W: Wait, P: Pause
     P,
 > {
     /// A session before HELLO. `seats` are those of the worker's earlier sessions, `view` is the
-    /// worker's.
+    /// worker's. `reuses` says whether a seat of an earlier session is given again.
     pub fn new(
         rt: &'a W,
         hall: &'h Hall<L, R, A>,
         seats: &'a mut Vec<Seat<'h, L, R, A>, A>,
         view: &'a mut View<L>,
         pause: &'a mut P,
+        reuses: bool,
     ) -> Self
         ensures same_seats { result.seats.ghost_name ≡ seats.entry.ghost_name }
         ensures seats { result.seats.now ≡ seats.old }
         ensures same_view { result.view.ghost_name ≡ view.entry.ghost_name }
         ensures view { result.view.now ≡ view.old }
         ensures earlier { result.earlier ≡ length seats.old.items }
+        ensures reuses { result.reuses ≡ reuses }
     {
         let earlier = seats.len();
         Attended {
@@ -60,6 +84,7 @@ impl<'a, 'h, L: HallName, R: Wait + Drop, A: Allocator + Copy, W: Wait, P: Pause
             view,
             pause,
             earlier,
+            reuses,
         }
     }
 }
@@ -75,8 +100,8 @@ impl<'a, 'h, L: HallName, R: Wait + Drop, A: Allocator + Copy, W: Wait, P: Pause
     ghost subject_of = { λ s. session_subject (session s.earlier s.seats.now.items s.view.now) };
 
     ghost serves = { λ call old new said. (new.seats.ghost_name ≡ old.seats.ghost_name)
-        × (new.view.ghost_name ≡ old.view.ghost_name)
-        × ServesInHall L.opening.subjects call (session old.earlier old.seats.now.items old.view.now)
+        × (new.view.ghost_name ≡ old.view.ghost_name) × (new.reuses ≡ old.reuses)
+        × ServesInHall old.reuses L.opening.subjects call (session old.earlier old.seats.now.items old.view.now)
         (session new.earlier new.seats.now.items new.view.now) said };
 
     fn subject(&self) -> Option<Subject> {
@@ -84,6 +109,12 @@ impl<'a, 'h, L: HallName, R: Wait + Drop, A: Allocator + Copy, W: Wait, P: Pause
     }
 
     fn hello(&mut self, name: Name) -> Reply {
+        if self.reuses {
+            if let Some(place) = seat_named(self.seats.as_slice(), name) {
+                self.earlier = place;
+                return Reply::Hello(name);
+            }
+        }
         if let Err(no_memory) = self.seats.make_slot() {
             return Reply::Memory(no_memory);
         }

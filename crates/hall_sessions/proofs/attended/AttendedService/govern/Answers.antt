@@ -17,6 +17,7 @@ returns-in-Err g c =
     let same = written_back s.seats.now.items s.earlier seat c.govern.new.self is c.in-Err.ensures.err in (
       refl,
       refl,
+      refl,
       called (λ list. line (Edition (last_edition list))) (λ list. PutsInForce c.args.document list) (Err c.in-Err.fault) _ _ _ seat here
           (ap line c.hall_reply.ensures) (ap (λ (seats : List SeatData). session s.earlier seats s.view.now) same),
     )
@@ -24,6 +25,7 @@ returns-in-Err g c =
 pub returns-in-Ok : goal.returns-in-Ok
 returns-in-Ok g c =
     let s = c.args.self.now in (
+      refl,
       refl,
       refl,
       rw c.number-number.ensures.last (governed c.args.document c.in-Ok.edition s.seats.now.items _ s.earlier c.in-Some.seat.now c.govern.new.self
