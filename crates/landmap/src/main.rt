@@ -20,7 +20,7 @@ use program::{
     HostFolder, Next, ProgramFault, TransferWords, WantedServer, WantedTransfer, run_program, tell,
 };
 use server::{
-    Begins, Closed, Keeping, Rests, ServerFault, Serving, SocketOptions, Stop, serve_kept,
+    Begins, Closed, Connections, Keeping, Rests, ServerFault, Serving, SocketOptions, Stop, serve_kept,
     serve_socket, watch,
 };
 use std::alloc::Global;
@@ -190,7 +190,7 @@ fn planned(rt: &HostRuntime, server: WantedServer<'_>) -> Result<Plan, NoMemory>
 /// hall's own handle.
 fn serve<H, R>(rt: &R, own: H, heap: Global, plan: Plan, errors: &mut Stderr) -> ExitCode
 where
-    H: Wait + Drop + Send,
+    H: Wait + Copy + Drop + Send,
     R: Threads + Wait + Clock + Log + Files<File = File> + Net + Print + Sync,
 {
     let Plan {
@@ -203,7 +203,7 @@ where
         stopping: _stopping,
     } = plan;
     let socket_options = SocketOptions {
-        connections,
+        connections: Connections::UpTo(connections),
         idle,
         takeover,
         stop: Some(&stop),

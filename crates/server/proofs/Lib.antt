@@ -1,1 +1,2 @@
 pub mod ClosureLemmas
+pub mod RelayLemmas

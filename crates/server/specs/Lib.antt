@@ -1,3 +1,4 @@
 pub mod FaultCodes
 pub mod Rising
 pub mod Served
+pub mod Relays

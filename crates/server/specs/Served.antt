@@ -22,7 +22,3 @@ pub record IsServed (opening : Opening) (closed : Closed) : Type 0 where
 abbrev pub opening_of : Subjects → Begins → Opening
 opening_of subjects (begins.Document document) = opening_by subjects document
 opening_of subjects (begins.State restored) = record { subjects = subjects; base = restored.base }
-
--- a server that began at some state, for these subjects
-abbrev pub IsServedFrom : Subjects → Closed → Type 0
-IsServedFrom subjects closed = (base : PlainState) × IsServed (record { subjects = subjects; base = base }) closed

@@ -54,6 +54,11 @@ impl Restored {
         Some(Restored { base, rolled })
     }
 
+    /// How many records are before it.
+    pub(crate) fn rolled(&self) -> u32 {
+        self.rolled
+    }
+
     /// The state, and how many records are before it.
     pub(crate) fn into_parts(self) -> (Base<Global>, u32)
         ensures base { result.0 ≡ self.base }
@@ -135,6 +140,8 @@ pub trait Keeps {
 pub(crate) struct Lasting<'a> {
     pub(crate) desk: &'a Desk<Arc<Record<Global>>>,
     pub(crate) rests: Rests,
+    /// How many records the desk had from the halls before the present one.
+    pub(crate) before: u64,
 }
 
 impl Lasting<'_> {
@@ -144,7 +151,8 @@ impl Lasting<'_> {
         rt: &R,
         hall: &Hall<L, H, Global>,
     ) {
-        self.desk.take_over(rt, &HallRecords { rt, hall });
+        self.desk
+            .take_over(rt, &HallRecords::of(rt, hall, Some(*self)));
     }
 
     /// Waits until all records last, or the desk has failed.
@@ -153,30 +161,47 @@ impl Lasting<'_> {
         rt: &R,
         hall: &Hall<L, H, Global>,
     ) {
-        let records = HallRecords { rt, hall };
+        let records = HallRecords::of(rt, hall, Some(*self));
         let _ = self.desk.wait_for(rt, &records, records.count());
     }
 }
 
-/// The records of a hall.
+/// The records of a hall, behind those of the halls before it.
 #[derive(Drop)]
 pub(crate) struct HallRecords<'a, L: HallName, H: Wait + Drop, R: Wait> {
-    pub(crate) rt: &'a R,
-    pub(crate) hall: &'a Hall<L, H, Global>,
+    rt: &'a R,
+    hall: &'a Hall<L, H, Global>,
+    before: u64,
+}
+
+impl<'a, L: HallName, H: Wait + Drop, R: Wait> HallRecords<'a, L, H, R> {
+    /// The records of a hall, as the desk counts them.
+    pub(crate) fn of(
+        rt: &'a R,
+        hall: &'a Hall<L, H, Global>,
+        lasting: Option<Lasting<'_>>,
+    ) -> Self {
+        let before = match lasting {
+            Some(lasting) => lasting.before,
+            None => 0,
+        };
+        HallRecords { rt, hall, before }
+    }
 }
 
 impl<L: HallName, H: Wait + Drop, R: Wait> Source<Arc<Record<Global>>>
     for HallRecords<'_, L, H, R> {
     fn count(&self) -> u64 {
-        self.hall.record_count(self.rt)
+        self.before.saturating_add(self.hall.record_count(self.rt))
     }
 
     fn changed(&self) -> u64 {
-        self.hall.last_change(self.rt)
+        self.before.saturating_add(self.hall.last_change(self.rt))
     }
 
     fn copy_from(&self, place: u64, into: &mut Vec<Arc<Record<Global>>>) {
         // What is left out, since a record has as many owners as there may be, comes the next time.
+        let place = place.saturating_sub(self.before);
         let _ = self.hall.records_from(self.rt, place, into);
     }
 }
@@ -189,7 +214,7 @@ pub(crate) fn barrier<'a, L: HallName, H: Wait + Drop, R: Wait, O: Write + Drop>
     writer: O,
 ) -> Barrier<'a, Arc<Record<Global>>, HallRecords<'a, L, H, R>, R, O> {
     match lasting {
-        Some(Lasting { desk, rests }) => Barrier::new(rt, Some(desk), records, rests, writer),
+        Some(Lasting { desk, rests, .. }) => Barrier::new(rt, Some(desk), records, rests, writer),
         None => Barrier::new(rt, None, records, Rests::All, writer),
     }
 }

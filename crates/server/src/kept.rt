@@ -2,7 +2,7 @@
 
 ghost use Rattle.std.specs.Prelude.{◌≡◌, IfOk};
 ghost use Rattle.std.specs.Thread.{IsSend, IsSync};
-ghost use Rattle.server.specs.Served.{IsServedFrom};
+ghost use Rattle.server.specs.Relays.{ServedFrom};
 
 use crate::faults::ServerFault;
 use crate::keeping::{AppendFault, Begins, Keeps, Lasting, Restored, StoreFault, Writes};
@@ -151,10 +151,10 @@ pub fn serve_kept<H, R, K>(
     writer: K,
 ) -> Result<Closed, ServerFault>
 where
-    H: Wait + Drop + Send,
+    H: Wait + Copy + Drop + Send,
     R: Threads + Wait + Clock + Log + Files<File = File> + Net + Print + Sync,
     K: Writes + Drop + Send,
-    ensures { IfOk result (IsServedFrom keeping.subjects) }
+    ensures { IfOk result (ServedFrom options.connections keeping.subjects) }
 {
     let desk = Desk::new(heap)?;
     let (to, from) = channel::<Result<Restored, StoreFault>>(heap, 1)?;
@@ -163,7 +163,11 @@ where
         workers,
         rests,
     } = keeping;
-    let lasting = Lasting { desk: &desk, rests };
+    let lasting = Lasting {
+        desk: &desk,
+        rests,
+        before: 0,
+    };
     let handover = Handover {
         heap,
         desk: &desk,
@@ -175,7 +179,7 @@ where
         |scope|
             requires shares { IsSync R.row }
             requires crosses { IsSend K.row }
-            ensures { IfOk result (IsServedFrom subjects) }
+            ensures { IfOk result (ServedFrom options.connections subjects) }
         {
             if scope.spawn(move || writer.write(rt, handover)).is_err() {
                 return Err(ServerFault::NoWorker);

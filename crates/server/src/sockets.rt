@@ -1,6 +1,8 @@
 //! Serving a Unix socket.
 
 ghost use Rattle.std.specs.Prelude.{IfOk};
+ghost use Rattle.std.specs.Thread.{IsSend, IsSync};
+ghost use Rattle.server.specs.Relays.{IsRelayed, ServedAs};
 ghost use Rattle.server.specs.Served.{IsServed, opening_of};
 
 use crate::faults::ServerFault;
@@ -8,7 +10,9 @@ use crate::keeping::Lasting;
 use crate::listening::{Bound, listen, tell_ready};
 use crate::socket_files::remove_own;
 use crate::stopping::Stop;
-use crate::streams::{Serving, serve_lasting};
+use crate::streams::{QUEUE, Serving, WORKER_LIMIT, channel, serve_lasting};
+use crate::terms::{Relay, serve_relay};
+use crossbeam_channel::Sender;
 use hall::{Closed, NoPause};
 use log::{Log, warn};
 use std::alloc::Global;
@@ -24,12 +28,26 @@ use std::{io, thread};
 /// For how many seconds nobody is accepted after a connection that was not accepted.
 const ACCEPT_PAUSE: u64 = 1;
 
+/// For how many seconds a write waits, in a server without end, before it is looked whether halls
+/// change.
+const WRITE_PATIENCE: u64 = 1;
+
+/// How many connections a server accepts.
+#[derive(Clone, Copy, Debug, Drop, PartialEq, Eq)]
+pub enum Connections {
+    /// So many; one whose accepting fails counts too, and for a second behind it no other is
+    /// accepted. After the last one nobody listens any more.
+    UpTo(u16),
+    /// Without end: halls follow one another, each after so many records of the one before it, or
+    /// after `TERM_BYTES` of its replies.
+    Endless(u64),
+}
+
 /// How a socket is served.
 #[derive(Clone, Copy)]
 pub struct SocketOptions<'a> {
-    /// How many connections are accepted; one whose accepting fails counts too, and for a second
-    /// behind it no other is accepted. After the last one nobody listens any more.
-    pub connections: u16,
+    /// How many connections are accepted.
+    pub connections: Connections,
     /// How many seconds a session may wait for its client to send or to take something, before it
     /// ends with a fault. `None` and 0 set no bound.
     pub idle: Option<u64>,
@@ -103,29 +121,25 @@ fn parted(
     Ok((reader, stream, NoPause))
 }
 
-/// Writes the line `listening PATH`, and serves the connections that come.
-fn serve_listener<H, R>(
+/// Serves so many connections, and stops listening after the last one.
+fn serve_some<H, R>(
     rt: &R,
     own: H,
     heap: Global,
-    path: &str,
     serving: Serving,
     options: SocketOptions<'_>,
+    connections: u16,
     lasting: Option<Lasting<'_>>,
-    bound: Bound,
+    listener: UnixListener,
 ) -> Result<Closed, ServerFault>
 where
     H: Wait + Drop + Send,
-    R: Threads + Wait + Clock + Log + Print + Sync,
+    R: Threads + Wait + Clock + Log + Sync,
     ensures { IfOk result (IsServed (opening_of serving.subjects serving.begins)) }
 {
-    tell_ready(rt, heap, path)?;
-    if let Some(stop) = options.stop {
-        stop.listens_on(bound.file);
-    }
     let arrivals = Arrivals {
-        listener: Some(bound.listener),
-        left: options.connections,
+        listener: Some(listener),
+        left: connections,
         stop: options.stop,
     };
     let patience = patience(options.idle);
@@ -142,6 +156,138 @@ where
     serve_lasting(rt, own, heap, serving, lasting, incoming)
 }
 
+/// A stream whose writes give a chance to look around once a second.
+fn watched(stream: UnixStream) -> io::Result<UnixStream> {
+    stream.set_write_timeout(Some(Duration::from_secs(WRITE_PATIENCE)))?;
+    Ok(stream)
+}
+
+/// Accepts connections and sends them on, until the server is told to accept no more, or nobody
+/// receives them.
+fn accept_all<R: Wait + Clock + Log>(
+    rt: &R,
+    listener: UnixListener,
+    stop: &Stop,
+    to: Sender<UnixStream>,
+) {
+    for _ in rt.forever() {
+        if stop.is_asked() {
+            return;
+        }
+        let accepted = listener.accept();
+        if stop.is_asked() {
+            return;
+        }
+        match accepted.and_then(|(stream, _)| watched(stream)) {
+            Ok(stream) => {
+                if to.send(rt, stream).is_err() {
+                    return;
+                }
+            }
+            Err(error) => {
+                warn!(rt; target: "landmap", "a connection was not accepted: {error}");
+                thread::sleep(rt, Duration::from_secs(ACCEPT_PAUSE));
+            }
+        }
+    }
+    unreachable!()
+}
+
+/// Serves connections without end: until the server is told to accept no more and all sessions have
+/// ended. A hall gives way after so many records.
+fn serve_without_end<H, R>(
+    rt: &R,
+    own: H,
+    heap: Global,
+    path: &str,
+    serving: Serving,
+    options: SocketOptions<'_>,
+    records: u64,
+    lasting: Option<Lasting<'_>>,
+    listener: UnixListener,
+) -> Result<Closed, ServerFault>
+where
+    H: Wait + Copy + Drop + Send,
+    R: Threads + Wait + Clock + Log + Files<File = File> + Net + Sync,
+    ensures { IfOk result (IsRelayed (opening_of serving.subjects serving.begins)) }
+{
+    let (to, from) = channel::<UnixStream>(heap, QUEUE)?;
+    let Serving {
+        subjects,
+        begins,
+        workers,
+    } = serving;
+    let own_stop = Stop::new();
+    let stop = match options.stop {
+        Some(stop) => stop,
+        None => &own_stop,
+    };
+    let idle = options.idle;
+    let workers = workers.clamp(1, WORKER_LIMIT);
+    thread::scope(
+        thread::scope_env(),
+        rt,
+        |scope|
+            requires shares { IsSync R.row }
+            requires handle { IsSend H.row }
+            ensures { IfOk result (IsRelayed (opening_of subjects begins)) }
+        {
+            if scope
+                .spawn(move || accept_all(rt, listener, stop, to))
+                .is_err()
+            {
+                return Err(ServerFault::NoWorker);
+            }
+            let arrivals = from;
+            let relay = Relay {
+                heap,
+                workers,
+                lasting,
+                arrivals: &arrivals,
+                idle,
+                records,
+            };
+            let served = serve_relay(rt, own, relay, subjects, begins);
+            // This ends the accepting.
+            drop(arrivals);
+            stop.wake(rt, path);
+            served
+        },
+    )
+}
+
+/// Writes the line `listening PATH`, and serves the connections that come.
+fn serve_listener<H, R>(
+    rt: &R,
+    own: H,
+    heap: Global,
+    path: &str,
+    serving: Serving,
+    options: SocketOptions<'_>,
+    lasting: Option<Lasting<'_>>,
+    bound: Bound,
+) -> Result<Closed, ServerFault>
+where
+    H: Wait + Copy + Drop + Send,
+    R: Threads + Wait + Clock + Log + Files<File = File> + Net + Print + Sync,
+    ensures { IfOk result
+        (ServedAs options.connections (opening_of serving.subjects serving.begins)) }
+{
+    tell_ready(rt, heap, path)?;
+    if let Some(stop) = options.stop {
+        stop.listens_on(bound.file);
+    }
+    let listener = bound.listener;
+    match options.connections {
+        Connections::UpTo(connections) => serve_some(
+            rt, own, heap, serving, options, connections, lasting, listener,
+        ),
+        Connections::Endless(records) => serve_without_end(
+            rt, own, heap, path, serving, options, records, lasting, listener,
+        ),
+    }
+}
+
 /// Serves a socket as `serve_socket` does; where there is a desk, replies leave once the records on
 /// which they rest last.
 pub(crate) fn serve_bound<H, R>(
@@ -154,9 +300,10 @@ pub(crate) fn serve_bound<H, R>(
     lasting: Option<Lasting<'_>>,
 ) -> Result<Closed, ServerFault>
 where
-    H: Wait + Drop + Send,
+    H: Wait + Copy + Drop + Send,
     R: Threads + Wait + Clock + Log + Files<File = File> + Net + Print + Sync,
-    ensures { IfOk result (IsServed (opening_of serving.subjects serving.begins)) }
+    ensures { IfOk result
+        (ServedAs options.connections (opening_of serving.subjects serving.begins)) }
 {
     let bound = listen(rt, path, options.takeover)?;
     let file = bound.file;
@@ -179,9 +326,10 @@ pub fn serve_socket<H, R>(
     options: SocketOptions<'_>,
 ) -> Result<Closed, ServerFault>
 where
-    H: Wait + Drop + Send,
+    H: Wait + Copy + Drop + Send,
     R: Threads + Wait + Clock + Log + Files<File = File> + Net + Print + Sync,
-    ensures { IfOk result (IsServed (opening_of serving.subjects serving.begins)) }
+    ensures { IfOk result
+        (ServedAs options.connections (opening_of serving.subjects serving.begins)) }
 {
     serve_bound(rt, own, heap, path, serving, options, None)
 }

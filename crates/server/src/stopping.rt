@@ -52,6 +52,19 @@ impl Stop {
     }
 }
 
+impl Stop {
+    /// Tells the server to accept no more connections. If it listens at the path, connects to it
+    /// once, so that it sees that, in place of waiting for a client.
+    pub(crate) fn wake<R: Files + Net>(&self, rt: &R, path: &str) {
+        // A server notes its socket before it looks whether it is told, so either it sees that, or it
+        // is found here.
+        self.ask();
+        if self.has_socket_at(rt, path) {
+            let _ = UnixStream::connect(rt, path);
+        }
+    }
+}
+
 /// Waits until the input ends or cannot be read, and tells the server to accept no more
 /// connections. If it listens at the path by then, connects to it once, so that it sees that, in
 /// place of waiting for a client. Sessions that are being served go on to their end.
@@ -63,10 +76,5 @@ pub fn watch<R: Files + Net, I: Read>(rt: &R, input: &mut I, path: &str, stop: &
             Ok(_) => {}
         }
     }
-    // A server notes its socket before it looks whether it is told, so either it sees that, or it
-    // is found here.
-    stop.ask();
-    if stop.has_socket_at(rt, path) {
-        let _ = UnixStream::connect(rt, path);
-    }
+    stop.wake(rt, path);
 }

@@ -7,8 +7,9 @@ ghost use Rattle.server.specs.Served.{IsServed, opening_of};
 
 use crate::faults::{NoMemoryForChannel, ServerFault};
 use crate::keeping::{Begins, Lasting};
-use crate::workers::{tend, work};
-use crossbeam_channel::{Receiver, Sender, bounded};
+use crate::turns::Turn;
+use crate::workers::{Connection, tend, work};
+use crossbeam_channel::{Receiver, SendError, Sender, bounded};
 use features::Subjects;
 use hall::{Closed, Hall, HallName, LEDGER_PARTS, Pause, Seat, Unnamed, VIEW_LIMIT, View};
 use log::{Log, warn};
@@ -30,7 +31,7 @@ pub const WORKER_COUNT: usize = 4;
 pub const WORKER_LIMIT: usize = VIEW_LIMIT;
 
 /// The most streams that wait for a worker.
-const QUEUE: usize = 4;
+pub(crate) const QUEUE: usize = 4;
 
 /// What a server serves, and by how many threads.
 #[derive(Debug, Drop)]
@@ -55,25 +56,27 @@ pub(crate) fn channel<T: Drop>(
     }
 }
 
-/// Sends what comes in down a channel. What cannot be sent, since nobody receives, is dropped with
-/// a warning.
-fn hand_out<R: Wait + Log, T: Drop, S: Iterator<Item = T> + Drop>(
+/// Sends what comes in down a channel. What cannot be sent, since nobody receives, is turned away.
+fn hand_out<R: Wait + Log, T: Connection + Drop, S: Iterator<Item = T> + Drop>(
     rt: &R,
     incoming: S,
-    streams: Sender<T>,
+    connections: Sender<T>,
 )
     requires can { S.can_next incoming }
     requires ends { IsFinite (S.remaining incoming) }
 {
-    for stream in incoming {
-        if streams.send(rt, stream).is_err() {
-            warn!(rt; target: "landmap", "a connection was not served: there is no worker");
+    for connection in incoming {
+        match connections.send(rt, connection) {
+            Ok(()) => {}
+            Err(SendError::Disconnected(back) | SendError::OutOfMemory(back)) => {
+                back.turn_away(rt);
+            }
         }
     }
 }
 
 /// Views of the policies, one for each worker.
-fn views_of<L: HallName, H: Wait + Drop, R: Wait>(
+pub(crate) fn views_of<L: HallName, H: Wait + Drop, R: Wait>(
     rt: &R,
     heap: Global,
     hall: &Hall<L, H, Global>,
@@ -89,23 +92,21 @@ fn views_of<L: HallName, H: Wait + Drop, R: Wait>(
 
 /// Serves what comes in by workers, one for each view, and returns when all of it is served.
 /// `NoWorker` where none of them could be started.
-fn serve_all<'h, L: HallName + Send + Sync, H, R, I, O, G, S>(
+fn serve_all<'h, L: HallName + Send + Sync, H, R, T, S>(
     rt: &R,
     heap: Global,
     hall: &'h Hall<L, H, Global>,
     gathered: &Mutex<Vec<Seat<'h, L, H, Global>>>,
     views: Vec<View<L>>,
     lasting: Option<Lasting<'_>>,
-    ends: (Sender<(I, O, G)>, Receiver<(I, O, G)>),
+    ends: (Sender<T>, Receiver<T>),
     incoming: S,
 ) -> Result<(), ServerFault>
 where
     H: Wait + Drop + Send,
     R: Threads + Wait + Log + Sync,
-    I: Read + Drop + Send,
-    O: Write + Drop + Send,
-    G: Pause + Drop + Send,
-    S: Iterator<Item = (I, O, G)> + Drop,
+    T: Connection + Drop + Send,
+    S: Iterator<Item = T> + Drop,
     requires can { S.can_next incoming }
     requires ends { IsFinite (S.remaining incoming) }
 {
@@ -117,16 +118,16 @@ where
             requires can { S.can_next incoming }
             requires ends { IsFinite (S.remaining incoming) }
             requires shares { IsSync R.row }
-            requires crosses { IsSend I.row × IsSend O.row × IsSend G.row }
+            requires crosses { IsSend T.row }
             requires hall { IsSend L.row × IsSend H.row }
         {
             let mut started = false;
             for view in views {
-                let Ok(streams) = from.clone() else {
+                let Ok(connections) = from.clone() else {
                     break;
                 };
                 if scope
-                    .spawn(move || work(rt, heap, hall, gathered, streams, view, lasting))
+                    .spawn(move || work(rt, heap, hall, gathered, connections, view, lasting))
                     .is_err()
                 {
                     warn!(rt; target: "landmap", "a worker could not be started");
@@ -145,27 +146,27 @@ where
     )
 }
 
-/// Serves what comes in by workers, one for each view, beside one thread that tends the index.
-/// Returns the seats of all sessions; `NoWorker` where none of the workers could be started.
-fn serve_tended<'h, L: HallName + Send + Sync, H, R, I, O, G, S>(
+/// Serves what comes in by workers, one for each view, beside one thread that tends the index and
+/// looks after the turn. Returns the seats of all sessions; `NoWorker` where none of the workers could
+/// be started.
+pub(crate) fn serve_tended<'h, L: HallName + Send + Sync, H, R, T, S>(
     rt: &R,
     heap: Global,
     hall: &'h Hall<L, H, Global>,
     views: Vec<View<L>>,
     lasting: Option<Lasting<'_>>,
+    turn: Option<&Turn>,
     incoming: S,
 ) -> Result<Vec<Seat<'h, L, H, Global>>, ServerFault>
 where
     H: Wait + Drop + Send,
     R: Threads + Wait + Clock + Log + Sync,
-    I: Read + Drop + Send,
-    O: Write + Drop + Send,
-    G: Pause + Drop + Send,
-    S: Iterator<Item = (I, O, G)> + Drop,
+    T: Connection + Drop + Send,
+    S: Iterator<Item = T> + Drop,
     requires can { S.can_next incoming }
     requires ends { IsFinite (S.remaining incoming) }
 {
-    let streams = channel(heap, QUEUE)?;
+    let connections = channel(heap, QUEUE)?;
     let (stop, stopped) = channel::<()>(heap, 1)?;
     // All seats that a hall may give have their places before anything is served, so none of them
     // is lost at the end.
@@ -178,16 +179,16 @@ where
             requires can { S.can_next incoming }
             requires ends { IsFinite (S.remaining incoming) }
             requires shares { IsSync R.row }
-            requires crosses { IsSend I.row × IsSend O.row × IsSend G.row }
+            requires crosses { IsSend T.row }
             requires hall { IsSend L.row × IsSend H.row }
         {
             if scope
-                .spawn(move || tend(rt, hall, stopped, lasting))
+                .spawn(move || tend(rt, hall, stopped, lasting, turn))
                 .is_err()
             {
                 warn!(rt; target: "landmap", "the index is not tended");
             }
-            let served = serve_all(rt, heap, hall, seats, views, lasting, streams, incoming);
+            let served = serve_all(rt, heap, hall, seats, views, lasting, connections, incoming);
             // This ends the tending.
             drop(stop);
             served
@@ -220,7 +221,7 @@ where
     ensures { IfOk result (IsServed L.opening) }
 {
     let views = views_of(rt, heap, hall, workers)?;
-    let seats = serve_tended(rt, heap, hall, views, lasting, incoming)?;
+    let seats = serve_tended(rt, heap, hall, views, lasting, None, incoming)?;
     if let Some(lasting) = lasting {
         lasting.finish(rt, hall);
     }
@@ -231,7 +232,7 @@ where
 }
 
 /// A hall of the name `L`, with a view for each worker.
-fn opened<L: HallName, H: Wait + Drop>(
+pub(crate) fn opened<L: HallName, H: Wait + Drop>(
     own: H,
     heap: Global,
     unnamed: Unnamed,

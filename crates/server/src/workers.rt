@@ -1,9 +1,10 @@
 //! What each thread of a server does.
 
 use crate::keeping::{HallRecords, Lasting, barrier};
+use crate::turns::Turn;
 use byte_streams::let_go;
 use crossbeam_channel::{Receiver, RecvTimeoutError};
-use hall::{Hall, HallName, Pause, Seat, View};
+use hall::{Hall, HallFault, HallName, Pause, Seat, View};
 use hall_sessions::Attended;
 use line_streams::ServeFault;
 use log::{Log, warn};
@@ -20,6 +21,24 @@ const PAUSE: u64 = 20;
 /// After how many pauses a round over all slots of the index is asked for: 30 seconds.
 const PAUSES: u32 = 1_500;
 
+/// What a worker serves: a connection.
+pub(crate) trait Connection {
+    /// Serves it to its end, or until it is set aside. `seats` are those of the worker's earlier
+    /// sessions, `view` is the worker's.
+    fn serve<'h, L: HallName, H: Wait + Drop, R: Wait + Log>(
+        self,
+        rt: &R,
+        heap: Global,
+        hall: &'h Hall<L, H, Global>,
+        seats: &mut Vec<Seat<'h, L, H, Global>>,
+        view: &mut View<L>,
+        lasting: Option<Lasting<'_>>,
+    );
+
+    /// What becomes of it where there is no worker for it.
+    fn turn_away<R: Wait + Log>(self, rt: &R);
+}
+
 /// Serves a session whose replies are buffered. If it ends with a fault, what is left in the buffer
 /// is not written.
 fn serve_buffered<'h, L: HallName, H: Wait + Drop, R: Wait, I: Read, O: Write + Drop, G: Pause>(
@@ -33,9 +52,9 @@ fn serve_buffered<'h, L: HallName, H: Wait + Drop, R: Wait, I: Read, O: Write + 
     pause: &mut G,
     lasting: Option<Lasting<'_>>,
 ) -> Result<(), ServeFault> {
-    let records = HallRecords { rt, hall };
+    let records = HallRecords::of(rt, hall, lasting);
     let mut writer = buffered(heap, barrier(rt, &records, lasting, writer))?;
-    let mut attended = Attended::new(rt, hall, seats, view, pause);
+    let mut attended = Attended::new(rt, hall, seats, view, pause, false);
     match serve(heap, heap, &mut attended, reader, &mut writer) {
         Ok(_) => Ok(()),
         Err(fault) => {
@@ -45,100 +64,108 @@ fn serve_buffered<'h, L: HallName, H: Wait + Drop, R: Wait, I: Read, O: Write + 
     }
 }
 
-/// Serves one stream to its end. A fault ends this session alone, with a warning.
-fn serve_stream<
-    'h,
-    L: HallName,
-    H: Wait + Drop,
-    R: Wait + Log,
-    I: Read + Drop,
-    O: Write + Drop,
-    G: Pause + Drop,
->(
-    rt: &R,
-    heap: Global,
-    hall: &'h Hall<L, H, Global>,
-    seats: &mut Vec<Seat<'h, L, H, Global>>,
-    view: &mut View<L>,
-    stream: (I, O, G),
-    lasting: Option<Lasting<'_>>,
-) {
-    let (mut reader, writer, mut pause) = stream;
-    let ended = serve_buffered(
-        rt,
-        heap,
-        hall,
-        seats,
-        view,
-        &mut reader,
-        writer,
-        &mut pause,
-        lasting,
-    );
-    if let Err(fault) = ended {
-        warn!(rt; target: "landmap", "a session ended by {fault}");
+/// A stream as its reader, its writer, and the pause of its calls: it is served to its end. A fault
+/// ends its session alone, with a warning.
+impl<I: Read + Drop, O: Write + Drop, G: Pause + Drop> Connection for (I, O, G) {
+    fn serve<'h, L: HallName, H: Wait + Drop, R: Wait + Log>(
+        self,
+        rt: &R,
+        heap: Global,
+        hall: &'h Hall<L, H, Global>,
+        seats: &mut Vec<Seat<'h, L, H, Global>>,
+        view: &mut View<L>,
+        lasting: Option<Lasting<'_>>,
+    ) {
+        let (mut reader, writer, mut pause) = self;
+        let ended = serve_buffered(
+            rt,
+            heap,
+            hall,
+            seats,
+            view,
+            &mut reader,
+            writer,
+            &mut pause,
+            lasting,
+        );
+        if let Err(fault) = ended {
+            warn!(rt; target: "landmap", "a session ended by {fault}");
+        }
+    }
+
+    fn turn_away<R: Wait + Log>(self, rt: &R) {
+        warn!(rt; target: "landmap", "a connection was not served: there is no worker");
     }
 }
 
-/// Serves streams, one after another, until no more come, and hands in the seats of their sessions.
-/// The sessions use the view in turn.
-pub(crate) fn work<
-    'h,
-    L: HallName,
-    H: Wait + Drop,
-    R: Wait + Log,
-    I: Read + Drop,
-    O: Write + Drop,
-    G: Pause + Drop,
->(
+/// Serves connections, one after another, until no more come, and hands in the seats of their
+/// sessions. The sessions use the view in turn.
+pub(crate) fn work<'h, L: HallName, H: Wait + Drop, R: Wait + Log, T: Connection + Drop>(
     rt: &R,
     heap: Global,
     hall: &'h Hall<L, H, Global>,
     gathered: &Mutex<Vec<Seat<'h, L, H, Global>>>,
-    streams: Receiver<(I, O, G)>,
+    connections: Receiver<T>,
     view: View<L>,
     lasting: Option<Lasting<'_>>,
 ) {
     let mut view = view;
     let mut seats = Vec::new(heap);
     for _ in rt.forever() {
-        let Ok(stream) = streams.recv(rt) else {
+        let Ok(connection) = connections.recv(rt) else {
             break;
         };
-        serve_stream(rt, heap, hall, &mut seats, &mut view, stream, lasting);
+        connection.serve(rt, heap, hall, &mut seats, &mut view, lasting);
     }
     if gathered.lock(rt).append(&mut seats).is_err() {
         warn!(rt; target: "landmap", "seats are lost");
     }
 }
 
-/// Tends in rounds, until the sender of `ends` is dropped: what is due, and at long intervals all
-/// slots. A round that is refused is the last, with a warning. Each time the desk, if there is one,
-/// takes over the records that nobody waits for.
+/// Tends once: what is due, and at long intervals all slots.
+fn tend_once<L: HallName, H: Wait + Drop, R: Wait>(
+    rt: &R,
+    hall: &Hall<L, H, Global>,
+    pauses: &mut u32,
+) -> Result<(), HallFault> {
+    if *pauses < PAUSES {
+        *pauses += 1;
+    } else {
+        *pauses = 0;
+        hall.want_round(rt);
+    }
+    hall.tend_round(rt)?;
+    Ok(())
+}
+
+/// Tends in rounds, until the sender of `ends` is dropped. A round that is refused is the last, with
+/// a warning. Each time the desk, if there is one, takes over the records that nobody waits for, and
+/// the turn, if there is one, is told how many records there are.
 pub(crate) fn tend<L: HallName, H: Wait + Drop, R: Wait + Clock + Log>(
     rt: &R,
     hall: &Hall<L, H, Global>,
     ends: Receiver<()>,
     lasting: Option<Lasting<'_>>,
+    turn: Option<&Turn>,
 ) {
     let mut pauses = 0;
+    let mut tended = true;
     for _ in rt.forever() {
         match ends.recv_timeout(rt, Duration::from_millis(PAUSE)) {
             Ok(()) => {}
             Err(RecvTimeoutError::Disconnected) => return,
             Err(RecvTimeoutError::Timeout) => {
-                if pauses < PAUSES {
-                    pauses += 1;
-                } else {
-                    pauses = 0;
-                    hall.want_round(rt);
-                }
                 if let Some(lasting) = lasting {
                     lasting.take_over(rt, hall);
                 }
-                if let Err(fault) = hall.tend_round(rt) {
-                    warn!(rt; target: "landmap", "the index is no longer tended: {fault}");
-                    return;
+                if let Some(turn) = turn {
+                    turn.look(hall.record_count(rt));
+                }
+                if tended {
+                    if let Err(fault) = tend_once(rt, hall, &mut pauses) {
+                        warn!(rt; target: "landmap", "the index is no longer tended: {fault}");
+                        tended = false;
+                    }
                 }
             }
         }

@@ -5,7 +5,7 @@ use audit_trail::Record;
 use hall::Closed;
 use log::Log;
 use server::{
-    AppendFault, Handover, Keeping, Keeps, Restored, Rests, ServerFault, SocketOptions, StoreFault,
+    AppendFault, Handover, Keeping, Keeps, Restored, Rests, ServerFault, Connections, SocketOptions, StoreFault,
     Writes, serve_kept,
 };
 use std::alloc::Global;
@@ -21,7 +21,7 @@ use std::{fs, thread};
 
 /// What a store of the tests does, and what became of it.
 #[derive(Drop)]
-struct Deeds {
+pub struct Deeds {
     /// How many records last.
     lasting: AtomicU64,
     /// How often it takes nothing for now, before each time that it takes something.
@@ -35,7 +35,7 @@ struct Deeds {
 
 impl Deeds {
     /// Takes so many records, and refuses so often before the first of them.
-    fn new(most: u64, refusals: u64) -> Self {
+    pub fn new(most: u64, refusals: u64) -> Self {
         Deeds {
             lasting: AtomicU64::new(0),
             refusals: AtomicU64::new(refusals),
@@ -43,6 +43,11 @@ impl Deeds {
             closed: AtomicU64::new(0),
             gave_up: AtomicU64::new(0),
         }
+    }
+
+    /// How many records last.
+    pub fn lasting(&self) -> u64 {
+        self.lasting.load(Ordering::SeqCst)
     }
 }
 
@@ -86,9 +91,15 @@ impl Keeps for Counting<'_> {
 
 /// That store before it is opened: with nothing in it, or of no use.
 #[derive(Drop)]
-struct Unopened<'a> {
+pub struct Unopened<'a> {
     restored: Result<Restored, StoreFault>,
     deeds: &'a Deeds,
+}
+
+impl<'a> Unopened<'a> {
+    pub fn new(restored: Result<Restored, StoreFault>, deeds: &'a Deeds) -> Self {
+        Unopened { restored, deeds }
+    }
 }
 
 impl Writes for Unopened<'_> {
@@ -103,7 +114,7 @@ impl Writes for Unopened<'_> {
 }
 
 /// What is kept of three subjects.
-fn keeping(rt: &impl Abort, rests: Rests) -> Keeping {
+pub fn keeping(rt: &impl Abort, rests: Rests) -> Keeping {
     Keeping {
         subjects: three_subjects(rt),
         workers: 2,
@@ -114,7 +125,7 @@ fn keeping(rt: &impl Abort, rests: Rests) -> Keeping {
 /// So many connections.
 const fn connections(connections: u16) -> SocketOptions<'static> {
     SocketOptions {
-        connections,
+        connections: Connections::UpTo(connections),
         idle: None,
         takeover: false,
         stop: None,

@@ -12,6 +12,8 @@ mod kept_tests;
 #[cfg(test)]
 mod memory_streams;
 #[cfg(test)]
+mod relay_tests;
+#[cfg(test)]
 mod servers;
 #[cfg(test)]
 mod socket_tests;

@@ -2,7 +2,7 @@
 use crate::clients::{connected, told};
 use crate::servers::serving;
 use hall::Closed;
-use server::{ServerFault, SocketOptions, Stop, serve_socket};
+use server::{ServerFault, Connections, SocketOptions, Stop, serve_socket};
 use std::alloc::Global;
 use std::fs::Files;
 use std::io::Read;
@@ -14,7 +14,7 @@ use std::{fs, thread};
 
 /// One connection, without an idle limit.
 const ONE: SocketOptions<'static> = SocketOptions {
-    connections: 1,
+    connections: Connections::UpTo(1),
     idle: None,
     takeover: false,
     stop: None,
@@ -95,7 +95,7 @@ fn a_path_that_is_taken(rt: HostRuntime) -> Result<(), Fail> {
     let _ = fs::remove_file(&rt, path);
     let listener = UnixListener::bind(&rt, path)?;
     let takes_over = SocketOptions {
-        connections: 1,
+        connections: Connections::UpTo(1),
         idle: None,
         takeover: true,
         stop: None,
@@ -129,7 +129,7 @@ fn a_socket_is_taken_over(rt: HostRuntime) -> Result<(), Fail> {
     let stop = Stop::new();
     stop.ask();
     let options = SocketOptions {
-        connections: 9,
+        connections: Connections::UpTo(9),
         idle: None,
         takeover: true,
         stop: Some(&stop),
@@ -151,7 +151,7 @@ fn a_file_is_not_taken_over(rt: HostRuntime) -> Result<(), Fail> {
     let path = "server_plain_file";
     fs::write(&rt, path, b"kept")?;
     let options = SocketOptions {
-        connections: 1,
+        connections: Connections::UpTo(1),
         idle: None,
         takeover: true,
         stop: None,
@@ -180,7 +180,7 @@ fn a_silent_client_is_left(rt: HostRuntime) -> Result<(), Fail> {
     let _ = fs::remove_file(&rt, path);
     let serving = serving(&rt, heap);
     let options = SocketOptions {
-        connections: 1,
+        connections: Connections::UpTo(1),
         idle: Some(1),
         takeover: false,
         stop: None,

@@ -5,7 +5,7 @@ use crate::stranger_lines::{
     SEARCHES, bytes_of_every_value, long_policies, long_trail, nearly_right,
 };
 use hall::Closed;
-use server::{SocketOptions, serve_socket};
+use server::{Connections, SocketOptions, serve_socket};
 use std::alloc::Global;
 use std::io::Write;
 use std::net::Net;
@@ -16,7 +16,7 @@ use std::{fs, thread};
 /// This many connections, without an idle limit.
 fn connections(count: u16) -> SocketOptions<'static> {
     SocketOptions {
-        connections: count,
+        connections: Connections::UpTo(count),
         idle: None,
         takeover: false,
         stop: None,

@@ -4,7 +4,7 @@ use crate::servers::serving;
 use failing_streams::InterruptedReader;
 use hall::Closed;
 use log::Log;
-use server::{ServerFault, SocketOptions, Stop, serve_socket, watch};
+use server::{ServerFault, Connections, SocketOptions, Stop, serve_socket, watch};
 use std::alloc::Global;
 use std::fs::{File, Files};
 use std::io::{ErrorKind, Print};
@@ -35,7 +35,7 @@ fn wait_for(rt: &impl Abort, flag: &AtomicU64) {
 /// So many connections, on a path that may have been left behind.
 fn takes_over(connections: u16) -> SocketOptions<'static> {
     SocketOptions {
-        connections,
+        connections: Connections::UpTo(connections),
         idle: None,
         takeover: true,
         stop: None,
@@ -116,7 +116,7 @@ fn a_successor_keeps_its_path(rt: HostRuntime) {
 /// Serves a path, and returns whether it could; sets the flag where it could not be bound.
 fn one_of_two<H, R>(rt: &R, own: H, heap: Global, path: &str, turned_down: &AtomicU64) -> bool
 where
-    H: Wait + Drop + Send,
+    H: Wait + Copy + Drop + Send,
     R: Threads + Wait + Clock + Log + Files<File = File> + Net + Print + Abort + Sync,
 {
     match serve_socket(rt, own, heap, path, serving(rt, heap), takes_over(2)) {
@@ -167,7 +167,7 @@ fn the_end_of_an_input_stops_a_server(rt: HostRuntime) {
     let _ = fs::remove_file(&rt, path);
     let stop = Stop::new();
     let options = SocketOptions {
-        connections: 9,
+        connections: Connections::UpTo(9),
         idle: None,
         takeover: false,
         stop: Some(&stop),
@@ -198,7 +198,7 @@ fn nobody_is_served_behind_a_stop(rt: HostRuntime) {
     let _ = fs::remove_file(&rt, path);
     let stop = Stop::new();
     let options = SocketOptions {
-        connections: 9,
+        connections: Connections::UpTo(9),
         idle: None,
         takeover: false,
         stop: Some(&stop),

@@ -8,7 +8,7 @@ use Rattle.std.proofs.sync.Mutex.TheSendSync as mutex
 use Rattle.crossbeam_channel.proofs.channel.Receiver.TheSendSync as receiver
 use Rattle.hall.proofs.CrossingLemmas.{hall_sync, seat_send}
 use Rattle.published_policies.proofs.CrossingLemmas.{view_send}
-use Rattle.server.proofs.ClosureLemmas.{lasting_send, over_three_send, over_seven_send}
+use Rattle.server.proofs.ClosureLemmas.{lasting_send, over_seven_send}
 use Rattle.server.proofs.streams.fn.serve_all.scope.Goals as goal
 
 pub spawn-requires-send-F : goal.spawn-requires-send-F
@@ -16,9 +16,8 @@ spawn-requires-send-F g c κs within =
     let L = param 0 g.row.L in
     let H = param 1 g.row.H in
     let sends = c.requires.hall in
-    let stream = c.requires.crosses in
     param_send _ _ (arg_send _ no _ (over_seven_send _ _ _ _ _ _ _ _ (shr_send _ _ _ c.requires.shares) std.send
     (shr_send _ _ _ (hall_sync L H g.L.Ledger g.L.ListName g.L.HallName sends.0 sends.1)) (shr_send _ _ _ (mutex.the_sync _ (std.Vec-send _ (seat_send L H g.L.Ledger g.L.ListName g.L.HallName sends.0 sends.1 _))))
-    (receiver.the_send _ heap ghosts (over_three_send _ _ _ _ stream.0 stream.1 stream.2) std.send std.sync std.frees)
+    (receiver.the_send _ heap ghosts c.requires.crosses std.send std.sync std.frees)
     (view_send L g.L.ListName sends.0)
     (lasting_send _)))

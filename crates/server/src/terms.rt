@@ -1,0 +1,331 @@
+//! A server whose halls follow one another.
+
+ghost use Rattle.std.specs.Prelude.{◌≡◌, IfOk};
+ghost use Rattle.features.specs.Rows.{IsSortedById};
+ghost use Rattle.chronicle.specs.Chronicles.{Opening};
+ghost use Rattle.server.specs.Relays.{Follows, IsRelayed, IsTerm, LedTo};
+ghost use Rattle.server.specs.Served.{opening_of};
+
+use crate::faults::ServerFault;
+use crate::guests::{Guest, Session};
+use crate::keeping::{Begins, Lasting, Restored, StoreFault};
+use crate::streams::{opened, serve_tended, views_of};
+use crate::turns::Turn;
+use crossbeam_channel::{Receiver, RecvTimeoutError};
+use features::Subjects;
+use hall::{Closed, Hall, HallName, LEDGER_PARTS, LeaveFault, Left, Seat, Unnamed};
+use log::{Log, warn};
+use std::alloc::Global;
+use std::marker::Brand;
+use std::os::unix::net::UnixStream;
+use std::sync::{Mutex, Wait};
+use std::thread;
+use std::thread::Threads;
+use std::time::{Clock, Duration};
+
+/// For how many milliseconds it is waited for a connection before it is looked whether the turn is
+/// over.
+const PAUSE: u64 = 20;
+
+/// The pause, in seconds, before a hall whose state found no memory is asked again.
+const MEMORY_PAUSE: u64 = 1;
+
+/// What comes to a hall: the sessions that were set aside by the hall before it, and then new
+/// connections, until its turn is over or nobody new comes to the server.
+#[derive(Drop)]
+struct Coming<'t, R: Wait + Clock + Log> {
+    rt: &'t R,
+    heap: Global,
+    waiting: Vec<Session>,
+    arrivals: &'t Receiver<UnixStream>,
+    idle: Option<u64>,
+    turn: &'t Turn,
+    aside: &'t Mutex<Vec<Session>>,
+    left: u64,
+}
+
+impl<'t, R: Wait + Clock + Log> Coming<'t, R> {
+    /// The next session: one that waits, or one of a new connection.
+    fn next_session(&mut self) -> Option<Session> {
+        if let Some(session) = self.waiting.pop() {
+            return Some(session);
+        }
+        for _ in self.rt.forever() {
+            if self.turn.is_over() {
+                return None;
+            }
+            let pause = Duration::from_millis(PAUSE);
+            match self.arrivals.recv_timeout(self.rt, pause) {
+                Ok(stream) => match Session::new(self.heap, stream, self.idle) {
+                    Ok(session) => return Some(session),
+                    Err(_) => {
+                        let rt = self.rt;
+                        warn!(rt; target: "landmap", "a session ended by V4");
+                    }
+                },
+                Err(RecvTimeoutError::Timeout) => {}
+                Err(RecvTimeoutError::Disconnected) => {
+                    self.turn.close();
+                    return None;
+                }
+            }
+        }
+        unreachable!()
+    }
+}
+
+impl<'t, R: Wait + Clock + Log> Iterator for Coming<'t, R> {
+    ghost use Rattle.std.specs.Iterator.{at_most};
+
+    type Item = Guest<'t>;
+
+    ghost remaining = { λ coming. at_most coming.left };
+
+    fn next(&mut self) -> Option<Guest<'t>> {
+        if self.left == 0 {
+            return None;
+        }
+        self.left -= 1;
+        let session = self.next_session()?;
+        Some(Guest {
+            session,
+            turn: self.turn,
+            aside: self.aside,
+        })
+    }
+}
+
+/// Closes a hall, and returns its account and the state for the next one. Where there is no memory
+/// for that state, it is tried again, with a pause.
+fn left<'h, L: HallName, H: Wait + Drop, R: Wait + Clock + Log>(
+    rt: &R,
+    hall: &'h Hall<L, H, Global>,
+    seats: Vec<Seat<'h, L, H, Global>>,
+) -> Result<Left<Global>, ServerFault>
+    requires parts { L.parts ≡ LEDGER_PARTS }
+    ensures { IfOk result (λ left. IsTerm L.opening left.closed left.base) }
+{
+    let mut seats = seats;
+    for _ in rt.forever() {
+        match hall.leave(rt, seats) {
+            Ok(left) => return Ok(left),
+            Err((LeaveFault::Close(fault), _seats)) => return Err(ServerFault::Close(fault)),
+            Err((LeaveFault::State(fault), back)) => {
+                warn!(rt; target: "landmap", "the next hall waits for memory: {fault}");
+                thread::sleep(rt, Duration::from_secs(MEMORY_PAUSE));
+                seats = back;
+            }
+        }
+    }
+    unreachable!()
+}
+
+/// What the halls of a server have in common.
+#[derive(Clone, Copy)]
+pub(crate) struct Relay<'a> {
+    pub(crate) heap: Global,
+    pub(crate) workers: usize,
+    pub(crate) lasting: Option<Lasting<'a>>,
+    /// New connections. Their sender is dropped when nobody new comes.
+    pub(crate) arrivals: &'a Receiver<UnixStream>,
+    /// For how many seconds a session may wait for its client.
+    pub(crate) idle: Option<u64>,
+    /// After how many records a hall gives way.
+    pub(crate) records: u64,
+}
+
+/// What a hall leaves.
+#[derive(Drop)]
+struct Term {
+    left: Left<Global>,
+    /// The sessions that go on in the next hall.
+    aside: Vec<Session>,
+    /// Whether nobody new comes to the server.
+    closing: bool,
+}
+
+/// Opens a hall of the name `L`, serves what comes until its turn is over or all sessions have ended,
+/// and closes it.
+fn hold<L: HallName + Send + Sync, H, R>(
+    rt: &R,
+    own: H,
+    unnamed: Unnamed,
+    relay: Relay<'_>,
+    subjects: Subjects,
+    begins: Begins,
+    waiting: Vec<Session>,
+) -> Result<Term, ServerFault>
+where
+    H: Wait + Drop + Send,
+    R: Threads + Wait + Clock + Log + Sync,
+    requires name { unnamed.ledger.name ≡ L.name }
+    requires parts { (unnamed.ledger.parts ≡ L.parts) × (L.parts ≡ LEDGER_PARTS) }
+    requires list { unnamed.list ≡ L.book }
+    requires opening { L.opening ≡ opening_of subjects begins }
+    ensures { IfOk result (λ term. IsTerm L.opening term.left.closed term.left.base) }
+{
+    let Relay {
+        heap,
+        workers,
+        lasting,
+        arrivals,
+        idle,
+        records,
+    } = relay;
+    let hall = opened::<L, H>(own, heap, unnamed, subjects, begins, workers)?;
+    let turn = Turn::new(records);
+    let aside = Mutex::new(Vec::new(heap));
+    let coming = Coming {
+        rt,
+        heap,
+        waiting,
+        arrivals,
+        idle,
+        turn: &turn,
+        aside: &aside,
+        left: u64::MAX,
+    };
+    let views = views_of(rt, heap, &hall, workers)?;
+    let seats = serve_tended(rt, heap, &hall, views, lasting, Some(&turn), coming)?;
+    if let Some(lasting) = lasting {
+        lasting.finish(rt, &hall);
+    }
+    Ok(Term {
+        left: left(rt, &hall, seats)?,
+        aside: aside.into_inner(),
+        closing: turn.is_closing(),
+    })
+}
+
+/// The same subjects.
+fn same_subjects(subjects: &Subjects) -> Subjects
+    ensures { result ≡ subjects.now }
+{
+    let Ok(copy) = Subjects::new(subjects.as_slice()) else {
+        unreachable!()
+    };
+    copy
+}
+
+/// How many records had a number before the first one of a world that begins so.
+fn rolled_before(begins: &Begins) -> u64 {
+    match begins {
+        Begins::Document(_) => 0,
+        Begins::State(restored) => u64::from(restored.rolled()),
+    }
+}
+
+/// What follows a hall.
+#[derive(Drop)]
+struct Next {
+    begins: Begins,
+    /// The records and the seats of all halls so far.
+    account: Closed,
+    waiting: Vec<Session>,
+    closing: bool,
+}
+
+/// What follows a hall that has left this, behind halls of this account, before whose first record
+/// `before` records had a number. Q4 where the numbers of records are at their end.
+fn behind(term: Term, account: Closed, before: u64) -> Result<Next, ServerFault>
+    requires { IsSortedById term.left.base.features }
+    ensures { IfOk result (λ next. Follows account term.left.closed term.left.base next.begins
+        next.account) }
+{
+    let Term {
+        left: Left { closed, base },
+        aside,
+        closing,
+    } = term;
+    let no_number = ServerFault::Store(StoreFault::NoNumber);
+    let Some(records) = account.records.checked_add(closed.records) else {
+        return Err(no_number);
+    };
+    let Some(seats) = account.seats.checked_add(closed.seats) else {
+        return Err(no_number);
+    };
+    let Ok(rolled) = u32::try_from(before.saturating_add(records)) else {
+        return Err(no_number);
+    };
+    let Some(restored) = Restored::new(base, rolled) else {
+        return Err(no_number);
+    };
+    Ok(Next {
+        begins: Begins::State(restored),
+        account: Closed { records, seats },
+        waiting: aside,
+        closing,
+    })
+}
+
+/// Holds the next hall, from this state on, and returns what follows it.
+fn hold_next<H, R>(
+    rt: &R,
+    own: H,
+    relay: Relay<'_>,
+    subjects: &Subjects,
+    before: u64,
+    next: Next,
+) -> Result<Next, ServerFault>
+where
+    H: Wait + Drop + Send,
+    R: Threads + Wait + Clock + Log + Sync,
+    ensures { IfOk result (λ new. (start : Opening)
+        → LedTo start (opening_of subjects.now next.begins) next.account
+        → LedTo start (opening_of subjects.now new.begins) new.account) }
+{
+    let Next {
+        begins,
+        account,
+        waiting,
+        ..
+    } = next;
+    let relay = Relay {
+        lasting: behind_records(relay.lasting, account.records),
+        ..relay
+    };
+    let unnamed = Unnamed::new();
+    let subjects = same_subjects(subjects);
+    let term = hold::<Brand, H, R>(rt, own, unnamed, relay, subjects, begins, waiting)?;
+    behind(term, account, before)
+}
+
+/// The same desk, behind so many records of earlier halls.
+fn behind_records(lasting: Option<Lasting<'_>>, before: u64) -> Option<Lasting<'_>> {
+    let lasting = lasting?;
+    Some(Lasting { before, ..lasting })
+}
+
+/// Serves what arrives in halls that follow one another, until nobody new comes and all sessions
+/// have ended. Each hall is closed, and the next one begins at exactly the state that it has come
+/// to. Returns how many records and seats there were in all.
+pub(crate) fn serve_relay<H, R>(
+    rt: &R,
+    own: H,
+    relay: Relay<'_>,
+    subjects: Subjects,
+    begins: Begins,
+) -> Result<Closed, ServerFault>
+where
+    H: Wait + Copy + Drop + Send,
+    R: Threads + Wait + Clock + Log + Sync,
+    ensures { IfOk result (IsRelayed (opening_of subjects begins)) }
+{
+    let before = rolled_before(&begins);
+    let mut next = Next {
+        begins,
+        account: Closed {
+            records: 0,
+            seats: 0,
+        },
+        waiting: Vec::new(relay.heap),
+        closing: false,
+    };
+    for _ in rt.forever() {
+        next = hold_next(rt, own, relay, &subjects, before, next)?;
+        if next.closing && next.waiting.is_empty() {
+            return Ok(next.account);
+        }
+    }
+    unreachable!()
+}
