@@ -322,7 +322,10 @@ impl Connection for Guest<'_> {
             aside,
         } = self;
         let mut session = session;
-        match session.serve(rt, heap, hall, seats, view, lasting, turn) {
+        let earlier = seats.len();
+        let served = session.serve(rt, heap, hall, seats, view, lasting, turn);
+        turn.count_seats(seats.len().saturating_sub(earlier));
+        match served {
             Served::Ended => {}
             Served::SetAside => set_aside(rt, aside, session),
             Served::Failed(code) => {
