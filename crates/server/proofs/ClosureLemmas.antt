@@ -44,6 +44,10 @@ over_three_send name A B C a b c = search sendable depth 12
 pub over_four_send : (name : Sym) (A B C D : RattleType) → IsSend A → IsSend B → IsSend C → IsSend D → IsSend (TupleAt name (A ∷ B ∷ C ∷ D ∷ []))
 over_four_send name A B C D a b c d = search sendable depth 12
 
+pub over_five_send : (name : Sym) (A B C D E : RattleType) → IsSend A → IsSend B → IsSend C → IsSend D → IsSend E
+    → IsSend (TupleAt name (A ∷ B ∷ C ∷ D ∷ E ∷ []))
+over_five_send name A B C D E a b c d e = search sendable depth 14
+
 pub over_seven_send : (name : Sym) (A B C D E F G : RattleType) → IsSend A → IsSend B → IsSend C → IsSend D → IsSend E → IsSend F → IsSend G
     → IsSend (TupleAt name (A ∷ B ∷ C ∷ D ∷ E ∷ F ∷ G ∷ []))
 over_seven_send name A B C D E F G a b c d e f g = search sendable depth 16

@@ -83,6 +83,8 @@ struct GuestReader<'a> {
     patience: u64,
     /// Not 0 where the client takes no replies.
     stuck: &'a AtomicU64,
+    /// For how many milliseconds the stream's reads wait; 0 where that is not set yet.
+    set: u64,
     /// Whether a read was broken off.
     broken_off: bool,
 }
@@ -106,8 +108,11 @@ impl Read for GuestReader<'_> {
                 break;
             }
             let wait = self.wait(waited);
-            self.stream
-                .set_read_timeout(Some(Duration::from_millis(wait)))?;
+            if wait != self.set {
+                let timeout = Duration::from_millis(wait);
+                self.stream.set_read_timeout(Some(timeout))?;
+                self.set = wait;
+            }
             let mut stream = self.stream;
             match stream.read(buffer) {
                 Err(error) if error.kind() == ErrorKind::WouldBlock => {
@@ -287,6 +292,7 @@ impl Session {
             turn,
             patience: self.patience,
             stuck: &stuck,
+            set: 0,
             broken_off: false,
         };
         let sitting = &mut self.sitting;

@@ -103,7 +103,8 @@ fn left<'h, L: HallName, H: Wait + Drop, R: Wait + Clock + Log>(
     seats: Vec<Seat<'h, L, H, Global>>,
 ) -> Result<Left<Global>, ServerFault>
     requires parts { L.parts ≡ LEDGER_PARTS }
-    ensures { IfOk result (λ left. IsTerm L.opening left.closed left.base) }
+    ensures term { IfOk result (λ left. IsTerm L.opening left.closed left.base) }
+    ensures sorted { IfOk result (λ left. IsSortedById left.base.features) }
 {
     let mut seats = seats;
     for _ in rt.forever() {
@@ -162,7 +163,8 @@ where
     requires parts { (unnamed.ledger.parts ≡ L.parts) × (L.parts ≡ LEDGER_PARTS) }
     requires list { unnamed.list ≡ L.book }
     requires opening { L.opening ≡ opening_of subjects begins }
-    ensures { IfOk result (λ term. IsTerm L.opening term.left.closed term.left.base) }
+    ensures term { IfOk result (λ term. IsTerm L.opening term.left.closed term.left.base) }
+    ensures sorted { IfOk result (λ term. IsSortedById term.left.base.features) }
 {
     let Relay {
         heap,
