@@ -1,5 +1,5 @@
-# A server serves 1,024 sessions, each with a seat of its own, four at a time, and closes with all of them. (There is no further one to
-# be refused: --connections allows no more.)
+# A server with an end serves 1,024 sessions, each with a seat of its own, four at a time, and closes with all of them. (There is no
+# further one to be refused: --connections allows no more.)
 source "$(dirname "$0")/parts.bash"
 server one map.sock --connections 1024
 for loop in 1 2 3 4; do

@@ -15,7 +15,7 @@ for command in script serve connect check draw man completions; do
 done
 says 2 "error: " scripts
 says 2 "--socket <PATH>" connect
-says 2 "--connections <N>" serve --socket map.sock
+says 2 "--socket <PATH>" serve --connections 1
 says 2 "error: " serve --socket map.sock --connections 0
 says 2 "error: " serve --socket map.sock --connections 1025
 says 2 "error: " serve --socket map.sock --connections 1 --workers 65
