@@ -190,21 +190,69 @@ impl Write for GuestWriter<'_> {
     }
 }
 
+/// The sessions that are set aside for the next hall. Those that had a worker get one again before
+/// the others.
+#[derive(Drop)]
+pub(crate) struct Aside {
+    served: Vec<Session>,
+    /// Those that waited for a worker, the first one first.
+    queued: Vec<Session>,
+}
+
+impl Aside {
+    /// No sessions.
+    pub(crate) fn none(heap: Global) -> Self {
+        Aside {
+            served: Vec::new(heap),
+            queued: Vec::new(heap),
+        }
+    }
+
+    /// Whether there are none.
+    pub(crate) fn is_empty(&self) -> bool {
+        self.served.is_empty() && self.queued.is_empty()
+    }
+
+    /// Turns those that waited around, so that `next` gives the first of them first.
+    pub(crate) fn in_order(self) -> Self {
+        let Aside { served, queued } = self;
+        let mut queued = queued;
+        queued.reverse();
+        Aside { served, queued }
+    }
+
+    /// One that had a worker; else one that waited.
+    pub(crate) fn next(&mut self) -> Option<Session> {
+        match self.served.pop() {
+            Some(session) => Some(session),
+            None => self.queued.pop(),
+        }
+    }
+
+    /// Adds a session. `NoMemory`, and the session is dropped, where there is none for it.
+    fn add(&mut self, session: Session, was_served: bool) -> Result<(), NoMemory> {
+        let sessions = if was_served {
+            &mut self.served
+        } else {
+            &mut self.queued
+        };
+        sessions.make_slot()?;
+        sessions.push_reserved(session);
+        Ok(())
+    }
+}
+
 /// A session that a hall serves while its turn lasts.
 #[derive(Drop)]
 pub(crate) struct Guest<'t> {
     pub(crate) session: Session,
     pub(crate) turn: &'t Turn,
-    /// The sessions that are set aside for the next hall.
-    pub(crate) aside: &'t Mutex<Vec<Session>>,
+    pub(crate) aside: &'t Mutex<Aside>,
 }
 
 /// Sets a session aside for the next hall.
-fn set_aside<R: Wait + Log>(rt: &R, aside: &Mutex<Vec<Session>>, session: Session) {
-    let mut sessions = aside.lock(rt);
-    if sessions.make_slot().is_ok() {
-        sessions.push_reserved(session);
-    } else {
+fn set_aside<R: Wait + Log>(rt: &R, aside: &Mutex<Aside>, session: Session, was_served: bool) {
+    if aside.lock(rt).add(session, was_served).is_err() {
         warn!(rt; target: "landmap", "a session ended by X12");
     }
 }
@@ -328,12 +376,13 @@ impl Connection for Guest<'_> {
             aside,
         } = self;
         let mut session = session;
+        let is_served = !turn.is_over();
         let earlier = seats.len();
         let served = session.serve(rt, heap, hall, seats, view, lasting, turn);
         turn.count_seats(seats.len().saturating_sub(earlier));
         match served {
             Served::Ended => {}
-            Served::SetAside => set_aside(rt, aside, session),
+            Served::SetAside => set_aside(rt, aside, session, is_served),
             Served::Failed(code) => {
                 warn!(rt; target: "landmap", "a session ended by {code}");
             }
@@ -344,6 +393,6 @@ impl Connection for Guest<'_> {
         let Guest {
             session, aside, ..
         } = self;
-        set_aside(rt, aside, session);
+        set_aside(rt, aside, session, false);
     }
 }

@@ -7,7 +7,7 @@ ghost use Rattle.server.specs.Relays.{Follows, IsRelayed, IsTerm, LedTo};
 ghost use Rattle.server.specs.Served.{opening_of};
 
 use crate::faults::ServerFault;
-use crate::guests::{Guest, Session};
+use crate::guests::{Aside, Guest, Session};
 use crate::keeping::{Begins, Lasting, Restored, StoreFault};
 use crate::streams::{opened, serve_tended, views_of};
 use crate::turns::Turn;
@@ -36,18 +36,18 @@ const MEMORY_PAUSE: u64 = 1;
 struct Coming<'t, R: Wait + Clock + Log> {
     rt: &'t R,
     heap: Global,
-    waiting: Vec<Session>,
+    waiting: Aside,
     arrivals: &'t Receiver<UnixStream>,
     idle: Option<u64>,
     turn: &'t Turn,
-    aside: &'t Mutex<Vec<Session>>,
+    aside: &'t Mutex<Aside>,
     left: u64,
 }
 
 impl<'t, R: Wait + Clock + Log> Coming<'t, R> {
     /// The next session: one that waits, or one of a new connection.
     fn next_session(&mut self) -> Option<Session> {
-        if let Some(session) = self.waiting.pop() {
+        if let Some(session) = self.waiting.next() {
             return Some(session);
         }
         for _ in self.rt.forever() {
@@ -140,7 +140,7 @@ pub(crate) struct Relay<'a> {
 struct Term {
     left: Left<Global>,
     /// The sessions that go on in the next hall.
-    aside: Vec<Session>,
+    aside: Aside,
     /// Whether nobody new comes to the server.
     closing: bool,
 }
@@ -154,7 +154,7 @@ fn hold<L: HallName + Send + Sync, H, R>(
     relay: Relay<'_>,
     subjects: Subjects,
     begins: Begins,
-    waiting: Vec<Session>,
+    waiting: Aside,
 ) -> Result<Term, ServerFault>
 where
     H: Wait + Drop + Send,
@@ -176,7 +176,7 @@ where
     } = relay;
     let hall = opened::<L, H>(own, heap, unnamed, subjects, begins, workers)?;
     let turn = Turn::new(records);
-    let aside = Mutex::new(Vec::new(heap));
+    let aside = Mutex::new(Aside::none(heap));
     let coming = Coming {
         rt,
         heap,
@@ -194,7 +194,7 @@ where
     }
     Ok(Term {
         left: left(rt, &hall, seats)?,
-        aside: aside.into_inner(),
+        aside: aside.into_inner().in_order(),
         closing: turn.is_closing(),
     })
 }
@@ -223,7 +223,7 @@ struct Next {
     begins: Begins,
     /// The records and the seats of all halls so far.
     account: Closed,
-    waiting: Vec<Session>,
+    waiting: Aside,
     closing: bool,
 }
 
@@ -320,7 +320,7 @@ where
             records: 0,
             seats: 0,
         },
-        waiting: Vec::new(relay.heap),
+        waiting: Aside::none(relay.heap),
         closing: false,
     };
     for _ in rt.forever() {
