@@ -19,7 +19,7 @@ import tempfile
 import threading
 import time
 
-NAMES = ["north", "south", "east", "west"]
+NAMES = ["north", "south", "chief"]
 
 
 class Talk:
