@@ -20,6 +20,7 @@ import threading
 import time
 
 NAMES = ["north", "south", "chief"]
+OFFICES = {"north": "north", "south": "south", "chief": "hq"}
 
 
 class Talk:
@@ -104,7 +105,7 @@ def work(path, number, count, until, seed):
             high = low + chance.randrange(200)
             y = number * 10 + 1_000
             window = f"POLYGON (({low} {y - 1}, {high + 1} {y - 1}, {high + 1} {y + 1}, {low} {y + 1}, {low} {y - 1}))"
-            expected = [f"{i} {v} {name} mast POINT ({x} {yy})" for i, (v, x, yy) in sorted(mine.items()) if low <= x <= high + 1]
+            expected = [f"{i} {v} {OFFICES[name]} mast POINT ({x} {yy})" for i, (v, x, yy) in sorted(mine.items()) if low <= x <= high + 1]
             told = talk.rows(window)
             count.add(records=1)
             wanted(told, expected)
