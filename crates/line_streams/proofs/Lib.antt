@@ -1,2 +1,4 @@
+pub mod GoingOnLemmas
 pub mod LeavingLemmas
+pub mod LineLemmas
 pub mod StreamLemmas

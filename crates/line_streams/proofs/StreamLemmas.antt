@@ -1,18 +1,15 @@
 -- Runs of lines, whatever answers the lines.
-use Rattle.std.proofs.Common.{◌≡◌, ◌≢◌, ℕ, zero, suc, ◌+◌, ◌-◌, ◌≤◌, ◌<◌, ◌⊎◌, Bool, true, false, List, [], ◌∷◌, ◌++◌, length, map, take, if◌then◌else◌, Option, None, Some, Result, Ok, Err, OnOk, refl, sym, ap, subst, ◌∙◌, append_assoc, append-nil, length-append, length-take, arith, inl, inr, le-ltb}
-use Rattle.std.specs.Io.BufRead.{strip_last, ends_with_byte}
-use Rattle.std.specs.List.{All, slice_split, flat_map}
-use Rattle.std.proofs.lemmas.Bool.{lt-ltb, ne_eqb, cases_lt}
-use Rattle.std.proofs.lemmas.Grind.{flat_map-append}
-use Rattle.std.proofs.lemmas.List.{map-append, nil_from_length, take_all, take-append-le}
-use Rattle.std.proofs.lemmas.List.Elements.{All-append}
-use Rattle.std.proofs.lemmas.List.Splits.{slice_split_at, slice_split_none, length-slice_split}
+use Rattle.std.proofs.Common.{◌≡◌, ◌≢◌, ℕ, zero, suc, ◌+◌, ◌≤◌, ◌<◌, ◌⊎◌, true, List, [], ◌∷◌, ◌++◌, length, map, take, Option, None, Some, Result, Ok, Err, OnOk, refl, sym, ap, subst, ◌∙◌, append_assoc, append-nil, length-append, arith, inl, inr}
+use Rattle.std.specs.Io.BufRead.{strip_last}
+use Rattle.std.proofs.lemmas.Bool.{lt-ltb, cases_lt}
+use Rattle.std.proofs.lemmas.List.{map-append, take_all}
 use Rattle.std.specs.Io.KnownBytes.{Appends, Consumes, IsAtEnd, Keeps}
 use Rattle.std.specs.Option.{IfSome}
-use Rattle.std.specs.Result.{IsErr, IsErrAnd}
+use Rattle.std.specs.Result.{IfErr, IsErrAnd}
 use Rattle.byte_streams.specs.declared.failures.ReadFailed.{ReadFailed}
 use Rattle.byte_streams.specs.declared.failures.WriteFailed.{WriteFailed}
 use Rattle.line_streams.proofs.LeavingLemmas.{left_by}
+use Rattle.line_streams.proofs.LineLemmas.{begun_of-pieces, held_length, held_more, held_none, held_some, lines_of-line, lines_of-none, lines_of-pieces, no_pieces, one_piece, pieces_behind, pieces_then, still_line, stripped_long, whole_lines_of-pieces}
 use Rattle.line_streams.specs.declared.streams.TheConstants.{HELD, LINE_LIMIT}
 use Rattle.line_streams.specs.declared.streams.ServeFault.{ServeFault}
 use Rattle.line_streams.specs.declared.streams.ServeFault.TheVariants.{Read, Write, TooManyTurns, Memory}
@@ -21,131 +18,20 @@ use Rattle.line_streams.specs.declared.streams.Next.TheVariants.{Line, End}
 use Rattle.line_streams.specs.declared.streams.Stop.{Stop}
 use Rattle.line_streams.specs.declared.streams.Stop.TheVariants.{Ended, Failed}
 use Rattle.byte_streams.specs.declared.reading.Turns.{Turns}
-use Rattle.line_streams.specs.Lines.{is_feed, is_too_long, ended, lines_of, whole_ended, whole_lines_of}
-use Rattle.line_streams.specs.Streams.{LinesTell, GoesOn, NeverEnds, StreamEnds, StreamTells, Answered, Stopped, Ran, RanWithin, RanSoFar, RanToEnd, RanToStop, RanWell, IsLine, held_of, held_with, fed, ArePieces, Passed, PassedToStop, Passes, StoppedAt, TookOne, TookLast, IsFlushed, Concludes}
-use Rattle.byte_streams.specs.Written.{Took}
+use Rattle.line_streams.specs.Lines.{begun_of, is_too_long, ended, lines_of, whole_lines_of}
+use Rattle.line_streams.specs.Streams.{OnMemory, LinesTell, GoesOn, NeverEnds, StreamEnds, StreamTells, Answered, Stopped, Ran, RanOn, RanWithin, RanSoFar, RanToEnd, RanToStop, RanWell, Rests, IsLine, held_of, held_with, with_begun, ArePieces, Passed, PassedToStop, Passes, StoppedAt, TookOne, TookLast, IsFlushed, Concludes}
 use Rattle.byte_streams.proofs.WrittenLemmas.{appends_then}
-
-no_feed : (line : List ℕ) → IsLine line → All (λ b. is_feed b ≡ false) line
-no_feed line whole k d within = ne_eqb _ _ (whole k d within)
-
-some_piece : (text : List ℕ) → 1 ≤ length (slice_split is_feed text)
-some_piece text = omega (arith, length-slice_split is_feed text)
-
--- ---- lines of a text
-
-ended_more : (piece : List ℕ) (pieces : List (List ℕ)) → 1 ≤ length pieces → ended (piece ∷ pieces) ≡ strip_last 13 piece ∷ ended pieces
-ended_more piece [] some = absurd (omega arith)
-ended_more piece (next ∷ pieces) some = refl
-
-whole_ended_more : (piece : List ℕ) (pieces : List (List ℕ)) → 1 ≤ length pieces → whole_ended (piece ∷ pieces) ≡ strip_last 13 piece ∷ whole_ended pieces
-whole_ended_more piece [] some = absurd (omega arith)
-whole_ended_more piece (next ∷ pieces) some = refl
-
--- a line ends at its line feed
-lines_of-feed : (line rest : List ℕ) → IsLine line → lines_of (line ++ 10 ∷ rest) ≡ strip_last 13 line ∷ lines_of rest
-unfolding lines_of
-lines_of-feed line rest whole =
-    ap ended (slice_split_at is_feed line 10 rest (no_feed line whole) refl) ∙ ended_more line (slice_split is_feed rest) (some_piece rest)
-
-whole_lines_of-feed : (line rest : List ℕ) → IsLine line → whole_lines_of (line ++ 10 ∷ rest) ≡ strip_last 13 line ∷ whole_lines_of rest
-unfolding whole_lines_of
-whole_lines_of-feed line rest whole =
-    ap whole_ended (slice_split_at is_feed line 10 rest (no_feed line whole) refl) ∙ whole_ended_more line (slice_split is_feed rest) (some_piece rest)
-
-whole_lines_of-line : (line : List ℕ) → IsLine line → whole_lines_of line ≡ []
-unfolding whole_lines_of
-whole_lines_of-line line whole = ap whole_ended (slice_split_none is_feed line (no_feed line whole))
-
-later : (piece : List ℕ) (pieces : List (List ℕ)) → All IsLine (piece ∷ pieces) → All IsLine pieces
-later piece pieces whole k d within = whole (suc k) d (omega arith)
-
-first : (piece : List ℕ) (pieces : List (List ℕ)) → All IsLine (piece ∷ pieces) → IsLine piece
-first piece pieces whole = whole 0 piece (omega arith)
-
-fed_onto : (piece rest behind : List ℕ) → (fed piece ++ rest) ++ behind ≡ piece ++ 10 ∷ (rest ++ behind)
-fed_onto piece rest behind = append_assoc (fed piece) rest behind ∙ append_assoc piece (10 ∷ []) (rest ++ behind)
-
-lines_of-pieces : (pieces : List (List ℕ)) (behind : List ℕ) → All IsLine pieces → lines_of (flat_map fed pieces ++ behind) ≡ map (strip_last 13) pieces ++ lines_of behind
-lines_of-pieces [] behind whole = refl
-lines_of-pieces (piece ∷ pieces) behind whole =
-    ap lines_of (fed_onto piece (flat_map fed pieces) behind) ∙ lines_of-feed piece (flat_map fed pieces ++ behind) (first piece pieces whole)
-    ∙ ap (λ (lines : List (List ℕ)). strip_last 13 piece ∷ lines) (lines_of-pieces pieces behind (later piece pieces whole))
-
-whole_lines_of-pieces : (pieces : List (List ℕ)) (behind : List ℕ) → All IsLine pieces → IsLine behind → whole_lines_of (flat_map fed pieces ++ behind) ≡ map (strip_last 13) pieces
-whole_lines_of-pieces [] behind whole open_line = whole_lines_of-line behind open_line
-whole_lines_of-pieces (piece ∷ pieces) behind whole open_line =
-    ap whole_lines_of (fed_onto piece (flat_map fed pieces) behind) ∙ whole_lines_of-feed piece (flat_map fed pieces ++ behind) (first piece pieces whole)
-    ∙ ap (λ (lines : List (List ℕ)). strip_last 13 piece ∷ lines) (whole_lines_of-pieces pieces behind (later piece pieces whole) open_line)
-
--- ---- pieces of a text
-
--- a text and further bytes: the pieces of the text, then those of its rest with the bytes
-pieces_then : (text bytes begun behind : List ℕ) (xs ys : List (List ℕ)) → ArePieces text xs begun → ArePieces (begun ++ bytes) ys behind → ArePieces (text ++ bytes) (xs ++ ys) behind
-pieces_then text bytes begun behind xs ys front rest = record {
-  are = rw (front.are, flat_map-append fed xs ys, append_assoc (flat_map fed xs) begun bytes, rest.are) (sym (append_assoc (flat_map fed xs) (flat_map fed ys) behind));
-  whole = All-append IsLine xs ys front.whole rest.whole;
-}
-
--- further bytes that end no piece
-pieces_behind : (text behind rest front bytes : List ℕ) (xs : List (List ℕ)) → ArePieces text xs behind → text ≡ front ++ bytes → ArePieces (front ++ (bytes ++ rest)) xs (behind ++ rest)
-pieces_behind text behind rest front bytes xs all parts = record {
-  are = sym (append_assoc front bytes rest) ∙ ap (λ (t : List ℕ). t ++ rest) (sym parts ∙ all.are) ∙ append_assoc (flat_map fed xs) behind rest;
-  whole = all.whole;
-}
-
-no_pieces : (text : List ℕ) → ArePieces text [] text
-no_pieces text = record { are = refl; whole = λ k d within. absurd (omega (arith, within)) }
-
-one_piece : (line : List ℕ) → IsLine line → ArePieces (line ++ 10 ∷ []) (line ∷ []) []
-one_piece line whole = record { are = sym (append-nil (fed line ++ []) ∙ append-nil (fed line)); whole = only }
-  where
-    only : All IsLine (line ∷ [])
-    only zero d within = whole
-    only (suc k) d within = absurd (omega (arith, within))
-
--- ---- what is held of a line
-
-still_line : (begun : List ℕ) (byte : ℕ) → IsLine begun → byte ≢ 10 → IsLine (begun ++ byte ∷ [])
-still_line begun byte whole other = All-append (λ b. b ≢ 10) begun (byte ∷ []) whole only
-  where
-    only : IsLine (byte ∷ [])
-    only zero d within = other
-    only (suc k) d within = absurd (omega (arith, within))
-
-strip_length : (v : Bool) (line : List ℕ) → length line ≤ length (if v then take (length line - 1) line else line) + 1
-strip_length true line = omega (arith, length-take (length line - 1) line)
-strip_length false line = omega arith
-
-stripped_long : (line : List ℕ) → HELD ≤ length line → is_too_long (strip_last 13 line) ≡ true
-stripped_long line long = lt-ltb LINE_LIMIT _ (omega (arith, long, strip_length (ends_with_byte 13 line) line))
-
-held_length : (begun : List ℕ) → HELD ≤ length begun → HELD ≤ length (held_of begun)
-held_length begun long = omega (arith, long, length-take HELD begun)
-
-lines_of-none : lines_of [] ≡ []
-unfolding lines_of
-lines_of-none = refl
-
-one_line : (line : List ℕ) → 0 < length line → ended (line ∷ []) ≡ line ∷ []
-one_line [] some = absurd (omega arith)
-one_line (b ∷ line) some = refl
-
-lines_of-line : (line : List ℕ) → IsLine line → 0 < length line → lines_of line ≡ line ∷ []
-unfolding lines_of
-lines_of-line line whole some = ap ended (slice_split_none is_feed line (no_feed line whole)) ∙ one_line line some
-
-held_some : (begun held : List ℕ) → held ≡ held_of begun → 0 < length held → 0 < length begun
-held_some begun held holds some = omega (arith, ap (λ (xs : List ℕ). length xs) holds, some, length-take HELD begun)
-
-held_none : (begun held : List ℕ) → held ≡ held_of begun → held ≡ [] → begun ≡ []
-held_none begun held holds none = nil_from_length begun (omega (arith, ap (λ (xs : List ℕ). length xs) holds, ap (λ (xs : List ℕ). length xs) none, length-take HELD begun))
 
 -- ---- what is read
 
-consumes_none : (a : Option (List ℕ)) → Consumes a a []
-consumes_none None = tt
-consumes_none (Some xs) = refl
+-- the text before the input is read already
+consumes_begun : (begun : List ℕ) (a : Option (List ℕ)) → Consumes (with_begun begun a) a begun
+consumes_begun begun None = tt
+consumes_begun begun (Some xs) = refl
+
+nothing_begun : (a : Option (List ℕ)) → with_begun [] a ≡ a
+nothing_begun None = refl
+nothing_begun (Some xs) = refl
 
 consumes_then : (a b c : Option (List ℕ)) (xs ys : List ℕ) → Consumes a b xs → Consumes b c ys → Consumes a c (xs ++ ys)
 consumes_then None b c xs ys first second = tt
@@ -185,12 +71,6 @@ all_read None b c xs read last at_end = tt
 all_read (Some a) None c xs read last at_end = absurd read
 all_read (Some a) (Some b) None xs read last at_end = absurd last
 all_read (Some a) (Some b) (Some c) xs read last at_end = read ∙ ap (λ (zs : List ℕ). xs ++ zs) (last ∙ at_end) ∙ append-nil xs
-
-held_more : (begun : List ℕ) (byte : ℕ) → held_with byte (held_of begun) ≡ held_of (begun ++ byte ∷ [])
-held_more begun byte = elim (cases_lt (length begun) HELD) [
-  | inl short ↦ rw (take_all HELD begun (omega (arith, short)), lt-ltb (length begun) HELD short, take_all HELD (begun ++ byte ∷ []) (omega (arith, short, length-append begun (byte ∷ [])))) refl
-  | inr long ↦ rw (le-ltb (length (held_of begun)) HELD (held_length begun long), take-append-le HELD begun (byte ∷ []) long) refl
-]
 
 -- ---- lines that are answered
 
@@ -242,7 +122,7 @@ module _ {S : Type 0} (tell : List ℕ → S → S → List ℕ → Next → Typ
   answered_none : (old : S) (a : Option (List ℕ)) → Answered tell old [] old a a
   answered_none old a = record { said = []; told = (refl, refl); written = appends_none a }
 
-  answered_then : (old mid new : S) (lines others : List (List ℕ)) (a b c : Option (List ℕ)) → Answered tell old lines mid a b → Answered tell mid others new b c → Answered tell old (lines ++ others) new a c
+  pub answered_then : (old mid new : S) (lines others : List (List ℕ)) (a b c : Option (List ℕ)) → Answered tell old lines mid a b → Answered tell mid others new b c → Answered tell old (lines ++ others) new a c
   answered_then old mid new lines others a b c first second = record {
     said = first.said ++ second.said;
     told = tell_then old mid new lines others first.said second.said first.told second.told;
@@ -252,7 +132,7 @@ module _ {S : Type 0} (tell : List ℕ → S → S → List ℕ → Next → Typ
   answered_kept : (old new : S) (lines : List (List ℕ)) (a b c : Option (List ℕ)) → Answered tell old lines new a b → Keeps b c → Answered tell old lines new a c
   answered_kept old new lines a b c all kept = record { said = all.said; told = all.told; written = appends_kept a b c all.said all.written kept }
 
-  stopped_then : (stop : Stop) (old mid new : S) (lines others : List (List ℕ)) (a b c : Option (List ℕ)) → Answered tell old lines mid a b → Stopped tell stop mid others new b c → Stopped tell stop old (lines ++ others) new a c
+  pub stopped_then : (stop : Stop) (old mid new : S) (lines others : List (List ℕ)) (a b c : Option (List ℕ)) → Answered tell old lines mid a b → Stopped tell stop mid others new b c → Stopped tell stop old (lines ++ others) new a c
   stopped_then stop old mid new lines others a b c first second = record {
     firsts = lines ++ second.firsts;
     last = second.last;
@@ -313,16 +193,6 @@ module _ {S : Type 0} (tell : List ℕ → S → S → List ℕ → Next → Typ
   }
 
   -- ---- bytes that are taken
-
-  pub nothing_passed : (old : S) (a : Option (List ℕ)) → Passed tell [] old old [] a a
-  nothing_passed old a = record {
-    pieces = [];
-    begun = [];
-    are = no_pieces [];
-    open_line = λ k d within. absurd (omega (arith, within));
-    holds = refl;
-    answered = answered_none old a;
-  }
 
   -- before further bytes of a line that has begun
   pub begun_passed : (begun held : List ℕ) (old : S) (a : Option (List ℕ)) → IsLine begun → held ≡ held_of begun → Passed tell begun old old held a a
@@ -412,8 +282,9 @@ module _ {S : Type 0} (tell : List ℕ → S → S → List ℕ → Next → Typ
     pub enough : turns ≤ length text
     pub passed : Passed tell text old new held a b
 
-  pub stands_first : (old : S) (start a : Option (List ℕ)) → Standing old old [] 0 start start a a
-  stands_first old start a = record { text = []; read = consumes_none start; enough = omega arith; passed = nothing_passed old a }
+  -- before the first read, where a line has begun
+  pub stands_first : (begun held : List ℕ) (old : S) (start a : Option (List ℕ)) → IsLine begun → held ≡ held_of begun → Standing old old held 0 (with_begun begun start) start a a
+  stands_first begun held old start a whole holds = record { text = begun; read = consumes_begun begun start; enough = omega arith; passed = begun_passed begun held old a whole holds }
 
   pub stands_on : (old mid new : S) (held held_then bytes : List ℕ) (turns : ℕ) (start left next a b c : Option (List ℕ)) → (first : Standing old mid held turns start left a b) → Consumes left next bytes → 0 < length bytes
       → Passed tell (first.passed.begun ++ bytes) mid new held_then b c → Standing old new held_then (turns + 1) start next a c
@@ -451,25 +322,33 @@ module _ {S : Type 0} (tell : List ℕ → S → S → List ℕ → Next → Typ
     answered = rw (lines_so_far old new held turns start left a b stands) stands.passed.answered;
   }
 
+  pub rests : (old new : S) (held : List ℕ) (turns : ℕ) (start left next a b : Option (List ℕ)) → Standing old new held turns start left a b → Keeps left next → Rests tell old new held start next a b
+  unfolding ran_so_far
+  rests old new held turns start left next a b stands kept = record {
+    run = ran_so_far old new held turns start left next a b stands kept;
+    holds = stands.passed.holds
+        ∙ ap held_of (sym (ap begun_of stands.passed.are.are ∙ begun_of-pieces stands.passed.pieces stands.passed.begun stands.passed.are.whole stands.passed.open_line));
+  }
+
   -- a read failed, and the run returns that fault
   pub read_failed : {T : Type 0} (reads : ℕ) (r : Result T ServeFault) (failed : ReadFailed) (old new : S) (held : List ℕ) (turns : ℕ) (start left next a b c : Option (List ℕ)) → IsErrAnd r (λ fault. fault ≡ Read failed)
-      → Standing old new held turns start left a b → Keeps b c → Keeps left next → RanWithin reads tell r old new start next a c
+      → Standing old new held turns start left a b → Keeps b c → Keeps left next → RanOn reads tell r old new held start next a c
   read_failed {T} reads r failed old new held turns start left next a b c is stands flushed kept =
-      left_by r (Read failed) (λ (r : Result T ServeFault). RanWithin reads tell r old new start next a c) is
-      (ran_so_far old new held turns start left next a c (stands_kept old new held turns start left a b c stands flushed) kept)
+      left_by r (Read failed) (λ (r : Result T ServeFault). RanOn reads tell r old new held start next a c) is
+      (rests old new held turns start left next a c (stands_kept old new held turns start left a b c stands flushed) kept)
 
   -- a flush before a read failed
   pub flush_failed : {T : Type 0} (reads : ℕ) (r : Result T ServeFault) (failed : WriteFailed) (old new : S) (held : List ℕ) (turns : ℕ) (start left a b c : Option (List ℕ)) → IsErrAnd r (λ fault. fault ≡ Write failed)
-      → Standing old new held turns start left a b → Keeps b c → RanWithin reads tell r old new start left a c
+      → Standing old new held turns start left a b → Keeps b c → RanOn reads tell r old new held start left a c
   flush_failed {T} reads r failed old new held turns start left a b c is stands kept =
-      left_by r (Write failed) (λ (r : Result T ServeFault). RanWithin reads tell r old new start left a c) is
+      left_by r (Write failed) (λ (r : Result T ServeFault). RanOn reads tell r old new held start left a c) is
       (inr (inl (ran_so_far old new held turns start left left a c (stands_kept old new held turns start left a b c stands kept) (keeps_none left))))
 
   pub gave_up : (reads : ℕ) (turns : Turns) (old new : S) (held : List ℕ) (count : ℕ) (start left a b c : Option (List ℕ)) → Standing old new held count start left a b → Keeps b c → turns.made ≡ count → count ≤ reads → reads ≤ count
-      → (run : RanSoFar tell old new start left a c) × (reads ≤ length run.text) × (turns.made ≡ reads)
-  unfolding ran_so_far stands_kept
+      → (rests : Rests tell old new held start left a c) × (reads ≤ length rests.run.text) × (turns.made ≡ reads)
+  unfolding ran_so_far rests stands_kept
   gave_up reads turns old new held count start left a b c stands kept made within all_turns = (
-    ran_so_far old new held count start left left a c (stands_kept old new held count start left a b c stands kept) (keeps_none left),
+    rests old new held count start left left a c (stands_kept old new held count start left a b c stands kept) (keeps_none left),
     omega (arith, stands.enough, all_turns),
     omega (arith, made, within, all_turns),
   )
@@ -563,19 +442,41 @@ module _ {S : Type 0} (tell : List ℕ → S → S → List ℕ → Next → Typ
   well_kept old new input left a b c (inl run) kept = inl (end_kept old new input left a b c run kept)
   well_kept old new input left a b c (inr run) kept = inr (stop_kept Ended old new input left a b c run kept)
 
-  by_flush : {T : Type 0} (reads : ℕ) (r : Result T ServeFault) (old new : S) (input left a b c : Option (List ℕ)) → RanWell tell old new input left a b → IsFlushed r b c → RanWithin reads tell r old new input left a c
-  by_flush reads (Ok done) old new input left a b c run kept = well_kept old new input left a b c run kept
-  by_flush reads (Err (Write failed)) old new input left a b c run kept = inr (inr (well_kept old new input left a b c run kept))
-  by_flush reads (Err (Read failed)) old new input left a b c run kept = absurd kept
-  by_flush reads (Err (TooManyTurns turns)) old new input left a b c run kept = absurd kept
-  by_flush reads (Err (Memory refused)) old new input left a b c run kept = absurd kept
+  by_flush : {T : Type 0} (reads : ℕ) (r : Result T ServeFault) (old new : S) (held : List ℕ) (input left a b c : Option (List ℕ)) → RanWell tell old new input left a b → IsFlushed r b c → RanOn reads tell r old new held input left a c
+  by_flush reads (Ok done) old new held input left a b c run kept = well_kept old new input left a b c run kept
+  by_flush reads (Err (Write failed)) old new held input left a b c run kept = inr (inr (well_kept old new input left a b c run kept))
+  by_flush reads (Err (Read failed)) old new held input left a b c run kept = absurd kept
+  by_flush reads (Err (TooManyTurns turns)) old new held input left a b c run kept = absurd kept
+  by_flush reads (Err (Memory refused)) old new held input left a b c run kept = absurd kept
 
   -- the run ends after its last line
-  pub concluded : {T : Type 0} (reads : ℕ) (end : Result (Unit {0}) Stop) (r : Result T ServeFault) (old new : S) (input left a b c : Option (List ℕ)) → Ends end old new input left a b → Concludes end r b c → RanWithin reads tell r old new input left a c
-  concluded reads (Ok u) r old new input left a b c run done = by_flush reads r old new input left a b c (inl run) done
-  concluded reads (Err Ended) r old new input left a b c run done = by_flush reads r old new input left a b c (inr run) done
-  concluded {T} reads (Err (Failed failed)) r old new input left a b c run done =
-      subst (λ (r : Result T ServeFault). RanWithin reads tell r old new input left a c) (sym done.0) (inl (stop_kept (Failed failed) old new input left a b c run done.1))
+  pub concluded : {T : Type 0} (reads : ℕ) (end : Result (Unit {0}) Stop) (r : Result T ServeFault) (old new : S) (held : List ℕ) (input left a b c : Option (List ℕ)) → Ends end old new input left a b → Concludes end r b c → RanOn reads tell r old new held input left a c
+  concluded reads (Ok u) r old new held input left a b c run done = by_flush reads r old new held input left a b c (inl run) done
+  concluded reads (Err Ended) r old new held input left a b c run done = by_flush reads r old new held input left a b c (inr run) done
+  concluded {T} reads (Err (Failed failed)) r old new held input left a b c run done =
+      subst (λ (r : Result T ServeFault). RanOn reads tell r old new held input left a c) (sym done.0) (inl (stop_kept (Failed failed) old new input left a b c run done.1))
+
+  -- ---- a run that may be gone on with is a run
+
+  pub ran_within : {T : Type 0} (reads : ℕ) (r : Result T ServeFault) (old new : S) (held : List ℕ) (input left a b : Option (List ℕ)) → RanOn reads tell r old new held input left a b → RanWithin reads tell r old new input left a b
+  ran_within reads (Ok done) old new held input left a b run = run
+  ran_within reads (Err (Read failed)) old new held input left a b rests = rests.run
+  ran_within reads (Err (Write failed)) old new held input left a b run = run
+  ran_within reads (Err (TooManyTurns turns)) old new held input left a b run = (run.0.run, run.1, run.2)
+  ran_within reads (Err (Memory refused)) old new held input left a b run = absurd run
+
+  -- one that began with no line is a run from the first line on
+  pub ran_first : {T : Type 0} (reads : ℕ) (r : Result T ServeFault) (old new : S) (held : List ℕ) (input left a b : Option (List ℕ)) → RanOn reads tell r old new held (with_begun [] input) left a b → RanWithin reads tell r old new input left a b
+  ran_first reads r old new held input left a b run =
+      subst (λ (i : Option (List ℕ)). RanWithin reads tell r old new i left a b) (nothing_begun input) (ran_within reads r old new held (with_begun [] input) left a b run)
+
+  -- which is never out of memory
+  pub never_memory : {T : Type 0} (reads : ℕ) (r : Result T ServeFault) (P : Type 0) (old new : S) (held : List ℕ) (input left a b : Option (List ℕ)) → RanOn reads tell r old new held input left a b → IfErr r (λ fault. OnMemory fault P)
+  never_memory reads (Ok done) P old new held input left a b run = tt
+  never_memory reads (Err (Read failed)) P old new held input left a b run = tt
+  never_memory reads (Err (Write failed)) P old new held input left a b run = tt
+  never_memory reads (Err (TooManyTurns turns)) P old new held input left a b run = tt
+  never_memory reads (Err (Memory refused)) P old new held input left a b run = absurd run
 
   -- ---- the answers of a stream
 
@@ -694,11 +595,28 @@ module _ {S T : Type 0} (see : S → T) (shown : List ℕ → S → S → List �
   ran_as (Err (Write failed)) old new input left a b run = write_as failed old new input left a b run
   ran_as (Err (Memory refused)) old new input left a b run = (ap see run.0, run.1, run.2)
 
+  rests_as : (old new : S) (held : List ℕ) (input left a b : Option (List ℕ)) → Rests shown old new held input left a b → Rests tell (see old) (see new) held input left a b
+  unfolding so_far_as
+  rests_as old new held input left a b rests = record { run = so_far_as old new input left a b rests.run; holds = rests.holds }
+
+  pub ran_on_as : {O : Type 0} (reads : ℕ) (r : Result O ServeFault) (old new : S) (held : List ℕ) (input left a b : Option (List ℕ)) → RanOn reads shown r old new held input left a b → RanOn reads tell r (see old) (see new) held input left a b
+  unfolding so_far_as rests_as
+  ran_on_as reads (Ok done) old new held input left a b run = well_as old new input left a b run
+  ran_on_as reads (Err (Read failed)) old new held input left a b run = rests_as old new held input left a b run
+  ran_on_as reads (Err (TooManyTurns turns)) old new held input left a b run = (rests_as old new held input left a b run.0, run.1, run.2)
+  ran_on_as reads (Err (Write failed)) old new held input left a b run = write_as failed old new input left a b run
+  ran_on_as reads (Err (Memory refused)) old new held input left a b run = absurd run
+
 -- the same, if lines are answered according to the states as seen
 pub ran_along : {S T O : Type 0} (see : S → T) (tell : List ℕ → T → T → List ℕ → Next → Type 0) (r : Result O ServeFault) (old new : S) (input left a b : Option (List ℕ))
     → Ran (λ line x y said next. tell line (see x) (see y) said next) r old new input left a b → Ran tell r (see old) (see new) input left a b
 ran_along see tell r old new input left a b run =
     ran_as see (λ line x y said next. tell line (see x) (see y) said next) tell (λ line x y said next h. h) r old new input left a b run
+
+pub ran_on_along : {S T O : Type 0} (see : S → T) (tell : List ℕ → T → T → List ℕ → Next → Type 0) (reads : ℕ) (r : Result O ServeFault) (old new : S) (held : List ℕ) (input left a b : Option (List ℕ))
+    → RanOn reads (λ line x y said next. tell line (see x) (see y) said next) r old new held input left a b → RanOn reads tell r (see old) (see new) held input left a b
+ran_on_along see tell reads r old new held input left a b run =
+    ran_on_as see (λ line x y said next. tell line (see x) (see y) said next) tell (λ line x y said next h. h) reads r old new held input left a b run
 
 -- ---- what every line preserves
 

@@ -197,6 +197,13 @@ impl<A: Allocator> BegunLine<A> {
         Ok(BegunLine { bytes })
     }
 
+    /// A fact for callers, without effect: what is held is the start of a line.
+    pub fn fact_start(&self)
+        ensures { (start : List ℕ) × IsLine start × (self.now ≡ held_of start) }
+    {
+        let _bytes = &self.bytes;
+    }
+
     /// Adds a byte of the line, or drops it if `HELD` bytes are there.
     fn hold(&mut self, byte: u8)
         requires { byte ≢ 10 }
@@ -216,7 +223,7 @@ impl<A: Allocator> BegunLine<A> {
 
     /// The line, as far as its bytes are held.
     fn as_slice(&self) -> &[u8]
-        ensures value { result.now ≡ self.now }
+        ensures { result.now ≡ self.now }
     {
         self.bytes.as_slice()
     }
@@ -375,8 +382,7 @@ pub fn go_on_within<D: LineDesk, A: Allocator, R: Read, W: Write>(
     reader: &mut R,
     writer: &mut W,
 ) -> Result<Flushed, ServeFault>
-    ensures begun { (start : List ℕ) × IsLine start × (begun.old ≡ held_of start) }
-    ensures ran { (start : List ℕ) → IsLine start → begun.old ≡ held_of start
+    ensures { (start : List ℕ) → IsLine start → begun.old ≡ held_of start
         → RanOn reads D.tells result (world.old, desk.old) (world.new, desk.new) begun.new
         (with_begun start (R.remaining reader.old)) (R.remaining reader.new)
         (W.contents writer.old) (W.contents writer.new) }

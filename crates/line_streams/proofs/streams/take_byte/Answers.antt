@@ -10,4 +10,4 @@ returns-in_err-answer_line g c begun whole holds =
 
 pub returns : goal.returns
 returns g c begun whole holds =
-    feed_passed g.D.LineDesk.tells g.met.D.LineDesk.long_alike begun _ _ _ c.args.byte _ _ _ _ whole holds c.without_return.ensures c.if-byte-ne10.false c.clear.ensures.items c.in_ok-answer_line.ensures
+    feed_passed g.D.LineDesk.tells g.met.D.LineDesk.long_alike begun _ _ _ c.args.byte _ _ _ _ whole holds c.without_return.ensures c.if-byte-ne10.false c.clear.ensures c.in_ok-answer_line.ensures
