@@ -10,6 +10,13 @@ pub record IsCounted (opening : Opening) (count : ℕ) : Type 0 where
   pub sound : IsSoundChronicle chronicle
   pub counted : length chronicle.records ≡ count
 
+-- with a legal trail from this opening on, so many seats were given
+pub record AreGiven (opening : Opening) (count : ℕ) : Type 0 where
+  pub chronicle : ChronicleData
+  pub opened : chronicle.opening ≡ opening
+  pub sound : IsSoundChronicle chronicle
+  pub given : length chronicle.seats ≡ count
+
 -- a legal trail from this opening on has no record behind this many that changes a state
 pub record IsChangedLast (opening : Opening) (count : ℕ) : Type 0 where
   pub chronicle : ChronicleData

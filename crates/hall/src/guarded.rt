@@ -319,6 +319,13 @@ impl<L: HallName, R: Wait + Drop, A: Allocator> Guarded<L, R, A> {
         self.chronicle.len()
     }
 
+    /// How many seats were given.
+    pub(crate) fn seat_count(&self) -> usize
+        ensures { result ≡ length self.now.chronicle.seats }
+    {
+        self.chronicle.seats_given()
+    }
+
     /// How many records there were when the last list was applied or policy put in force.
     pub(crate) fn last_change(&self) -> u64
         ensures { IsLastChange result self.now.chronicle.records }

@@ -26,7 +26,7 @@ use std::sync::{Condvar, Mutex, Wait};
 use world::{Base, Limits, ROLLED_LIMIT, STEP_LIMIT, Starts};
 
 /// The most views that a hall gives.
-pub const VIEW_LIMIT: usize = 64;
+pub const VIEW_LIMIT: usize = 1_024;
 
 /// The most critical sections in which `tend_round` tends what is due.
 const SECTIONS: u32 = 64;

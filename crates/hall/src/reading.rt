@@ -3,7 +3,7 @@
 ghost use Rattle.std.specs.Prelude.{◌-◌, ℕ, map, min, vec_capacity, vec_len, OnErr, OnOk};
 ghost use Rattle.std.specs.Arc.{arc_value};
 ghost use Rattle.hall.specs.declared.guarded.TheConstants.{COPIED_AT_ONCE};
-ghost use Rattle.hall.specs.Reading.{AreCopied, IsChangedLast, IsCounted};
+ghost use Rattle.hall.specs.Reading.{AreCopied, AreGiven, IsChangedLast, IsCounted};
 
 use crate::halls::Hall;
 use crate::names::HallName;
@@ -20,6 +20,15 @@ impl<L: HallName, R: Wait + Drop, A: Allocator> Hall<L, R, A> {
         let guarded = self.lock.lock(rt);
         guarded.sound();
         guarded.record_count()
+    }
+
+    /// How many seats were given.
+    pub fn seat_count<W: Wait>(&self, rt: &W) -> usize
+        ensures { AreGiven L.opening result }
+    {
+        let guarded = self.lock.lock(rt);
+        guarded.sound();
+        guarded.seat_count()
     }
 
     /// How many records there were when the last list was applied or policy put in force, or 0. All

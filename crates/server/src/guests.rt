@@ -377,9 +377,9 @@ impl Connection for Guest<'_> {
         } = self;
         let mut session = session;
         let is_served = !turn.is_over();
-        let earlier = seats.len();
+        turn.enter();
         let served = session.serve(rt, heap, hall, seats, view, lasting, turn);
-        turn.count_seats(seats.len().saturating_sub(earlier));
+        turn.leave();
         match served {
             Served::Ended => {}
             Served::SetAside => set_aside(rt, aside, session, is_served),

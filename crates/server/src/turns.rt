@@ -1,5 +1,6 @@
 //! When a hall gives way to the one that follows it.
 
+use plain_world::SEAT_LIMIT;
 use std::sync::atomic::{AtomicU64, Ordering};
 
 /// After how many records a hall gives way.
@@ -8,9 +9,9 @@ pub const TERM_RECORDS: u64 = 262_144;
 /// After how many bytes of replies a hall gives way.
 pub const TERM_BYTES: u64 = 268_435_456;
 
-/// After how many seats a hall gives way: each worker keeps one for each subject whom it has served,
-/// and a hall gives 1,024.
-const TERM_SEATS: u64 = 768;
+/// How many seats are too few. A hall gives 1,024, and each worker keeps one for each subject whom it
+/// has served: where fewer are left, and at least as many are nobody's now, the hall gives way.
+const FEW_SEATS: usize = 16;
 
 /// For how many looks a hall whose turn is over waits for the sessions whose clients are silent: as
 /// long as one of their reads waits, and a little more.
@@ -31,8 +32,8 @@ pub(crate) struct Turn {
     phase: AtomicU64,
     /// How many bytes of replies were written.
     written: AtomicU64,
-    /// How many seats were given to sessions that have ended or were set aside.
-    seats: AtomicU64,
+    /// How many sessions are served just now.
+    present: AtomicU64,
     /// How many looks were made while it was ending.
     looks: AtomicU64,
     /// After how many records it ends.
@@ -47,7 +48,7 @@ impl Turn {
         Turn {
             phase: AtomicU64::new(HELD),
             written: AtomicU64::new(0),
-            seats: AtomicU64::new(0),
+            present: AtomicU64::new(0),
             looks: AtomicU64::new(0),
             records,
             closing: AtomicU64::new(0),
@@ -69,16 +70,28 @@ impl Turn {
         self.written.fetch_add(bytes as u64, Ordering::SeqCst);
     }
 
-    /// Counts seats that were given to a session.
-    pub(crate) fn count_seats(&self, seats: usize) {
-        self.seats.fetch_add(seats as u64, Ordering::SeqCst);
+    /// Notes that a session is served from now on.
+    pub(crate) fn enter(&self) {
+        self.present.fetch_add(1, Ordering::SeqCst);
     }
 
-    /// Whether the hall has done enough.
-    fn is_full(&self, records: u64) -> bool {
+    /// Notes that a session is served no more.
+    pub(crate) fn leave(&self) {
+        self.present.fetch_sub(1, Ordering::SeqCst);
+    }
+
+    /// Whether few seats are left, and a new hall would have more.
+    fn lacks_seats(&self, seats: usize) -> bool {
+        let present = self.present.load(Ordering::SeqCst);
+        let unused = (seats as u64).saturating_sub(present);
+        SEAT_LIMIT.saturating_sub(seats) < FEW_SEATS && unused >= FEW_SEATS as u64
+    }
+
+    /// Whether a hall with so many records and seats has done enough.
+    fn is_full(&self, records: u64, seats: usize) -> bool {
         records >= self.records
             || self.written.load(Ordering::SeqCst) >= TERM_BYTES
-            || self.seats.load(Ordering::SeqCst) >= TERM_SEATS
+            || self.lacks_seats(seats)
     }
 
     /// Notes that nobody new comes to the server.
@@ -91,16 +104,16 @@ impl Turn {
         self.closing.load(Ordering::SeqCst) == 1
     }
 
-    /// Ends the turn where there are many records or seats, or where replies had many bytes: at first
-    /// for the sessions whose clients are silent, and after `LOOKS` further looks for all. One thread
-    /// looks.
-    pub(crate) fn look(&self, records: u64) {
+    /// Ends the turn where there are many records or few seats, or where replies had many bytes: at
+    /// first for the sessions whose clients are silent, and after `LOOKS` further looks for all. One
+    /// thread looks.
+    pub(crate) fn look(&self, records: u64, seats: usize) {
         if self.is_ending() {
             let looks = self.looks.fetch_add(1, Ordering::SeqCst);
             if looks >= LOOKS {
                 self.phase.store(OVER, Ordering::SeqCst);
             }
-        } else if self.is_full(records) {
+        } else if self.is_full(records, seats) {
             self.phase.store(ENDING, Ordering::SeqCst);
         }
     }

@@ -159,7 +159,7 @@ pub(crate) fn tend<L: HallName, H: Wait + Drop, R: Wait + Clock + Log>(
                     lasting.take_over(rt, hall);
                 }
                 if let Some(turn) = turn {
-                    turn.look(hall.record_count(rt));
+                    turn.look(hall.record_count(rt), hall.seat_count(rt));
                 }
                 if tended {
                     if let Err(fault) = tend_once(rt, hall, &mut pauses) {
