@@ -107,7 +107,7 @@ abbrev socket_rule : Rule
 socket_rule = filled (needed (option_rule (codes "socket")))
 
 abbrev pub connections_rule : Rule
-connections_rule = filled (needed (up_to CONNECTION_LIMIT (option_rule (codes "connections"))))
+connections_rule = filled (up_to CONNECTION_LIMIT (option_rule (codes "connections")))
 
 abbrev pub workers_rule : Rule
 workers_rule = filled (up_to WORKER_LIMIT (option_rule (codes "workers")))
@@ -227,7 +227,6 @@ NamesShell rows = is_some (first_of (codes "SHELL") rows) ≡ true
 -- `serve` has what it needs, and its values passed
 pub record HasNeeded (rows : List Row) : Type 0 where
   pub socket : is_some (first_of (codes "socket") rows) ≡ true
-  pub some_connections : is_some (first_of (codes "connections") rows) ≡ true
   pub connections : Passes connections_rule rows
   pub workers : Passes workers_rule rows
   pub idle : Passes idle_rule rows
@@ -261,13 +260,10 @@ serve_passed words e =
     let rules = serve_built.rules in
     let rows = finished rules (walk rules [] nothing_held words).held in
     let passed : ArePassed rules rows = level_passed serve_built [] words false [] serve_known e in
-    let there = both_wanted (is_given (codes "socket") rows) (is_given (codes "connections") rows) (level_steps serve_built [] words false [] e).3 in
     let socket : Passes socket_rule rows = passes rules socket_rule rows refl passed in
-    let connections : Passes connections_rule rows = passes rules connections_rule rows refl passed in
     record {
-      socket = has_first socket_rule rows socket there.0;
-      some_connections = has_first connections_rule rows connections there.1;
-      connections = connections;
+      socket = has_first socket_rule rows socket (wanted (is_given (codes "socket") rows) (level_steps serve_built [] words false [] e).3);
+      connections = passes rules connections_rule rows refl passed;
       workers = passes rules workers_rule rows refl passed;
       idle = passes rules idle_rule rows refl passed;
       takeover = passes rules takeover_rule rows refl passed;

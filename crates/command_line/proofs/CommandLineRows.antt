@@ -39,7 +39,19 @@ configured_config : given_by configured (codes "config") ≡ Some (codes "a.json
 unfolding clap_on_literals
 configured_config = refl
 
--- a server with its required options, and with more
+-- a server with its required option alone
+abbrev endless : List Text
+endless = codes "landmap" ∷ codes "serve" ∷ codes "--socket" ∷ codes "m.sock" ∷ []
+
+endless_is_taken : refusals endless ≡ []
+unfolding clap_on_literals
+endless_is_taken = refl
+
+endless_connections : number_at (given_by endless) (codes "connections") ≡ None
+unfolding clap_on_literals
+endless_connections = refl
+
+-- a server with an end, and with more options
 abbrev serving : List Text
 serving = codes "landmap" ∷ codes "serve" ∷ codes "--socket" ∷ codes "m.sock" ∷ codes "--connections" ∷ codes "1024" ∷ []
 

@@ -115,10 +115,6 @@ pub number_found : (k most : ℕ) → most < 2 ^ k → (a : Rule) → parser_of_
 number_found k most fits a ranged found p result none value =
     number_given (GivesUnsigned k) k most (λ u x g. g.0) fits result a ranged (rows_of found) p (λ e. none (one_text-rows found a.id ∙ e)) (λ t e. value t (one_text-rows found a.id ∙ e))
 
-pub no_number : (first : Option Text) → is_some first ≡ true → option_map number_of first ≡ None → ⊥
-no_number None is none = true≢false (sym is)
-no_number (Some text) is none = absurd cc
-
 -- ---- flags
 
 module _ (a : Rule) (boolean : parser_of_value a.parser ≡ parsers.Bool) (result : Bool) where

@@ -33,12 +33,12 @@ IsUpTo most n = (1 ≤ n) × (n ≤ most)
 -- the options of a server are the given ones, within their limits
 pub record HasOptions (given : Text → Option Text) (options : ServerOptions) : Type 0 where
   pub socket : given (codes "socket") ≡ Some options.socket.now
-  pub connections : number_at given (codes "connections") ≡ Some options.connections
+  pub connections : options.connections ≡ number_at given (codes "connections")
   pub workers : options.workers ≡ unwrap_or (number_at given (codes "workers")) DEFAULT_WORKERS
   pub idle : options.idle_seconds ≡ number_at given (codes "idle")
   pub takeover : options.takeover ≡ flag_at given (codes "takeover")
   pub until_stdin_ends : options.until_stdin_ends ≡ flag_at given (codes "until-stdin-ends")
-  pub connections_fit : IsUpTo CONNECTION_LIMIT options.connections
+  pub connections_fit : IfSome options.connections (IsUpTo CONNECTION_LIMIT)
   pub workers_fit : IsUpTo WORKER_LIMIT options.workers
   pub idle_fits : IfSome options.idle_seconds (IsUpTo IDLE_LIMIT)
 

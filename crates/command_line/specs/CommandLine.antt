@@ -58,12 +58,12 @@ script_line = subcommand_line (codes "script")
     (option_rule (codes "config") ∷ option_rule (codes "store") ∷ needed (new_rule (codes "FILE"))
     ∷ [])
 
--- `serve --socket PATH [--config FILE] --connections N [--workers N] [--idle SECONDS] [--takeover]
+-- `serve --socket PATH [--config FILE] [--connections N] [--workers N] [--idle SECONDS] [--takeover]
 -- [--until-stdin-ends] [--store DIR] [--wait WHAT]`
 abbrev pub serve_line : App
 serve_line = subcommand_line (codes "serve") (
-    needed (option_rule (codes "socket")) ∷ option_rule (codes "config") ∷ needed
-    (up_to CONNECTION_LIMIT (option_rule (codes "connections")))
+    needed (option_rule (codes "socket")) ∷ option_rule (codes "config") ∷ up_to CONNECTION_LIMIT
+    (option_rule (codes "connections"))
     ∷ up_to WORKER_LIMIT (option_rule (codes "workers")) ∷ up_to IDLE_LIMIT
     (option_rule (codes "idle"))
     ∷ flag_rule (codes "takeover") ∷ flag_rule (codes "until-stdin-ends")

@@ -1,8 +1,7 @@
 -- What a table of help has of a command, and what the command line has of it.
-use Rattle.std.specs.Prelude.{ℕ, Bool, List, codes, map, is_some}
+use Rattle.std.specs.Prelude.{Bool, List, codes, map, is_some}
 use Rattle.std.specs.Str.{bytes_eq}
 use Rattle.clap.specs.Words.{App, Text}
-use Rattle.command_line.specs.declared.tables.ArgumentText.{ArgumentText}
 use Rattle.command_line.specs.declared.tables.CommandText.{CommandText}
 
 -- a command's name and its arguments: the name of each, and whether it is an option

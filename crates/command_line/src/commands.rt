@@ -112,9 +112,8 @@ fn serve_command<'a>(alloc: Global) -> Result<Command<'a>, AllocError>
     let connection_range = value_parser!(u16).range(1..=i64::from(CONNECTION_LIMIT));
     let worker_range = value_parser!(u8).range(1..=i64::from(WORKER_LIMIT));
     let idle_range = value_parser!(u32).range(1..=i64::from(IDLE_LIMIT));
-    let connections = option_argument(alloc, "connections", "N", CONNECTIONS_HELP)
-        .required(true)
-        .value_parser(connection_range);
+    let connections = option_argument(alloc, "connections", "N", CONNECTIONS_HELP);
+    let connections = connections.value_parser(connection_range);
     let workers = option_argument(alloc, "workers", "N", WORKERS_HELP).value_parser(worker_range);
     let idle = option_argument(alloc, "idle", "SECONDS", IDLE_HELP).value_parser(idle_range);
     Command::new(alloc, "serve")

@@ -9,7 +9,7 @@ and change them by lists; policies rule what each office may read and change.";
 pub(crate) const EXAMPLES: &str = "Examples:
   landmap script day.map
   landmap script --config agency.json day.map
-  landmap serve --socket map.sock --connections 100
+  landmap serve --socket map.sock
   landmap connect --socket map.sock
   landmap check --config agency.json
 
@@ -111,10 +111,19 @@ OPEN, STEP and FINISH. So many clients are served at a time as there are
 workers; others wait. All work on one world, opened by the configuration as for
 a script.
 
-After N connections nobody more is accepted. Once the last session has ended,
-the socket's file is removed and `closed R records` is printed, R being the
-number of records in the audit trail. Without --store nothing is stored: then,
-or when the process is killed, features, policies and records are gone.
+It goes on until the process is killed, or the accepting ends: after N
+connections with --connections, at the end of standard input with
+--until-stdin-ends. Sessions that have begun then go on to their end. Once the
+last one has ended, the socket's file is removed and `closed R records` is
+printed, R being the number of records in the audit trail. Without --store
+nothing is stored: then, or when the process is killed, features, policies and
+records are gone.
+
+Without --connections the records are settled from time to time, after 262,144
+of them or 256 MiB of replies: those in memory are compared with what the
+sessions were told, and let go. Without --store those are gone then that no ROLL
+has taken out. All clients wait meanwhile, a second or so, and their sessions go
+on.
 
 With --store features, policy and records are kept in the folder DIR, which has
 to be there. The first start begins it with the configuration's policies; later
@@ -131,9 +140,6 @@ that was killed leaves one. Whatever else is there stays, and the socket cannot
 be bound. To find out whether somebody listens it connects, which uses up one
 connection of a server that does.
 
-With --until-stdin-ends the end of standard input, too, ends the accepting.
-Sessions that have begun go on to their end.
-
 A client is whoever its HELLO says. Who may connect is up to the rights of the
 socket's folder.
 
@@ -141,9 +147,9 @@ docs/SESSIONS.md tells what each reply and each `error CODE` means.";
 
 pub(crate) const SOCKET_HELP: &str = "Where the Unix socket is bound";
 
-pub(crate) const CONNECTIONS_HELP: &str = "How many connections are served, 1 to 1024";
+pub(crate) const CONNECTIONS_HELP: &str = "Ends after so many connections, 1 to 1024";
 
-pub(crate) const WORKERS_HELP: &str = "How many of them at a time, 1 to 64 [default: 4]";
+pub(crate) const WORKERS_HELP: &str = "How many clients at a time, 1 to 64 [default: 4]";
 
 pub(crate) const IDLE_HELP: &str = "How long a client may be idle, 1 to 86400";
 
@@ -154,11 +160,12 @@ pub(crate) const UNTIL_STDIN_ENDS_HELP: &str = "Accepts nobody once standard inp
 pub(crate) const WAIT_HELP: &str = "What replies wait for: all or changes [default: all]";
 
 pub(crate) const SERVE_EXAMPLES: &str = r#"Examples:
-  `landmap serve --socket map.sock --connections 100` writes
+  `landmap serve --socket map.sock` writes
 
     listening map.sock
 
-  and serves a hundred sessions, four at a time. For example, the lines
+  and serves four sessions at a time, until it is killed. For example, the
+  lines
 
     HELLO north
     SEARCH POINT (3 4)
@@ -170,14 +177,17 @@ pub(crate) const SERVE_EXAMPLES: &str = r#"Examples:
     rows 0
     bye
 
-  landmap serve --socket map.sock --connections 1024 --config agency.json
+  landmap serve --socket map.sock --config agency.json
     has the subjects and the policies of the file agency.json
 
-  landmap serve --socket map.sock --connections 1024 --workers 16 --idle 60
+  landmap serve --socket map.sock --workers 16 --idle 60
     serves sixteen clients at a time, and leaves one that is idle for a minute
 
-  landmap serve --socket map.sock --connections 1024 --store /var/lib/landmap
+  landmap serve --socket map.sock --store /var/lib/landmap
     keeps all in that folder, and goes on there when it is started again
+
+  landmap serve --socket map.sock --connections 100
+    serves a hundred sessions, and ends
 
 Exit status:
   0  all sessions have ended, and their records are those of the trail

@@ -1,6 +1,6 @@
 //! The options of a server.
 
-/// The most connections that a server accepts in its life.
+/// The most connections after which a server can be told to end.
 pub const CONNECTION_LIMIT: u16 = 1024;
 
 /// The most workers of a server.
@@ -20,8 +20,9 @@ pub const FIRST_ID_LIMIT: u32 = 4_294_967_295;
 pub struct ServerOptions<'a> {
     /// The path at which the socket is bound.
     pub socket: &'a str,
-    /// How many connections are served in total: 1 to `CONNECTION_LIMIT`.
-    pub connections: u16,
+    /// How many connections are served in total: 1 to `CONNECTION_LIMIT`. `None`: a server without
+    /// end.
+    pub connections: Option<u16>,
     /// How many connections are served at a time: 1 to `WORKER_LIMIT`.
     pub workers: u8,
     /// The idle time in seconds, 1 to `IDLE_LIMIT`: a session ends after its client has neither

@@ -127,7 +127,7 @@ fn script_words<'a>(given: &ArgMatches<'a>) -> ScriptWords<'a>
     }
 }
 
-/// The options of a server. `--socket` and `--connections` are required, so they are there.
+/// The options of a server. `--socket` is required, so it is there.
 fn server_options<'a>(given: &ArgMatches<'a>) -> ServerOptions<'a>
     requires { IsGiven (codes "serve") (rows_of (found_of given.now)) }
     ensures { HasOptions (λ id. first_of id (rows_of (found_of given.now))) result }
@@ -135,12 +135,9 @@ fn server_options<'a>(given: &ArgMatches<'a>) -> ServerOptions<'a>
     let Some(socket) = given.get_str("socket") else {
         unreachable!()
     };
-    let Some(connections) = given.get_one::<u16>("connections") else {
-        unreachable!()
-    };
     ServerOptions {
         socket,
-        connections,
+        connections: given.get_one::<u16>("connections"),
         workers: given.get_one::<u8>("workers").unwrap_or(DEFAULT_WORKERS),
         idle_seconds: given.get_one::<u32>("idle"),
         takeover: given.get_flag("takeover"),

@@ -1,4 +1,4 @@
-use Rattle.std.proofs.Common.{ap, codes, is_some, lit<, refl, sym, true≢false, Option, None, ◌≡◌, ◌∙◌}
+use Rattle.std.proofs.Common.{ap, codes, is_some, lit<, refl, sym, true≢false, None, ◌≡◌, ◌∙◌}
 use Rattle.clap.proofs.WalkLemmas.{first_value-rows}
 use Rattle.clap.specs.Words.{Text, first_of, first_value, found_of, rows_of}
 use Rattle.command_line.specs.declared.options.TheConstants.{FIRST_ID_LIMIT}
