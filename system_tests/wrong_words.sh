@@ -18,7 +18,7 @@ says 2 "--socket <PATH>" connect
 says 2 "--socket <PATH>" serve --connections 1
 says 2 "error: " serve --socket map.sock --connections 0
 says 2 "error: " serve --socket map.sock --connections 1025
-says 2 "error: " serve --socket map.sock --connections 1 --workers 65
+says 2 "error: " serve --socket map.sock --connections 1 --workers 1025
 says 2 "error: " serve --socket map.sock --connections 1 --idle 0
 says 2 "error: " serve --socket map.sock --connections 1 --idle 86401
 says 2 "invalid value 'tcsh'" completions tcsh

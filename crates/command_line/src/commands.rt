@@ -110,7 +110,7 @@ fn serve_command<'a>(alloc: Global) -> Result<Command<'a>, AllocError>
 {
     let socket = option_argument(alloc, "socket", "PATH", SOCKET_HELP).required(true);
     let connection_range = value_parser!(u16).range(1..=i64::from(CONNECTION_LIMIT));
-    let worker_range = value_parser!(u8).range(1..=i64::from(WORKER_LIMIT));
+    let worker_range = value_parser!(u16).range(1..=i64::from(WORKER_LIMIT));
     let idle_range = value_parser!(u32).range(1..=i64::from(IDLE_LIMIT));
     let connections = option_argument(alloc, "connections", "N", CONNECTIONS_HELP);
     let connections = connections.value_parser(connection_range);

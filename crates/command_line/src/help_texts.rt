@@ -149,7 +149,7 @@ pub(crate) const SOCKET_HELP: &str = "Where the Unix socket is bound";
 
 pub(crate) const CONNECTIONS_HELP: &str = "Ends after so many connections, 1 to 1024";
 
-pub(crate) const WORKERS_HELP: &str = "How many clients at a time, 1 to 64 [default: 4]";
+pub(crate) const WORKERS_HELP: &str = "How many clients at a time, 1 to 1024 [default: 4]";
 
 pub(crate) const IDLE_HELP: &str = "How long a client may be idle, 1 to 86400";
 

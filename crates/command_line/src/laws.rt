@@ -7,7 +7,7 @@ ghost use Rattle.command_line.specs.declared.options.TheConstants.{CONNECTION_LI
 /// seconds of `--idle`; and the greatest id of `--first-id`.
 pub fn option_limits_in_numbers()
     ensures connections { CONNECTION_LIMIT ≡ 1024 }
-    ensures workers { WORKER_LIMIT ≡ 64 }
+    ensures workers { WORKER_LIMIT ≡ 1024 }
     ensures default_workers { DEFAULT_WORKERS ≡ 4 }
     ensures idle { IDLE_LIMIT ≡ 86400 }
     ensures first_id { FIRST_ID_LIMIT ≡ 4294967295 }

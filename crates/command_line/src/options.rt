@@ -4,10 +4,10 @@
 pub const CONNECTION_LIMIT: u16 = 1024;
 
 /// The most workers of a server.
-pub const WORKER_LIMIT: u8 = 64;
+pub const WORKER_LIMIT: u16 = 1024;
 
 /// The workers of a server if the command line gives no number.
-pub const DEFAULT_WORKERS: u8 = 4;
+pub const DEFAULT_WORKERS: u16 = 4;
 
 /// The greatest idle time, in seconds: a day.
 pub const IDLE_LIMIT: u32 = 86_400;
@@ -24,7 +24,7 @@ pub struct ServerOptions<'a> {
     /// end.
     pub connections: Option<u16>,
     /// How many connections are served at a time: 1 to `WORKER_LIMIT`.
-    pub workers: u8,
+    pub workers: u16,
     /// The idle time in seconds, 1 to `IDLE_LIMIT`: a session ends after its client has neither
     /// sent nor read for so long. `None`: never.
     pub idle_seconds: Option<u32>,

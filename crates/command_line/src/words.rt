@@ -138,7 +138,7 @@ fn server_options<'a>(given: &ArgMatches<'a>) -> ServerOptions<'a>
     ServerOptions {
         socket,
         connections: given.get_one::<u16>("connections"),
-        workers: given.get_one::<u8>("workers").unwrap_or(DEFAULT_WORKERS),
+        workers: given.get_one::<u16>("workers").unwrap_or(DEFAULT_WORKERS),
         idle_seconds: given.get_one::<u32>("idle"),
         takeover: given.get_flag("takeover"),
         until_stdin_ends: given.get_flag("until-stdin-ends"),

@@ -20,8 +20,8 @@ use program::{
     HostFolder, Next, ProgramFault, TransferWords, WantedServer, WantedTransfer, run_program, tell,
 };
 use server::{
-    Begins, Closed, Connections, Keeping, Rests, ServerFault, Serving, SocketOptions, Stop, serve_kept,
-    serve_socket, watch,
+    Begins, Closed, Connections, Keeping, Rests, ServerFault, Serving, SocketOptions, Stop,
+    TERM_RECORDS, serve_kept, serve_socket, watch,
 };
 use std::alloc::Global;
 use std::fs::{File, Files};
@@ -93,7 +93,7 @@ enum Work {
 struct Plan {
     work: Work,
     path: String,
-    connections: u16,
+    connections: Connections,
     idle: Option<u64>,
     takeover: bool,
     /// How the server is told to accept no more connections.
@@ -158,6 +158,14 @@ fn planned_work(
     Ok(Work::Stored(keeping, store))
 }
 
+/// How many connections a server accepts: so many, or without end.
+fn connections(wanted: Option<u16>) -> Connections {
+    match wanted {
+        Some(count) => Connections::UpTo(count),
+        None => Connections::Endless(TERM_RECORDS),
+    }
+}
+
 /// The server that the command line asks for.
 fn planned(rt: &HostRuntime, server: WantedServer<'_>) -> Result<Plan, NoMemory> {
     let heap = rt.alloc();
@@ -178,7 +186,7 @@ fn planned(rt: &HostRuntime, server: WantedServer<'_>) -> Result<Plan, NoMemory>
     Ok(Plan {
         work: planned_work(rt, config, workers, store, waits, own_alarm)?,
         path: text(heap, options.socket)?,
-        connections: options.connections,
+        connections: connections(options.connections),
         idle: options.idle_seconds.map(u64::from),
         takeover: options.takeover,
         stop,
@@ -203,7 +211,7 @@ where
         stopping: _stopping,
     } = plan;
     let socket_options = SocketOptions {
-        connections: Connections::UpTo(connections),
+        connections,
         idle,
         takeover,
         stop: Some(&stop),

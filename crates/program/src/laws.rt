@@ -19,7 +19,7 @@ pub fn limits_in_numbers()
     ensures records { RECORD_LIMIT ≡ 1048576 }
     ensures steps { STEP_LIMIT ≡ 1000000 }
     ensures connections { CONNECTION_LIMIT ≡ 1024 }
-    ensures workers { WORKER_LIMIT ≡ 64 }
+    ensures workers { WORKER_LIMIT ≡ 1024 }
     ensures default_workers { DEFAULT_WORKERS ≡ 4 }
     ensures idle { IDLE_LIMIT ≡ 86400 }
 {}

@@ -554,7 +554,7 @@ fn help_of_the_program(rt: HostRuntime) -> Result<(), Fail> {
         &[
             "\n  landmap script day.map\n",
             "\n  landmap script --config agency.json day.map\n",
-            "\n  landmap serve --socket map.sock --connections 100\n",
+            "\n  landmap serve --socket map.sock\n",
             "\n  landmap connect --socket map.sock\n",
             "\n`landmap script --help` has the lines of a script, and the codes by which a run\nends; `landmap serve --help` has the options of a server, and its codes;\n`landmap connect --help` tells how to talk to a server. `landmap check` looks at\na configuration alone;",
             "\nExit status:\n  0  ",

@@ -10,7 +10,7 @@ use std::test::Fail;
 /// The options that `serve --socket m.sock --connections 7` asks for.
 const PLAIN: ServerOptions<'static> = ServerOptions {
     socket: "m.sock",
-    connections: 7,
+    connections: Some(7),
     workers: 4,
     idle_seconds: None,
     takeover: false,
@@ -18,14 +18,10 @@ const PLAIN: ServerOptions<'static> = ServerOptions {
 };
 
 /// Lines that clap rejects, each with the beginning of its message.
-const TURNED_DOWN: [(&str, &str); 15] = [
+const TURNED_DOWN: [(&str, &str); 14] = [
     (
         "serve",
-        "error: the following required arguments were not provided:\n  --socket <PATH>\n  --connections <N>\n",
-    ),
-    (
-        "serve --socket m.sock",
-        "error: the following required arguments were not provided:\n  --connections <N>\n",
+        "error: the following required arguments were not provided:\n  --socket <PATH>\n",
     ),
     (
         "serve --connections 7",
@@ -45,11 +41,11 @@ const TURNED_DOWN: [(&str, &str); 15] = [
     ),
     (
         "serve --socket m.sock --connections 7 --workers 0",
-        "error: invalid value '0' for '--workers <N>': 0 is not in 1..=64\n",
+        "error: invalid value '0' for '--workers <N>': 0 is not in 1..=1024\n",
     ),
     (
-        "serve --socket m.sock --connections 7 --workers 65",
-        "error: invalid value '65' for '--workers <N>': 65 is not in 1..=64\n",
+        "serve --socket m.sock --connections 7 --workers 1025",
+        "error: invalid value '1025' for '--workers <N>': 1025 is not in 1..=1024\n",
     ),
     (
         "serve --socket m.sock --connections 7 --idle 0",
@@ -140,14 +136,15 @@ fn gives(
 
 #[test]
 fn the_ends_of_numbers(rt: HostRuntime) -> Result<(), Fail> {
-    let numbers: [(&str, u16, u8, Option<u32>); 7] = [
-        ("--connections 7", 7, 4, None),
-        ("--connections 1", 1, 4, None),
-        ("--connections=1024", 1024, 4, None),
-        ("--connections 7 --workers 1", 7, 1, None),
-        ("--workers=64 --connections 7", 7, 64, None),
-        ("--connections 7 --idle 1", 7, 4, Some(1)),
-        ("--idle=86400 --connections +7", 7, 4, Some(86_400)),
+    let numbers: [(&str, Option<u16>, u16, Option<u32>); 8] = [
+        ("--connections 7", Some(7), 4, None),
+        ("--connections 1", Some(1), 4, None),
+        ("--connections=1024", Some(1024), 4, None),
+        ("--workers 1", None, 1, None),
+        ("--connections 7 --workers 1", Some(7), 1, None),
+        ("--workers=1024 --connections 7", Some(7), 1024, None),
+        ("--connections 7 --idle 1", Some(7), 4, Some(1)),
+        ("--idle=86400 --connections +7", Some(7), 4, Some(86_400)),
     ];
     for (line, connections, workers, idle_seconds) in numbers {
         let options = ServerOptions {
@@ -176,6 +173,16 @@ fn flags(rt: HostRuntime) -> Result<(), Fail> {
         };
         gives(&rt, &rt, line, &options)?;
     }
+    Ok(())
+}
+
+#[test]
+fn no_end(rt: HostRuntime) -> Result<(), Fail> {
+    let options = ServerOptions {
+        connections: None,
+        ..PLAIN
+    };
+    asks(&rt, &rt, &["serve", "--socket", "m.sock"], &options, 3)?;
     Ok(())
 }
 
@@ -266,14 +273,15 @@ fn help_of_servers(rt: HostRuntime) -> Result<(), Fail> {
         0,
         "Serves sessions over a Unix socket.\n\nThe socket is bound at PATH, and `listening PATH` is printed.",
         &[
-            "\nnumber of records in the audit trail. Without --store nothing is stored: ",
-            "\nUsage: landmap serve [OPTIONS] --socket <PATH> --connections <N>\n",
-            "How many connections are served, 1 to 1024\n",
-            "How many of them at a time, 1 to 64 [default: 4]\n",
+            "\nprinted, R being the number of records in the audit trail. Without --store\nnothing is stored: ",
+            "\nUsage: landmap serve [OPTIONS] --socket <PATH>\n",
+            "Ends after so many connections, 1 to 1024\n",
+            "How many clients at a time, 1 to 1024 [default: 4]\n",
             "How long a client may be idle, 1 to 86400\n",
             "Takes over a socket that nobody listens on\n",
             "Accepts nobody once standard input ends\n",
-            "\n  `landmap serve --socket map.sock --connections 100` writes\n\n    listening map.sock\n",
+            "\n  `landmap serve --socket map.sock` writes\n\n    listening map.sock\n",
+            "\n  landmap serve --socket map.sock --connections 100\n    serves a hundred sessions, and ends\n",
             "\n     `landmap: cannot bind PATH`, `landmap: cannot start a worker`,\n",
             "\n     `landmap: cannot write`, or `landmap: CODE`, where CODE is\n",
             "\n       C2        a session did not give back its seat\n",
@@ -285,7 +293,7 @@ fn help_of_servers(rt: HostRuntime) -> Result<(), Fail> {
         &rt,
         &["serve", "-h"],
         0,
-        "Serves sessions over a Unix socket\n\nUsage: landmap serve [OPTIONS] --socket <PATH> --connections <N>\n",
+        "Serves sessions over a Unix socket\n\nUsage: landmap serve [OPTIONS] --socket <PATH>\n",
         &["--idle <SECONDS>", "--until-stdin-ends"],
     )?;
     Ok(())

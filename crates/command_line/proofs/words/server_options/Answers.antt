@@ -24,7 +24,7 @@ returns c =
     let needs = serve_has_needed c.requires.0 (rows_of found) c.requires.1 c.requires.2 in
     let read : (id : Text) → first_of id (rows_of found) ≡ first_value found id = λ id. sym (first_value-rows found id) in
     let connections = number_found 16 CONNECTION_LIMIT (lit< tt) connections_rule refl found needs.connections c.get_one.result c.get_one.ensures.none c.get_one.ensures.value in
-    let workers = number_found 8 WORKER_LIMIT (lit< tt) workers_rule refl found needs.workers c.get_one-2.result c.get_one-2.ensures.none c.get_one-2.ensures.value in
+    let workers = number_found 16 WORKER_LIMIT (lit< tt) workers_rule refl found needs.workers c.get_one-2.result c.get_one-2.ensures.none c.get_one-2.ensures.value in
     let idle = number_found 32 IDLE_LIMIT (lit< tt) idle_rule refl found needs.idle c.get_one-3.result c.get_one-3.ensures.none c.get_one-3.ensures.value in
     record {
       socket = read (codes "socket") ∙ sym c.in-Some.ensures;
