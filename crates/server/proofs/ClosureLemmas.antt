@@ -20,8 +20,6 @@ use Rattle.plain_world.specs.contracts.worlds.Base as Base
 use Rattle.plain_world.specs.contracts.worlds.Base.TheInside as base_inside
 use Rattle.chronicle.proofs.CrossingLemmas.{heap_record_send, heap_record_sync}
 use Rattle.server.specs.contracts.keeping.Lasting as lasting
-use Rattle.session_lines.proofs.CrossingLemmas.{sitting_send}
-use Rattle.server.specs.contracts.guests.Guest as guest
 use Rattle.server.specs.contracts.kept.Handover as handover
 
 -- where replies wait
@@ -39,10 +37,6 @@ sender_send T s = sender.the_send T heap ghosts s std.send std.sync std.frees
 -- where a store is handed over
 pub handover_send : (ℓ : NamedLft) → IsSend (handover.the_row ℓ)
 handover_send ℓ = search (base_send, sender_send, heap_record_send, heap_record_sync, crosses, sendable) depth 40
-
--- a session that goes on in another hall
-pub guest_send : (ℓ : NamedLft) → IsSend (guest.the_row ℓ)
-guest_send ℓ = search (sitting_send, crosses, sendable) depth 40
 
 pub over_three_send : (name : Sym) (A B C : RattleType) → IsSend A → IsSend B → IsSend C → IsSend (TupleAt name (A ∷ B ∷ C ∷ []))
 over_three_send name A B C a b c = search sendable depth 12

@@ -1,5 +1,7 @@
 //! Sessions that can be set aside, and go on with another hall.
 
+ghost use Rattle.std.specs.Prelude.{◌≡◌, IfOk, length};
+
 use crate::keeping::{HallRecords, Lasting, barrier};
 use crate::turns::Turn;
 use crate::workers::Connection;
@@ -147,7 +149,9 @@ struct GuestWriter<'a> {
 
 impl GuestWriter<'_> {
     /// Keeps bytes with the session. An error where there are too many, or no memory for them.
-    fn keep(&mut self, bytes: &[u8]) -> io::Result<usize> {
+    fn keep(&mut self, bytes: &[u8]) -> io::Result<usize>
+        ensures { IfOk result (λ count. count ≡ length bytes.now) }
+    {
         let many = self.kept.len().saturating_add(bytes.len()) > KEPT_LIMIT;
         if many || try_extend(self.kept, bytes).is_err() {
             return Err(ErrorKind::Other.into());
@@ -274,7 +278,10 @@ impl Session {
     /// Writes out what its client had not taken. `None` where all of it is written.
     fn catch_up(&mut self, turn: &Turn) -> Option<Served> {
         let mut waited: u64 = 0;
-        while let Some(bytes) = self.kept.as_slice().get(self.taken..) {
+        for _ in 0..u64::MAX {
+            let Some(bytes) = self.kept.as_slice().get(self.taken..) else {
+                break;
+            };
             if bytes.is_empty() {
                 break;
             }

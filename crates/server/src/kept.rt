@@ -154,7 +154,7 @@ where
     H: Wait + Copy + Drop + Send,
     R: Threads + Wait + Clock + Log + Files<File = File> + Net + Print + Sync,
     K: Writes + Drop + Send,
-    ensures { IfOk result (ServedFrom options.connections keeping.subjects) }
+    ensures { IfOk result (ServedFrom options.entry.connections keeping.subjects) }
 {
     let desk = Desk::new(heap)?;
     let (to, from) = channel::<Result<Restored, StoreFault>>(heap, 1)?;
@@ -179,7 +179,7 @@ where
         |scope|
             requires shares { IsSync R.row }
             requires crosses { IsSend K.row }
-            ensures { IfOk result (ServedFrom options.connections subjects) }
+            ensures { IfOk result (ServedFrom options.entry.connections subjects) }
         {
             if scope.spawn(move || writer.write(rt, handover)).is_err() {
                 return Err(ServerFault::NoWorker);

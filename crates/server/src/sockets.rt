@@ -271,7 +271,7 @@ where
     H: Wait + Copy + Drop + Send,
     R: Threads + Wait + Clock + Log + Files<File = File> + Net + Print + Sync,
     ensures { IfOk result
-        (ServedAs options.connections (opening_of serving.subjects serving.begins)) }
+        (ServedAs options.entry.connections (opening_of serving.subjects serving.begins)) }
 {
     tell_ready(rt, heap, path)?;
     if let Some(stop) = options.stop {
@@ -303,7 +303,7 @@ where
     H: Wait + Copy + Drop + Send,
     R: Threads + Wait + Clock + Log + Files<File = File> + Net + Print + Sync,
     ensures { IfOk result
-        (ServedAs options.connections (opening_of serving.subjects serving.begins)) }
+        (ServedAs options.entry.connections (opening_of serving.subjects serving.begins)) }
 {
     let bound = listen(rt, path, options.takeover)?;
     let file = bound.file;
@@ -329,7 +329,7 @@ where
     H: Wait + Copy + Drop + Send,
     R: Threads + Wait + Clock + Log + Files<File = File> + Net + Print + Sync,
     ensures { IfOk result
-        (ServedAs options.connections (opening_of serving.subjects serving.begins)) }
+        (ServedAs options.entry.connections (opening_of serving.subjects serving.begins)) }
 {
     serve_bound(rt, own, heap, path, serving, options, None)
 }

@@ -46,7 +46,9 @@ struct Coming<'t, R: Wait + Clock + Log> {
 
 impl<'t, R: Wait + Clock + Log> Coming<'t, R> {
     /// The next session: one that waits, or one of a new connection.
-    fn next_session(&mut self) -> Option<Session> {
+    fn next_session(&mut self) -> Option<Session>
+        ensures { self.new.left ≡ self.old.left }
+    {
         if let Some(session) = self.waiting.next() {
             return Some(session);
         }
