@@ -224,7 +224,7 @@ where
     };
     let idle = options.idle;
     let workers = workers.clamp(1, WORKER_LIMIT);
-    thread::scope(
+    let served = thread::scope(
         thread::scope_env(),
         rt,
         |scope|
@@ -253,7 +253,9 @@ where
             stop.wake(rt, path);
             served
         },
-    )
+    );
+    let closed = served?;
+    Ok(closed)
 }
 
 /// Writes the line `listening PATH`, and serves the connections that come.

@@ -291,7 +291,8 @@ where
     let unnamed = Unnamed::new();
     let subjects = same_subjects(subjects);
     let term = hold::<Brand, H, R>(rt, own, unnamed, relay, subjects, begins, waiting)?;
-    behind(term, account, before)
+    let new = behind(term, account, before)?;
+    Ok(new)
 }
 
 /// The same desk, behind so many records of earlier halls.
