@@ -18,10 +18,11 @@ use std::sync::atomic::{AtomicU64, Ordering};
 use std::sync::{Mutex, Wait};
 use std::time::Duration;
 
-/// For how many milliseconds a read waits before it is looked whether the turn is ending.
+/// For how many milliseconds a read waits before it is looked whether the turn is ending. A client
+/// that sends nothing for so long is silent.
 const LONG: u64 = 1_000;
 
-/// The same, once it is ending.
+/// For how many milliseconds a read waits before that is looked at again, once the turn is ending.
 const SHORT: u64 = 20;
 
 /// The most bytes of replies that are kept for a client that does not take them while halls change.
@@ -120,7 +121,7 @@ impl Read for GuestReader<'_> {
                     if self.patience != 0 && waited >= self.patience {
                         return Err(error);
                     }
-                    if self.turn.is_ending() {
+                    if self.turn.is_ending() && waited >= LONG {
                         break;
                     }
                 }

@@ -1,3 +1,4 @@
+pub mod CrossingLemmas
 pub mod DeskLemmas
 pub mod WritingLemmas
 pub mod ServingLemmas

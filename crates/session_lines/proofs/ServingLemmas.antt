@@ -1,5 +1,5 @@
 -- A run of a session by itself is a sequence of calls of its service; and the text of a run.
-use Rattle.std.proofs.Common.{◌≡◌, ℕ, ◌+◌, Bool, true, false, List, [], ◌∷◌, ◌++◌, Option, None, Some, Result, Ok, Err, refl, sym, ap, subst, ◌∙◌, append-nil, OnOk}
+use Rattle.std.proofs.Common.{◌≡◌, ℕ, Bool, true, false, List, [], ◌∷◌, Option, None, Some, Result, Ok, Err, refl, sym, subst, OnOk}
 use Rattle.std.specs.Bool.{MatchBool}
 use Rattle.features.specs.declared.actors.Subject.{Subject}
 use Rattle.features.specs.declared.rows.Change.{Change}
@@ -11,8 +11,13 @@ use Rattle.session_lines.specs.Services.{Call}
 use Rattle.session_lines.specs.Serving as serving
 use Rattle.session_lines.specs.Serving.{Calls, IsServedText}
 use Rattle.session_lines.specs.Desks.{Desk, desk}
-use Rattle.line_streams.specs.Streams.{Ran}
-use Rattle.line_streams.proofs.StreamLemmas.{run_keeps, stream_told}
+use Rattle.std.specs.Result.{IsErrAnd}
+use Rattle.memory.specs.declared.no_memory.NoMemory.{NoMemory}
+use Rattle.line_streams.specs.declared.streams.ServeFault.TheVariants.{Memory}
+use Rattle.line_streams.specs.declared.streams.TheConstants.{READ_LIMIT}
+use Rattle.line_streams.specs.Streams.{Ran, RanOn, with_begun}
+use Rattle.line_streams.proofs.LeavingLemmas.{left_by}
+use Rattle.line_streams.proofs.StreamLemmas.{ran_first, run_keeps, stream_told}
 use Rattle.session_lines.proofs.DeskLemmas.{line_keeps}
 use Rattle.std.specs.Io.KnownBytes.{Appends}
 use Rattle.std.specs.Option.{IfSome}
@@ -57,6 +62,23 @@ module _ {S : Type 0} (subject_of : S → Option Subject) (serves : Call → S �
     pub calls_keep : (calls : List (Call × SaidData)) (old new : S) → Calls serves calls old new → Kept old new
     calls_keep [] old new h = subst (λ (s : S). Kept old s) (sym h) (same old)
     calls_keep (call ∷ calls) old new h = then old h.0 new (each call.0 old h.0 call.1 h.1) (calls_keep calls h.0 new h.2)
+
+-- ---- a session from its first line on
+
+module _ {S : Type 0} (subject_of : S → Option Subject) (serves : Call → S → S → SaidData → Type 0) where
+  -- a session in which nothing was staged, and no line had begun
+  pub from_the_start : {T : Type 0} (r : Result T ServeFault) (service end : S) (first staged : List Change) (held : List ℕ) (input left a b : Option (List ℕ)) → first ≡ []
+      → RanOn READ_LIMIT (serving.DeskTells subject_of serves) r (desk first service) (desk staged end) held (with_begun [] input) left a b
+      → Ran (serving.DeskTells subject_of serves) r (desk [] service) (desk staged end) input left a b
+  from_the_start r service end first staged held input left a b none ran =
+      let run = ran_first (serving.DeskTells subject_of serves) READ_LIMIT r (desk first service) (desk staged end) held input left a b ran in
+      rw none at run
+
+  -- there was no memory for the line, and nothing was done
+  pub out_of_memory : {T : Type 0} (r : Result T ServeFault) (refused : NoMemory) (service : S) (input a : Option (List ℕ)) → IsErrAnd r (λ fault. fault ≡ Memory refused)
+      → Ran (serving.DeskTells subject_of serves) r (desk [] service) (desk [] service) input input a a
+  out_of_memory {T} r refused service input a is =
+      left_by r (Memory refused) (λ (r : Result T ServeFault). Ran (serving.DeskTells subject_of serves) r (desk [] service) (desk [] service) input input a a) is (refl, refl, refl)
 
 -- ---- the text of a run
 

@@ -32,6 +32,27 @@ fn next_behind<A: Allocator>(said: &Said<A>) -> Next
     }
 }
 
+/// What a session by itself keeps between two reads, whoever serves it: its staged list, and the
+/// line that has begun.
+#[derive(Drop)]
+pub struct Sitting<A: Allocator> {
+    staged: Staged,
+    begun: BegunLine<A>,
+}
+
+impl<A: Allocator> Sitting<A> {
+    /// Nothing is staged, and no line has begun. `NoMemory` where there is none for the line.
+    pub fn new(alloc: A) -> Result<Self, NoMemory>
+        ensures { IfOk result (λ sitting. (sitting.staged ≡ []) × (sitting.begun ≡ [])) }
+    {
+        let begun = BegunLine::new(alloc)?;
+        Ok(Sitting {
+            staged: Staged::new(),
+            begun,
+        })
+    }
+}
+
 /// What a session by itself keeps between two lines.
 #[derive(Drop)]
 struct Alone<S: Service> {
@@ -99,31 +120,10 @@ pub fn serve<S: Service, A: Allocator, R: Read, W: Write>(
     serve_on(heap, &mut sitting, service, reader, writer)
 }
 
-/// What a session by itself keeps between two reads, whoever serves it: its staged list, and the
-/// line that has begun.
-#[derive(Drop)]
-pub struct Sitting<A: Allocator> {
-    staged: Staged,
-    begun: BegunLine<A>,
-}
-
-impl<A: Allocator> Sitting<A> {
-    /// Nothing is staged, and no line has begun. `NoMemory` where there is none for the line.
-    pub fn new(alloc: A) -> Result<Self, NoMemory>
-        ensures { IfOk result (λ sitting. (sitting.staged ≡ []) × (sitting.begun ≡ [])) }
-    {
-        let begun = BegunLine::new(alloc)?;
-        Ok(Sitting {
-            staged: Staged::new(),
-            begun,
-        })
-    }
-}
-
 /// Serves on a session that was broken off by a read that failed, or that has not begun: as `serve`
 /// does, with what is staged and the line that has begun. The service need not be the one that
-/// served it before. After `Read` or `TooManyTurns` the session can be served on again, and nothing
-/// of it is lost. `Memory` never comes.
+/// served it before; who asks is the service's to know. After `Read` or `TooManyTurns` the session
+/// can be served on again, and nothing of it is lost. `Memory` never comes.
 pub fn serve_on<S: Service, A: Allocator, R: Read, W: Write>(
     heap: Global,
     sitting: &mut Sitting<A>,
@@ -139,6 +139,7 @@ pub fn serve_on<S: Service, A: Allocator, R: Read, W: Write>(
     ensures calls { (calls : List (Call × SaidData))
         × Calls S.serves calls service.old service.new }
 {
+    sitting.begun.fact_start();
     let mut alone = Alone {
         heap,
         staged: mem::replace(&mut sitting.staged, Staged::new()),

@@ -1,20 +1,28 @@
+use Rattle.std.proofs.Common.{[], refl}
 use Rattle.session_lines.specs.Serving.{DeskTells}
-use Rattle.session_lines.specs.Desks.{desk}
-use Rattle.session_lines.proofs.ServingLemmas.{run_calls, served_text_of}
-use Rattle.line_streams.proofs.StreamLemmas.{ran_along}
+use Rattle.session_lines.proofs.ServingLemmas.{from_the_start, out_of_memory, served_text_of}
+use Rattle.line_streams.proofs.StreamLemmas.{never_memory}
+use Rattle.line_streams.proofs.LineLemmas.{no_line}
 use Rattle.session_lines.proofs.serving.serve.Goals as goal
+
+pub returns-in_err-sitting-clause-ran : goal.returns-in_err-sitting-clause-ran
+returns-in_err-sitting-clause-ran g c =
+    ([], out_of_memory g.S.Service.subject_of g.S.Service.serves c.from_residual.result _ _ _ _ c.from_residual.ensures.1)
+
+pub returns-in_err-sitting-clause-calls : goal.returns-in_err-sitting-clause-calls
+returns-in_err-sitting-clause-calls g c = ([], refl)
 
 pub returns-clause-served_text : goal.returns-clause-served_text
 returns-clause-served_text g c =
-    let ran = rw c.new.ensures at (ran_along (λ s. desk s.1.staged s.0) (DeskTells g.S.Service.subject_of g.S.Service.serves) c.run_lines.result _ _ _ _ _ _ c.run_lines.ensures.ran) in
-    served_text_of g.S.Service.subject_of g.S.Service.serves c.run_lines.result _ _ _ _ _ _ _ ran
+    served_text_of g.S.Service.subject_of g.S.Service.serves c.serve_on.result _ _ _ _ _ _ _
+    (from_the_start g.S.Service.subject_of g.S.Service.serves c.serve_on.result _ _ _ _ _ _ _ _ _ c.in_ok-sitting.ensures.0 (c.serve_on.ensures.ran [] no_line c.in_ok-sitting.ensures.1))
 
 pub returns-clause-ran : goal.returns-clause-ran
-returns-clause-ran g c =
-    let ran = rw c.new.ensures at (ran_along (λ s. desk s.1.staged s.0) (DeskTells g.S.Service.subject_of g.S.Service.serves) c.run_lines.result _ _ _ _ _ _ c.run_lines.ensures.ran) in
-    (c.run_lines.new.desk.staged, ran)
+returns-clause-ran g c = (
+  c.serve_on.new.sitting.staged,
+  from_the_start g.S.Service.subject_of g.S.Service.serves c.serve_on.result _ _ _ _ _ _ _ _ _ c.in_ok-sitting.ensures.0 (c.serve_on.ensures.ran [] no_line c.in_ok-sitting.ensures.1),
+)
 
-pub returns-clause-calls : goal.returns-clause-calls
-returns-clause-calls g c =
-    run_calls g.S.Service.subject_of g.S.Service.serves c.run_lines.result _ _ _ _ _ _
-    (ran_along (λ s. desk s.1.staged s.0) (DeskTells g.S.Service.subject_of g.S.Service.serves) c.run_lines.result _ _ _ _ _ _ c.run_lines.ensures.ran)
+pub returns-clause-untouched : goal.returns-clause-untouched
+returns-clause-untouched g c =
+    never_memory (DeskTells g.S.Service.subject_of g.S.Service.serves) _ c.serve_on.result _ _ _ _ _ _ _ _ (c.serve_on.ensures.ran [] no_line c.in_ok-sitting.ensures.1)
