@@ -3,8 +3,7 @@ use Rattle.std.proofs.Common.{◌≡◌, ℕ, List, Option, Some, None, refl, ap
 use Rattle.decision.specs.Deciders.{DeciderData}
 use Rattle.decision.specs.declared.rulings.Ruling.{Ruling}
 use Rattle.decision.specs.declared.rulings.Ruling.TheVariants.{Permit, DeniedBy, NoneApplied}
-use Rattle.published_policies.specs.Explaining.{ExplainsBy, name_of_rule, rule_in}
-use Rattle.session_lines.specs.declared.replies.Reply.{Reply}
+use Rattle.published_policies.specs.Explaining.{name_of_rule, rule_in}
 use Rattle.session_lines.specs.Replies.{ruling_reply}
 use Rattle.hall_sessions.specs.Replies.{ruled}
 

@@ -1,5 +1,5 @@
 -- Calls of a session's seat, at its place among the worker's seats.
-use Rattle.std.proofs.Common.{◌≡◌, ℕ, ◌<◌, List, length, slice_get, slice_set, slice_index_or, Option, None, Some, MatchOption, MatchResult, Result, Ok, Err, refl, sym, ap, subst, ◌∙◌}
+use Rattle.std.proofs.Common.{◌≡◌, ℕ, ◌<◌, List, length, slice_set, slice_index_or, Option, Some, MatchOption, MatchResult, Result, Ok, Err, refl, sym, ap, subst, ◌∙◌}
 use Rattle.std.proofs.lemmas.Option.{slice_get_read}
 use Rattle.std.proofs.lemmas.List.{set-get_or}
 use mathlib.Core.List.{IsPrefix}

@@ -1,5 +1,6 @@
 -- What the calls of a session make of its seat and its view, and what is said.
-use Rattle.std.specs.Prelude.{◌≡◌, ◌⊎◌, ℕ, List, [], ◌∷◌, ◌++◌, length, slice_get, Bool, true, MatchOption, MatchResult, Result, Some, None}
+use Rattle.std.specs.Prelude.{◌≡◌, ◌⊎◌, ℕ, List, [], ◌∷◌, ◌++◌, length, nat_eq, slice_get, Bool, true, IsTrue, MatchOption, MatchResult, Result, Some, None}
+use Rattle.std.specs.Cmp.Lexicographic.{pointwise}
 use Rattle.std.specs.List.{last_or}
 use mathlib.Core.List.{IsPrefix}
 use Rattle.features.specs.declared.actors.Subject.{Subject}
@@ -13,9 +14,7 @@ use Rattle.published_policies.specs.Lists.{IsPublished, last_edition}
 use Rattle.hall.specs.Calls.{IsSearched, IsCommitted, IsGoverned}
 use Rattle.hall.specs.declared.faults.HallFault.{HallFault}
 use Rattle.hall.specs.Seats.{SeatData}
-use Rattle.plain_world.specs.Answers.{AnswerData}
 use Rattle.plain_world.specs.Rolls.{RolledData}
-use Rattle.plain_world.specs.declared.outcomes.Outcome.{Outcome}
 use Rattle.session_lines.specs.declared.faults.LineFault.TheVariants.{BeforeHello, NotRead}
 use Rattle.session_lines.specs.declared.replies.Reply.{Reply}
 use Rattle.session_lines.specs.declared.replies.Reply.TheVariants.{Hello as Greets, Edition, Bye, Error}
@@ -87,7 +86,7 @@ BeginsInHall subjects name old new said =
 pub record IsSeatNamed (name : List ℕ) (place : ℕ) (seats : List SeatData) : Type 0 where
   pub seat : SeatData
   pub found : slice_get seats place ≡ Some seat
-  pub named : seat.subject.name ≡ name
+  pub named : IsTrue (pointwise nat_eq seat.subject.name name)
 
 -- a session begins with a seat that an earlier session of the worker had, for a subject of its
 -- name; the seat keeps its receipts

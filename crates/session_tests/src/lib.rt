@@ -8,6 +8,8 @@ mod fakes;
 #[cfg(test)]
 mod fault_tests;
 #[cfg(test)]
+mod going_on_tests;
+#[cfg(test)]
 mod large_tests;
 #[cfg(test)]
 mod line_end_tests;

@@ -1,4 +1,4 @@
-use Rattle.std.proofs.Common.{◌≡◌, ◌∙◌, inl, inr, List, refl, ap}
+use Rattle.std.proofs.Common.{◌∙◌, inl, inr, List, refl, ap}
 use Rattle.decision.specs.Deciders.{DeciderData}
 use Rattle.session_lines.specs.Replies.{line}
 use Rattle.hall_sessions.specs.Sessions.{session}

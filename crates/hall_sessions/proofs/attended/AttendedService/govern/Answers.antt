@@ -1,4 +1,4 @@
-use Rattle.std.proofs.Common.{◌≡◌, List, Err, refl, ap}
+use Rattle.std.proofs.Common.{List, Err, refl, ap}
 use Rattle.published_policies.specs.Lists.{last_edition}
 use Rattle.hall.specs.Seats.{SeatData}
 use Rattle.session_lines.specs.declared.replies.Reply.TheVariants.{Edition}
