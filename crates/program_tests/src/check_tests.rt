@@ -275,7 +275,7 @@ fn pages(rt: HostRuntime) -> Result<(), Fail> {
     let zsh = [
         "#compdef landmap\n",
         "\n        'man:Prints the manual page'\n",
-        "'--workers:How many of them at a time, 1 to 64 [default\\: 4]'",
+        "'--workers:How many clients at a time, 1 to 1024 [default\\: 4]'",
     ];
     prints(&rt, &rt, &["completions", "zsh"], &zsh)?;
     let fish = [
