@@ -1,7 +1,7 @@
 #!/usr/bin/env python3
 """Changes each byte of a small store in turn, and looks at what `landmap store` says of it.
 
-    bench/store/bytes.py [--every 1] [--jobs 2] [--seed 1] PROGRAM
+    bench/store/bytes.py [--every 1] [--every-log 1] [--jobs 2] [--seed 1] PROGRAM
 
 Two stores: a closed one, whose volume is one file; and one of a server that was killed, whose log (`-wal`) has lists that are not in
 the file yet. In a copy one byte of the volume or of the log gets another random value. Then
@@ -50,23 +50,26 @@ class Tries:
     """The tries of one store."""
 
     def __init__(self, program, folder, file):
-        self.program, self.folder, self.file = program, folder, file
+        self.program, self.file = program, file
         copy = tempfile.mkdtemp()
         shutil.copytree(folder, os.path.join(copy, "store"))
         self.records, self.features = parts.text_of(program, os.path.join(copy, "store"))
         shutil.rmtree(copy)
-        with open(os.path.join(folder, file), "rb") as whole:
-            self.bytes = whole.read()
+        self.whole = {}
+        for name in os.listdir(folder):
+            with open(os.path.join(folder, name), "rb") as whole:
+                self.whole[name] = whole.read()
+        self.bytes = self.whole[file]
 
     def one(self, at, value):
         """What comes of this value at this place: a word, and a fault where that may not be."""
         room = tempfile.mkdtemp()
         try:
             copy = os.path.join(room, "store")
-            shutil.copytree(self.folder, copy)
-            with open(os.path.join(copy, self.file), "r+b") as file:
-                file.seek(at)
-                file.write(bytes([value]))
+            os.mkdir(copy)
+            for name, whole in self.whole.items():
+                with open(os.path.join(copy, name), "wb") as file:
+                    file.write(whole[:at] + bytes([value]) + whole[at + 1:] if name == self.file else whole)
             try:
                 check = subprocess.run([self.program, "store", "check", copy], capture_output=True, text=True, timeout=30)
                 return self.judged(copy, check)
@@ -90,10 +93,10 @@ class Tries:
         return "fault", f"another state: {len(records.splitlines())} records, {len(features.splitlines())} features"
 
 
-def tried(program, folder, file, arguments):
+def tried(program, folder, file, every, arguments):
     """Tries each place of a file, and tells what came of them. How many faults."""
     tries, chance = Tries(program, folder, file), random.Random(arguments.seed)
-    places = range(chance.randrange(arguments.every), len(tries.bytes), arguments.every)
+    places = range(chance.randrange(every), len(tries.bytes), every)
     values = [tries.bytes[at] ^ chance.randint(1, 255) for at in places]
     counts, texts, faults = collections.Counter(), collections.Counter(), 0
     with concurrent.futures.ThreadPoolExecutor(arguments.jobs) as pool:
@@ -112,7 +115,8 @@ def tried(program, folder, file, arguments):
 
 def main():
     parser = argparse.ArgumentParser(description=__doc__, formatter_class=argparse.RawDescriptionHelpFormatter)
-    parser.add_argument("--every", type=int, default=1, help="each so manyth byte alone")
+    parser.add_argument("--every", type=int, default=1, help="each so manyth byte of the volumes alone")
+    parser.add_argument("--every-log", type=int, default=1, help="each so manyth byte of the log alone")
     parser.add_argument("--jobs", type=int, default=2)
     parser.add_argument("--seed", type=int, default=1)
     parser.add_argument("program")
@@ -122,9 +126,9 @@ def main():
     closed, killed = os.path.join(room, "closed"), os.path.join(room, "killed")
     closed_store(program, closed)
     killed_store(program, killed)
-    faults = tried(program, closed, "0000000001.db", arguments)
-    for file in ("0000000001.db", "0000000001.db-wal"):
-        faults += tried(program, killed, file, arguments)
+    faults = tried(program, closed, "0000000001.db", arguments.every, arguments)
+    faults += tried(program, killed, "0000000001.db", arguments.every, arguments)
+    faults += tried(program, killed, "0000000001.db-wal", arguments.every_log, arguments)
     shutil.rmtree(room)
     raise SystemExit(1 if faults else 0)
 
