@@ -98,6 +98,12 @@ def unsigned(number):
     return number + 2 ** 64 if number < 0 else number
 
 
+def is_half_made(file):
+    """Whether a file is a new database whose making was cut off: its first byte, which is written last, is none yet."""
+    with open(file, "rb") as begun:
+        return begun.read(16) == b"\0QLite format 3\0"
+
+
 def kept(folder):
     """The records of all volumes by number, and features, version and policy of the last one, from a copy of the folder."""
     copy = tempfile.mkdtemp()
@@ -105,7 +111,10 @@ def kept(folder):
         records, state = [], None
         for file in sorted(glob.glob(os.path.join(folder, "*.db*"))):
             shutil.copy(file, copy)
-        for file in sorted(glob.glob(os.path.join(copy, "*.db"))):
+        volumes = sorted(glob.glob(os.path.join(copy, "*.db")))
+        for file in volumes:
+            if file == volumes[-1] and is_half_made(file):
+                continue
             base = sqlite3.connect(file)
             fault = base.execute("PRAGMA integrity_check").fetchone()[0]
             if fault != "ok":
