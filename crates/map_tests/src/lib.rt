@@ -2,4 +2,6 @@
 #![tactic(auto)]
 
 #[cfg(test)]
+mod answers_tests;
+#[cfg(test)]
 mod asks_tests;
