@@ -5,3 +5,5 @@
 mod answers_tests;
 #[cfg(test)]
 mod asks_tests;
+#[cfg(test)]
+mod pages_tests;
