@@ -2,4 +2,8 @@
 #![tactic(auto)]
 
 #[cfg(test)]
+mod answers_tests;
+#[cfg(test)]
 mod asks_tests;
+#[cfg(test)]
+mod pages_tests;

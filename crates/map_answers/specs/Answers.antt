@@ -1,0 +1,40 @@
+-- Answers, as plain data.
+use Rattle.std.specs.Prelude.{ℕ, List, Option, None, codes}
+use Rattle.map_answers.specs.declared.answers.Answer.{Answer}
+use Rattle.map_answers.specs.declared.answers.MediaType.{MediaType}
+use Rattle.map_answers.specs.declared.answers.MediaType.TheVariants.{Json, GeoJson, OpenApi, Problem}
+use Rattle.map_answers.specs.declared.statuses.Status.{Status}
+use Rattle.map_answers.specs.declared.statuses.Status.TheVariants.{Success}
+
+abbrev pub media_text : MediaType → List ℕ
+media_text Json = codes "application/json"
+media_text GeoJson = codes "application/geo+json"
+media_text OpenApi = codes "application/vnd.oai.openapi+json;version=3.0"
+media_text Problem = codes "application/problem+json"
+
+-- what a client sees of an answer
+pub record AnswerData : Type 0 where
+  pub status : Status
+  pub media : MediaType
+  pub version : Option ℕ
+  pub retry_after : Option ℕ
+  pub body : List ℕ
+
+abbrev pub answer_data : {A : Type 0} → Answer A → AnswerData
+answer_data answer = record {
+  status = answer.status;
+  media = answer.media;
+  version = answer.version;
+  retry_after = answer.retry_after;
+  body = answer.body.items;
+}
+
+-- a body that was found
+abbrev pub found : MediaType → List ℕ → AnswerData
+found media body = record {
+  status = Success;
+  media = media;
+  version = None;
+  retry_after = None;
+  body = body;
+}

@@ -1,0 +1,9 @@
+pub mod Strings
+pub mod Rows
+pub mod Statuses
+pub mod Links
+pub mod Matching
+pub mod Problems
+pub mod Collections
+pub mod Items
+pub mod Answers

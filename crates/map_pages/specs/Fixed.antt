@@ -1,0 +1,26 @@
+-- The pages that are the same whatever the map has.
+use Rattle.std.specs.Prelude.{ℕ, List}
+use Rattle.grid.specs.declared.grids.Grid.{Grid}
+use Rattle.map_asks.specs.declared.asks.FixedPage.{FixedPage}
+use Rattle.map_asks.specs.declared.asks.FixedPage.TheVariants.{Landing, Api, Conformance, Collections, Collection}
+use Rattle.map_answers.specs.declared.answers.MediaType.{MediaType}
+use Rattle.map_answers.specs.declared.answers.MediaType.TheVariants.{Json, OpenApi}
+use Rattle.map_pages.specs.Landing.{landing_text, conformance_text}
+use Rattle.map_pages.specs.Collections.{collection_text, collections_text}
+use Rattle.map_pages.specs.Api.{api_text}
+
+-- what a page is
+abbrev pub media_of : FixedPage → MediaType
+media_of Landing = Json
+media_of Api = OpenApi
+media_of Conformance = Json
+media_of Collections = Json
+media_of (Collection layer) = Json
+
+-- a page of the server at this base, on this grid, where these classes are collections
+abbrev pub fixed_text : List ℕ → Grid → List (List ℕ) → FixedPage → List ℕ
+fixed_text base grid classes Landing = landing_text base
+fixed_text base grid classes Api = api_text base
+fixed_text base grid classes Conformance = conformance_text
+fixed_text base grid classes Collections = collections_text base grid classes
+fixed_text base grid classes (Collection layer) = collection_text base grid layer

@@ -1,0 +1,5 @@
+pub mod Landing
+pub mod Extents
+pub mod Collections
+pub mod Api
+pub mod Fixed

@@ -1,0 +1,7 @@
+//! Tests of what a session answers to requests for a map's pages.
+#![tactic(auto)]
+
+#[cfg(test)]
+mod kept_tests;
+#[cfg(test)]
+mod visits_tests;

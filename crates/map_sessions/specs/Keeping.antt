@@ -1,0 +1,55 @@
+-- Answers to searches of which pages are still to come.
+use Rattle.std.specs.Prelude.{◌≡◌, ℕ, ◌+◌, ◌-◌, ◌^◌, ◌==◌, ◌&&◌, Bool, true, false, List, [], ◌∷◌, ◌++◌, length, min, nat_eq, nat_le, Option, None, Some, if◌then◌else◌}
+use Rattle.std.specs.Cmp.Lexicographic.{pointwise}
+use Rattle.features.specs.declared.rows.Feature.{Feature}
+use Rattle.map_asks.specs.declared.asks.Layer.{Layer}
+use Rattle.map_asks.specs.declared.asks.Layer.TheVariants.{All, Class}
+use Rattle.map_sessions.specs.declared.kept.Kept.{Kept}
+use Rattle.map_sessions.specs.declared.kept.KeptRows.{KeptRows}
+use Rattle.map_sessions.specs.declared.kept.TheConstants.{KEPT_LIMIT, KEPT_ROWS_LIMIT}
+
+abbrev pub same_layer : Layer → Layer → Bool
+same_layer All All = true
+same_layer (Class one) (Class other) = pointwise nat_eq one other
+same_layer one other = false
+
+-- these answers have together at most so many rows
+abbrev pub fits_in : {A : Type 0} → ℕ → List (KeptRows A) → Bool
+fits_in left [] = true
+fits_in left (answer ∷ answers) =
+    nat_le (length answer.rows.items) left && fits_in (left - length answer.rows.items) answers
+
+-- these answers may be kept together
+abbrev pub fits : {A : Type 0} → List (KeptRows A) → Bool
+fits answers = nat_le (length answers) KEPT_LIMIT && fits_in KEPT_ROWS_LIMIT answers
+
+-- the answers without the oldest ones, as far as they are too many; the newest one stays
+abbrev pub trimmed : {A : Type 0} → List (KeptRows A) → List (KeptRows A)
+trimmed [] = []
+trimmed (one ∷ []) = one ∷ []
+trimmed (one ∷ next ∷ rest) =
+    if fits (one ∷ next ∷ rest) then one ∷ next ∷ rest else trimmed (next ∷ rest)
+
+-- the number behind the greatest that was given
+abbrev pub next_number : ℕ → ℕ
+next_number given = min (given + 1) (2 ^ 64 - 1)
+
+-- one more answer is kept, under the next number
+pub record IsKept {A : Type 0} (layer : Layer) (rows : List Feature) (old new : Kept A) : Type 0 where
+  pub answer : KeptRows A
+  pub number : answer.number ≡ next_number old.given
+  pub layer_same : answer.layer ≡ layer
+  pub rows_same : answer.rows.items ≡ rows
+  pub answers : new.answers.items ≡ trimmed (old.answers.items ++ answer ∷ [])
+  pub given : new.given ≡ next_number old.given
+
+-- the rows that are kept under a number, if they are of this collection
+abbrev pub rows_asked : {A : Type 0} → ℕ → Layer → List (KeptRows A) → Option (List Feature)
+rows_asked number layer [] = None
+rows_asked number layer (answer ∷ answers) =
+    if (answer.number == number) && same_layer answer.layer layer then Some answer.rows.items
+    else rows_asked number layer answers
+
+-- the same answers are kept
+abbrev pub SameKept : {A : Type 0} → Kept A → Kept A → Type 0
+SameKept old new = (new.answers.items ≡ old.answers.items) × (new.given ≡ old.given)

@@ -1,0 +1,4 @@
+pub mod Refusals
+pub mod Finding
+pub mod Keeping
+pub mod Visiting
