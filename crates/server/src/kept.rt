@@ -176,7 +176,7 @@ where
     let served = thread::scope(
         thread::scope_env(),
         rt,
-        |scope|
+        move |scope|
             requires shares { IsSync R.row }
             requires crosses { IsSend K.row }
             ensures { IfOk result (ServedFrom options.entry.connections subjects) }

@@ -195,16 +195,17 @@ fn accept_all<R: Wait + Clock + Log>(
 
 /// Serves connections without end: until the server is told to accept no more and all sessions have
 /// ended. A hall gives way after so many records.
-fn serve_without_end<H, R>(
+fn serve_until<H, R>(
     rt: &R,
     own: H,
     heap: Global,
     path: &str,
     serving: Serving,
-    options: SocketOptions<'_>,
+    idle: Option<u64>,
     records: u64,
     lasting: Option<Lasting<'_>>,
     listener: UnixListener,
+    stop: &Stop,
 ) -> Result<Closed, ServerFault>
 where
     H: Wait + Copy + Drop + Send,
@@ -217,17 +218,11 @@ where
         begins,
         workers,
     } = serving;
-    let own_stop = Stop::new();
-    let stop = match options.stop {
-        Some(stop) => stop,
-        None => &own_stop,
-    };
-    let idle = options.idle;
     let workers = workers.clamp(1, WORKER_LIMIT);
     let served = thread::scope(
         thread::scope_env(),
         rt,
-        |scope|
+        move |scope|
             requires shares { IsSync R.row }
             requires handle { IsSend H.row }
             ensures { IfOk result (IsRelayed (opening_of subjects begins)) }
@@ -284,9 +279,17 @@ where
         Connections::UpTo(connections) => serve_some(
             rt, own, heap, serving, options, connections, lasting, listener,
         ),
-        Connections::Endless(records) => serve_without_end(
-            rt, own, heap, path, serving, options, records, lasting, listener,
-        ),
+        Connections::Endless(records) => {
+            let own_stop = Stop::new();
+            let stop = match options.stop {
+                Some(stop) => stop,
+                None => &own_stop,
+            };
+            let idle = options.idle;
+            serve_until(
+                rt, own, heap, path, serving, idle, records, lasting, listener, stop,
+            )
+        }
     }
 }
 
