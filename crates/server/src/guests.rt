@@ -398,9 +398,7 @@ impl Connection for Guest<'_> {
     }
 
     fn turn_away<R: Wait + Log>(self, rt: &R) {
-        let Guest {
-            session, aside, ..
-        } = self;
+        let Guest { session, aside, .. } = self;
         set_aside(rt, aside, session, false);
     }
 }

@@ -277,7 +277,14 @@ where
     let listener = bound.listener;
     match options.connections {
         Connections::UpTo(connections) => serve_some(
-            rt, own, heap, serving, options, connections, lasting, listener,
+            rt,
+            own,
+            heap,
+            serving,
+            options,
+            connections,
+            lasting,
+            listener,
         ),
         Connections::Endless(records) => {
             let own_stop = Stop::new();

@@ -5,8 +5,8 @@ use audit_trail::Record;
 use hall::Closed;
 use log::Log;
 use server::{
-    AppendFault, Handover, Keeping, Keeps, Restored, Rests, ServerFault, Connections, SocketOptions, StoreFault,
-    Writes, serve_kept,
+    AppendFault, Connections, Handover, Keeping, Keeps, Restored, Rests, ServerFault,
+    SocketOptions, StoreFault, Writes, serve_kept,
 };
 use std::alloc::Global;
 use std::fs::Files;

@@ -47,7 +47,10 @@ fn end<R: Net>(rt: &R, path: &str, stop: &Stop) {
 fn across_halls<R: Abort + Net + Clock + Wait>(rt: &R, heap: Global, path: &str, stop: &Stop) {
     let mut silent = Talk::begin(rt, heap, path).expect(rt, "a connection");
     let staged = silent.ask(heap, "HELLO north\nADD 1 mast POINT (3 4)\nCOM", 2);
-    assert_eq!(rt; staged.expect(rt, "replies").as_str(), "hello north\nstaged\n");
+    assert_eq!(rt;
+        staged.expect(rt, "replies").as_str(),
+        "hello north\nstaged\n"
+    );
     let mut busy = Talk::begin(rt, heap, path).expect(rt, "a connection");
     let hello = busy.ask(heap, "HELLO south\n", 1);
     assert_eq!(rt; hello.expect(rt, "a reply").as_str(), "hello south\n");

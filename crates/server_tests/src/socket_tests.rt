@@ -2,7 +2,7 @@
 use crate::clients::{connected, told};
 use crate::servers::serving;
 use hall::Closed;
-use server::{ServerFault, Connections, SocketOptions, Stop, serve_socket};
+use server::{Connections, ServerFault, SocketOptions, Stop, serve_socket};
 use std::alloc::Global;
 use std::fs::Files;
 use std::io::Read;

@@ -4,7 +4,7 @@ use crate::servers::serving;
 use failing_streams::InterruptedReader;
 use hall::Closed;
 use log::Log;
-use server::{ServerFault, Connections, SocketOptions, Stop, serve_socket, watch};
+use server::{Connections, ServerFault, SocketOptions, Stop, serve_socket, watch};
 use std::alloc::Global;
 use std::fs::{File, Files};
 use std::io::{ErrorKind, Print};
