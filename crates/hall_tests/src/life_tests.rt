@@ -6,7 +6,7 @@ use crate::halls::{
     ROADS, applied, document, name, opened, point, road, rows, seat, square, subjects,
 };
 use features::Change;
-use hall::{Hall, HallName, LEDGER_PARTS, NoPause, OpenFault, Unnamed};
+use hall::{Hall, HallName, LEDGER_PARTS, NoPause, OpenFault, Unnamed, VIEW_LIMIT};
 use std::alloc::Global;
 use std::marker::Brand;
 use std::process::Abort;
@@ -124,8 +124,9 @@ fn refused_in<L: HallName, H: Wait + Drop, R: Wait + Abort>(
 {
     let limits = Limits::GREATEST;
     let subjects = subjects(rt);
+    let views = VIEW_LIMIT + 1;
     let opened: Result<Hall<L, H, Global>, OpenFault> = Hall::open_from(
-        own, heap, heap, unnamed, subjects, base, 0, 65, limits,
+        own, heap, heap, unnamed, subjects, base, 0, views, limits,
     );
     assert!(rt; matches!(opened, Err(OpenFault::NoPlace)));
 }
