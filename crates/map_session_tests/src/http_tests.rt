@@ -1,46 +1,15 @@
 //! Requests of HTTP, from their bytes to those of their responses, answered by a session over a
 //! world.
 use crate::visits_tests::{degrees, filled};
-use bytes::Bytes;
 use features::Name;
-use http::Request;
-use http_server::{Config, Connection, Response, Service, serve};
-use map_http::answer_request;
+use http_counters::Counter;
+use http_server::{Config, Connection, serve};
 use map_pages::Site;
 use map_sessions::{Host, Kept};
 use scripts::Solo;
-use std::alloc::{AllocError, Global};
 use std::hash::RandomState;
+use std::sync::Mutex;
 use std::test::Fail;
-
-/// A session that answers requests.
-#[derive(Drop)]
-struct Counter<'a, 'w> {
-    heap: Global,
-    host: Host<'a>,
-    solo: Solo<'w, Global>,
-    kept: Kept<Global>,
-}
-
-impl Service for Counter<'_, '_> {
-    ghost answers = { λ old request response new. Unit {0} };
-
-    fn call(
-        &mut self,
-        request: &Request<Bytes>,
-        response: &mut Response,
-    ) -> Result<(), AllocError> {
-        answer_request(
-            self.heap,
-            &self.host,
-            &mut self.solo,
-            &mut self.kept,
-            request,
-            response,
-        );
-        Ok(())
-    }
-}
 
 /// Requests, one behind the other on one connection.
 const SENT: &str =
@@ -68,14 +37,16 @@ fn requests_on_one_connection(rt: HostRuntime) -> Result<(), Fail> {
         grid: &grid,
         classes: &classes,
     };
+    let kept = Mutex::new(Kept::new(rt.alloc()));
     let mut counter = Counter {
+        rt: &rt,
         heap: rt.alloc(),
         host: Host {
             site: &site,
             anonymous: Name::new(b"north"),
         },
-        solo: Solo::new(&mut world, rt.alloc()),
-        kept: Kept::new(rt.alloc()),
+        session: Solo::new(&mut world, rt.alloc()),
+        kept: &kept,
     };
     let keys = RandomState::new(&rt)?;
     let mut connection = Connection::new(rt.alloc(), keys, Config::default());
