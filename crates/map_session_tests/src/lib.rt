@@ -2,6 +2,8 @@
 #![tactic(auto)]
 
 #[cfg(test)]
+mod http_tests;
+#[cfg(test)]
 mod kept_tests;
 #[cfg(test)]
 mod visits_tests;

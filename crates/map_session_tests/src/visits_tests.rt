@@ -12,12 +12,12 @@ use std::test::Fail;
 use world::World;
 
 /// The grid of the tests: steps of a tenth of a millionth, from 7 and 46.
-fn degrees(rt: &impl Abort) -> Grid {
+pub(crate) fn degrees(rt: &impl Abort) -> Grid {
     Grid::new(b"7", b"46", 7, Between::Refuse).expect(rt, "a grid")
 }
 
 /// A world in which everything is permitted, with three masts and a road.
-fn filled(rt: &impl Abort, heap: Global) -> World<Global> {
+pub(crate) fn filled(rt: &impl Abort, heap: Global) -> World<Global> {
     let text =
         br#"{"root":{"combine":"first-applicable","policy":"start","rules":[{"effect":"permit","rule":"open"}]}}"#;
     let document = match read_document(heap, heap, text) {

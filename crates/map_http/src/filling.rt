@@ -1,0 +1,174 @@
+//! Answers as responses of HTTP.
+
+ghost use Rattle.std.specs.Prelude.{◌≡◌, ◌++◌, OnOk};
+ghost use Rattle.http_server.specs.Response.{IsBlank, fields_of};
+ghost use Rattle.map_answers.specs.Answers.{answer_data, media_text};
+ghost use Rattle.map_http.specs.Responses.{HasNoRoom, Tells, Told, allow_fields, answer_fields, media_fields, methods_text, outcome_of, retry_fields, tag_fields};
+
+use bytes::Bytes;
+use http::{HeaderValue, StatusCode, header};
+use http_server::Response;
+use map_answers::{Answer, MediaType, Status, tag_of};
+use memory::NoMemory;
+use std::alloc::Global;
+
+/// There was no room for a part of a response.
+#[derive(Clone, Copy, Debug)]
+pub(crate) struct Unfilled;
+
+/// The type of the body.
+#[tactic(auto, using(crate::proofs::FieldLemmas::media_is_visible))]
+fn media_value(media: MediaType) -> HeaderValue
+    ensures { result.bytes ≡ media_text media }
+{
+    HeaderValue::from_static(media.text())
+}
+
+/// Adds the type of the body, where there is a body.
+fn add_media(response: &mut Response, media: MediaType, len: usize) -> Result<(), Unfilled>
+    ensures fields { OnOk result
+        (fields_of response.new ≡ fields_of response.old ++ media_fields media len) }
+    ensures status { response.new.status ≡ response.old.status }
+    ensures body { response.new.body ≡ response.old.body }
+{
+    if len == 0 {
+        return Ok(());
+    }
+    match response.add_header(header::CONTENT_TYPE, media_value(media)) {
+        Ok(()) => Ok(()),
+        Err(_) => Err(Unfilled),
+    }
+}
+
+/// Adds the entity tag of a feature.
+fn add_tag(response: &mut Response, heap: Global, version: Option<u64>) -> Result<(), Unfilled>
+    ensures fields { OnOk result
+        (fields_of response.new ≡ fields_of response.old ++ tag_fields version) }
+    ensures status { response.new.status ≡ response.old.status }
+    ensures body { response.new.body ≡ response.old.body }
+{
+    let Some(version) = version else {
+        return Ok(());
+    };
+    let Ok(value) = HeaderValue::from_bytes(heap, tag_of(version).as_slice()) else {
+        return Err(Unfilled);
+    };
+    match response.add_header(header::ETAG, value) {
+        Ok(()) => Ok(()),
+        Err(_) => Err(Unfilled),
+    }
+}
+
+/// Adds in how many seconds the client may try again.
+fn add_retry(response: &mut Response, heap: Global, seconds: Option<u64>) -> Result<(), Unfilled>
+    ensures fields { OnOk result
+        (fields_of response.new ≡ fields_of response.old ++ retry_fields seconds) }
+    ensures status { response.new.status ≡ response.old.status }
+    ensures body { response.new.body ≡ response.old.body }
+{
+    let Some(seconds) = seconds else {
+        return Ok(());
+    };
+    let Ok(value) = HeaderValue::from_u64(heap, seconds) else {
+        return Err(Unfilled);
+    };
+    match response.add_header(header::RETRY_AFTER, value) {
+        Ok(()) => Ok(()),
+        Err(_) => Err(Unfilled),
+    }
+}
+
+/// The methods that there are.
+#[tactic(auto, unfolding(crate::specs::Responses::methods_text))]
+fn methods_value() -> HeaderValue
+    ensures { result.bytes ≡ methods_text }
+{
+    HeaderValue::from_static("GET, HEAD")
+}
+
+/// Adds which methods there are, where another one was asked for.
+fn add_allow(response: &mut Response, status: Status) -> Result<(), Unfilled>
+    ensures fields { OnOk result
+        (fields_of response.new ≡ fields_of response.old ++ allow_fields status) }
+    ensures status { response.new.status ≡ response.old.status }
+    ensures body { response.new.body ≡ response.old.body }
+{
+    match status {
+        Status::MethodNotAllowed => {
+            match response.add_header(header::ALLOW, methods_value()) {
+                Ok(()) => Ok(()),
+                Err(_) => Err(Unfilled),
+            }
+        }
+        _ => Ok(()),
+    }
+}
+
+/// Adds all fields of an answer.
+fn add_fields(
+    response: &mut Response,
+    heap: Global,
+    answer: &Answer<Global>,
+) -> Result<(), Unfilled>
+    ensures fields { OnOk result
+        (fields_of response.new ≡ fields_of response.old ++ answer_fields (answer_data answer.now)) }
+    ensures status { response.new.status ≡ response.old.status }
+    ensures body { response.new.body ≡ response.old.body }
+{
+    add_media(response, answer.media, answer.body.len())?;
+    add_tag(response, heap, answer.version)?;
+    add_retry(response, heap, answer.retry_after)?;
+    add_allow(response, answer.status)
+}
+
+/// Appends a body.
+fn add_body(response: &mut Response, body: Vec<u8>) -> Result<(), Unfilled>
+    ensures body { OnOk result
+        (response.new.body.items ≡ response.old.body.items ++ body.items) }
+    ensures status { response.new.status ≡ response.old.status }
+    ensures fields { fields_of response.new ≡ fields_of response.old }
+{
+    let Ok(bytes) = Bytes::from_vec(body) else {
+        return Err(Unfilled);
+    };
+    match response.body.push(bytes) {
+        Ok(()) => Ok(()),
+        Err(_) => Err(Unfilled),
+    }
+}
+
+/// Makes a blank response one that tells of an answer.
+fn fill(response: &mut Response, heap: Global, answer: Answer<Global>) -> Result<(), Unfilled>
+    requires { IsBlank response.old }
+    ensures { OnOk result (Tells (answer_data answer) response.new) }
+{
+    let Ok(status) = StatusCode::from_u16(answer.status.number()) else {
+        return Err(Unfilled);
+    };
+    response.status = status;
+    add_fields(response, heap, &answer)?;
+    add_body(response, answer.body)
+}
+
+/// Makes of a response one that says no more than that there was no room for it.
+fn give_up(response: &mut Response)
+    ensures { HasNoRoom response.new }
+{
+    response.clear();
+    response.status = StatusCode::SERVICE_UNAVAILABLE;
+}
+
+/// Makes a blank response one that tells of an answer; or, where there is no memory for it, one that
+/// says no more than that.
+pub(crate) fn tell(response: &mut Response, heap: Global, told: Result<Answer<Global>, NoMemory>)
+    requires { IsBlank response.old }
+    ensures { Told (outcome_of told) response.new }
+{
+    let filled = match told {
+        Ok(answer) => fill(response, heap, answer),
+        Err(_) => Err(Unfilled),
+    };
+    if filled.is_err() {
+        give_up(response);
+    }
+}

@@ -1,0 +1,7 @@
+//! Requests of HTTP for a map's pages, answered by a session.
+#![tactic(auto)]
+
+mod filling;
+mod requests;
+
+pub use requests::answer_request;
