@@ -188,9 +188,10 @@ def middle(rounds):
     return None if rounds[0] is None else sorted(rounds)[len(rounds) // 2]
 
 
-def row(name, what, values, form):
+def row(name, what, values, form, to_first=False):
+    """A row of a table, with the ratios of the first value to each other one, or of each other one to the first."""
     shown = ["-" if value is None else form.format(value) for value in values]
-    ratios = ["-" if value is None else f"{values[0] / value:.2f}" for value in values[1:]]
+    ratios = ["-" if value is None else f"{value / values[0] if to_first else values[0] / value:.2f}" for value in values[1:]]
     return f"| {name} | {what} | " + " | ".join(shown + ratios) + " |"
 
 
@@ -221,12 +222,12 @@ def time_searches(program, room, features, rounds, seconds=2):
                 found.setdefault((clients, kind), []).append([float(word) for word in told[:3]])
             server.kill()
             server.wait()
-    print(f"\n| SEARCH of about ten rows, {features:,} features | | " + " | ".join(kinds) + " | without a store, to `changes` | to `all` |")
+    print(f"\n| SEARCH of about ten rows, {features:,} features | | " + " | ".join(kinds) + " | `changes` to no store | `all` to no store |")
     print("|" + "---|" * (len(kinds) + 4))
     for clients in (1, 16):
         middles = [middle(found[clients, kind]) for kind in kinds]
         for at, what in enumerate(("a second", "middle, us", "99th percentile, us")):
-            print(row(f"{clients} clients" if clients > 1 else "1 client", what, [told[at] for told in middles], "{:,.1f}" if at else "{:,.0f}"), flush=True)
+            print(row(f"{clients} clients" if clients > 1 else "1 client", what, [told[at] for told in middles], "{:,.1f}" if at else "{:,.0f}", True), flush=True)
 
 
 def greatest_memory(server):

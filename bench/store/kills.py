@@ -8,7 +8,7 @@ the server is killed by SIGKILL. A copy of the folder is then read by SQLite of 
   * the records' numbers run on without a gap, over all lives and volumes;
   * a slow plain model of the world is led along the records: each record has to be what the model answers there;
   * what the life's clients were answered, in their order, is the front of what the records tell of them: nothing that was
-    answered is lost (by `--wait changes` the last searches may be). A client has at most one more record, the one whose reply
+    answered is lost (by `--wait changes` the last searches and refusals may be). A client has at most one more record, the one whose reply
     did not arrive;
   * the tables of the features and of the policy are those of the model behind the last record: no list is there in part.
 
@@ -105,15 +105,17 @@ def is_half_made(file):
 
 
 def kept(folder):
-    """The records of all volumes by number, and features, version and policy of the last one, from a copy of the folder."""
+    """From a copy of the folder, the records of all volumes by number, features, version and policy of the last one, and how many volumes
+    have not begun."""
     copy = tempfile.mkdtemp()
     try:
-        records, state = [], None
+        records, state, begins = [], None, 0
         for file in sorted(glob.glob(os.path.join(folder, "*.db*"))):
             shutil.copy(file, copy)
         volumes = sorted(glob.glob(os.path.join(copy, "*.db")))
         for file in volumes:
             if file == volumes[-1] and is_half_made(file):
+                begins += 1
                 continue
             base = sqlite3.connect(file)
             fault = base.execute("PRAGMA integrity_check").fetchone()[0]
@@ -121,13 +123,14 @@ def kept(folder):
                 raise SystemExit(f"{file}: {fault}")
             if not base.execute("SELECT count(*) FROM sqlite_master WHERE name = 'life'").fetchone()[0] \
                     or not base.execute("SELECT count(*) FROM life").fetchone()[0]:
+                begins += 1
                 base.close()
                 continue
             records += base.execute("SELECT number, line FROM record ORDER BY number").fetchall()
             features = {unsigned(row[0]): row for row in base.execute("SELECT id, version, office, class, shape FROM feature")}
             state = features, base.execute("SELECT version, edition, document FROM policy").fetchall()
             base.close()
-        return records, state
+        return records, state, begins
     finally:
         shutil.rmtree(copy)
 
@@ -137,7 +140,7 @@ class Judge:
 
     def __init__(self, subjects, document, wait):
         self.model = H.Model(subjects, document)
-        self.may_lose = ("answered",) if wait == "changes" else ()
+        self.may_lose = ("answered", "refused") if wait == "changes" else ()
         self.known = 0
         self.more = 0
         self.lost = 0
@@ -282,11 +285,12 @@ def main():
     with open(config, "w", encoding="ascii") as file:
         json.dump({"subjects": subjects, "policies": H.POLICIES[0]}, file)
     judge = Judge({s["name"]: s for s in subjects}, H.POLICIES[0], arguments.wait)
-    answered, slowest = 0, 0.0
+    answered, slowest, half_made = 0, 0.0, 0
     for number in range(arguments.kills):
         told, took = one_life(arguments, config, folder, path, number, names)
         slowest = max(slowest, took)
-        records, state = kept(folder)
+        records, state, begins = kept(folder)
+        half_made += begins
         numbers = [number for number, _ in records]
         fault = None if numbers == list(range(1, len(numbers) + 1)) else f"the numbers have a gap: {numbers[:3]}..{numbers[-3:]}"
         fault = fault or judge.life(records, told) or state_fault(judge.model, state)
@@ -295,7 +299,8 @@ def main():
             print(f"life {number + 1}: {fault}; the folder is {room}")
             sys.exit(1)
     print(f"{arguments.kills} kills, {arguments.clients} clients, seed {arguments.seed}, --wait {arguments.wait}: of {answered} answers "
-          f"{judge.lost} were lost, all of them searches; {judge.more} records more are kept, whose replies did not arrive; "
+          f"{judge.lost} were lost, all of them searches or refusals; {judge.more} records more are kept, whose replies did not arrive; "
+          f"{len(records)} records in {len(glob.glob(os.path.join(folder, '*.db')))} volumes, of which one was half made at {half_made} kills; "
           f"the slowest start took {slowest:.2f} s")
     shutil.rmtree(room)
 
