@@ -1,7 +1,7 @@
 #!/usr/bin/env python3
 """How long nobody is answered when a server without an end changes its hall.
 
-    bench/endless/pause.py [--features 100000] [--searches 66000] PROGRAM
+    bench/endless/pause.py [--features 100000] [--searches 66000] [--store DIR] PROGRAM
 
 Adds point features, lets four clients make so many searches each that find nothing (a hall has 262,144 records), and meanwhile searches
 every 5 ms from a client of its own. Prints the middle and the longest of its waits, the greatest memory, and that five seconds behind all.
@@ -33,9 +33,12 @@ def main():
     options.add_argument("program")
     options.add_argument("--features", type=int, default=100_000)
     options.add_argument("--searches", type=int, default=66_000)
+    options.add_argument("--store")
     given = options.parse_args()
     path = os.path.join(tempfile.mkdtemp(), "socket")
     words = [given.program, "serve", "--socket", path, "--workers", "8", "--until-stdin-ends"]
+    if given.store:
+        words += ["--store", given.store]
     server = subprocess.Popen(words, stdin=subprocess.PIPE, stdout=subprocess.PIPE)
     wanted(server.stdout.readline().decode().strip(), "listening " + path)
     fill(path, given.features, Count())
