@@ -2,7 +2,7 @@
 use Rattle.std.specs.Prelude.{ℕ, List, Option, None, codes}
 use Rattle.map_answers.specs.declared.answers.Answer.{Answer}
 use Rattle.map_answers.specs.declared.answers.MediaType.{MediaType}
-use Rattle.map_answers.specs.declared.answers.MediaType.TheVariants.{Json, GeoJson, OpenApi, Problem}
+use Rattle.map_answers.specs.declared.answers.MediaType.TheVariants.{Json, GeoJson, OpenApi, Html, Problem}
 use Rattle.map_answers.specs.declared.statuses.Status.{Status}
 use Rattle.map_answers.specs.declared.statuses.Status.TheVariants.{Success}
 
@@ -10,6 +10,7 @@ abbrev pub media_text : MediaType → List ℕ
 media_text Json = codes "application/json"
 media_text GeoJson = codes "application/geo+json"
 media_text OpenApi = codes "application/vnd.oai.openapi+json;version=3.0"
+media_text Html = codes "text/html; charset=utf-8"
 media_text Problem = codes "application/problem+json"
 
 -- what a client sees of an answer

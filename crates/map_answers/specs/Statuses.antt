@@ -1,7 +1,7 @@
 -- Status codes of HTTP (RFC 9110, section 15).
 use Rattle.std.specs.Prelude.{ℕ, List, codes}
 use Rattle.map_answers.specs.declared.statuses.Status.{Status}
-use Rattle.map_answers.specs.declared.statuses.Status.TheVariants.{Success, NotModified, BadRequest, Forbidden, NotFound, MethodNotAllowed, Gone, Internal, Unavailable}
+use Rattle.map_answers.specs.declared.statuses.Status.TheVariants.{Success, NotModified, BadRequest, Forbidden, NotFound, MethodNotAllowed, Gone, MisdirectedRequest, Internal, Unavailable}
 
 abbrev pub number_of : Status → ℕ
 number_of Success = 200
@@ -11,6 +11,7 @@ number_of Forbidden = 403
 number_of NotFound = 404
 number_of MethodNotAllowed = 405
 number_of Gone = 410
+number_of MisdirectedRequest = 421
 number_of Internal = 500
 number_of Unavailable = 503
 
@@ -22,5 +23,6 @@ phrase_of Forbidden = codes "Forbidden"
 phrase_of NotFound = codes "Not Found"
 phrase_of MethodNotAllowed = codes "Method Not Allowed"
 phrase_of Gone = codes "Gone"
+phrase_of MisdirectedRequest = codes "Misdirected Request"
 phrase_of Internal = codes "Internal Server Error"
 phrase_of Unavailable = codes "Service Unavailable"

@@ -14,6 +14,8 @@ pub enum MediaType {
     GeoJson,
     /// The description of the pages for programs (OpenAPI 3.0), as JSON.
     OpenApi,
+    /// A page for a browser (HTML, in UTF-8).
+    Html,
     /// A problem (RFC 9457).
     Problem,
 }
@@ -29,6 +31,7 @@ impl MediaType {
             MediaType::Json => "application/json",
             MediaType::GeoJson => "application/geo+json",
             MediaType::OpenApi => "application/vnd.oai.openapi+json;version=3.0",
+            MediaType::Html => "text/html; charset=utf-8",
             MediaType::Problem => "application/problem+json",
         }
     }

@@ -19,6 +19,8 @@ pub enum Status {
     MethodNotAllowed,
     /// 410: the kept answer is gone.
     Gone,
+    /// 421: the request is for another host.
+    MisdirectedRequest,
     /// 500: the session gave a reply that does not answer what it was asked.
     Internal,
     /// 503: not now.
@@ -40,6 +42,7 @@ impl Status {
             Status::NotFound => 404,
             Status::MethodNotAllowed => 405,
             Status::Gone => 410,
+            Status::MisdirectedRequest => 421,
             Status::Internal => 500,
             Status::Unavailable => 503,
         }
@@ -57,6 +60,7 @@ impl Status {
             Status::NotFound => "Not Found",
             Status::MethodNotAllowed => "Method Not Allowed",
             Status::Gone => "Gone",
+            Status::MisdirectedRequest => "Misdirected Request",
             Status::Internal => "Internal Server Error",
             Status::Unavailable => "Service Unavailable",
         }

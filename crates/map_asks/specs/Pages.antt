@@ -8,7 +8,7 @@ use Rattle.line_words.specs.Words.{number_of}
 use Rattle.map_asks.specs.Cuts.{front, back}
 use Rattle.map_asks.specs.declared.asks.Layer.{Layer}
 use Rattle.map_asks.specs.declared.asks.Layer.TheVariants.{All, Class}
-use Rattle.map_asks.specs.declared.asks.FixedPage.TheVariants.{Landing, Api, Conformance, Collections, Collection}
+use Rattle.map_asks.specs.declared.asks.FixedPage.TheVariants.{Landing, Api, Conformance, Collections, Collection, Map}
 use Rattle.map_asks.specs.declared.asks.Page.{Page}
 use Rattle.map_asks.specs.declared.asks.Page.TheVariants.{Fixed, Items, Item}
 
@@ -45,5 +45,6 @@ page_of classes path =
     else if bytes_eq path (codes "/api") then Some (Fixed Api)
     else if bytes_eq path (codes "/conformance") then Some (Fixed Conformance)
     else if bytes_eq path (codes "/collections") then Some (Fixed Collections)
+    else if bytes_eq path (codes "/map") then Some (Fixed Map)
     else if starts_with nat_eq path (codes "/collections/") then collection_page classes (drop 13 path)
     else None

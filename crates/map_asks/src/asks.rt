@@ -25,6 +25,8 @@ pub enum FixedPage {
     Collections,
     /// `/collections/C`: one of them.
     Collection(Layer),
+    /// `/map`: the page that shows the map in a browser.
+    Map,
 }
 
 /// Where the features of a page come from.

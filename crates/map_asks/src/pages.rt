@@ -71,6 +71,8 @@ pub(crate) fn page_of(classes: &[Name], path: &[u8]) -> Option<Page>
         Some(Page::Fixed(FixedPage::Conformance))
     } else if path == b"/collections".as_slice() {
         Some(Page::Fixed(FixedPage::Collections))
+    } else if path == b"/map".as_slice() {
+        Some(Page::Fixed(FixedPage::Map))
     } else if path.starts_with(b"/collections/") {
         collection_page(classes, &path[13..])
     } else {

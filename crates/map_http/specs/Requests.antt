@@ -12,11 +12,12 @@ use Rattle.memory.specs.declared.no_memory.NoMemory.{NoMemory}
 use Rattle.features.specs.declared.actors.Subject.{Subject}
 use Rattle.map_answers.specs.Answers.{AnswerData}
 use Rattle.map_answers.specs.Problems.{problem_data}
-use Rattle.map_answers.specs.declared.statuses.Status.TheVariants.{MethodNotAllowed}
+use Rattle.map_answers.specs.declared.statuses.Status.TheVariants.{MethodNotAllowed, MisdirectedRequest}
 use Rattle.session_lines.specs.Replies.{SaidData}
 use Rattle.session_lines.specs.Services.{Call}
 use Rattle.map_sessions.specs.Visiting.{IsAnswered, Place}
 use Rattle.map_sessions.specs.declared.kept.Kept.{Kept}
+use Rattle.map_http.specs.Hosts.{is_for}
 use Rattle.map_http.specs.Responses.{Told}
 
 -- a method that only reads
@@ -39,13 +40,25 @@ known_in fields = value_bytes (get fields (codes "if-none-match"))
 abbrev pub method_problem : AnswerData
 method_problem = problem_data MethodNotAllowed (codes "method") None
 
--- what a request is answered: the answer to its path and its query, or that its method does more
--- than read
+-- the problem of a request that is for another host
+abbrev pub host_problem : AnswerData
+host_problem = problem_data MisdirectedRequest (codes "host") None
+
+-- nothing is asked of the session, and the answer is this problem
+abbrev pub Refuses : {S A : Type 0} → AnswerData → Result AnswerData NoMemory → S → S → Kept A → Kept A
+    → Type 0
+Refuses problem outcome service served old new =
+    (served ≡ service) × (new ≡ old) × IfOk outcome (λ answer. answer ≡ problem)
+
+-- what a request is answered: that it is for another host, or that its method does more than read;
+-- else the answer to its path and its query
 abbrev pub AnswersRequest : {S A : Type 0} → (S → Option Subject) → (Call → S → S → SaidData
     → Type 0) → Place → Parts → S → S → Kept A → Kept A → Response → Type 0
 AnswersRequest subject_of serves place head service served old new response =
     (outcome : Result AnswerData NoMemory) × Told outcome response
-    × MatchBool (is_read head.method)
+    × MatchBool (is_for place.base head)
+    (MatchBool (is_read head.method)
     (IfOk outcome (λ answer. IsAnswered subject_of serves place (uri_path head.uri)
     (query_in head.uri) (known_in head.headers) service served old new answer))
-    ((served ≡ service) × (new ≡ old) × IfOk outcome (λ answer. answer ≡ method_problem))
+    (Refuses method_problem outcome service served old new))
+    (Refuses host_problem outcome service served old new)

@@ -2,6 +2,7 @@
 #![tactic(auto)]
 
 mod filling;
+mod hosts;
 mod requests;
 
 pub use requests::answer_request;

@@ -4,10 +4,11 @@ ghost use Rattle.std.specs.Prelude.{◌≡◌, IfOk};
 ghost use Rattle.map_answers.specs.Answers.{answer_data};
 ghost use Rattle.http.specs.Request.{head_of};
 ghost use Rattle.http_server.specs.Response.{IsBlank};
-ghost use Rattle.map_http.specs.Requests.{AnswersRequest, is_read, known_in, method_problem, query_in};
+ghost use Rattle.map_http.specs.Requests.{AnswersRequest, host_problem, is_read, known_in, method_problem, query_in};
 ghost use Rattle.map_sessions.specs.Visiting.{place_of};
 
 use crate::filling::tell;
+use crate::hosts::is_for;
 use bytes::Bytes;
 use http::uri::Uri;
 use http::{HeaderMap, HeaderValue, Method, Request, header};
@@ -60,7 +61,22 @@ fn refuse_method(heap: Global) -> Result<Answer<Global>, NoMemory>
     )
 }
 
-/// Answers a request of HTTP: `GET` and `HEAD` as `answer_visit` does, any other method by 405.
+/// The answer to a request that is for another host.
+fn refuse_host(heap: Global) -> Result<Answer<Global>, NoMemory>
+    ensures { IfOk result (λ answer. answer_data answer ≡ host_problem) }
+{
+    problem_answer(
+        heap,
+        &Problem {
+            status: Status::MisdirectedRequest,
+            code: "host",
+            retry_after: None,
+        },
+    )
+}
+
+/// Answers a request of HTTP: one that is for another host than that of `host.site.base`, or the
+/// machine itself, by 421; of the others `GET` and `HEAD` as `answer_visit` does, any other method by 405.
 /// `response` is to be blank. Where there is no memory for the answer, it says 503 and no more.
 pub fn answer_request<S: Service>(
     heap: Global,
@@ -74,6 +90,10 @@ pub fn answer_request<S: Service>(
     ensures { AnswersRequest S.subject_of S.serves (place_of host.now) (head_of request.now)
         service.old service.new kept.old kept.new response.new }
 {
+    if !is_for(host.site.base, request) {
+        tell(response, heap, refuse_host(heap));
+        return;
+    }
     if !is_read(request.method()) {
         tell(response, heap, refuse_method(heap));
         return;

@@ -24,6 +24,10 @@ unfoldable pub collection_path : List ℕ
 collection_path =
     codes ",\"/collections/{collectionId}\":{\"get\":{\"parameters\":[{\"name\":\"collectionId\",\"in\":\"path\",\"required\":true,\"schema\":{\"type\":\"string\"}}],\"responses\":{\"200\":{\"description\":\"a collection\"},\"default\":{\"description\":\"a problem\"}}}}"
 
+unfoldable pub map_path : List ℕ
+map_path =
+    codes ",\"/map\":{\"get\":{\"responses\":{\"200\":{\"description\":\"a page that shows the map in a browser\",\"content\":{\"text/html\":{}}},\"default\":{\"description\":\"a problem\"}}}}"
+
 unfoldable pub items_path : List ℕ
 items_path =
     codes ",\"/collections/{collectionId}/items\":{\"get\":{\"parameters\":[{\"name\":\"collectionId\",\"in\":\"path\",\"required\":true,\"schema\":{\"type\":\"string\"}},{\"name\":\"bbox\",\"in\":\"query\",\"schema\":{\"type\":\"array\",\"minItems\":4,\"maxItems\":6,\"items\":{\"type\":\"number\"}},\"style\":\"form\",\"explode\":false},{\"name\":\"limit\",\"in\":\"query\",\"schema\":{\"type\":\"integer\",\"minimum\":1,\"maximum\":10000,\"default\":1000}},{\"name\":\"datetime\",\"in\":\"query\",\"schema\":{\"type\":\"string\"}},{\"name\":\"kept\",\"in\":\"query\",\"schema\":{\"type\":\"integer\"}},{\"name\":\"after\",\"in\":\"query\",\"schema\":{\"type\":\"integer\"}}],\"responses\":{\"200\":{\"description\":\"a page of features\"},\"default\":{\"description\":\"a problem\"}}}}"
@@ -33,7 +37,7 @@ item_path =
     codes ",\"/collections/{collectionId}/items/{featureId}\":{\"get\":{\"parameters\":[{\"name\":\"collectionId\",\"in\":\"path\",\"required\":true,\"schema\":{\"type\":\"string\"}},{\"name\":\"featureId\",\"in\":\"path\",\"required\":true,\"schema\":{\"type\":\"integer\"}}],\"responses\":{\"200\":{\"description\":\"a feature\"},\"default\":{\"description\":\"a problem\"}}}}"
 
 abbrev pub fixed_paths : List ℕ
-fixed_paths = root_path ++ conformance_path ++ collections_path ++ collection_path
+fixed_paths = root_path ++ conformance_path ++ collections_path ++ collection_path ++ map_path
 
 -- what each path has, and how it is asked for
 unfoldable pub paths_text : List ℕ

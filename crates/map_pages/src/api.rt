@@ -2,7 +2,7 @@
 
 ghost use Rattle.std.specs.Prelude.{◌≡◌, ◌++◌, OnOk};
 ghost use Rattle.map_answers.specs.Strings.{string_text};
-ghost use Rattle.map_pages.specs.Api.{api_head, api_text, collection_path, collections_path, conformance_path, fixed_paths, item_path, items_path, paths_key, paths_text, root_path};
+ghost use Rattle.map_pages.specs.Api.{api_head, api_text, collection_path, collections_path, conformance_path, fixed_paths, item_path, items_path, map_path, paths_key, paths_text, root_path};
 
 use map_answers::{put, put_string};
 use memory::NoMemory;
@@ -65,6 +65,16 @@ fn put_collection_path<A: Allocator>(text: &mut Vec<u8, A>) -> Result<(), NoMemo
     )
 }
 
+#[tactic(auto, unfolding(crate::specs::Api::map_path))]
+fn put_map_path<A: Allocator>(text: &mut Vec<u8, A>) -> Result<(), NoMemory>
+    ensures { OnOk result (text.new.items ≡ text.old.items ++ map_path) }
+{
+    put(
+        text,
+        b",\"/map\":{\"get\":{\"responses\":{\"200\":{\"description\":\"a page that shows the map in a browser\",\"content\":{\"text/html\":{}}},\"default\":{\"description\":\"a problem\"}}}}",
+    )
+}
+
 #[tactic(auto, unfolding(crate::specs::Api::items_path))]
 fn put_items_path<A: Allocator>(text: &mut Vec<u8, A>) -> Result<(), NoMemory>
     ensures { OnOk result (text.new.items ≡ text.old.items ++ items_path) }
@@ -92,7 +102,8 @@ fn put_fixed_paths<A: Allocator>(text: &mut Vec<u8, A>) -> Result<(), NoMemory>
     put_root_path(text)?;
     put_conformance_path(text)?;
     put_collections_path(text)?;
-    put_collection_path(text)
+    put_collection_path(text)?;
+    put_map_path(text)
 }
 
 /// Appends the paths.

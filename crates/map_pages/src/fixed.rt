@@ -9,7 +9,7 @@ use crate::collections::{put_collection, put_collections};
 use crate::landing::{put_conformance, put_landing};
 use features::Name;
 use grid::Grid;
-use map_answers::{Answer, MediaType, Status};
+use map_answers::{Answer, MediaType, Status, put};
 use map_asks::FixedPage;
 use memory::NoMemory;
 use std::alloc::Allocator;
@@ -23,6 +23,8 @@ pub struct Site<'a> {
     pub grid: &'a Grid,
     /// The classes that are collections, beside the collection of all features.
     pub classes: &'a [Name],
+    /// The page that shows the map in a browser, as HTML.
+    pub map: &'a [u8],
 }
 
 /// What a page is.
@@ -35,6 +37,7 @@ fn media_of(page: &FixedPage) -> MediaType
         FixedPage::Conformance => MediaType::Json,
         FixedPage::Collections => MediaType::Json,
         FixedPage::Collection(_) => MediaType::Json,
+        FixedPage::Map => MediaType::Html,
     }
 }
 
@@ -46,7 +49,7 @@ fn put_fixed<A: Allocator + Copy>(
     page: &FixedPage,
 ) -> Result<(), NoMemory>
     ensures { OnOk result (text.new.items ≡ text.old.items
-        ++ fixed_text site.now.base.now site.now.grid.now site.now.classes.now page.now) }
+        ++ fixed_text site.now.base.now site.now.grid.now site.now.classes.now site.now.map.now page.now) }
 {
     match page {
         FixedPage::Landing => put_landing(text, alloc, site.base),
@@ -54,6 +57,7 @@ fn put_fixed<A: Allocator + Copy>(
         FixedPage::Conformance => put_conformance(text),
         FixedPage::Collections => put_collections(text, alloc, site.base, site.grid, site.classes),
         FixedPage::Collection(layer) => put_collection(text, alloc, site.base, site.grid, layer),
+        FixedPage::Map => put(text, site.map),
     }
 }
 
@@ -64,7 +68,7 @@ pub fn fixed_answer<A: Allocator + Copy>(
     page: &FixedPage,
 ) -> Result<Answer<A>, NoMemory>
     ensures { IfOk result (λ answer. answer_data answer ≡ found (media_of page.now)
-        (fixed_text site.now.base.now site.now.grid.now site.now.classes.now page.now)) }
+        (fixed_text site.now.base.now site.now.grid.now site.now.classes.now site.now.map.now page.now)) }
 {
     let mut body = Vec::new(alloc);
     put_fixed(&mut body, alloc, site, page)?;

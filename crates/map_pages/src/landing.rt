@@ -2,7 +2,7 @@
 
 ghost use Rattle.std.specs.Prelude.{◌≡◌, ◌++◌, IfOk, OnOk, codes};
 ghost use Rattle.map_answers.specs.Links.{link_text};
-ghost use Rattle.map_pages.specs.Landing.{api_part, conformance_part, conformance_text, data_part, landing_text, root_part};
+ghost use Rattle.map_pages.specs.Landing.{api_part, conformance_part, conformance_text, data_part, landing_text, map_part, root_part};
 
 use map_answers::{MediaType, put, put_link};
 use memory::NoMemory;
@@ -100,6 +100,18 @@ fn put_data_part<A: Allocator + Copy>(
     put_path_link(text, alloc, base, "data", MediaType::Json, b"/collections")
 }
 
+/// Appends the link to the page that shows the map in a browser.
+fn put_map_part<A: Allocator + Copy>(
+    text: &mut Vec<u8, A>,
+    alloc: A,
+    base: &[u8],
+) -> Result<(), NoMemory>
+    ensures { OnOk result (text.new.items ≡ text.old.items ++ map_part base.now) }
+{
+    put(text, b",")?;
+    put_path_link(text, alloc, base, "alternate", MediaType::Html, b"/map")
+}
+
 /// Appends the landing page (OGC API - Features, Part 1, 7.2).
 pub(crate) fn put_landing<A: Allocator + Copy>(
     text: &mut Vec<u8, A>,
@@ -112,6 +124,7 @@ pub(crate) fn put_landing<A: Allocator + Copy>(
     put_api_part(text, alloc, base)?;
     put_conformance_part(text, alloc, base)?;
     put_data_part(text, alloc, base)?;
+    put_map_part(text, alloc, base)?;
     put(text, b"]}")
 }
 

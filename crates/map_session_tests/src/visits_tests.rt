@@ -52,7 +52,7 @@ type Asked = (
     &'static str,
 );
 
-const ASKED: [Asked; 14] = [
+const ASKED: [Asked; 15] = [
     (
         "/collections/mast/items",
         "limit=2",
@@ -165,6 +165,14 @@ const ASKED: [Asked; 14] = [
         MediaType::OpenApi,
         r#"{"openapi":"3.0.3","#,
     ),
+    (
+        "/map",
+        "",
+        "",
+        Status::Success,
+        MediaType::Html,
+        "<!DOCTYPE html>",
+    ),
 ];
 
 /// What a request is answered.
@@ -185,6 +193,7 @@ fn answered<S: Service>(
         base: b"http://m",
         grid: &grid,
         classes: &classes,
+        map: b"<!DOCTYPE html>",
     };
     let host = Host {
         site: &site,

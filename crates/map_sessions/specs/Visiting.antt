@@ -36,12 +36,13 @@ use Rattle.map_sessions.specs.declared.refusals.Refusal.{Refusal}
 use Rattle.map_sessions.specs.declared.refusals.Refusal.TheVariants as refusals
 use Rattle.map_sessions.specs.declared.visits.Host.{Host}
 
--- what a server answers by: its address, its grid, the classes that are collections, and the subject
--- of those who do not say who they are
+-- what a server answers by: its address, its grid, the classes that are collections, the page that
+-- shows the map, and the subject of those who do not say who they are
 pub record Place : Type 0 where
   pub base : List ℕ
   pub grid : Grid
   pub classes : List (List ℕ)
+  pub map : List ℕ
   pub anonymous : Option (List ℕ)
 
 abbrev pub place_of : Host → Place
@@ -49,6 +50,7 @@ place_of host = record {
   base = host.site.now.base.now;
   grid = host.site.now.grid.now;
   classes = host.site.now.classes.now;
+  map = host.site.now.map.now;
   anonymous = host.anonymous;
 }
 
@@ -169,7 +171,7 @@ GivesItem subject_of serves place path query known layer id service served outco
 -- a page that is the same whatever the map has
 abbrev pub fixed_page : Place → FixedPage → AnswerData
 fixed_page place page =
-    found (media_of page) (fixed_text place.base place.grid place.classes page)
+    found (media_of page) (fixed_text place.base place.grid place.classes place.map page)
 
 -- what an ask is answered
 abbrev pub Gives : {S A : Type 0} → (S → Option Subject) → (Call → S → S → SaidData → Type 0)

@@ -6,13 +6,16 @@ use plane::{Point, Shape, corners};
 use std::process::Abort;
 
 /// Paths, queries, and the code of their fault, or `ok`.
-const ASKED: [(&str, &str, &str); 58] = [
+const ASKED: [(&str, &str, &str); 61] = [
     ("/", "", "ok"),
     ("/", "&&", "ok"),
     ("/", "f=json", "U2"),
     ("/api", "", "ok"),
     ("/conformance", "", "ok"),
     ("/collections", "", "ok"),
+    ("/map", "", "ok"),
+    ("/map", "bbox=7,46,7,46", "U2"),
+    ("/map/", "", "U1"),
     ("/collections/", "", "U1"),
     ("/collections/mast", "", "ok"),
     ("/collections/mast", "x", "U2"),

@@ -3,6 +3,7 @@ use features::Name;
 use grid::{Between, Grid};
 use map_answers::{Answer, MediaType};
 use map_asks::{FixedPage, Layer};
+use map_page::PAGE;
 use map_pages::{Site, fixed_answer};
 use memory::json_value;
 use std::alloc::Allocator;
@@ -15,7 +16,7 @@ fn degrees(rt: &impl Abort) -> Grid {
 }
 
 const LANDING: &str =
-    r#"{"title":"landmap","links":[{"rel":"self","type":"application/json","href":"https://maps.example/"},{"rel":"service-desc","type":"application/vnd.oai.openapi+json;version=3.0","href":"https://maps.example/api"},{"rel":"conformance","type":"application/json","href":"https://maps.example/conformance"},{"rel":"data","type":"application/json","href":"https://maps.example/collections"}]}"#;
+    r#"{"title":"landmap","links":[{"rel":"self","type":"application/json","href":"https://maps.example/"},{"rel":"service-desc","type":"application/vnd.oai.openapi+json;version=3.0","href":"https://maps.example/api"},{"rel":"conformance","type":"application/json","href":"https://maps.example/conformance"},{"rel":"data","type":"application/json","href":"https://maps.example/collections"},{"rel":"alternate","type":"text/html; charset=utf-8","href":"https://maps.example/map"}]}"#;
 
 const COLLECTION: &str =
     r#"{"id":"mast","title":"mast","itemType":"feature","extent":{"spatial":{"bbox":[[6.0000000,45.0000000,8.0000000,47.0000000]]}},"crs":["http://www.opengis.net/def/crs/OGC/1.3/CRS84"],"links":[{"rel":"self","type":"application/json","href":"https://maps.example/collections/mast"},{"rel":"items","type":"application/geo+json","href":"https://maps.example/collections/mast/items"}]}"#;
@@ -33,6 +34,7 @@ fn landing_and_collection(rt: HostRuntime) -> Result<(), Fail> {
         base: b"https://maps.example",
         grid: &grid,
         classes: &classes,
+        map: PAGE.as_bytes(),
     };
     let landing = fixed_answer(rt.alloc(), &site, &FixedPage::Landing)?;
     assert!(rt; has_body(&landing, LANDING));
@@ -41,6 +43,9 @@ fn landing_and_collection(rt: HostRuntime) -> Result<(), Fail> {
     assert!(rt; has_body(&collection, COLLECTION));
     let api = fixed_answer(rt.alloc(), &site, &FixedPage::Api)?;
     assert_eq!(rt; api.media, MediaType::OpenApi);
+    let map = fixed_answer(rt.alloc(), &site, &FixedPage::Map)?;
+    assert_eq!(rt; map.media.text(), "text/html; charset=utf-8");
+    assert!(rt; has_body(&map, PAGE));
     Ok(())
 }
 
@@ -56,6 +61,7 @@ fn pages_are_json(rt: HostRuntime) -> Result<(), Fail> {
         base: b"https://maps.example",
         grid: &grid,
         classes: &classes,
+        map: PAGE.as_bytes(),
     };
     let pages = [
         FixedPage::Landing,
